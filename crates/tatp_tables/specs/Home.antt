@@ -1,0 +1,50 @@
+-- A home: the rows of one s_id, and what holds of every home.
+use Rattle.std.specs.Prelude.{◌≡◌, ℕ, true, is_some, List, [], ◌∷◌, take, refl}
+use Rattle.std.specs.Coded.{Coded, code_by, coded×, coded_ℕ}
+use Rattle.tatp_tables.specs.Tuples.{Tuple, Tuples, tuples_code, has}
+use Rattle.tatp_tables.specs.Keys.{has_key, row_at}
+use Rattle.tatp_tables.specs.Columns.{key_length}
+use Rattle.tatp_tables.specs.Domains.{is_row}
+use Rattle.tatp_tables.specs.Database.{Database, in_table}
+use Rattle.tatp_tables.specs.declared.table.Table.{Table}
+
+-- what contracts see of a home
+pub record SubscriberRows : Type 0 where
+  pub s_id : ℕ
+  pub tables : Database
+
+abbrev pub subscriber_rows_code : Coded SubscriberRows
+subscriber_rows_code = code_by (ℕ × (Tuples × (Tuples × (Tuples × Tuples)))) (coded× coded_ℕ (coded× tuples_code (coded× tuples_code (coded× tuples_code tuples_code))))
+    (λ h. (h.s_id, (h.tables.subscribers, (h.tables.accesses, (h.tables.facilities, h.tables.forwardings)))))
+    (λ p. record { s_id = p.0; tables = record { subscribers = p.1.0; accesses = p.1.1.0; facilities = p.1.1.1.0; forwardings = p.1.1.1.1 } })
+    (λ _. refl)
+
+-- each row has this s_id
+abbrev pub HaveSId : ℕ → Database → Type 0
+HaveSId s u = (t : Table) (row : Tuple) → has (in_table t u) row ≡ true → has_key (s ∷ []) row ≡ true
+
+-- each row has its table's columns, each value in its domain
+abbrev pub AreRows : Database → Type 0
+AreRows u = (t : Table) (row : Tuple) → has (in_table t u) row ≡ true → is_row t row ≡ true
+
+-- no two rows of a table have one primary key
+abbrev pub KeysAreUnique : Database → Type 0
+KeysAreUnique u = (t : Table) (row other : Tuple) → has (in_table t u) row ≡ true → has (in_table t u) other ≡ true
+    → take (key_length t) row ≡ take (key_length t) other → row ≡ other
+
+-- each row of these has its parent, whose key is the row's first n columns, among those
+abbrev pub HaveParents : ℕ → Tuples → Tuples → Type 0
+HaveParents n parents rows = (row : Tuple) → has rows row ≡ true → is_some (row_at parents (take n row)) ≡ true
+
+-- Access_Info and Special_Facility rows have their subscriber, Call_Forwarding rows their facility
+pub record ParentsExist (u : Database) : Type 0 where
+  pub of_accesses : HaveParents 1 u.subscribers u.accesses
+  pub of_facilities : HaveParents 1 u.subscribers u.facilities
+  pub of_forwardings : HaveParents 2 u.facilities u.forwardings
+
+-- what holds of every home
+pub record IsHome (home : SubscriberRows) : Type 0 where
+  pub own : HaveSId home.s_id home.tables
+  pub rows : AreRows home.tables
+  pub keys : KeysAreUnique home.tables
+  pub parents : ParentsExist home.tables

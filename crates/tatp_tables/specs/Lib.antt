@@ -1,0 +1,9 @@
+pub mod Tuples
+pub mod Columns
+pub mod Domains
+pub mod Keys
+pub mod Database
+pub mod Changes
+pub mod Home
+pub mod Clean
+pub mod Rows

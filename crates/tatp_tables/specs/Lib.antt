@@ -7,3 +7,4 @@ pub mod Changes
 pub mod Home
 pub mod Clean
 pub mod Rows
+pub mod Cells

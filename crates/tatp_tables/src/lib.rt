@@ -4,12 +4,16 @@
 //! and the four sets of its rows. `docs/MODEL.md` tells the definitions in words.
 #![tactic(auto)]
 
+mod cell;
 mod domain;
+mod home;
+mod place;
 mod refusal;
 mod row;
 mod table;
 
 pub use domain::in_domain;
+pub use home::Home;
 pub use refusal::Refusal;
 pub use row::{Row, RowList, Rows};
 pub use table::Table;

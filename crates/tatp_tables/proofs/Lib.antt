@@ -1,0 +1,12 @@
+pub mod TupleLaws
+pub mod FindLaws
+pub mod KeyLaws
+pub mod HomeLaws
+pub mod ChangeLaws
+pub mod UndoLaws
+pub mod SubscriberLaws
+pub mod PrefixLaws
+pub mod CleanLaws
+pub mod CellLaws
+pub mod PlaceLaws
+pub mod StorageLaws

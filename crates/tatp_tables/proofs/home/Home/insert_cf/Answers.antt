@@ -1,0 +1,53 @@
+use Rattle.std.proofs.Common.{◌≡◌, length, rules, ap, sym, ◌∙◌, is_some, true}
+use Rattle.tatp_tables.specs.Home.{SubscriberRows}
+use Rattle.tatp_tables.specs.Changes.{parent_of, forwarding_key, insert_rows_at, delete_tables}
+use Rattle.tatp_tables.specs.Cells.{tables_in}
+use Rattle.tatp_tables.proofs.UndoLaws.{insert-back}
+use Rattle.tatp_tables.proofs.StorageLaws.{insert_refused, insert_forwarding}
+use Rattle.tatp_tables.proofs.home.Home.insert_cf.Goals as goal
+
+pub returns-then-is_some-clause-answer : goal.returns-then-is_some-clause-answer
+returns-then-is_some-clause-answer c =
+    let long : length c.args.row ≡ 5 = search rules in
+    let f = c.self.inside in
+    let parent = ap (λ (h : SubscriberRows). is_some (parent_of h.tables c.args.row)) c.self.view_is ∙ sym c.has_facility.ensures ∙ c.if-not-has_facility.false in
+    rw (← c.self.view_is) (sym (insert_refused f.s_id f.subscriber f.accesses f.facilities f.forwardings c.args.row c.in-Some.place c.self.invariant long (sym c.in-Some.ensures.domain) parent c.in-Some.ensures.some
+    (sym c.is_some.ensures ∙ c.if-is_some.true)))
+
+pub returns-then-is_some-clause-tables : goal.returns-then-is_some-clause-tables
+returns-then-is_some-clause-tables c =
+    let long : length c.args.row ≡ 5 = search rules in
+    let f = c.self.inside in
+    let parent = ap (λ (h : SubscriberRows). is_some (parent_of h.tables c.args.row)) c.self.view_is ∙ sym c.has_facility.ensures ∙ c.if-not-has_facility.false in
+    rw (← c.self.view_is) (sym (ap (λ answer. record (tables_in f.subscriber f.accesses f.facilities f.forwardings) { forwardings = insert_rows_at (tables_in f.subscriber f.accesses f.facilities f.forwardings).forwardings c.args.row answer })
+    (insert_refused f.s_id f.subscriber f.accesses f.facilities f.forwardings c.args.row c.in-Some.place c.self.invariant long (sym c.in-Some.ensures.domain) parent c.in-Some.ensures.some
+    (sym c.is_some.ensures ∙ c.if-is_some.true))))
+
+pub invariant_of-self : goal.invariant_of-self
+invariant_of-self c =
+    let long : length c.args.row ≡ 5 = search rules in
+    let f = c.self.inside in
+    let parent = ap (λ (h : SubscriberRows). is_some (parent_of h.tables c.args.row)) c.self.view_is ∙ sym c.has_facility.ensures ∙ c.if-not-has_facility.false in
+    (insert_forwarding f.s_id f.subscriber f.accesses f.facilities f.forwardings c.args.row c.in-Some.place c.self.invariant long (sym c.in-Some.ensures.domain) parent c.in-Some.ensures.some
+    (sym c.is_some.ensures ∙ c.if-is_some.false)).cells
+
+pub returns-clause-answer : goal.returns-clause-answer
+returns-clause-answer c =
+    let long : length c.args.row ≡ 5 = search rules in
+    let f = c.self.inside in
+    let parent = ap (λ (h : SubscriberRows). is_some (parent_of h.tables c.args.row)) c.self.view_is ∙ sym c.has_facility.ensures ∙ c.if-not-has_facility.false in
+    rw (← c.self.view_is) (sym (insert_forwarding f.s_id f.subscriber f.accesses f.facilities f.forwardings c.args.row c.in-Some.place c.self.invariant long (sym c.in-Some.ensures.domain) parent c.in-Some.ensures.some
+    (sym c.is_some.ensures ∙ c.if-is_some.false)).answer)
+
+pub returns-clause-tables : goal.returns-clause-tables
+returns-clause-tables c =
+    let long : length c.args.row ≡ 5 = search rules in
+    let f = c.self.inside in
+    let parent = ap (λ (h : SubscriberRows). is_some (parent_of h.tables c.args.row)) c.self.view_is ∙ sym c.has_facility.ensures ∙ c.if-not-has_facility.false in
+    rw (← c.self.view_is) (insert_forwarding f.s_id f.subscriber f.accesses f.facilities f.forwardings c.args.row c.in-Some.place c.self.invariant long (sym c.in-Some.ensures.domain) parent c.in-Some.ensures.some
+    (sym c.is_some.ensures ∙ c.if-is_some.false)).tables
+
+pub returns-clause-back : goal.returns-clause-back
+returns-clause-back c =
+    let long : length c.args.row ≡ 5 = search rules in
+    ap (λ u. delete_tables u (forwarding_key c.args.row)) (returns-clause-tables c) ∙ insert-back c.args.self.now.tables c.args.row long (sym (returns-clause-answer c))

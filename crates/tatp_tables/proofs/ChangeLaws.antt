@@ -10,7 +10,7 @@ use Rattle.tatp_tables.specs.Columns.{table_of, first_column, column_count, key_
 use Rattle.tatp_tables.specs.Domains.{is_in_domain, are_in_domain, is_row}
 use Rattle.tatp_tables.specs.Database.{Database, in_table, with_table, current_row, no_tables}
 use Rattle.tatp_tables.specs.Changes.{put_rows, put_tables, parent_of, forwarding_key, insert_answer_at, insert_rows_at, insert_tables, delete_rows, delete_tables}
-use Rattle.tatp_tables.specs.Home.{SubscriberRows, HaveSId, ParentsExist, IsHome}
+use Rattle.tatp_tables.specs.Home.{SubscriberRows, home_with, HaveSId, HasParent, ParentsExist, IsHome}
 use Rattle.tatp_tables.proofs.TupleLaws.{has-no_rows}
 use Rattle.tatp_tables.proofs.KeyLaws.{UniqueIn, has_key-alike, has_key-head, key_heads, first_has_key, take-two, take-three, row_at-has, row_at-key, UniqueIn-remove_row, each-insert_row, has-from_remove_row, UniqueIn-insert_new, UniqueIn-replace_row, Covers-replaced, Covers-replace_row, Covers-insert_row}
 use Rattle.tatp_tables.proofs.HomeLaws.{each_table, HaveParents-among, ParentsExist-covered}
@@ -57,10 +57,6 @@ with_table-in_table AccessInfo u = refl
 with_table-in_table SpecialFacility u = refl
 with_table-in_table CallForwarding u = refl
 
--- a home with one table changed
-abbrev pub home_with : SubscriberRows → Table → Tuples → SubscriberRows
-home_with home t v = record { s_id = home.s_id; tables = with_table t home.tables v }
-
 -- a row that keeps its key may change
 pub IsHome-replace : (home : SubscriberRows) (t : Table) (row new : Tuple) → has (in_table t home.tables) row ≡ true → take (key_length t) new ≡ take (key_length t) row → is_row t new ≡ true
     → IsHome home → IsHome (home_with home t (replace_row (in_table t home.tables) row new))
@@ -98,13 +94,6 @@ IsHome-put home c key v free is = IsHome-put_rows home (table_of c) (place_of c)
     (place_past_key c free) (λ d. ap (λ k. is_in_domain k v) (column_is c) ∙ d) (λ row e. row_at-has (in_table (table_of c) home.tables) (take (key_length (table_of c)) key) row e) is
 
 -- ---- a row more
--- the parent of a row of a table is there
-abbrev pub HasParent : Table → Database → Tuple → Type 0
-HasParent Subscriber u row = Unit {0}
-HasParent AccessInfo u row = is_some (row_at u.subscribers (take 1 row)) ≡ true
-HasParent SpecialFacility u row = is_some (row_at u.subscribers (take 1 row)) ≡ true
-HasParent CallForwarding u row = is_some (row_at u.facilities (take 2 row)) ≡ true
-
 ParentsExist-insert_row : (t : Table) (u : Database) (row : Tuple) → HasParent t u row → ParentsExist u → ParentsExist (with_table t u (insert_row (in_table t u) row))
 ParentsExist-insert_row Subscriber u row h p = record {
   of_accesses = HaveParents-among 1 1 u.subscribers (insert_row u.subscribers row) u.accesses (omega arith) (Covers-insert_row 1 u.subscribers row) p.of_accesses;

@@ -13,9 +13,10 @@ use Rattle.tatp_tables.specs.Keys.{has_key, row_at}
 use Rattle.tatp_tables.proofs.KeyLaws.{heads_equal, has_key-head, has_key-front, has_key-take, row_at-some, take-one, take-two, take-three}
 use Rattle.tatp_tables.specs.Columns.{key_length}
 use Rattle.tatp_tables.specs.Domains.{is_row}
+use Rattle.tatp_tables.specs.Rows.{rows_in}
 use Rattle.tatp_tables.specs.Database.{Database, in_table, with_table, rows_with_s_id}
-use Rattle.tatp_tables.specs.Home.{SubscriberRows, IsHome}
-use Rattle.tatp_tables.proofs.ChangeLaws.{HasParent, IsHome-hold}
+use Rattle.tatp_tables.specs.Home.{SubscriberRows, HasParent, IsHome}
+use Rattle.tatp_tables.proofs.ChangeLaws.{IsHome-hold}
 use Rattle.tatp_tables.proofs.UndoLaws.{is_row-length}
 use Rattle.tatp_tables.proofs.SubscriberLaws.{has-rows_with_s_id}
 use Rattle.tatp_tables.specs.Clean.{count_of_key, IdsRunFromOne, KeysStandOnce, ParentsStand, ValuesFit, IsClean}
@@ -157,12 +158,6 @@ ids_stand_once r ids s =
     ]
 
 -- ---- the row at a place of a clean list
-abbrev pub rows_in : Table → Rows → List Tuple
-rows_in Subscriber r = r.subscribers
-rows_in AccessInfo r = r.accesses
-rows_in SpecialFacility r = r.facilities
-rows_in CallForwarding r = r.forwardings
-
 -- it has its table's columns, each in its domain
 pub row_fits : (t : Table) (r : Rows) (i : ℕ) (d : Tuple) → ValuesFit r → i < length (rows_in t r) → is_row t (slice_index_or (rows_in t r) i d) ≡ true
 row_fits Subscriber r i d fit lt = fit.subscribers i d lt

@@ -10,3 +10,5 @@ pub mod CleanLaws
 pub mod CellLaws
 pub mod PlaceLaws
 pub mod StorageLaws
+pub mod LoadingLaws
+pub mod HoldLaws

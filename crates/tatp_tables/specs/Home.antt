@@ -5,8 +5,9 @@ use Rattle.tatp_tables.specs.Tuples.{Tuple, Tuples, tuples_code, has}
 use Rattle.tatp_tables.specs.Keys.{has_key, row_at}
 use Rattle.tatp_tables.specs.Columns.{key_length}
 use Rattle.tatp_tables.specs.Domains.{is_row}
-use Rattle.tatp_tables.specs.Database.{Database, in_table}
+use Rattle.tatp_tables.specs.Database.{Database, in_table, with_table, of_subscriber}
 use Rattle.tatp_tables.specs.declared.table.Table.{Table}
+use Rattle.tatp_tables.specs.declared.table.Table.TheVariants.{Subscriber, AccessInfo, SpecialFacility, CallForwarding}
 
 -- what contracts see of a home
 pub record SubscriberRows : Type 0 where
@@ -18,6 +19,14 @@ subscriber_rows_code = code_by (ℕ × (Tuples × (Tuples × (Tuples × Tuples))
     (λ h. (h.s_id, (h.tables.subscribers, (h.tables.accesses, (h.tables.facilities, h.tables.forwardings)))))
     (λ p. record { s_id = p.0; tables = record { subscribers = p.1.0; accesses = p.1.1.0; facilities = p.1.1.1.0; forwardings = p.1.1.1.1 } })
     (λ _. refl)
+
+-- the home of an s_id in a database
+abbrev pub home_in : Database → ℕ → SubscriberRows
+home_in u s = record { s_id = s; tables = of_subscriber u s }
+
+-- a home with the rows of one table changed
+abbrev pub home_with : SubscriberRows → Table → Tuples → SubscriberRows
+home_with home t rows = record { s_id = home.s_id; tables = with_table t home.tables rows }
 
 -- each row has this s_id
 abbrev pub HaveSId : ℕ → Database → Type 0
@@ -41,6 +50,13 @@ pub record ParentsExist (u : Database) : Type 0 where
   pub of_accesses : HaveParents 1 u.subscribers u.accesses
   pub of_facilities : HaveParents 1 u.subscribers u.facilities
   pub of_forwardings : HaveParents 2 u.facilities u.forwardings
+
+-- the parent of a row of a table is there
+abbrev pub HasParent : Table → Database → Tuple → Type 0
+HasParent Subscriber u row = Unit {0}
+HasParent AccessInfo u row = is_some (row_at u.subscribers (take 1 row)) ≡ true
+HasParent SpecialFacility u row = is_some (row_at u.subscribers (take 1 row)) ≡ true
+HasParent CallForwarding u row = is_some (row_at u.facilities (take 2 row)) ≡ true
 
 -- what holds of every home
 pub record IsHome (home : SubscriberRows) : Type 0 where

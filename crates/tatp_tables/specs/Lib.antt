@@ -8,3 +8,4 @@ pub mod Home
 pub mod Clean
 pub mod Rows
 pub mod Cells
+pub mod Loading

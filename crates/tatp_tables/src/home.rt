@@ -10,6 +10,9 @@ ghost use Rattle.tatp_tables.specs.Home.{IsHome};
 ghost use Rattle.tatp_tables.specs.Cells.{type_keys, forwarding_keys};
 
 mod changes;
+mod loading;
+
+pub use loading::homes;
 
 use crate::Table;
 use crate::place::{forwarding_place, type_place};

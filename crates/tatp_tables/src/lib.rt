@@ -13,7 +13,7 @@ mod row;
 mod table;
 
 pub use domain::in_domain;
-pub use home::Home;
+pub use home::{Home, homes};
 pub use refusal::Refusal;
 pub use row::{Row, RowList, Rows};
 pub use table::Table;

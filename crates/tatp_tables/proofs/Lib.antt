@@ -12,3 +12,4 @@ pub mod PlaceLaws
 pub mod StorageLaws
 pub mod LoadingLaws
 pub mod HoldLaws
+pub mod ListingLaws

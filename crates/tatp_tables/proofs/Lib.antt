@@ -13,3 +13,9 @@ pub mod StorageLaws
 pub mod LoadingLaws
 pub mod HoldLaws
 pub mod ListingLaws
+pub mod ColumnLaws
+pub mod FieldLaws
+pub mod LetterLaws
+pub mod NumberLaws
+pub mod RowTextLaws
+pub mod ValueLaws

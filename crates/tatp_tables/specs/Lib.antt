@@ -9,3 +9,4 @@ pub mod Clean
 pub mod Rows
 pub mod Cells
 pub mod Loading
+pub mod Text

@@ -6,14 +6,27 @@
 
 mod cell;
 mod domain;
+mod fields;
+mod form;
 mod home;
+mod laws;
+mod letters;
+mod numbers;
 mod place;
 mod refusal;
 mod row;
 mod table;
+mod text;
+mod values;
 
 pub use domain::in_domain;
+pub use fields::Fields;
+pub use form::{Form, form_of};
 pub use home::{Home, homes};
+pub use laws::rows_of_one_subscriber;
+pub use numbers::{read_fifteen_digits, read_number};
 pub use refusal::Refusal;
 pub use row::{Row, RowList, Rows};
 pub use table::Table;
+pub use text::{read_row, row_text};
+pub use values::{push_value, read_value};

@@ -1,0 +1,3 @@
+pub mod Shaped
+pub mod Separated
+pub mod Lengths

@@ -1,0 +1,113 @@
+//! The table of the instructions as data.
+ghost use Rattle.std.specs.Prelude.{◌≡◌, ◌<◌, ◌≤◌, ◌↔◌, IsSome, IfSome};
+ghost use Rattle.tatp_instr.specs.declared.instr.Instr.{Instr};
+ghost use Rattle.tatp_instr.specs.Instrs.{parts_of};
+ghost use Rattle.tatp_instr.specs.Rows.{IsRowOf};
+ghost use Rattle.tatp_instr.specs.Shapes.{shape_at};
+
+/// What stands in an instruction's u32.
+#[derive(Clone, Copy, Debug, PartialEq, Eq)]
+pub enum Word {
+    /// No u32: it is 0.
+    Nothing,
+    /// A number of its own.
+    Count,
+    /// A column's number.
+    Column,
+    /// An argument's number.
+    Argument,
+    /// The index of an instruction.
+    Target,
+}
+
+/// The operands of an op: the number of its registers, 0 to 3, and what its u32 holds.
+#[derive(Clone, Copy, Debug, PartialEq, Eq)]
+pub struct Shape {
+    pub registers: u8,
+    pub word: Word,
+}
+
+/// One row of the table. In the text, the u32 operand stands before the registers where
+/// `word_first`, and otherwise behind them.
+#[derive(Clone, Copy, Debug, PartialEq, Eq)]
+pub struct OpRow {
+    pub op: u8,
+    pub mnemonic: &'static str,
+    pub shape: Shape,
+    pub word_first: bool,
+}
+
+// One row. Its operands stand in the order of the text: the number of the registers, and what the
+// u32 holds, where the op has one.
+macro_rules! row {
+    ($op:literal, $mnemonic:literal, $registers:literal) => {
+        row!($op, $mnemonic, $registers, Nothing)
+    };
+    ($op:literal, $mnemonic:literal, $registers:literal, $word:ident) => {
+        OpRow {
+            op: $op,
+            mnemonic: $mnemonic,
+            shape: Shape {
+                registers: $registers,
+                word: Word::$word,
+            },
+            word_first: false,
+        }
+    };
+    ($op:literal, $mnemonic:literal, $word:ident, $registers:literal) => {
+        OpRow {
+            op: $op,
+            mnemonic: $mnemonic,
+            shape: Shape {
+                registers: $registers,
+                word: Word::$word,
+            },
+            word_first: true,
+        }
+    };
+}
+
+/// The table of the instructions, version 1. The row of an op is at index op - 1.
+pub const BOOK: [OpRow; 21] = [
+    row!(0x01, "LDI", 1, Count),
+    row!(0x02, "MOV", 2),
+    row!(0x03, "ARG", 1, Argument),
+    row!(0x04, "ADD", 3),
+    row!(0x05, "SUB", 3),
+    row!(0x06, "EQ", 3),
+    row!(0x07, "LT", 3),
+    row!(0x08, "JMP", 0, Target),
+    row!(0x09, "JZ", 1, Target),
+    row!(0x0A, "FSUB", 2),
+    row!(0x0B, "FNUM", 2),
+    row!(0x0C, "FACC", 3),
+    row!(0x0D, "FFAC", 3),
+    row!(0x0E, "FCFW", 2),
+    row!(0x0F, "GET", 1, Column),
+    row!(0x10, "PUT", Column, 1),
+    row!(0x11, "INS", 2),
+    row!(0x12, "DEL", 0),
+    row!(0x13, "OUT", 1),
+    row!(0x14, "DONE", 0),
+    row!(0x15, "FAIL", 0, Count),
+];
+
+// The row of an op, from which the text of each instruction of that op is read.
+pub(crate) fn row_at(op: u8) -> &'static OpRow
+    requires above_zero { 0 < op }
+    requires in_table { op ≤ 21 }
+    ensures { (instr : Instr) → (parts_of instr).op ≡ op → IsRowOf result.now instr }
+{
+    let book = &BOOK;
+    &book[usize::from(op) - 1]
+}
+
+/// The operands of an op, or `None` where op is no op of the table.
+pub fn operands(op: u8) -> Option<Shape>
+    ensures value { result ≡ shape_at op }
+    ensures known { IsSome result ↔ ((0 < op) × (op ≤ 21)) }
+    ensures registers { IfSome result (λ shape. shape.registers ≤ 3) }
+{
+    let index = op.checked_sub(1)?;
+    BOOK.get(usize::from(index)).map(|row| row.shape)
+}

@@ -1,0 +1,15 @@
+//! The instructions of a small register machine: their table, version 1, as data, and their text.
+#![tactic(auto)]
+
+mod book;
+mod instr;
+mod printing;
+mod registers;
+
+pub use book::{BOOK, OpRow, Shape, Word, operands};
+pub use instr::{Instr, Parts};
+pub use printing::{Line, text};
+pub use registers::{KeyRegisters, Register, Registers, RowRegisters};
+
+#[cfg(test)]
+mod tests;

@@ -1,0 +1,187 @@
+-- Lemmas on numbers in text: what is read, what is written, and that each gives the other back.
+use Rattle.std.proofs.Common.{◌≡◌, ◌≢◌, ℕ, zero, suc, ◌+◌, ◌-◌, ◌*◌, ◌/◌, ◌%◌, ◌<◌, ◌≤◌, ◌^◌, ◌∙◌, sym, ap, subst, Bool, true, false, not, List, [], ◌∷◌, ◌++◌, length, drop, set, get_or, refl, arith, eqb, ltb, Some, None, Result, Ok, Err, decimal, append_assoc, length-append, add-one, sub-one, ◌&&◌, ◌||◌}
+use Rattle.std.proofs.lemmas.Bool.{and_parts}
+use Rattle.std.proofs.lemmas.Bool.Decides.{nat_tests}
+use Rattle.std.proofs.lemmas.Fmt.{digits_decimal, digits_value-decimal, decimal-digits_value, decimal_nonempty, first_decimal, decimal_digit}
+use Rattle.std.proofs.lemmas.Int.Digits.{digits_value_push}
+use Rattle.std.proofs.lemmas.List.{append-nil}
+use Rattle.std.proofs.lemmas.Nat.{div-mul-add, mod-mul-add}
+use Rattle.std.proofs.lemmas.Option.{cond_some}
+use Rattle.std.proofs.lemmas.Str.Parse.{IsNumeralModel, numerals_by_value, tells_all_ascii_digits, parse_plain, digits_value_short}
+use Rattle.std.specs.Char.{digit_value, is_ascii_digit}
+use Rattle.std.specs.Result.{result_ok, OkIff}
+use Rattle.std.specs.Str.{all_ascii_digits}
+use Rattle.std.specs.Str.Parse.{ParsesUnsigned, digits_value, digits_value_after}
+use Rattle.tatp_tables.specs.Text.{is_number, number_of, digits_of, last_digits}
+
+own : IsNumeralModel (λ ds. all_ascii_digits ds ≡ true) (digits_value 10)
+own = numerals_by_value (λ ds. all_ascii_digits ds ≡ true) tells_all_ascii_digits
+
+-- a sign stands in no digits
+digits_first : (bs : List ℕ) → all_ascii_digits bs ≡ true → get_or bs 0 0 ≢ 43
+digits_first [] h = omega arith
+digits_first (b ∷ bs) h = grind (arith, nat_tests)
+
+-- ---- decimals
+-- the test of a number, from its parts
+number_test : (n v f m : ℕ) (d : Bool) → 0 < n → d ≡ true → (f ≡ 48 → n ≤ 1) → v < m → (ltb 0 n && (d && ((not (eqb f 48) || eqb n 1) && ltb v m))) ≡ true
+number_test n v f m d a b c e = grind (arith, nat_tests)
+
+-- and what it tells
+number_test_parts : (n v f m : ℕ) (d : Bool) → (ltb 0 n && (d && ((not (eqb f 48) || eqb n 1) && ltb v m))) ≡ true → (0 < n) × (d ≡ true) × (f ≡ 48 → n ≡ 1) × (v < m)
+number_test_parts n v f m d h = (grind (arith, nat_tests), grind (arith, nat_tests), grind (arith, nat_tests), grind (arith, nat_tests))
+
+number_test_no : (n v f m : ℕ) (d : Bool) → ((d ≡ true) × (0 < n) × (v < m) → ⊥) → (ltb 0 n && (d && ((not (eqb f 48) || eqb n 1) && ltb v m))) ≡ false
+number_test_no n v f m d h = grind (arith, nat_tests)
+
+number_test_zero : (n v f m : ℕ) (d : Bool) → f ≡ 48 → 1 < n → (ltb 0 n && (d && ((not (eqb f 48) || eqb n 1) && ltb v m))) ≡ false
+number_test_zero n v f m d h k = grind (arith, nat_tests)
+
+number_cases : {E : Type 0} (bs : List ℕ) (r : Result ℕ E) → OkIff r ((all_ascii_digits bs ≡ true) × (0 < length bs) × (digits_value 10 bs < 2 ^ 64)) (digits_value 10 bs) → 0 < length bs → (get_or bs 0 0 ≡ 48 → length bs ≤ 1) → result_ok r ≡ number_of bs
+unfolding number_of is_number
+number_cases bs (Ok x) h n z = rw (number_test (length bs) (digits_value 10 bs) (get_or bs 0 0) (2 ^ 64) (all_ascii_digits bs) n h.0.0 z h.0.2) (ap Some h.1)
+number_cases bs (Err e) h n z = rw (number_test_no (length bs) (digits_value 10 bs) (get_or bs 0 0) (2 ^ 64) (all_ascii_digits bs) h) refl
+
+-- what `parse` reads of a text with no sign and no leading zero
+pub number_parsed : {E : Type 0} (bs : List ℕ) (r : Result ℕ E) → ParsesUnsigned 64 10 bs r → 0 < length bs → get_or bs 0 0 ≢ 43 → (get_or bs 0 0 ≡ 48 → length bs ≤ 1) → result_ok r ≡ number_of bs
+number_parsed bs r h n p z = number_cases bs r (parse_plain own 64 bs r h p) n z
+
+pub no_number_signed : (bs : List ℕ) → get_or bs 0 0 ≡ 43 → number_of bs ≡ None
+unfolding number_of is_number
+no_number_signed bs h = rw (number_test_no (length bs) (digits_value 10 bs) (get_or bs 0 0) (2 ^ 64) (all_ascii_digits bs) (λ p. digits_first bs p.0 h)) refl
+
+pub no_number_empty : (bs : List ℕ) → length bs ≡ 0 → number_of bs ≡ None
+unfolding number_of is_number
+no_number_empty [] h = refl
+no_number_empty (b ∷ bs) h = absurd (omega arith)
+
+pub no_number_zero : (bs : List ℕ) → get_or bs 0 0 ≡ 48 → 1 < length bs → number_of bs ≡ None
+unfolding number_of is_number
+no_number_zero bs h l = rw (number_test_zero (length bs) (digits_value 10 bs) (get_or bs 0 0) (2 ^ 64) (all_ascii_digits bs) h l) refl
+
+-- a number that is written has no leading zero
+first_digit : (n : ℕ) → n < 2 ^ 64 → get_or (decimal n) 0 0 ≡ 48 → length (decimal n) ≤ 1
+first_digit zero h e = omega (arith, ap length (decimal_digit 0 (omega arith)))
+first_digit (suc n) h e = absurd (omega (arith, first_decimal (suc n) (omega arith) h))
+
+-- what is written is read
+pub number_of-decimal : (n : ℕ) → n < 2 ^ 64 → number_of (decimal n) ≡ Some n
+unfolding number_of is_number
+number_of-decimal n h =
+    let v : digits_value 10 (decimal n) ≡ n = digits_value-decimal own n h in
+    rw (number_test (length (decimal n)) (digits_value 10 (decimal n)) (get_or (decimal n) 0 0) (2 ^ 64) (all_ascii_digits (decimal n)) (decimal_nonempty n h) (digits_decimal own n h) (first_digit n h) (subst (λ m. m < 2 ^ 64) (sym v) h)) (ap Some v)
+
+-- what is read is written so
+pub decimal-number_of : (bs : List ℕ) (n : ℕ) → number_of bs ≡ Some n → (decimal n ≡ bs) × (n < 2 ^ 64) × (all_ascii_digits bs ≡ true)
+unfolding number_of is_number
+decimal-number_of bs n h =
+    let p = cond_some _ (digits_value 10 bs) n h in
+    let parts = number_test_parts (length bs) (digits_value 10 bs) (get_or bs 0 0) (2 ^ 64) (all_ascii_digits bs) p.0 in
+    (ap decimal (sym p.1) ∙ decimal-digits_value own bs parts.1 parts.0 parts.2 parts.3, subst (λ m. m < 2 ^ 64) p.1 parts.3, parts.1)
+
+-- ---- exactly so many digits
+-- the test of a length and one more test, from its parts
+pub exact_test : (k n : ℕ) (t : Bool) → n ≡ k → t ≡ true → (eqb n k && t) ≡ true
+exact_test k n t h e = grind (arith, nat_tests)
+
+-- and what it tells
+pub exact_test_parts : (k n : ℕ) (t : Bool) → (eqb n k && t) ≡ true → (n ≡ k) × (t ≡ true)
+exact_test_parts k n t h = (grind (arith, nat_tests), grind (arith, nat_tests))
+
+pub exact_test_no : (k n : ℕ) (t : Bool) → (n ≡ k → t ≡ true → ⊥) → (eqb n k && t) ≡ false
+exact_test_no k n t h = grind (arith, nat_tests)
+
+-- fifteen digits fit
+digits_value_small : (bs : List ℕ) → length bs ≡ 15 → all_ascii_digits bs ≡ true → digits_value 10 bs < 10 ^ 15
+digits_value_small bs n d = digits_value_short own bs 15 d (omega arith)
+
+fifteen_cases : {E : Type 0} (bs : List ℕ) (r : Result ℕ E) → OkIff r ((all_ascii_digits bs ≡ true) × (0 < length bs) × (digits_value 10 bs < 2 ^ 64)) (digits_value 10 bs) → length bs ≡ 15 → result_ok r ≡ digits_of 15 bs
+unfolding digits_of
+fifteen_cases bs (Ok x) h n = rw (exact_test 15 (length bs) (all_ascii_digits bs) n h.0.0) (ap Some h.1)
+fifteen_cases bs (Err e) h n = rw (exact_test_no 15 (length bs) (all_ascii_digits bs) (λ _ d. h (d, omega arith, (let small : digits_value 10 bs < 10 ^ 15 = digits_value_small bs n d in omega arith)))) refl
+
+-- what `parse` reads of fifteen bytes with no sign
+pub fifteen_parsed : {E : Type 0} (bs : List ℕ) (r : Result ℕ E) → ParsesUnsigned 64 10 bs r → length bs ≡ 15 → get_or bs 0 0 ≢ 43 → result_ok r ≡ digits_of 15 bs
+fifteen_parsed bs r h n p = fifteen_cases bs r (parse_plain own 64 bs r h p) n
+
+pub no_digits_length : (bs : List ℕ) → length bs ≢ 15 → digits_of 15 bs ≡ None
+unfolding digits_of
+no_digits_length bs h = rw (exact_test_no 15 (length bs) (all_ascii_digits bs) (λ n _. h n)) refl
+
+pub no_digits_signed : (bs : List ℕ) → get_or bs 0 0 ≡ 43 → digits_of 15 bs ≡ None
+unfolding digits_of
+no_digits_signed bs h = rw (exact_test_no 15 (length bs) (all_ascii_digits bs) (λ _ d. digits_first bs d h)) refl
+
+-- the digits from a place on, after one is written before them
+pub drop_written : (k x : ℕ) (ds : List ℕ) → k < length ds → drop k (set ds k x) ≡ x ∷ drop (suc k) ds
+drop_written k x [] h = absurd (omega arith)
+drop_written zero x (d ∷ ds) h = refl
+drop_written (suc k) x (d ∷ ds) h = drop_written k x ds (omega arith)
+
+-- one digit goes from the number to the digits behind it
+digit_step : (k n : ℕ) (ds all : List ℕ) → k < length ds → last_digits (suc k) n ++ drop (suc k) ds ≡ all → last_digits k (n / 10) ++ drop k (set ds k (48 + n % 10)) ≡ all
+unfolding last_digits
+digit_step k n ds all h e = rw (drop_written k (48 + n % 10) ds h) (sym (append_assoc (last_digits k (n / 10)) ((48 + n % 10) ∷ []) (drop (suc k) ds)) ∙ e)
+
+pub digit_moved : (k n : ℕ) (ds all : List ℕ) → 0 < k → k ≤ length ds → last_digits k n ++ drop k ds ≡ all → last_digits (k - 1) (n / 10) ++ drop (k - 1) (set ds (k - 1) (48 + n % 10)) ≡ all
+digit_moved zero n ds all p h e = absurd (omega arith)
+digit_moved (suc k) n ds all p h e = rw sub-one (digit_step k n ds all (omega arith) e)
+
+digit_back : (d : ℕ) → d < 10 → digit_value (48 + d) ≡ d
+digit_back d h = grind (arith, nat_tests)
+
+length-last_digits : (k n : ℕ) → length (last_digits k n) ≡ k
+unfolding last_digits
+length-last_digits zero n = refl
+length-last_digits (suc k) n = length-append (last_digits k (n / 10)) ((48 + n % 10) ∷ []) ∙ (ap (λ m. m + 1) (length-last_digits k (n / 10)) ∙ add-one k)
+
+digits_value-last_digits : (k n : ℕ) → n < 10 ^ k → digits_value 10 (last_digits k n) ≡ n
+unfolding last_digits
+digits_value-last_digits zero n h = omega arith
+digits_value-last_digits (suc k) n h =
+    let before : n / 10 < 10 ^ k = grind arith in
+    let value = digits_value_push 10 (last_digits k (n / 10)) (48 + n % 10) in
+    let last : digit_value (48 + n % 10) ≡ n % 10 = digit_back (n % 10) (omega arith) in
+    let front : digits_value 10 (last_digits k (n / 10)) ≡ n / 10 = digits_value-last_digits k (n / 10) before in
+    value ∙ (rw (last, front) (omega arith))
+
+all_digits_push : (ds : List ℕ) (d : ℕ) → all_ascii_digits ds ≡ true → d < 10 → all_ascii_digits (ds ++ (48 + d) ∷ []) ≡ true
+all_digits_push [] d h l = grind (arith, nat_tests)
+all_digits_push (c ∷ cs) d h l = let p = and_parts (is_ascii_digit c) (all_ascii_digits cs) h in rw p.0 (all_digits_push cs d p.1 l)
+
+pub digits-last_digits : (k n : ℕ) → all_ascii_digits (last_digits k n) ≡ true
+unfolding last_digits
+digits-last_digits zero n = refl
+digits-last_digits (suc k) n = all_digits_push (last_digits k (n / 10)) (n % 10) (digits-last_digits k (n / 10)) (omega arith)
+
+-- what is written is read
+pub digits_of-last_digits : (k n : ℕ) → n < 10 ^ k → digits_of k (last_digits k n) ≡ Some n
+unfolding digits_of
+digits_of-last_digits k n h = rw (exact_test k (length (last_digits k n)) (all_ascii_digits (last_digits k n)) (length-last_digits k n) (digits-last_digits k n)) (ap Some (digits_value-last_digits k n h))
+
+digit_known : (d : ℕ) → is_ascii_digit d ≡ true → (digit_value d < 10) × (48 + digit_value d ≡ d)
+digit_known d h = (grind (arith, nat_tests), grind (arith, nat_tests))
+
+-- a digit that is read is the last digit that is written
+last_digit : (j n d : ℕ) → is_ascii_digit d ≡ true → last_digits (suc j) (n * 10 + digit_value d) ≡ last_digits j n ++ d ∷ []
+unfolding last_digits
+last_digit j n d h =
+    let k = digit_known d h in
+    let front : (n * 10 + digit_value d) / 10 ≡ n = div-mul-add n 10 (digit_value d) k.0 in
+    let back : 48 + (n * 10 + digit_value d) % 10 ≡ d = omega (arith, k.1, mod-mul-add n 10 (digit_value d) k.0) in
+    rw (front, back) refl
+
+-- digits that are read after a number are written after it
+last_digits_after : (j k n : ℕ) (ds : List ℕ) → all_ascii_digits ds ≡ true → k ≡ j + length ds → last_digits k (digits_value_after 10 n ds) ≡ last_digits j n ++ ds
+last_digits_after j k n [] h e = let same : k ≡ j = omega arith in rw (same, append-nil (last_digits j n)) refl
+last_digits_after j k n (d ∷ ds) h e =
+    let p = and_parts (is_ascii_digit d) (all_ascii_digits ds) h in
+    last_digits_after (suc j) k (n * 10 + digit_value d) ds p.1 (omega arith) ∙ (ap (λ front. front ++ ds) (last_digit j n d p.0) ∙ append_assoc (last_digits j n) (d ∷ []) ds)
+
+-- what is read is written so
+pub last_digits-digits_of : (bs : List ℕ) (n : ℕ) → digits_of 15 bs ≡ Some n → (last_digits 15 n ≡ bs) × (n < 10 ^ 15) × (all_ascii_digits bs ≡ true)
+unfolding digits_of last_digits
+last_digits-digits_of bs n h =
+    let p = cond_some _ (digits_value 10 bs) n h in
+    let parts = exact_test_parts 15 (length bs) (all_ascii_digits bs) p.0 in
+    (ap (last_digits 15) (sym p.1) ∙ last_digits_after 0 15 0 bs parts.1 (omega (arith, parts.0)), subst (λ m. m < 10 ^ 15) p.1 (digits_value_small bs parts.0 parts.1), parts.1)

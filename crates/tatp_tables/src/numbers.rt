@@ -1,0 +1,43 @@
+//! Numbers in text: decimals, and exactly fifteen digits.
+ghost use Rattle.std.specs.Prelude.{◌≡◌, ◌<◌, ◌^◌, length};
+ghost use Rattle.tatp_tables.specs.Text.{number_of, digits_of, last_digits};
+
+/// The number that the text is in decimal, without a leading zero.
+#[tactic(auto, using(crate::proofs::NumberLaws::number_parsed, crate::proofs::NumberLaws::no_number_signed, crate::proofs::NumberLaws::no_number_empty, crate::proofs::NumberLaws::no_number_zero))]
+pub fn read_number(text: &str) -> Option<u64>
+    ensures { result ≡ number_of text.now }
+{
+    let bytes = text.as_bytes();
+    if bytes.is_empty() {
+        return None;
+    }
+    if bytes[0] == b'+' || (bytes[0] == b'0' && bytes.len() > 1) {
+        return None;
+    }
+    text.parse::<u64>().ok()
+}
+
+/// The number of exactly fifteen digits.
+#[tactic(auto, using(crate::proofs::NumberLaws::fifteen_parsed, crate::proofs::NumberLaws::no_digits_length, crate::proofs::NumberLaws::no_digits_signed))]
+pub fn read_fifteen_digits(text: &str) -> Option<u64>
+    ensures { result ≡ digits_of 15 text.now }
+{
+    if text.len() != 15 || text.as_bytes()[0] == b'+' {
+        return None;
+    }
+    text.parse::<u64>().ok()
+}
+
+/// Fills the slice with the number's last digits.
+#[tactic(auto, using(crate::proofs::NumberLaws::digit_moved), unfolding(crate::specs::Text::last_digits))]
+pub(crate) fn write_digits(digits: &mut [u8], number: u64)
+    ensures { digits.new ≡ last_digits (length digits.old) number }
+{
+    let mut rest = number;
+    let mut place = digits.len();
+    'digits: while place > 0 {
+        place -= 1;
+        digits[place] = b'0' + (rest % 10) as u8;
+        rest /= 10;
+    }
+}

@@ -156,7 +156,7 @@ wanted t r xs i first n place d homes e clean loads within at =
     let s : first + place ≡ slice_index row 0 = at ∙ ap (λ ys. slice_index (slice_index_or ys i d) 0) loads.list in
     let home = home_at homes (read_until t r i) first n place (slice_index row 0) e loads.so_far (omega (arith, loads.count)) s in
     subst (λ ys. RowWanted t (slice_index_or homes place e) (slice_index_or ys i d)) (sym loads.list)
-      (subst (λ h. RowWanted t h row) (sym home) (wanted_at t r i (slice_index row 0) d clean lt (row_own t r i d clean.values lt)))
+    (subst (λ h. RowWanted t h row) (sym home) (wanted_at t r i (slice_index row 0) d clean lt (row_own t r i d clean.values lt)))
 
 -- the homes after it
 pub next_held : (t : Table) (r : Rows) (xs : List Tuple) (i first n place : ℕ) (d : Tuple) (homes : List SubscriberRows) (e new : SubscriberRows) → IsClean r → Loads t r xs i first n homes
@@ -170,8 +170,8 @@ next_held t r xs i first n place d homes e new clean loads within at is =
     let s : first + place ≡ slice_index row 0 = at ∙ ap (λ ys. slice_index (slice_index_or ys i d) 0) loads.list in
     let home = home_at homes (read_until t r i) first n place (first + place) e loads.so_far inside refl in
     (λ j. slice_set (loads.so_far j) place ((is
-      ∙ ap (λ ys. home_with (slice_index_or homes place e) t (insert_row (in_table t (slice_index_or homes place e).tables) (slice_index_or ys i d))) loads.list
-      ∙ ap (λ h. home_with h t (insert_row (in_table t h.tables) row)) home) j))
+    ∙ ap (λ ys. home_with (slice_index_or homes place e) t (insert_row (in_table t (slice_index_or homes place e).tables) (slice_index_or ys i d))) loads.list
+    ∙ ap (λ h. home_with h t (insert_row (in_table t h.tables) row)) home) j))
     ∙ sym (homes-next t r i first n place d lt inside (ap (λ q. has_key (q ∷ []) row) s ∙ row_own t r i d clean.values lt))
 
 pub next_passed : (t : Table) (r : Rows) (xs : List Tuple) (i first n : ℕ) (d : Tuple) (homes : List SubscriberRows) → IsClean r → Loads t r xs i first n homes
@@ -180,4 +180,4 @@ next_passed t r xs i first n d homes clean loads none =
     let row = slice_index_or (rows_in t r) i d in
     let lt : i < length (rows_in t r) = subst (λ ys. i < length ys) loads.list loads.more in
     loads.so_far ∙ sym (homes-same t r i first n (slice_index row 0) d lt (row_own t r i d clean.values lt)
-      (λ k l e. none k (omega (arith, loads.count)) (e ∙ ap (λ ys. slice_index (slice_index_or ys i d) 0) (sym loads.list))))
+    (λ k l e. none k (omega (arith, loads.count)) (e ∙ ap (λ ys. slice_index (slice_index_or ys i d) 0) (sym loads.list))))

@@ -23,7 +23,7 @@ map-same f g a zero h = refl
 map-same f g a (suc n) h =
     let first : a + 0 ≡ a = omega arith in
     λ i. (ap g (sym first) ∙ h 0 (omega arith) ∙ ap f first) i
-      ∷ map-same f g (a + 1) n (λ k lt. let e : a + 1 + k ≡ a + (k + 1) = omega arith in ap g e ∙ h (k + 1) (omega arith) ∙ ap f (sym e)) i
+    ∷ map-same f g (a + 1) n (λ k lt. let e : a + 1 + k ≡ a + (k + 1) = omega arith in ap g e ∙ h (k + 1) (omega arith) ∙ ap f (sym e)) i
 
 map-one : {X : Type 0} (f g : ℕ → X) (a n place : ℕ) → place < n → ((q : ℕ) → q ≢ a + place → g q ≡ f q) → map g (range_with_len a n) ≡ slice_set (map f (range_with_len a n)) place (g (a + place))
 map-one f g a zero place lt h = absurd (omega arith)
@@ -62,7 +62,7 @@ not_own s q row own n = elim (has_key (q ∷ []) row) as (λ b. has_key (q ∷ [
 pub homes-next : (t : Table) (r : Rows) (i first n place : ℕ) (d : Tuple) → i < length (rows_in t r) → place < n → has_key ((first + place) ∷ []) (slice_index_or (rows_in t r) i d) ≡ true
     → homes_in (read_until t r (i + 1)) first n
     ≡ slice_set (homes_in (read_until t r i) first n) place
-      (home_with (home_in (read_until t r i) (first + place)) t (insert_row (in_table t (of_subscriber (read_until t r i) (first + place))) (slice_index_or (rows_in t r) i d)))
+    (home_with (home_in (read_until t r i) (first + place)) t (insert_row (in_table t (of_subscriber (read_until t r i) (first + place))) (slice_index_or (rows_in t r) i d)))
 homes-next t r i first n place d lt within own =
     map-one (home_in (read_until t r i)) (home_in (read_until t r (i + 1))) first n place within (λ q ne. other-next t r i q d lt (not_own (first + place) q (slice_index_or (rows_in t r) i d) own ne))
     ∙ ap (slice_set (homes_in (read_until t r i) first n) place) (own-next t r i (first + place) d lt own)

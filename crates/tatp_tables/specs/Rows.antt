@@ -14,6 +14,7 @@ rows_in Subscriber r = r.subscribers
 rows_in AccessInfo r = r.accesses
 rows_in SpecialFacility r = r.facilities
 rows_in CallForwarding r = r.forwardings
+
 -- the lists with one more row at the end of its table
 abbrev pub with_row : Rows → Row → Rows
 with_row r (S columns) = record r { subscribers = r.subscribers ++ columns ∷ [] }

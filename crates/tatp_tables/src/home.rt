@@ -13,10 +13,9 @@ mod changes;
 mod listing;
 mod loading;
 
-pub use loading::homes;
-
 use crate::Table;
 use crate::place::{forwarding_place, type_place};
+pub use loading::homes;
 use std::marker::Model;
 
 /// The rows of one s_id: at most one Subscriber row, four Access_Info and four Special_Facility rows

@@ -10,5 +10,4 @@ pub fn rows_of_one_subscriber()
     ensures put_twice { (u v w : Database) (s : ℕ) → HaveSId s v → with_subscriber (with_subscriber u s v) s w ≡ with_subscriber u s w }
     ensures others { (u v : Database) (s other : ℕ) → s ≢ other → HaveSId s v → of_subscriber (with_subscriber u s v) other ≡ of_subscriber u other }
     ensures own { (u : Database) (s : ℕ) → HaveSId s (of_subscriber u s) }
-{
-}
+{}

@@ -30,3 +30,6 @@ pub use row::{Row, RowList, Rows};
 pub use table::Table;
 pub use text::{read_row, row_text};
 pub use values::{push_value, read_value};
+
+#[cfg(test)]
+mod tests;

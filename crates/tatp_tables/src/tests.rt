@@ -1,0 +1,3 @@
+//! Tests of the public calls, with values from docs/FORMATS.md.
+
+mod homes;

@@ -12,6 +12,7 @@ use Rattle.std.specs.FinMap.Entries as entry
 use Rattle.tatp_tables.specs.Tuples.{Tuple, Tuples, rows_of, same, has, set_of, insert_row, remove_row, replace_row}
 use Rattle.tatp_tables.proofs.TupleLaws.{same_tuples, same_is, same_itself, has-set_of, has-insert_row, has-remove_row, rises, rows_of-set_of}
 use Rattle.tatp_tables.specs.Keys.{has_key, row_at}
+use Rattle.tatp_tables.proofs.KeyLaws.{heads_equal}
 use Rattle.tatp_tables.specs.Cells.{present, StandAt}
 
 -- ---- keys in order
@@ -32,12 +33,8 @@ second_of : (a b : Bool) → (a && b) ≡ true → b ≡ true
 second_of true b h = h
 second_of false b h = cc
 
-head_is : (x k : ℕ) (b : Bool) → ((x == k) && b) ≡ true → x ≡ k
-head_is x k true h = grind (arith, nat_tests)
-head_is x k false h = grind (arith, nat_tests)
-
 length_is : (m n : ℕ) (b : Bool) → ((m == n) && b) ≡ true → m ≡ n
-length_is = head_is
+length_is = heads_equal
 
 -- rows with keys in order are in that order
 ordered : (k m x y : List ℕ) → length k ≡ length m → is_lt (slice_cmp nat_cmp k m) ≡ true → has_key k x ≡ true → has_key m y ≡ true → is_lt (slice_cmp nat_cmp x y) ≡ true
@@ -47,8 +44,8 @@ ordered (k ∷ ks) [] x y l lt h g = absurd (omega arith)
 ordered (k ∷ ks) (m ∷ ms) [] y l lt h g = cc
 ordered (k ∷ ks) (m ∷ ms) (a ∷ x) [] l lt h g = cc
 ordered (k ∷ ks) (m ∷ ms) (a ∷ x) (b ∷ y) l lt h g =
-    let e : a ≡ k = head_is a k _ h in
-    let f : b ≡ m = head_is b m _ g in
+    let e : a ≡ k = heads_equal a k _ h in
+    let f : b ≡ m = heads_equal b m _ g in
     ap (λ o. is_lt (ordering_then o (slice_cmp nat_cmp x y))) (λ i. nat_cmp (e i) (f i))
     ∙ elim (nat_cmp k m) as (λ o. is_lt (ordering_then o (slice_cmp nat_cmp ks ms)) ≡ true → is_lt (ordering_then o (slice_cmp nat_cmp x y)) ≡ true) [
       | Less ↦ λ _. refl
@@ -145,8 +142,8 @@ prefix [] m row l h g = refl
 prefix (k ∷ ks) [] row l h g = absurd (omega arith)
 prefix (k ∷ ks) (m ∷ ms) [] l h g = cc
 prefix (k ∷ ks) (m ∷ ms) (x ∷ row) l h g =
-    let e : x ≡ k = head_is x k _ h in
-    let f : x ≡ m = head_is x m _ g in
+    let e : x ≡ k = heads_equal x k _ h in
+    let f : x ≡ m = heads_equal x m _ g in
     let i : (m == k) ≡ true = grind (arith, nat_tests) in
     ap (λ b. b && has_key ks ms) i ∙ prefix ks ms row (omega arith) (second_of _ _ h) (second_of _ _ g)
 
@@ -169,7 +166,7 @@ none_present a s k (m ∷ keys) (Some (x ∷ row) ∷ cells) none l all =
     unmoved (has_key (a ∷ k)) (x ∷ row) (present cells)
     (elim (has_key (a ∷ k) (x ∷ row)) as (λ t. has_key (a ∷ k) (x ∷ row) ≡ t → t ≡ false) [
       | true ↦ λ h.
-          let e : a ≡ s = sym (head_is x a _ h) ∙ head_is x s _ all.0 in
+          let e : a ≡ s = sym (heads_equal x a _ h) ∙ heads_equal x s _ all.0 in
           let yes : has_key k m ≡ true = prefix k m row (length_is (length m) (length k) (list_all (λ n. length n == length k) keys) l) (second_of (x == a) (has_key k row) h) (second_of (x == s) (has_key m row) all.0) in
           let no : has_key k m ≡ false = no_first _ _ (none e) in
           cc

@@ -40,11 +40,6 @@ pub type_none : (a s kind : ℕ) (cells : List (Option Tuple)) → (a ≡ s → 
 type_none a s kind cells none all = row_at-nowhere a s (kind ∷ []) type_keys cells refl all refl none
 
 -- ---- forwardings
--- the first part of a key
-pub take-one : (key : List ℕ) → 1 ≤ length key → take 1 key ≡ slice_index key 0 ∷ []
-take-one [] l = absurd (omega arith)
-take-one (a ∷ more) l = refl
-
 -- a key of three parts is these
 pub key_parts : (key : List ℕ) → length key ≡ 3 → key ≡ slice_index key 0 ∷ slice_index key 1 ∷ slice_index key 2 ∷ []
 key_parts [] l = absurd (omega arith)

@@ -6,7 +6,7 @@ use Rattle.std.proofs.lemmas.Bool.Decides.{nat_tests}
 use Rattle.std.proofs.lemmas.List.{set-get_or}
 use Rattle.tatp_tables.specs.Tuples.{Tuple, Tuples, set_of, insert_row, remove_row, replace_row}
 use Rattle.tatp_tables.specs.Keys.{has_key, row_at}
-use Rattle.tatp_tables.proofs.KeyLaws.{take-two, take-three, has_key-take, first_is}
+use Rattle.tatp_tables.proofs.KeyLaws.{take-one, take-two, take-three, has_key-take, first_is}
 use Rattle.tatp_tables.specs.Columns.{table_of, first_column, key_length, place_of, is_fixed}
 use Rattle.tatp_tables.specs.Domains.{is_in_domain, are_in_domain}
 use Rattle.tatp_tables.specs.Database.{Database, in_table, with_table, current_row}
@@ -16,7 +16,7 @@ use Rattle.tatp_tables.proofs.ChangeLaws.{IsHome-put, IsHome-insert, IsHome-dele
 use Rattle.tatp_tables.proofs.UndoLaws.{put-back, delete-back}
 use Rattle.tatp_tables.specs.Cells.{present, StandAt, HoldHome, tables_in, put_cell, subscriber_keys, type_keys, forwarding_keys}
 use Rattle.tatp_tables.proofs.CellLaws.{rise, set_of-set, StandAt-set, FitsAt, key_at, place_within, taken_out}
-use Rattle.tatp_tables.proofs.PlaceLaws.{subscriber_at, subscriber_none, type_at, forwarding_at, key_parts, take-one}
+use Rattle.tatp_tables.proofs.PlaceLaws.{subscriber_at, subscriber_none, type_at, forwarding_at, key_parts}
 use Rattle.tatp_tables.specs.declared.table.Table.{Table}
 use Rattle.tatp_tables.specs.declared.table.Table.TheVariants.{Subscriber, AccessInfo, SpecialFacility, CallForwarding}
 use Rattle.tatp_tables.specs.declared.refusal.Refusal.{Refusal}

@@ -6,7 +6,7 @@ use std::marker::Model;
 
 /// What is left of a line, whose fields stand between single spaces. Contracts see the list of the
 /// fields left.
-#[derive(Drop)]
+#[derive(Debug, Drop)]
 pub struct Fields<'a> {
     rest: Option<&'a str>,
 }

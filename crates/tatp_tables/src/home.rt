@@ -22,7 +22,7 @@ use std::marker::Model;
 /// by type, and three Call_Forwarding rows a facility by start time. It takes no memory of its own.
 ///
 /// A key names its own s_id: one with another s_id than the home's finds nothing.
-#[derive(Drop)]
+#[derive(Debug, Drop)]
 pub struct Home {
     s_id: u64,
     subscriber: Option<[u64; 34]>,

@@ -53,7 +53,8 @@ impl<const N: usize> RowList<N> {
     pub fn into_vec(self) -> Vec<[u64; N]>
         ensures { result.items ≡ self.entry }
     {
-        self.rows
+        let Self { rows } = self;
+        rows
     }
 
     /// The rows.

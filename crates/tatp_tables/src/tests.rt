@@ -1,3 +1,4 @@
 //! Tests of the public calls, with values from docs/FORMATS.md.
 
+mod domain;
 mod homes;

@@ -22,7 +22,6 @@ impl Home {
         ensures back { IfOk result (λ before. put_tables self.new.tables column key before ≡ self.old.tables) }
         ensures err { OnErr result (self.new ≡ self.old) }
     {
-        // A column's place in its own row is never past the row: the four arms know their tables.
         match Table::of_column(column) {
             Table::Subscriber => self.put_in_subscriber(column, key, value),
             Table::AccessInfo => self.put_in_access(column, key, value),

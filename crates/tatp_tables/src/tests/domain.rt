@@ -6,23 +6,29 @@ use std::process::Abort;
 
 /// The s_ids and the locations.
 const NUMBER_ACCEPTED: &[u64] = &[1, 2, 4294967294, 4294967295];
+
 const NUMBER_REFUSED: &[u64] = &[0, 4294967296, 4294967297, 18446744073709551615];
 
 /// The numbers of 15 digits.
 const DIGITS_ACCEPTED: &[u64] = &[0, 1, 999999999999998, 999999999999999];
+
 const DIGITS_REFUSED: &[u64] = &[1000000000000000, 1000000000000001, 18446744073709551615];
 
 /// The types of an Access_Info or Special_Facility row.
 const TYPE_ACCEPTED: &[u64] = &[1, 2, 3, 4];
+
 const TYPE_REFUSED: &[u64] = &[0, 5, 6, 18446744073709551615];
 
 const BIT_ACCEPTED: &[u64] = &[0, 1];
+
 const BIT_REFUSED: &[u64] = &[2, 3, 256, 18446744073709551615];
 
 const HEX_ACCEPTED: &[u64] = &[0, 1, 2, 14, 15];
+
 const HEX_REFUSED: &[u64] = &[16, 17, 256, 18446744073709551615];
 
 const BYTE_ACCEPTED: &[u64] = &[0, 1, 2, 254, 255];
+
 const BYTE_REFUSED: &[u64] = &[256, 257, 65536, 18446744073709551615];
 
 /// AAA, ZZZ, ABC, MNO, AZA.
@@ -111,10 +117,16 @@ const ANY_REFUSED: &[u64] = &[0, 1, 8, 255, 4276545, 280267669825, 1844674407370
 fn try_columns(rt: &impl Abort, first: u8, last: u8, accepted: &[u64], refused: &[u64]) {
     for column in first..=last {
         for value in accepted {
-            assert!(rt; in_domain(column, *value), "column {column} refuses {value}");
+            assert!(rt;
+                in_domain(column, *value),
+                "column {column} refuses {value}"
+            );
         }
         for value in refused {
-            assert!(rt; !in_domain(column, *value), "column {column} accepts {value}");
+            assert!(rt;
+                !in_domain(column, *value),
+                "column {column} accepts {value}"
+            );
         }
     }
 }
@@ -143,8 +155,20 @@ fn each_column_has_its_domain(rt: HostRuntime) {
     // Call_Forwarding
     try_columns(&rt, 46, 46, NUMBER_ACCEPTED, NUMBER_REFUSED);
     try_columns(&rt, 47, 47, TYPE_ACCEPTED, TYPE_REFUSED);
-    try_columns(&rt, 48, 48, &[0, 8, 16], &[1, 2, 4, 7, 9, 15, 17, 24, 32, 18446744073709551615]);
-    try_columns(&rt, 49, 49, &[1, 2, 12, 23, 24], &[0, 25, 26, 256, 18446744073709551615]);
+    try_columns(
+        &rt,
+        48,
+        48,
+        &[0, 8, 16],
+        &[1, 2, 4, 7, 9, 15, 17, 24, 32, 18446744073709551615],
+    );
+    try_columns(
+        &rt,
+        49,
+        49,
+        &[1, 2, 12, 23, 24],
+        &[0, 25, 26, 256, 18446744073709551615],
+    );
     try_columns(&rt, 50, 50, DIGITS_ACCEPTED, DIGITS_REFUSED);
     // no column
     try_columns(&rt, 51, 255, &[], ANY_REFUSED);

@@ -100,7 +100,7 @@ parent_is_there n s parents row l own h =
 
 -- ---- each s_id stands once
 -- whether the first column is 1 to n
-abbrev within : ℕ → Tuple → Bool
+abbrev pub within : ℕ → Tuple → Bool
 within n [] = false
 within n (x ∷ xs) = nat_lt 0 x && nat_le x n
 
@@ -115,7 +115,7 @@ within_none : (row : Tuple) → cond {A = ℕ} (within 0 row) 1 0 ≡ 0
 within_none [] = refl
 within_none (x ∷ xs) = grind (arith, nat_tests)
 
-within_apart : (n s : ℕ) (row : Tuple) → (1 ≤ s → n < s) → cond (within n row) 1 0 + cond (has_key (s ∷ []) row) 1 0 ≤ 1
+pub within_apart : (n s : ℕ) (row : Tuple) → (1 ≤ s → n < s) → cond (within n row) 1 0 + cond (has_key (s ∷ []) row) 1 0 ≤ 1
 within_apart n s [] out = omega arith
 within_apart n s (x ∷ xs) out = apart_bits n s x out
   where
@@ -127,7 +127,7 @@ count_by-split : (p q r : Tuple → Bool) → ((x : Tuple) → cond {A = ℕ} (r
 count_by-split p q r h [] = omega arith
 count_by-split p q r h (x ∷ xs) = omega (arith, count_by-cons p x xs, count_by-cons q x xs, count_by-cons r x xs, h x, count_by-split p q r h xs)
 
-count_by-apart : (p q : Tuple → Bool) → ((x : Tuple) → cond {A = ℕ} (p x) 1 0 + cond (q x) 1 0 ≤ 1) → (xs : List Tuple) → count_by p xs + count_by q xs ≤ length xs
+pub count_by-apart : (p q : Tuple → Bool) → ((x : Tuple) → cond {A = ℕ} (p x) 1 0 + cond (q x) 1 0 ≤ 1) → (xs : List Tuple) → count_by p xs + count_by q xs ≤ length xs
 count_by-apart p q h [] = omega arith
 count_by-apart p q h (x ∷ xs) = omega (arith, count_by-cons p x xs, count_by-cons q x xs, h x, count_by-apart p q h xs)
 
@@ -136,7 +136,7 @@ count_by-none p h [] = refl
 count_by-none p h (x ∷ xs) = omega (arith, count_by-cons p x xs, h x, count_by-none p h xs)
 
 -- n rows have the s_ids 1 to n
-count-within : (n : ℕ) (xs : List Tuple) → ((s : ℕ) → 1 ≤ s → s ≤ n → count_of_key (s ∷ []) xs ≡ 1) → count_by (within n) xs ≡ n
+pub count-within : (n : ℕ) (xs : List Tuple) → ((s : ℕ) → 1 ≤ s → s ≤ n → count_of_key (s ∷ []) xs ≡ 1) → count_by (within n) xs ≡ n
 count-within zero xs each = count_by-none (within 0) within_none xs
 count-within (suc n) xs each = omega (
   arith,

@@ -1,0 +1,5 @@
+pub mod IdLaws
+pub mod FindLaws
+pub mod NumberLaws
+pub mod HomeLaws
+pub mod FixtureLaws

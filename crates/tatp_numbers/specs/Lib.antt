@@ -1,0 +1,3 @@
+pub mod Homes
+pub mod Listing
+pub mod Lists

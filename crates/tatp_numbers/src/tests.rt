@@ -1,0 +1,2 @@
+//! Directories of no subscriber, of three, and of two with one number.
+mod directories;

@@ -1,0 +1,9 @@
+pub mod Order
+pub mod Scan
+pub mod Twins
+pub mod KeyCounts
+pub mod Astray
+pub mod Fitting
+pub mod Miscounts
+pub mod Verdicts
+pub mod CleanRows

@@ -3,9 +3,11 @@
 
 mod decoding;
 mod encoding;
+mod module;
 
 pub use decoding::{Bad, decode, decode_encoded};
 pub use encoding::encode;
+pub use module::{Module, Proc};
 
 #[cfg(test)]
 mod tests;

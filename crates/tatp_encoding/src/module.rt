@@ -1,0 +1,115 @@
+//! Procedures, and modules of them.
+ghost use Rattle.std.specs.Prelude.{◌≡◌, true, length};
+ghost use Rattle.std.specs.List.{list_all};
+ghost use Rattle.tatp_encoding.specs.Modules.{is_procedure, is_from_to, jumps_stay, is_module};
+
+use arrayvec::ArrayString;
+use std::marker::Model;
+use tatp_instr::Instr;
+
+/// A procedure: a name of 1 to 24 of the letters A..Z and underscore, 0 to 8 arguments, and 1 to 256
+/// instructions.
+#[derive(Debug, Drop)]
+pub struct Proc {
+    name: ArrayString<24>,
+    arity: u8,
+    code: Vec<Instr>,
+}
+
+impl Model for Proc {
+    ghost use Rattle.std.specs.Prelude.{◌≡◌, true};
+    ghost use Rattle.tatp_encoding.specs.Modules.{Procedure, is_procedure};
+
+    ghost Value = { Procedure };
+
+    ghost view = { λ p. record {
+      name = p.name.bytes;
+      arity = p.arity;
+      code = p.code.items;
+    } };
+
+    ghost invariant = { λ p. is_procedure (record { name = p.name.bytes; arity = p.arity; code = p.code.items }) ≡ true };
+}
+
+impl Proc {
+    /// A procedure of these parts.
+    pub fn new(name: &str, arity: u8, code: Vec<Instr>) -> Proc
+        requires { is_procedure (record { name = name.now; arity = arity; code = code.items }) ≡ true }
+        ensures { result ≡ record { name = name.now; arity = arity; code = code.items } }
+    {
+        let mut kept = ArrayString::new();
+        kept.push_str(name);
+        Proc {
+            name: kept,
+            arity,
+            code,
+        }
+    }
+
+    /// The name.
+    pub fn name(&self) -> &str
+        ensures { result.now ≡ self.now.name }
+    {
+        self.name.as_str()
+    }
+
+    /// How many arguments it takes.
+    pub fn arity(&self) -> u8
+        ensures value { result ≡ self.now.arity }
+        ensures procedure { is_procedure self.now ≡ true }
+    {
+        self.arity
+    }
+
+    /// The instructions.
+    pub fn code(&self) -> &[Instr]
+        ensures { result.now ≡ self.now.code }
+    {
+        self.code.as_slice()
+    }
+}
+
+/// A module: 1 to 16 procedures, whose jumps lead to a place in their code or to its end. Names may
+/// repeat.
+#[derive(Debug, Drop)]
+pub struct Module {
+    procs: Vec<Proc>,
+}
+
+impl Model for Module {
+    ghost use Rattle.std.specs.Prelude.{◌≡◌, true, List};
+    ghost use Rattle.tatp_encoding.specs.Modules.{Procedure, is_module};
+
+    ghost Value = { List Procedure };
+
+    ghost view = { λ m. m.procs.items };
+
+    ghost invariant = { λ m. is_module m.procs.items ≡ true };
+}
+
+impl Module {
+    /// A module of these procedures.
+    pub fn new(procs: Vec<Proc>) -> Module
+        requires { is_module procs.items ≡ true }
+        ensures { result ≡ procs.items }
+    {
+        Module { procs }
+    }
+
+    /// The procedures.
+    pub fn procs(&self) -> &[Proc]
+        ensures value { result.now ≡ self.now }
+        ensures module { is_module self.now ≡ true }
+    {
+        self.procs.as_slice()
+    }
+
+    /// The procedures, out of the module.
+    pub fn into_procs(self) -> Vec<Proc>
+        ensures value { result.items ≡ self }
+        ensures module { is_module self ≡ true }
+    {
+        let Self { procs } = self;
+        procs
+    }
+}

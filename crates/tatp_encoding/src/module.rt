@@ -1,7 +1,6 @@
 //! Procedures, and modules of them.
-ghost use Rattle.std.specs.Prelude.{◌≡◌, true, length};
-ghost use Rattle.std.specs.List.{list_all};
-ghost use Rattle.tatp_encoding.specs.Modules.{is_procedure, is_from_to, jumps_stay, is_module};
+ghost use Rattle.std.specs.Prelude.{◌≡◌, ◌≤◌, true, length};
+ghost use Rattle.tatp_encoding.specs.Modules.{is_name, is_procedure, is_module};
 
 use arrayvec::ArrayString;
 use std::marker::Model;
@@ -48,7 +47,8 @@ impl Proc {
 
     /// The name.
     pub fn name(&self) -> &str
-        ensures { result.now ≡ self.now.name }
+        ensures value { result.now ≡ self.now.name }
+        ensures name { is_name self.now.name ≡ true }
     {
         self.name.as_str()
     }
@@ -56,14 +56,16 @@ impl Proc {
     /// How many arguments it takes.
     pub fn arity(&self) -> u8
         ensures value { result ≡ self.now.arity }
-        ensures procedure { is_procedure self.now ≡ true }
+        ensures most { self.now.arity ≤ 8 }
     {
         self.arity
     }
 
     /// The instructions.
     pub fn code(&self) -> &[Instr]
-        ensures { result.now ≡ self.now.code }
+        ensures value { result.now ≡ self.now.code }
+        ensures least { 1 ≤ length self.now.code }
+        ensures most { length self.now.code ≤ 256 }
     {
         self.code.as_slice()
     }

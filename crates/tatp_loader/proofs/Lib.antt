@@ -1,0 +1,2 @@
+mod ListLaws
+pub mod RuleLaws

@@ -1,0 +1,61 @@
+//! What is wrong with a module.
+use thiserror::Error;
+
+/// Which test a module, or the bytes of one, failed. Its text is its number and its name.
+#[derive(Clone, Copy, Debug, PartialEq, Eq, Error)]
+pub enum FaultKind {
+    /// There is no such op.
+    #[error("6 BadOp")]
+    BadOp = 6,
+    /// A byte that the op has no use for is not 0.
+    #[error("7 UnusedNotZero")]
+    UnusedNotZero = 7,
+    /// A register operand is outside its range.
+    #[error("8 BadRegister")]
+    BadRegister = 8,
+    /// The bytes end before a field is whole.
+    #[error("13 Truncated")]
+    Truncated = 13,
+    /// The first four bytes are others.
+    #[error("14 BadMagic")]
+    BadMagic = 14,
+    /// Bytes follow the last instruction.
+    #[error("15 Extra")]
+    Extra = 15,
+    /// An earlier procedure has the name.
+    #[error("16 NameTwice")]
+    NameTwice = 16,
+    /// A count, a name's length or byte, an arity or a procedure's length is out of range.
+    #[error("17 BadHeader")]
+    BadHeader = 17,
+    /// A jump doesn't go to a later instruction.
+    #[error("18 BackwardJump")]
+    BackwardJump = 18,
+    /// A jump leads past the last instruction.
+    #[error("19 BadTarget")]
+    BadTarget = 19,
+    /// There is no such column, or it is set and is fixed.
+    #[error("20 FixedColumn")]
+    FixedColumn = 20,
+    /// The procedure takes no such argument.
+    #[error("21 NoSuchArgument")]
+    NoSuchArgument = 21,
+    /// The 41st OUT.
+    #[error("22 TooManyOut")]
+    TooManyOut = 22,
+    /// The 65th of PUT, INS and DEL.
+    #[error("23 TooManyWrites")]
+    TooManyWrites = 23,
+    /// The last instruction is neither DONE nor FAIL.
+    #[error("24 NoEnd")]
+    NoEnd = 24,
+}
+
+/// A fault and its place: the procedure and the instruction in it, both counted from 0.
+#[derive(Clone, Copy, Debug, PartialEq, Eq, Error)]
+#[error("{kind} {procedure} {instruction}")]
+pub struct LoadFault {
+    pub kind: FaultKind,
+    pub procedure: usize,
+    pub instruction: usize,
+}

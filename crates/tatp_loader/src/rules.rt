@@ -1,0 +1,163 @@
+//! The rules that a module keeps before a machine runs it.
+ghost use Rattle.std.specs.Prelude.{◌≡◌, ◌↔◌, length, IsOk, IfOk, IfErr, Some};
+ghost use Rattle.std.specs.List.{list_any};
+ghost use Rattle.tatp_tables.specs.Columns.{is_fixed};
+ghost use Rattle.tatp_loader.specs.Lawful.{IsLawful, is_out, is_write, is_end};
+ghost use Rattle.tatp_loader.specs.Rules.{misfit, excess, first_broken, ends, missing_end, has_name, fault_behind, first_fault};
+
+use crate::fault::{FaultKind, LoadFault};
+use crate::loaded::Loaded;
+use tatp_encoding::{Module, Proc};
+use tatp_instr::Instr;
+
+/// The most OUT instructions, and the most PUT, INS and DEL, of one procedure.
+const MOST_OUTS: usize = 40;
+
+const MOST_WRITES: usize = 64;
+
+fn is_out(instr: &Instr) -> bool
+    ensures { result ≡ is_out instr.now }
+{
+    matches!(instr, Instr::Out(_))
+}
+
+fn is_write(instr: &Instr) -> bool
+    ensures { result ≡ is_write instr.now }
+{
+    matches!(instr, Instr::Put(_, _) | Instr::Ins(_, _) | Instr::Del)
+}
+
+fn is_end(instr: &Instr) -> bool
+    ensures { result ≡ is_end instr.now }
+{
+    matches!(instr, Instr::Done | Instr::Fail(_))
+}
+
+/// Whether a column never changes: one of a primary key, or a subscriber's number.
+fn is_fixed_column(column: u32) -> bool
+    ensures { result ≡ is_fixed column }
+{
+    matches!(column, 0 | 1 | 34 | 35 | 40 | 41 | 46 | 47 | 48)
+}
+
+/// The first rule that the instruction at a position breaks by itself.
+fn instr_misfit(procedure: &Proc, position: usize, instr: &Instr) -> Option<FaultKind>
+    ensures { result ≡ misfit procedure.now position instr.now }
+{
+    match *instr {
+        Instr::Arg(_, argument) if argument >= u32::from(procedure.arity()) => {
+            Some(FaultKind::NoSuchArgument)
+        }
+        Instr::Get(_, column) if column > 50 => Some(FaultKind::FixedColumn),
+        Instr::Put(column, _) if column > 50 || is_fixed_column(column) => {
+            Some(FaultKind::FixedColumn)
+        }
+        Instr::Jmp(target) | Instr::Jz(_, target) => {
+            if target as usize <= position {
+                Some(FaultKind::BackwardJump)
+            } else if target as usize >= procedure.code().len() {
+                Some(FaultKind::BadTarget)
+            } else {
+                None
+            }
+        }
+        _ => None,
+    }
+}
+
+/// Whether the instruction is one OUT, or one PUT, INS or DEL, too many behind so many.
+fn instr_excess(outs: usize, writes: usize, instr: &Instr) -> Option<FaultKind>
+    ensures { result ≡ excess outs writes instr.now }
+{
+    if is_out(instr) && outs >= MOST_OUTS {
+        Some(FaultKind::TooManyOut)
+    } else if is_write(instr) && writes >= MOST_WRITES {
+        Some(FaultKind::TooManyWrites)
+    } else {
+        None
+    }
+}
+
+/// The first instruction that breaks a rule, in the procedure with this number.
+fn first_broken(number: usize, procedure: &Proc) -> Option<LoadFault>
+    ensures { result ≡ first_broken number procedure.now 0 procedure.now.code }
+{
+    let mut outs = 0;
+    let mut writes = 0;
+    for (position, instr) in procedure.code().iter().enumerate() {
+        let kind = instr_misfit(procedure, position, instr).or(instr_excess(outs, writes, instr));
+        if let Some(kind) = kind {
+            return Some(LoadFault {
+                kind,
+                procedure: number,
+                instruction: position,
+            });
+        }
+        outs += usize::from(is_out(instr));
+        writes += usize::from(is_write(instr));
+    }
+    None
+}
+
+/// The fault of a procedure that doesn't end with DONE or FAIL.
+fn missing_end(number: usize, procedure: &Proc) -> Option<LoadFault>
+    ensures { result ≡ missing_end number procedure.now }
+{
+    let last = procedure.code().len() - 1;
+    if is_end(&procedure.code()[last]) {
+        return None;
+    }
+    Some(LoadFault {
+        kind: FaultKind::NoEnd,
+        procedure: number,
+        instruction: last,
+    })
+}
+
+/// Whether one of the procedures has the name.
+fn any_has_name(procs: &[Proc], name: &str) -> bool
+    ensures { result ≡ list_any (has_name name.now) procs.now }
+{
+    procs.iter().any(|procedure| procedure.name() == name)
+}
+
+/// The first fault of the procedure behind these.
+fn fault_behind(before: &[Proc], procedure: &Proc) -> Option<LoadFault>
+    ensures { result ≡ fault_behind before.now procedure.now }
+{
+    let number = before.len();
+    if any_has_name(before, procedure.name()) {
+        return Some(LoadFault {
+            kind: FaultKind::NameTwice,
+            procedure: number,
+            instruction: 0,
+        });
+    }
+    first_broken(number, procedure).or(missing_end(number, procedure))
+}
+
+/// The first rule that the procedures break.
+pub(crate) fn first_fault(procs: &[Proc]) -> Option<LoadFault>
+    ensures { result ≡ first_fault procs.now }
+{
+    for number in 0..procs.len() {
+        let fault = fault_behind(&procs[..number], &procs[number]);
+        if fault.is_some() {
+            return fault;
+        }
+    }
+    None
+}
+
+/// The module, where it keeps the rules. Otherwise the first rule that it breaks, procedure by
+/// procedure; the module is consumed then too.
+pub fn check(module: Module) -> Result<Loaded, LoadFault>
+    ensures value { IfOk result (λ loaded. loaded ≡ «module») }
+    ensures lawful { IsOk result ↔ IsLawful «module» }
+    ensures fault { IfErr result (λ fault. first_fault «module» ≡ Some fault) }
+{
+    match first_fault(module.procs()) {
+        Some(fault) => Err(fault),
+        None => Ok(Loaded::new(module)),
+    }
+}

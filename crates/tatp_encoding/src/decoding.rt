@@ -5,6 +5,7 @@ ghost use Rattle.tatp_instr.specs.declared.instr.Instr.{Instr};
 ghost use Rattle.tatp_instr.specs.Instrs.{parts_of, parts_with};
 ghost use Rattle.tatp_instr.specs.Shapes.{shape_at};
 ghost use Rattle.tatp_encoding.specs.Spelling.{spelling, IsInstr};
+ghost use Rattle.tatp_encoding.specs.Decoding.{instr_with, decoded};
 ghost use Rattle.tatp_encoding.specs.Faults.{parts_in, has_bad_op, has_unused, has_unused_in, has_bad_register, is_not_zero, is_unused_word};
 
 use crate::encoding::encode;
@@ -65,10 +66,12 @@ fn has_unused_part(parts: &Parts, shape: Shape) -> bool
 
 // The instruction of an op and its operands, or `None` where a register is outside its range. An
 // operand that the op has no use for is 0, so it passes for a register.
+#[tactic(auto, unfolding(crate::specs::Decoding::instr_with))]
 fn instr_of(op: u8, first: u8, second: u8, third: u8, word: u32) -> Option<Instr>
     requires known { has_bad_op (parts_with op first second third word) ≡ false }
     requires used { has_unused (parts_with op first second third word) ≡ false }
     ensures value { IfSome result (λ instr. parts_of instr ≡ parts_with op first second third word) }
+    ensures exact { IfSome result (λ instr. instr ≡ instr_with op first second third word) }
     ensures none { IsNone result ↔ IsTrue (has_bad_register (parts_with op first second third word)) }
 {
     let key = second;
@@ -105,10 +108,13 @@ fn instr_of(op: u8, first: u8, second: u8, third: u8, word: u32) -> Option<Instr
 }
 
 /// The instruction that the bytes spell. Otherwise the first of the three faults that they have.
+#[tactic(auto, unfolding(crate::specs::Decoding::decoded))]
 pub fn decode(bytes: &[u8; 8]) -> Result<Instr, Bad>
     // What is read is spelled so, and what is spelled so is read.
     ensures ok { IfOk result (λ instr. bytes.now ≡ spelling instr) }
     ensures only { (instr : Instr) → IsInstr instr → bytes.now ≡ spelling instr → result ≡ Ok instr }
+
+    ensures exact { result ≡ decoded bytes.now }
 
     // Which fault it is. Bytes without an op have no unused ones.
     ensures bad_op { IsErrOf result Bad.BadOp ↔ IsTrue (has_bad_op (parts_in bytes.now)) }

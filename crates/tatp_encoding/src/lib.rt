@@ -3,10 +3,12 @@
 
 mod decoding;
 mod encoding;
+mod laws;
 mod module;
 
 pub use decoding::{Bad, decode, decode_encoded};
 pub use encoding::encode;
+pub use laws::instructions_are_read_as_spelled;
 pub use module::{Module, Proc};
 
 #[cfg(test)]

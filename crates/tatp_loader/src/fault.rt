@@ -1,4 +1,8 @@
-//! What is wrong with a module.
+//! What is wrong with a module, or with the bytes of one.
+ghost use Rattle.std.specs.Prelude.{◌≡◌};
+ghost use Rattle.tatp_loader.specs.declared.fault.LoadError.TheVariants.{NoMemory, Fault};
+
+use std::alloc::{AllocError, AllocFailed};
 use thiserror::Error;
 
 /// Which test a module, or the bytes of one, failed. Its text is its number and its name.
@@ -58,4 +62,39 @@ pub struct LoadFault {
     pub kind: FaultKind,
     pub procedure: usize,
     pub instruction: usize,
+}
+
+/// Why bytes are not loaded.
+#[derive(Clone, Copy, Debug, PartialEq, Eq, Error)]
+pub enum LoadError {
+    /// Memory ran out.
+    #[error("46 NoMemory")]
+    NoMemory,
+    /// The bytes are no module that may run.
+    #[error("{0}")]
+    Fault(LoadFault),
+}
+
+impl From<LoadFault> for LoadError {
+    ghost from_gives = { λ fault e. e ≡ Fault fault };
+
+    fn from(fault: LoadFault) -> LoadError {
+        LoadError::Fault(fault)
+    }
+}
+
+impl From<AllocError> for LoadError {
+    ghost from_gives = { λ _ e. e ≡ NoMemory };
+
+    fn from(_error: AllocError) -> LoadError {
+        LoadError::NoMemory
+    }
+}
+
+impl<T: Drop> From<AllocFailed<T>> for LoadError {
+    ghost from_gives = { λ _ e. e ≡ NoMemory };
+
+    fn from(_error: AllocFailed<T>) -> LoadError {
+        LoadError::NoMemory
+    }
 }

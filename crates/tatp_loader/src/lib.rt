@@ -3,8 +3,9 @@
 
 mod fault;
 mod loaded;
+mod reading;
 mod rules;
 
-pub use fault::{FaultKind, LoadFault};
+pub use fault::{FaultKind, LoadError, LoadFault};
 pub use loaded::Loaded;
 pub use rules::check;

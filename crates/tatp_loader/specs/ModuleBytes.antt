@@ -1,0 +1,40 @@
+-- The bytes of a module: docs/FORMATS.md, "Modules as bytes".
+use Rattle.std.specs.Prelude.{◌≡◌, ℕ, List, [], ◌∷◌, ◌++◌, length, true}
+use Rattle.std.specs.Int.{w16, to_be_bytes}
+use Rattle.tatp_instr.specs.declared.instr.Instr.{Instr}
+use Rattle.tatp_encoding.specs.Modules.{Procedure, is_procedure}
+use Rattle.tatp_encoding.specs.Spelling.{spelling, IsInstr}
+
+-- what each module begins with
+abbrev pub magic : List ℕ
+magic = 0x54 ∷ 0x50 ∷ 0x4D ∷ 0x01 ∷ []
+
+-- eight bytes an instruction
+unfoldable pub code_bytes : List Instr → List ℕ
+code_bytes [] = []
+code_bytes (instr ∷ more) = spelling instr ++ code_bytes more
+
+-- the name behind its length, the arity, how many instructions there are, and those
+unfoldable pub procedure_bytes : Procedure → List ℕ
+procedure_bytes p = length p.name ∷ (p.name ++ (p.arity ∷ (to_be_bytes w16 (length p.code) ++ code_bytes p.code)))
+
+unfoldable pub procedures_bytes : List Procedure → List ℕ
+procedures_bytes [] = []
+procedures_bytes (p ∷ more) = procedure_bytes p ++ procedures_bytes more
+
+-- the magic, how many procedures there are, and those
+unfoldable pub module_bytes : List Procedure → List ℕ
+module_bytes m = magic ++ (length m ∷ procedures_bytes m)
+
+-- the bytes are the module's, all of them
+abbrev pub IsModuleOf : List ℕ → List Procedure → Type 0
+IsModuleOf bytes m = bytes ≡ module_bytes m
+
+-- ---- what a program can have
+abbrev pub AreInstrs : List Instr → Type 0
+AreInstrs [] = Unit {0}
+AreInstrs (instr ∷ more) = IsInstr instr × AreInstrs more
+
+abbrev pub AreProcedures : List Procedure → Type 0
+AreProcedures [] = Unit {0}
+AreProcedures (p ∷ more) = (is_procedure p ≡ true) × AreInstrs p.code × AreProcedures more

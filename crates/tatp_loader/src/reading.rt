@@ -1,12 +1,12 @@
 //! A module out of its bytes, read once from front to back.
-ghost use Rattle.std.specs.Prelude.{◌≡◌, ◌∷◌, ◌++◌, ℕ, ◌<◌, true, length, IfOk};
+ghost use Rattle.std.specs.Prelude.{◌≡◌, ◌∷◌, ◌++◌, ◌*◌, true, ◌≤◌, length, drop, IfOk, OnOk, IfSome, is_some};
 ghost use Rattle.std.specs.List.{list_all};
 ghost use Rattle.std.specs.Int.{w16, to_be_bytes};
 ghost use Rattle.tatp_encoding.specs.Decoding.{decoded};
-ghost use Rattle.tatp_encoding.specs.Modules.{is_from_to, is_name_byte, is_procedure};
+ghost use Rattle.tatp_encoding.specs.Modules.{is_name, is_name_byte};
 ghost use Rattle.tatp_encoding.specs.Spelling.{spelling};
 ghost use Rattle.tatp_loader.specs.Rules.{fault};
-ghost use Rattle.tatp_loader.specs.ModuleBytes.{code_bytes, procedure_bytes, procedures_bytes, magic};
+ghost use Rattle.tatp_loader.specs.ModuleBytes.{code_bytes, procedure_bytes, procedures_bytes, IsModuleOf, magic};
 ghost use Rattle.tatp_loader.specs.Reading.{Gives, byte_at, bytes_at, name_at, arity_at, length_at, instr_at, code_at, procedure_at, procedures_at, count_at, module_at, kind_of};
 
 use crate::fault::{FaultKind, LoadError, LoadFault};
@@ -57,11 +57,26 @@ fn are_name_bytes(bytes: &[u8]) -> bool
     bytes.iter().all(|byte| matches!(*byte, b'A'..=b'Z' | b'_'))
 }
 
+/// The text of bytes that may stand in a name, all of them.
+fn name_of(bytes: &[u8]) -> Option<&str>
+    ensures some { IfSome result (λ name. name.now ≡ bytes.now) }
+    ensures passes { is_some result ≡ list_all is_name_byte bytes.now }
+{
+    if !are_name_bytes(bytes) {
+        return None;
+    }
+    match str::from_utf8(bytes) {
+        Ok(name) => Some(name),
+        Err(_) => unreachable!("they are ASCII"),
+    }
+}
+
 /// The name of the procedure n, behind its length.
 #[tactic(auto, unfolding(crate::specs::Reading::name_at))]
-fn name_at(bytes: &[u8], n: usize) -> Result<(&[u8], &[u8]), LoadError>
+fn name_at(bytes: &[u8], n: usize) -> Result<(&str, &[u8]), LoadError>
     ensures read { Gives (λ x. (x.0.now, x.1.now)) result (name_at n bytes.now) }
     ensures spelled { IfOk result (λ x. bytes.now ≡ (length x.0.now ∷ x.0.now) ++ x.1.now) }
+    ensures name { IfOk result (λ x. is_name x.0.now ≡ true) }
 {
     let cut = fault(FaultKind::Truncated, n, 0);
     let bad = fault(FaultKind::BadHeader, n, 0);
@@ -70,10 +85,10 @@ fn name_at(bytes: &[u8], n: usize) -> Result<(&[u8], &[u8]), LoadError>
         return Err(LoadError::Fault(bad));
     }
     let (name, rest) = bytes_at(rest, usize::from(size), cut)?;
-    if !are_name_bytes(name) {
-        return Err(LoadError::Fault(bad));
+    match name_of(name) {
+        Some(name) => Ok((name, rest)),
+        None => Err(LoadError::Fault(bad)),
     }
-    Ok((name, rest))
 }
 
 /// How many arguments the procedure n takes.
@@ -81,6 +96,7 @@ fn name_at(bytes: &[u8], n: usize) -> Result<(&[u8], &[u8]), LoadError>
 fn arity_at(bytes: &[u8], n: usize) -> Result<(u8, &[u8]), LoadError>
     ensures read { Gives (λ x. (x.0, x.1.now)) result (arity_at n bytes.now) }
     ensures spelled { IfOk result (λ x. bytes.now ≡ x.0 ∷ x.1.now) }
+    ensures most { IfOk result (λ x. x.0 ≤ 8) }
 {
     let (arity, rest) = byte_at(bytes, fault(FaultKind::Truncated, n, 0))?;
     if arity > 8 {
@@ -94,6 +110,7 @@ fn arity_at(bytes: &[u8], n: usize) -> Result<(u8, &[u8]), LoadError>
 fn length_at(bytes: &[u8], n: usize) -> Result<(usize, &[u8]), LoadError>
     ensures read { Gives (λ x. (x.0, x.1.now)) result (length_at n bytes.now) }
     ensures spelled { IfOk result (λ x. bytes.now ≡ to_be_bytes w16 x.0 ++ x.1.now) }
+    ensures range { IfOk result (λ x. (1 ≤ x.0) × (x.0 ≤ 256)) }
 {
     let (field, rest) = bytes_at(bytes, 2, fault(FaultKind::Truncated, n, 0))?;
     let len = usize::from(u16::from_be_bytes([field[0], field[1]]));
@@ -125,15 +142,101 @@ fn decoded(field: &[u8]) -> Result<Instr, Bad>
     ])
 }
 
-/// The instruction i of the procedure n.
+/// The instruction i of the procedure n, in the first eight bytes.
 #[tactic(auto, unfolding(crate::specs::Reading::instr_at))]
-fn instr_at(bytes: &[u8], n: usize, i: usize) -> Result<(Instr, &[u8]), LoadError>
-    ensures read { Gives (λ x. (x.0, x.1.now)) result (instr_at n i bytes.now) }
-    ensures spelled { IfOk result (λ x. bytes.now ≡ spelling x.0 ++ x.1.now) }
+fn instr_at(bytes: &[u8], n: usize, i: usize) -> Result<Instr, LoadError>
+    ensures read { Gives (λ instr. (instr, drop 8 bytes.now)) result (instr_at n i bytes.now) }
+    ensures spelled { IfOk result (λ instr. bytes.now ≡ spelling instr ++ drop 8 bytes.now) }
+    ensures within { OnOk result (8 ≤ length bytes.now) }
 {
-    let (field, rest) = bytes_at(bytes, 8, fault(FaultKind::Truncated, n, i))?;
+    let (field, _) = bytes_at(bytes, 8, fault(FaultKind::Truncated, n, i))?;
     match decoded(field) {
-        Ok(instr) => Ok((instr, rest)),
+        Ok(instr) => Ok(instr),
         Err(bad) => Err(LoadError::Fault(fault(kind_of(bad), n, i))),
     }
+}
+
+/// The instructions of the procedure n, `len` of them, in the first 8 * `len` bytes.
+fn code_at(alloc: Global, bytes: &[u8], n: usize, len: usize) -> Result<Vec<Instr>, LoadError>
+    ensures read { Gives (λ code. (code.items, drop (8 * len) bytes.now)) result (code_at n 0 len bytes.now) }
+    ensures spelled { IfOk result (λ code. bytes.now ≡ code_bytes code.items ++ drop (8 * len) bytes.now) }
+    ensures count { IfOk result (λ code. length code.items ≡ len) }
+{
+    let mut code = Vec::with_capacity(alloc, len)?;
+    let mut rest = bytes;
+    for i in 0..len {
+        let instr = instr_at(rest, n, i)?;
+        code.push(instr)?;
+        let (_, after) = rest.split_at(8);
+        rest = after;
+    }
+    Ok(code)
+}
+
+/// The procedure n, and how many bytes it takes.
+#[tactic(auto, unfolding(crate::specs::Reading::procedure_at))]
+fn procedure_at(alloc: Global, bytes: &[u8], n: usize) -> Result<(Proc, usize), LoadError>
+    ensures read { Gives (λ x. (x.0, drop x.1 bytes.now)) result (procedure_at n bytes.now) }
+    ensures spelled { IfOk result (λ x. bytes.now ≡ procedure_bytes x.0 ++ drop x.1 bytes.now) }
+    ensures within { IfOk result (λ x. x.1 ≤ length bytes.now) }
+{
+    let (name, rest) = name_at(bytes, n)?;
+    let (arity, rest) = arity_at(rest, n)?;
+    let (len, rest) = length_at(rest, n)?;
+    let code = code_at(alloc, rest, n, len)?;
+    // The name's length, the name, the arity, the number of instructions, and those.
+    let size = 1 + name.len() + 1 + 2 + 8 * len;
+    Ok((Proc::new(name, arity, code), size))
+}
+
+/// The procedures, `count` of them, and how many bytes they take.
+fn procedures_at(alloc: Global, bytes: &[u8], count: usize) -> Result<(Vec<Proc>, usize), LoadError>
+    ensures read { Gives (λ x. (x.0.items, drop x.1 bytes.now)) result (procedures_at 0 count bytes.now) }
+    ensures spelled { IfOk result (λ x. bytes.now ≡ procedures_bytes x.0.items ++ drop x.1 bytes.now) }
+    ensures within { IfOk result (λ x. x.1 ≤ length bytes.now) }
+    ensures count { IfOk result (λ x. length x.0.items ≡ count) }
+{
+    let mut procs = Vec::with_capacity(alloc, count)?;
+    let mut size = 0;
+    let mut rest = bytes;
+    for n in 0..count {
+        let (procedure, more) = procedure_at(alloc, rest, n)?;
+        procs.push(procedure)?;
+        size += more;
+        let (_, after) = rest.split_at(more);
+        rest = after;
+    }
+    Ok((procs, size))
+}
+
+/// How many procedures there are, behind the magic.
+#[tactic(auto, unfolding(crate::specs::Reading::count_at))]
+fn count_at(bytes: &[u8]) -> Result<(usize, &[u8]), LoadError>
+    ensures read { Gives (λ x. (x.0, x.1.now)) result (count_at bytes.now) }
+    ensures spelled { IfOk result (λ x. bytes.now ≡ magic ++ (x.0 ∷ x.1.now)) }
+{
+    let cut = fault(FaultKind::Truncated, 0, 0);
+    let (front, rest) = bytes_at(bytes, 4, cut)?;
+    if front != MAGIC.as_slice() {
+        return Err(LoadError::Fault(fault(FaultKind::BadMagic, 0, 0)));
+    }
+    let (count, rest) = byte_at(rest, cut)?;
+    if count < 1 || count > 16 {
+        return Err(LoadError::Fault(fault(FaultKind::BadHeader, 0, 0)));
+    }
+    Ok((usize::from(count), rest))
+}
+
+/// The procedures of a module, out of all of its bytes.
+#[tactic(auto, unfolding(crate::specs::Reading::module_at))]
+pub(crate) fn module_at(alloc: Global, bytes: &[u8]) -> Result<Vec<Proc>, LoadError>
+    ensures read { Gives (λ procs. procs.items) result (module_at bytes.now) }
+    ensures spelled { IfOk result (λ procs. IsModuleOf bytes.now procs.items) }
+{
+    let (count, rest) = count_at(bytes)?;
+    let (procs, size) = procedures_at(alloc, rest, count)?;
+    if size < rest.len() {
+        return Err(LoadError::Fault(fault(FaultKind::Extra, 0, 0)));
+    }
+    Ok(procs)
 }

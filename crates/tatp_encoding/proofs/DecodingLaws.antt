@@ -1,14 +1,12 @@
 -- The eight bytes of an instruction are read as that instruction.
-use Rattle.std.proofs.Common.{◌≡◌, ℕ, ◌<◌, ◌≤◌, ◌^◌, Bool, true, false, cond, List, [], ◌∷◌, Result, Ok, Err, refl, sym, ◌∙◌, ap, arith}
+use Rattle.std.proofs.Common.{◌≡◌, ℕ, ◌<◌, ◌^◌, Bool, false, cond, Ok, Err, refl, ◌∙◌, ap, arith}
 use Rattle.std.specs.Prelude.{nat_le}
 use Rattle.std.specs.Int.{w32, to_be_bytes, from_be_bytes}
 use Rattle.std.proofs.lemmas.Bool.{lt-leb}
 use Rattle.std.proofs.lemmas.Nat.{from_be_bytes-to_be_bytes_4}
 use Rattle.tatp_instr.specs.declared.instr.Instr.{Instr}
 use Rattle.tatp_instr.specs.declared.instr.Instr.TheVariants.{Ldi, Mov, Arg, Add, Sub, Eq, Lt, Jmp, Jz, Fsub, Fnum, Facc, Ffac, Fcfw, Get, Put, Ins, Del, Out, Done, Fail}
-use Rattle.tatp_instr.specs.declared.instr.Parts.{Parts}
 use Rattle.tatp_instr.specs.Instrs.{parts_of, parts_with}
-use Rattle.tatp_encoding.specs.declared.decoding.Bad.{Bad}
 use Rattle.tatp_encoding.specs.declared.decoding.Bad.TheVariants.{BadOp, UnusedNotZero, BadRegister}
 use Rattle.tatp_encoding.specs.Faults.{parts_in, has_bad_op, has_unused, has_bad_register}
 use Rattle.tatp_encoding.specs.Spelling.{spelling, IsInstr}

@@ -1,13 +1,15 @@
 -- The loops over instructions and over procedures.
-use Rattle.std.proofs.Common.{◌≡◌, true, ℕ, zero, suc, ◌+◌, ◌*◌, ◌≤◌, ◌<◌, List, [], ◌∷◌, ◌++◌, length, drop, Result, Ok, Err, refl, sym, ap, ◌∙◌, append_assoc, arith, length-append}
+use Rattle.std.proofs.Common.{◌≡◌, true, ℕ, ◌+◌, ◌*◌, ◌≤◌, List, [], ◌∷◌, ◌++◌, length, drop, Ok, refl, sym, ap, ◌∙◌, append_assoc, arith, length-append}
 use Rattle.std.proofs.lemmas.List.{append-nil, drop_at}
 use Rattle.tatp_instr.specs.declared.instr.Instr.{Instr}
-use Rattle.tatp_instr.specs.declared.instr.Instr.TheVariants.{Ldi, Mov, Arg, Add, Sub, Eq, Lt, Jmp, Jz, Fsub, Fnum, Facc, Ffac, Fcfw, Get, Put, Ins, Del, Out, Done, Fail}
-use Rattle.std.specs.Prelude.{nat_le, ◌&&◌}
+use Rattle.tatp_instr.specs.declared.instr.Instr.TheVariants.{Ldi}
+use Rattle.std.specs.Prelude.{◌&&◌}
 use Rattle.std.specs.Int.{w16, to_be_bytes}
+use Rattle.std.specs.List.{list_all}
 use Rattle.std.proofs.lemmas.Bool.{le-leb}
-use Rattle.std.proofs.lemmas.List.{drop-drop, drop_all}
-use Rattle.tatp_encoding.specs.Modules.{Procedure, is_name, is_from_to, is_procedure}
+use Rattle.std.proofs.lemmas.List.Folds.{list_all-append}
+use Rattle.std.proofs.lemmas.List.{drop_all}
+use Rattle.tatp_encoding.specs.Modules.{Procedure, is_name, is_procedure}
 use Rattle.tatp_encoding.specs.Spelling.{spelling}
 use Rattle.tatp_loader.specs.ModuleBytes.{code_bytes, procedure_bytes, procedures_bytes, magic, module_bytes}
 use Rattle.tatp_loader.specs.Reading.{name_at, arity_at, length_at, instr_at, code_at, procedure_at, procedures_at}
@@ -95,6 +97,9 @@ behind_procedure bytes name arity code rest len e same =
 pub procedures_bytes-nil : procedures_bytes [] ≡ []
 unfolding procedures_bytes
 procedures_bytes-nil = refl
+
+pub one_more_fits : (procs : List Procedure) (p : Procedure) → list_all is_procedure procs ≡ true → is_procedure p ≡ true → list_all is_procedure (procs ++ p ∷ []) ≡ true
+one_more_fits procs p all one = list_all-append is_procedure procs (p ∷ []) ∙ ap (λ b. b && (is_procedure p && true)) all ∙ ap (λ b. b && true) one
 
 -- ---- a module
 pub module_spelled : (bytes rest : List ℕ) (count size : ℕ) (procs : List Procedure) → bytes ≡ magic ++ (count ∷ rest) → rest ≡ procedures_bytes procs ++ drop size rest → length procs ≡ count → length rest ≤ size → bytes ≡ module_bytes procs

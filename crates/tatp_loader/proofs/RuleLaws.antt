@@ -1,5 +1,5 @@
 -- A module breaks no rule exactly where it is lawful.
-use Rattle.std.proofs.Common.{◌≡◌, ◌≢◌, ℕ, zero, suc, ◌+◌, ◌-◌, ◌<◌, ◌≤◌, Bool, true, false, cond, not, ◌&&◌, List, [], ◌∷◌, ◌++◌, length, take, Option, Some, None, refl, sym, ◌∙◌, ap, subst, arith, bytes_eq, leb-false}
+use Rattle.std.proofs.Common.{◌≡◌, ◌≢◌, ℕ, zero, suc, ◌+◌, ◌-◌, ◌<◌, Bool, true, false, cond, not, ◌&&◌, List, [], ◌∷◌, ◌++◌, length, take, Option, Some, None, refl, sym, ◌∙◌, ap, arith, leb-false}
 use Rattle.std.proofs.lemmas.Bool.{lt-leb}
 use Rattle.std.specs.Prelude.{slice_get, count_by, nat_le, IsSomeAnd}
 use Rattle.std.specs.List.{list_any}
@@ -9,7 +9,6 @@ use Rattle.tatp_instr.specs.declared.instr.Instr.{Instr}
 use Rattle.tatp_encoding.specs.Modules.{Procedure}
 use Rattle.tatp_loader.specs.declared.fault.FaultKind.{FaultKind}
 use Rattle.tatp_loader.specs.declared.fault.FaultKind.TheVariants.{NameTwice, NoSuchArgument, FixedColumn, BackwardJump, BadTarget, TooManyOut, TooManyWrites, NoEnd}
-use Rattle.tatp_loader.specs.declared.fault.LoadFault.{LoadFault}
 use Rattle.tatp_loader.specs.Lawful.{reads_argument_below, has_fit_column, jumps_behind, jumps_below, is_out, is_write, is_end, IsFit, IsLawfulProcedure, IsLawful}
 use Rattle.tatp_loader.specs.Rules.{fault, first_of, misfit, excess, broken_at, fault_at, first_broken, is_end_at, ends, missing_end, has_name, fault_behind, first_fault_behind, first_fault}
 use Rattle.tatp_loader.proofs.ListLaws.{front_has, in_front, none_passes, no_pass, count_within, count_before}

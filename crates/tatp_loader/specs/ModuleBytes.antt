@@ -1,5 +1,5 @@
 -- The bytes of a module: docs/FORMATS.md, "Modules as bytes".
-use Rattle.std.specs.Prelude.{◌≡◌, ℕ, List, [], ◌∷◌, ◌++◌, length, true}
+use Rattle.std.specs.Prelude.{◌≡◌, ℕ, ◌≤◌, List, [], ◌∷◌, ◌++◌, length, true}
 use Rattle.std.specs.Int.{w16, to_be_bytes}
 use Rattle.tatp_instr.specs.declared.instr.Instr.{Instr}
 use Rattle.tatp_encoding.specs.Modules.{Procedure, is_procedure}
@@ -38,3 +38,9 @@ AreInstrs (instr ∷ more) = IsInstr instr × AreInstrs more
 abbrev pub AreProcedures : List Procedure → Type 0
 AreProcedures [] = Unit {0}
 AreProcedures (p ∷ more) = (is_procedure p ≡ true) × AreInstrs p.code × AreProcedures more
+
+-- 1 to 16 procedures
+pub record IsModule (m : List Procedure) : Type 0 where
+  pub least : 1 ≤ length m
+  pub most : length m ≤ 16
+  pub procedures : AreProcedures m

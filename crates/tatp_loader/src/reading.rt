@@ -3,7 +3,7 @@ ghost use Rattle.std.specs.Prelude.{◌≡◌, ◌∷◌, ◌++◌, ◌*◌, tru
 ghost use Rattle.std.specs.List.{list_all};
 ghost use Rattle.std.specs.Int.{w16, to_be_bytes};
 ghost use Rattle.tatp_encoding.specs.Decoding.{decoded};
-ghost use Rattle.tatp_encoding.specs.Modules.{is_name, is_name_byte};
+ghost use Rattle.tatp_encoding.specs.Modules.{is_name, is_name_byte, is_procedure};
 ghost use Rattle.tatp_encoding.specs.Spelling.{spelling};
 ghost use Rattle.tatp_loader.specs.Rules.{fault};
 ghost use Rattle.tatp_loader.specs.ModuleBytes.{code_bytes, procedure_bytes, procedures_bytes, IsModuleOf, magic};
@@ -179,6 +179,7 @@ fn procedure_at(alloc: Global, bytes: &[u8], n: usize) -> Result<(Proc, usize), 
     ensures read { Gives (λ x. (x.0, drop x.1 bytes.now)) result (procedure_at n bytes.now) }
     ensures spelled { IfOk result (λ x. bytes.now ≡ procedure_bytes x.0 ++ drop x.1 bytes.now) }
     ensures within { IfOk result (λ x. x.1 ≤ length bytes.now) }
+    ensures fits { IfOk result (λ x. is_procedure x.0 ≡ true) }
 {
     let (name, rest) = name_at(bytes, n)?;
     let (arity, rest) = arity_at(rest, n)?;
@@ -195,6 +196,7 @@ fn procedures_at(alloc: Global, bytes: &[u8], count: usize) -> Result<(Vec<Proc>
     ensures spelled { IfOk result (λ x. bytes.now ≡ procedures_bytes x.0.items ++ drop x.1 bytes.now) }
     ensures within { IfOk result (λ x. x.1 ≤ length bytes.now) }
     ensures count { IfOk result (λ x. length x.0.items ≡ count) }
+    ensures fit { IfOk result (λ x. list_all is_procedure x.0.items ≡ true) }
 {
     let mut procs = Vec::with_capacity(alloc, count)?;
     let mut size = 0;
@@ -214,6 +216,7 @@ fn procedures_at(alloc: Global, bytes: &[u8], count: usize) -> Result<(Vec<Proc>
 fn count_at(bytes: &[u8]) -> Result<(usize, &[u8]), LoadError>
     ensures read { Gives (λ x. (x.0, x.1.now)) result (count_at bytes.now) }
     ensures spelled { IfOk result (λ x. bytes.now ≡ magic ++ (x.0 ∷ x.1.now)) }
+    ensures range { IfOk result (λ x. (1 ≤ x.0) × (x.0 ≤ 16)) }
 {
     let cut = fault(FaultKind::Truncated, 0, 0);
     let (front, rest) = bytes_at(bytes, 4, cut)?;
@@ -232,6 +235,8 @@ fn count_at(bytes: &[u8]) -> Result<(usize, &[u8]), LoadError>
 pub(crate) fn module_at(alloc: Global, bytes: &[u8]) -> Result<Vec<Proc>, LoadError>
     ensures read { Gives (λ procs. procs.items) result (module_at bytes.now) }
     ensures spelled { IfOk result (λ procs. IsModuleOf bytes.now procs.items) }
+    ensures count { IfOk result (λ procs. (1 ≤ length procs.items) × (length procs.items ≤ 16)) }
+    ensures fit { IfOk result (λ procs. list_all is_procedure procs.items ≡ true) }
 {
     let (count, rest) = count_at(bytes)?;
     let (procs, size) = procedures_at(alloc, rest, count)?;

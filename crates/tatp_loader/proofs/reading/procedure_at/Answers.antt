@@ -1,6 +1,4 @@
-use Rattle.std.proofs.Common.{◌≡◌, ◌++◌, ◌+◌, ◌*◌, ◌≤◌, drop, length, Ok, sym, ap, ◌∙◌, arith}
-use Rattle.tatp_loader.specs.ModuleBytes.{procedure_bytes}
-use Rattle.tatp_loader.specs.Reading.{procedure_at}
+use Rattle.std.proofs.Common.{◌*◌, drop, arith}
 use Rattle.tatp_loader.proofs.ReadingLaws.{procedure_fits, procedure_read, procedure_spelled, behind_procedure}
 use Rattle.tatp_loader.proofs.reading.procedure_at.Goals as goal
 
@@ -32,3 +30,8 @@ returns-clause-within c =
     let spelled = procedure_spelled c.args.bytes.now c.in_ok-name.name.now c.in_ok-name.rest.now c.in_ok-arity.arity c.in_ok-arity.rest.now c.in_ok-len.len c.in_ok-len.rest.now c.in_ok-code.code.items rest
     c.in_ok-name.ensures.spelled c.in_ok-arity.ensures.spelled c.in_ok-len.ensures.spelled c.in_ok-code.ensures.spelled c.in_ok-code.ensures.count in
     (behind_procedure c.args.bytes.now c.in_ok-name.name.now c.in_ok-arity.arity c.in_ok-code.code.items rest c.in_ok-len.len spelled c.in_ok-code.ensures.count).1
+
+pub returns-clause-fits : goal.returns-clause-fits
+returns-clause-fits c =
+    let len = c.in_ok-code.ensures.count in
+    rw c.new.ensures (procedure_fits c.in_ok-name.name.now c.in_ok-arity.arity c.in_ok-code.code.items c.in_ok-name.ensures.name c.in_ok-arity.ensures.most (omega (arith, len, c.in_ok-len.ensures.range.0)) (omega (arith, len, c.in_ok-len.ensures.range.1)))

@@ -1,10 +1,10 @@
-use Rattle.std.proofs.Common.{◌≡◌, ◌++◌, ◌∷◌, [], ◌-◌, ◌+◌, drop, length, Ok, refl, sym, ap, ◌∙◌, arith, length-append}
+use Rattle.std.proofs.Common.{◌≡◌, ◌++◌, ◌∷◌, [], ◌-◌, drop, length, Ok, refl, sym, ap, ◌∙◌, arith, length-append}
 use Rattle.std.proofs.lemmas.List.{drop-drop, length-drop}
 use Rattle.std.proofs.lemmas.Result.{err_from_is_err_and}
 use Rattle.tatp_loader.specs.ModuleBytes.{procedures_bytes}
 use Rattle.tatp_loader.specs.Reading.{procedures_at}
 use Rattle.tatp_loader.proofs.LoopLaws.{behind, one_more, ends_so, all_read, behind_nothing}
-use Rattle.tatp_loader.proofs.ReadingLaws.{procedures_repeat, procedures_go_on, procedures_bytes-nil}
+use Rattle.tatp_loader.proofs.ReadingLaws.{one_more_fits, procedures_repeat, procedures_go_on, procedures_bytes-nil}
 use Rattle.tatp_loader.proofs.reading.procedures_at.Goals as goal
 
 pub loop-n-init : goal.loop-n-init
@@ -16,6 +16,7 @@ loop-n-init c =
       place = refl;
       within = omega arith;
       count = refl;
+      fit = refl;
     })
 
 pub returns-in_err-procedure-clause-read : goal.returns-in_err-procedure-clause-read
@@ -34,6 +35,7 @@ loop-n-preserved c =
       place = sym (drop-drop c.in_ok-procedure.more c.loop-n.size c.args.bytes.now) ∙ ap (drop c.in_ok-procedure.more) c.loop-n.invariant.place;
       within = omega (arith, len, c.loop-n.invariant.within, c.in_ok-procedure.ensures.within, length-drop c.loop-n.size c.args.bytes.now);
       count = omega (arith, c.loop-n.invariant.count, length-append c.loop-n.procs.items (c.in_ok-procedure.procedure ∷ []));
+      fit = one_more_fits c.loop-n.procs.items c.in_ok-procedure.procedure c.loop-n.invariant.fit c.in_ok-procedure.ensures.fits;
     })
 
 pub returns-clause-read : goal.returns-clause-read

@@ -1,4 +1,6 @@
-use Rattle.std.proofs.Common.{◌≡◌, ◌++◌, ◌-◌, ◌≤◌, length, drop}
+use Rattle.std.proofs.Common.{◌≡◌, ◌++◌, ◌-◌, ◌≤◌, length, drop, true}
+use Rattle.std.specs.List.{list_all}
+use Rattle.tatp_encoding.specs.Modules.{is_procedure}
 use Rattle.tatp_loader.specs.ModuleBytes.{procedures_bytes}
 use Rattle.tatp_loader.specs.Reading.{procedures_at}
 use Rattle.tatp_loader.proofs.LoopLaws.{behind}
@@ -11,4 +13,5 @@ invariant-loop-n l = record {
   place : drop l.size l.bytes ≡ l.rest;
   within : l.size ≤ length l.bytes;
   count : length l.procs.items ≡ l.n;
+  fit : list_all is_procedure l.procs.items ≡ true;
 }

@@ -1,4 +1,4 @@
-use Rattle.std.proofs.Common.{◌≡◌, sym, ◌∙◌, ap}
+use Rattle.std.proofs.Common.{sym, ◌∙◌, ap}
 use Rattle.tatp_loader.specs.Rules.{first_fault}
 use Rattle.tatp_loader.proofs.RuleLaws.{lawful_of_none, none_of_lawful}
 use Rattle.tatp_loader.proofs.rules.check.Goals as goal

@@ -1,0 +1,9 @@
+use Rattle.std.proofs.Common.{◌≡◌, ◌++◌, ◌∷◌, take, length}
+use Rattle.tatp_loader.specs.ModuleBytes.{magic, procedures_bytes, AreProcedures}
+use Rattle.tatp_loader.proofs.saving.save.Given as goal
+
+abbrev pub invariant-loop-procedure : goal.invariant-loop-procedure
+invariant-loop-procedure l = record {
+  bytes : l.bytes.items ≡ magic ++ (length l.procs ∷ procedures_bytes (take l.procedure-index l.procs));
+  procedures : AreProcedures (take l.procedure-index l.procs);
+}

@@ -13,3 +13,6 @@ pub use loaded::Loaded;
 pub use loading::{load, load_saved};
 pub use rules::check;
 pub use saving::save;
+
+#[cfg(test)]
+mod tests;

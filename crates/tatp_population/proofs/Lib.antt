@@ -1,0 +1,11 @@
+pub mod LineLaws
+pub mod PopulationTextLaws
+pub mod CutLaws
+pub mod ExtentLaws
+pub mod OpeningLaws
+pub mod ChoiceLaws
+pub mod PartLaws
+pub mod CountLaws
+pub mod DomainLaws
+pub mod PopulatedLaws
+pub mod CleanLaws

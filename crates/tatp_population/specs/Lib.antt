@@ -1,0 +1,10 @@
+pub mod Lines
+pub mod PopulationText
+pub mod Extents
+pub mod Opening
+pub mod Cutting
+pub mod Closing
+pub mod Drawn
+pub mod DrawnRows
+pub mod Room
+pub mod Reserved

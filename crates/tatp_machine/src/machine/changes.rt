@@ -1,0 +1,95 @@
+//! The rows of the table that read or change a row of the home, and FAIL.
+ghost use Rattle.std.specs.Prelude.{◌≡◌, length, Some, slice_get};
+ghost use Rattle.tatp_tables.specs.Database.{Database};
+ghost use Rattle.tatp_machine.specs.Instructions.{Turn, Stops, act};
+ghost use Rattle.tatp_machine.specs.Machines.{Turns};
+ghost use Rattle.tatp_machine.specs.Sound.{Fits};
+
+use super::Machine;
+use crate::change::Change;
+use crate::{End, Progress, Trap};
+use tatp_instr::{Instr, Register, RowRegisters};
+use tatp_tables::{Home, Refusal, Table};
+
+impl<'m> Machine<'m> {
+    /// Ends the call with a failure or a trap.
+    pub(super) fn fail(&mut self, home: &mut Home, n: u32) -> Progress
+        ensures turns { Turns (Stops (End.Failed n)) self.old home.old.tables result self.new home.new.tables }
+        ensures same { home.new.s_id ≡ home.old.s_id }
+    {
+        self.end_undone(home, End::Failed(n))
+    }
+
+    fn trap(&mut self, home: &mut Home, trap: Trap) -> Progress
+        ensures turns { Turns (Stops (End.Trapped trap)) self.old home.old.tables result self.new home.new.tables }
+        ensures same { home.new.s_id ≡ home.old.s_id }
+    {
+        self.end_undone(home, End::Trapped(trap))
+    }
+
+    pub(super) fn get(&mut self, home: &mut Home, d: Register, column: u32) -> Progress
+        requires { Fits (length self.old.frame.arguments) (length self.old.frame.code) self.old.frame.pc (Instr.Get d column) }
+        ensures turns { Turns (act (Instr.Get d column) self.old.frame home.old.tables) self.old home.old.tables result self.new home.new.tables }
+        ensures same { home.new.s_id ≡ home.old.s_id }
+    {
+        let Some(key) = self.key_of_column(column) else {
+            return self.trap(home, Trap::NoCurrent);
+        };
+        let Some(x) = home.get(column as u8, key) else {
+            return self.trap(home, Trap::NoCurrent);
+        };
+        self.set(d, x)
+    }
+
+    pub(super) fn put(&mut self, home: &mut Home, column: u32, a: Register) -> Progress
+        requires here { slice_get self.old.frame.code self.old.frame.pc ≡ Some (Instr.Put column a) }
+        requires fits { Fits (length self.old.frame.arguments) (length self.old.frame.code) self.old.frame.pc (Instr.Put column a) }
+        ensures turns { Turns (act (Instr.Put column a) self.old.frame home.old.tables) self.old home.old.tables result self.new home.new.tables }
+        ensures same { home.new.s_id ≡ home.old.s_id }
+    {
+        let Some(key) = self.key_of_column(column) else {
+            return self.trap(home, Trap::NoCurrent);
+        };
+        match home.put(column as u8, key, self.value(a)) {
+            Ok(before) => self.note(Change::Put(column, key, before)),
+            Err(Refusal::Domain) => self.trap(home, Trap::Domain),
+            Err(_) => self.trap(home, Trap::NoCurrent),
+        }
+    }
+
+    pub(super) fn ins(&mut self, home: &mut Home, d: Register, a: RowRegisters) -> Progress
+        requires here { slice_get self.old.frame.code self.old.frame.pc ≡ Some (Instr.Ins d a) }
+        requires fits { Fits (length self.old.frame.arguments) (length self.old.frame.code) self.old.frame.pc (Instr.Ins d a) }
+        ensures turns { Turns (act (Instr.Ins d a) self.old.frame home.old.tables) self.old home.old.tables result self.new home.new.tables }
+        ensures same { home.new.s_id ≡ home.old.s_id }
+    {
+        let row = self.five_values(a);
+        match home.insert_cf(row) {
+            Ok(()) => {
+                self.write(d, 1);
+                self.note(Change::Inserted([row[0], row[1], row[2]]))
+            }
+            Err(Refusal::Domain) => self.trap(home, Trap::Domain),
+            Err(Refusal::NoParent) => self.set(d, 3),
+            Err(_) => self.set(d, 2),
+        }
+    }
+
+    pub(super) fn del(&mut self, home: &mut Home) -> Progress
+        requires here { slice_get self.old.frame.code self.old.frame.pc ≡ Some Instr.Del }
+        requires fits { Fits (length self.old.frame.arguments) (length self.old.frame.code) self.old.frame.pc Instr.Del }
+        ensures turns { Turns (act Instr.Del self.old.frame home.old.tables) self.old home.old.tables result self.new home.new.tables }
+        ensures same { home.new.s_id ≡ home.old.s_id }
+    {
+        let Some(key) = self.current(Table::CallForwarding) else {
+            return self.trap(home, Trap::NoCurrent);
+        };
+        match home.delete_cf(key) {
+            Ok(row) => {
+                self.make_current(Table::CallForwarding, None);
+                self.note(Change::Deleted(row))
+            }
+            Err(_) => self.trap(home, Trap::NoCurrent),
+        }
+    }
+}

@@ -1,0 +1,45 @@
+//! What a step answers.
+ghost use Rattle.std.specs.Prelude.{Some};
+ghost use Rattle.tatp_machine.specs.Traps.{trap_name};
+
+use std::fmt;
+
+/// Why a call is stopped.
+#[derive(Clone, Copy, Debug, PartialEq, Eq)]
+pub enum Trap {
+    /// No row of the column's table is current.
+    NoCurrent,
+    /// A value is outside its column's domain.
+    Domain,
+}
+
+impl fmt::Display for Trap {
+    ghost output = { λ trap. Some (trap_name trap) };
+
+    fn fmt<W: fmt::Write>(&self, f: &mut fmt::Formatter<W>) -> fmt::Result {
+        f.write_str(match self {
+            Trap::NoCurrent => "NoCurrent",
+            Trap::Domain => "Domain",
+        })
+    }
+}
+
+/// How a call ends.
+#[derive(Clone, Copy, Debug, PartialEq, Eq)]
+pub enum End {
+    /// With its outputs.
+    Done,
+    /// With a failure, which its procedure numbers.
+    Failed(u32),
+    /// Stopped in an instruction that can't be done.
+    Trapped(Trap),
+}
+
+/// What a step answers.
+#[derive(Clone, Copy, Debug, PartialEq, Eq)]
+pub enum Progress {
+    /// The call goes on.
+    Running,
+    /// That was its last step.
+    Ended(End),
+}

@@ -105,7 +105,8 @@ pub fn load(alloc: Global, arity: usize, code: &[Instr]) -> Result<Loaded, Fail>
 pub fn finish(machine: &mut Machine, home: &mut Home) -> Result<(usize, End), &'static str>
     requires running { machine.old.ended ≡ false }
     requires home { machine.old.frame.home ≡ Some home.old.s_id }
-    ensures { home.new.s_id ≡ home.old.s_id }
+    ensures machine { machine.new.frame.home ≡ machine.old.frame.home }
+    ensures home { home.new.s_id ≡ home.old.s_id }
 {
     for running in 0..256 {
         if let Progress::Ended(end) = machine.step(home) {

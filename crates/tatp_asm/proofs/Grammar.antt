@@ -1,0 +1,404 @@
+-- What is read is in the grammar, and what is in the grammar is read.
+use Rattle.std.proofs.Common.{◌≡◌, ℕ, suc, ◌+◌, ◌<◌, ◌∙◌, sym, ap, subst, Bool, true, false, cond, eqb, ltb, List, [], ◌∷◌, ◌++◌, length, refl, arith, Option, Some, None, Result, Ok, Err, append_assoc, inl, inr, is_some, length-append, add-one}
+use Rattle.std.specs.Str.{bytes_eq}
+use Rattle.std.specs.List.{All}
+use Rattle.std.proofs.lemmas.Bool.{lt-ltb, ne_eqb}
+use Rattle.std.proofs.lemmas.Slice.Eq.{bytes_eq-Decides}
+use Rattle.std.proofs.lemmas.List.{append-nil}
+use Rattle.tatp_instr.specs.declared.instr.Instr.{Instr}
+use Rattle.tatp_asm.specs.declared.fault.FaultKind.TheVariants.{Syntax, LabelTwice, TooLong}
+use Rattle.tatp_asm.specs.declared.fault.AsmFault.{AsmFault}
+use Rattle.tatp_asm.specs.Instrs.{has_target}
+use Rattle.tatp_asm.specs.Lines.{Line, Opens, Names, Does, Closes, lines_of}
+use Rattle.tatp_asm.specs.Words.{line_of_bytes}
+use Rattle.tatp_encoding.specs.Modules.{Procedure}
+use Rattle.tatp_asm.specs.Texts.{Stands, NoneTwice, IsCode, AreProcedures, AreTexts, IsTextOf}
+use Rattle.tatp_asm.specs.Reading.{◌>>=◌, Pending, Open, State, place_of, settled, settle, step, step_of, finish, reads, start, assembled}
+use Rattle.tatp_asm.proofs.Bodies.{labels_from, code_of, aimed_at, ◌>>>◌, targets, IsInner, code_from, code_to, stands_later, stands_first, stands_none, bind_some}
+use Rattle.tatp_asm.proofs.Tools.{same_bytes}
+use Rattle.tatp_asm.proofs.LineLaws.{line_takes, line_again}
+
+-- ---- labels that are added
+
+push_same : (ls : List (List ℕ × ℕ)) (l : List ℕ) (k : ℕ) → place_of ls l ≡ None → place_of (ls ++ ((l, k) ∷ [])) l ≡ Some k
+push_same [] l k e = rw (same_bytes l) refl
+push_same (x ∷ ls) l k e = by (bytes_eq l x.0) (push_same ls l k) e
+  where
+    by : (t : Bool) → (place_of ls l ≡ None → place_of (ls ++ ((l, k) ∷ [])) l ≡ Some k) → cond t (Some x.1) (place_of ls l) ≡ None → cond t (Some x.1) (place_of (ls ++ ((l, k) ∷ [])) l) ≡ Some k
+    by true r e = absurd cc
+    by false r e = r e
+
+push_none : (ls : List (List ℕ × ℕ)) (m : List ℕ) (k : ℕ) (l : List ℕ) → place_of (ls ++ ((m, k) ∷ [])) l ≡ None → place_of ls l ≡ None
+push_none [] m k l e = refl
+push_none (x ∷ ls) m k l e = by (bytes_eq l x.0) (push_none ls m k l) e
+  where
+    by : (t : Bool) → (place_of (ls ++ ((m, k) ∷ [])) l ≡ None → place_of ls l ≡ None) → cond t (Some x.1) (place_of (ls ++ ((m, k) ∷ [])) l) ≡ None → cond t (Some x.1) (place_of ls l) ≡ None
+    by true r e = absurd cc
+    by false r e = r e
+
+push_other : (ls : List (List ℕ × ℕ)) (m : List ℕ) (k : ℕ) (l : List ℕ) → (l ≡ m → ⊥) → place_of ls l ≡ None → place_of (ls ++ ((m, k) ∷ [])) l ≡ None
+push_other [] m k l d e = by (bytes_eq l m) refl
+  where
+    by : (t : Bool) → bytes_eq l m ≡ t → cond t (Some k) (place_of [] l) ≡ None
+    by true h = absurd (d ((bytes_eq-Decides l m).0 h))
+    by false h = refl
+push_other (x ∷ ls) m k l d e = by (bytes_eq l x.0) (push_other ls m k l d) e
+  where
+    by : (t : Bool) → (place_of ls l ≡ None → place_of (ls ++ ((m, k) ∷ [])) l ≡ None) → cond t (Some x.1) (place_of ls l) ≡ None → cond t (Some x.1) (place_of (ls ++ ((m, k) ∷ [])) l) ≡ None
+    by true r e = absurd cc
+    by false r e = r e
+
+-- ---- a procedure's lines, one after another
+
+abbrev pub Continues : List (List ℕ × ℕ) → List (Instr × List ℕ) → List Line → List Instr → Type 0
+Continues labels code [] c = targets labels code ≡ Some c
+Continues labels code (Names l ∷ body) c = (place_of labels l ≡ None) × Continues (labels ++ ((l, length code) ∷ [])) code body c
+Continues labels code (Does i l ∷ body) c = Continues labels (code ++ ((i, l) ∷ [])) body c
+Continues labels code (_ ∷ body) c = ⊥
+
+-- the same of all lines at once
+pub record Whole (labels : List (List ℕ × ℕ)) (code : List (Instr × List ℕ)) (body : List Line) (c : List Instr) : Type 0 where
+  pub inner : IsInner body
+  pub none_twice : NoneTwice body
+  pub fresh : (l : List ℕ) (k : ℕ) → Stands body l k → place_of labels l ≡ None
+  pub settled_code : targets (labels ++ labels_from (length code) body) (code ++ code_of body) ≡ Some c
+
+here : (l : List ℕ) (body : List Line) → Stands (Names l ∷ body) l 0
+here l body = ([], body, refl, refl)
+
+pushed : (code : List (Instr × List ℕ)) (x : Instr × List ℕ) → length (code ++ (x ∷ [])) ≡ suc (length code)
+pushed code x = length-append code (x ∷ []) ∙ add-one (length code)
+
+pub whole : (labels : List (List ℕ × ℕ)) (code : List (Instr × List ℕ)) (body : List Line) (c : List Instr) → Continues labels code body c → Whole labels code body c
+whole labels code [] c h = record { inner = tt; none_twice = tt; fresh = λ l k s. absurd (stands_none l k s); settled_code = rw (append-nil labels, append-nil code) h }
+whole labels code (Opens n a ∷ body) c h = absurd h
+whole labels code (Closes ∷ body) c h = absurd h
+whole labels code (Names l ∷ body) c (f, h) =
+    let r = whole (labels ++ ((l, length code) ∷ [])) code body c h in
+    record {
+      inner = r.inner;
+      none_twice = (λ k s. let a = r.fresh l k s in let b = push_same labels l (length code) f in absurd cc, r.none_twice);
+      fresh = λ m k s. elim (stands_first (Names l) body m k s) [
+        | inl (e, z) ↦ let q : l ≡ m = cc in rw (← q) f
+        | inr (j, z, t) ↦ push_none labels l (length code) m (r.fresh m j t)
+      ];
+      settled_code = rw (append_assoc labels ((l, length code) ∷ []) (labels_from (length code) body)) at r.settled_code;
+    }
+whole labels code (Does i l ∷ body) c h =
+    let r = whole labels (code ++ ((i, l) ∷ [])) body c h in
+    record {
+      inner = r.inner;
+      none_twice = r.none_twice;
+      fresh = λ m k s. elim (stands_first (Does i l) body m k s) [
+        | inl (e, z) ↦ absurd cc
+        | inr (j, z, t) ↦ r.fresh m j t
+      ];
+      settled_code = rw (append_assoc code ((i, l) ∷ []) (code_of body), pushed code (i, l)) at r.settled_code;
+    }
+
+pub unwhole : (labels : List (List ℕ × ℕ)) (code : List (Instr × List ℕ)) (body : List Line) (c : List Instr) → Whole labels code body c → Continues labels code body c
+unwhole labels code [] c w = rw (append-nil labels, append-nil code) at w.settled_code
+unwhole labels code (Opens n a ∷ body) c w = absurd w.inner
+unwhole labels code (Closes ∷ body) c w = absurd w.inner
+unwhole labels code (Names l ∷ body) c w = (
+  w.fresh l 0 (here l body),
+  unwhole (labels ++ ((l, length code) ∷ [])) code body c (record {
+    inner = w.inner;
+    none_twice = w.none_twice.1;
+    fresh = λ m k s. push_other labels l (length code) m (λ e. w.none_twice.0 k (subst (λ (q : List ℕ). Stands body q k) e s)) (w.fresh m (0 + k) (stands_later (Names l) body m k s));
+    settled_code = rw (append_assoc labels ((l, length code) ∷ []) (labels_from (length code) body)) w.settled_code;
+  }),
+)
+unwhole labels code (Does i l ∷ body) c w =
+    unwhole labels (code ++ ((i, l) ∷ [])) body c (record {
+      inner = w.inner;
+      none_twice = w.none_twice;
+      fresh = λ m k s. w.fresh m (1 + k) (stands_later (Does i l) body m k s);
+      settled_code = rw (append_assoc code ((i, l) ∷ []) (code_of body), pushed code (i, l)) w.settled_code;
+    })
+
+pub body_from : (body : List Line) (c : List Instr) → Continues [] [] body c → NoneTwice body × IsCode body body c
+body_from body c h = let w = whole [] [] body c h in (w.none_twice, code_from body body c w.inner w.settled_code)
+
+pub body_to : (body : List Line) (c : List Instr) → NoneTwice body → IsCode body body c → Continues [] [] body c
+body_to body c u h = let r = code_to body body c u h in unwhole [] [] body c (record { inner = r.0; none_twice = u; fresh = λ l k s. refl; settled_code = r.1 })
+
+-- ---- the code is settled
+
+abbrev pub bare : List Pending → List (Instr × List ℕ)
+bare [] = []
+bare (p ∷ ps) = (p.instr, p.label) ∷ bare ps
+
+length-bare : (ps : List Pending) → length (bare ps) ≡ length ps
+length-bare [] = refl
+length-bare (p ∷ ps) = ap suc (length-bare ps)
+
+bare-push : (ps : List Pending) (p : Pending) → bare (ps ++ (p ∷ [])) ≡ bare ps ++ ((p.instr, p.label) ∷ [])
+bare-push [] p = refl
+bare-push (q ∷ ps) p = ap (λ (cs : List (Instr × List ℕ)). (q.instr, q.label) ∷ cs) (bare-push ps p)
+
+pub bind_ok : {A B : Type 0} (r : Result A AsmFault) (f : A → Result B AsmFault) (y : B) → (r >>= f) ≡ Ok y → (x : A) × (r ≡ Ok x) × (f x ≡ Ok y)
+bind_ok (Ok x) f y e = (x, refl, e)
+bind_ok (Err d) f y e = absurd cc
+
+settled_target : (b : Bool) (o : Option ℕ) (p : Pending) (i : Instr) → settled b o p ≡ Ok i → aimed_at b o p.instr ≡ Some i
+settled_target false o p i e = cc
+settled_target true (Some k) p i e = cc
+settled_target true None p i e = absurd cc
+
+target_settled : (b : Bool) (o : Option ℕ) (p : Pending) (i : Instr) → aimed_at b o p.instr ≡ Some i → settled b o p ≡ Ok i
+target_settled false o p i e = cc
+target_settled true (Some k) p i e = cc
+target_settled true None p i e = absurd cc
+
+settle_targets : (labels : List (List ℕ × ℕ)) (ps : List Pending) (c : List Instr) → settle labels ps ≡ Ok c → targets labels (bare ps) ≡ Some c
+settle_targets labels [] c e = cc
+settle_targets labels (p ∷ ps) c e =
+    let a = bind_ok (settled (has_target p.instr) (place_of labels p.label) p) (λ i. settle labels ps >>= λ code. Ok (i ∷ code)) c e in
+    let b = bind_ok (settle labels ps) (λ code. Ok (a.0 ∷ code)) c a.2 in
+    let r : a.0 ∷ b.0 ≡ c = cc in
+    rw (settled_target (has_target p.instr) (place_of labels p.label) p a.0 a.1, settle_targets labels ps b.0 b.1) (ap Some r)
+
+targets_settle : (labels : List (List ℕ × ℕ)) (ps : List Pending) (c : List Instr) → targets labels (bare ps) ≡ Some c → settle labels ps ≡ Ok c
+targets_settle labels [] c e = cc
+targets_settle labels (p ∷ ps) c e =
+    let a = bind_some (aimed_at (has_target p.instr) (place_of labels p.label) p.instr) (λ i. targets labels (bare ps) >>> λ code. Some (i ∷ code)) c e in
+    let b = bind_some (targets labels (bare ps)) (λ code. Some (a.0 ∷ code)) c a.2 in
+    let r : a.0 ∷ b.0 ≡ c = cc in
+    rw (target_settled (has_target p.instr) (place_of labels p.label) p a.0 a.1, targets_settle labels ps b.0 b.1) (ap Ok r)
+
+length-targets : (labels : List (List ℕ × ℕ)) (cs : List (Instr × List ℕ)) (c : List Instr) → targets labels cs ≡ Some c → length c ≡ length cs
+length-targets labels [] c e = let q : [] ≡ c = cc in sym (ap length q)
+length-targets labels (x ∷ cs) c e =
+    let a = bind_some (aimed_at (has_target x.0) (place_of labels x.1) x.0) (λ i. targets labels cs >>> λ code. Some (i ∷ code)) c e in
+    let b = bind_some (targets labels cs) (λ code. Some (a.0 ∷ code)) c a.2 in
+    let r : a.0 ∷ b.0 ≡ c = cc in
+    sym (ap length r) ∙ ap suc (length-targets labels cs b.0 b.1)
+
+-- the code so far is no longer than all of it
+length-continues : (labels : List (List ℕ × ℕ)) (code : List (Instr × List ℕ)) (body : List Line) (c : List Instr) → Continues labels code body c → length code + length (code_of body) ≡ length c
+length-continues labels code body c h = let w = whole labels code body c h in sym (length-targets (labels ++ labels_from (length code) body) (code ++ code_of body) c w.settled_code ∙ length-append code (code_of body))
+
+-- ---- what is left to read
+
+abbrev pub opened : List ℕ → ℕ → Open
+opened name arity = record { name = name; arity = arity; labels = []; code = [] }
+
+abbrev pub labelled : Open → List ℕ → Open
+labelled o l = record o { labels = o.labels ++ ((l, length o.code) ∷ []) }
+
+abbrev pub longer : Open → Instr → List ℕ → ℕ → Open
+longer o i l n = record o { code = o.code ++ (record { instr = i; label = l; line = n } ∷ []) }
+
+abbrev pub Tail : Option Open → List Line → List Procedure → Type 0
+Tail None lines ps = AreProcedures lines ps
+Tail (Some o) lines [] = ⊥
+Tail (Some o) lines (p ∷ ps) = (body rest : List Line) × (lines ≡ body ++ (Closes ∷ rest)) × (p.name ≡ o.name) × (p.arity ≡ o.arity) × Continues o.labels (bare o.code) body p.code × AreProcedures rest ps
+
+tail_opens : (name : List ℕ) (arity : ℕ) (lines : List Line) (ps : List Procedure) → Tail (Some (opened name arity)) lines ps → Tail None (Opens name arity ∷ lines) ps
+tail_opens name arity lines [] h = absurd h
+tail_opens name arity lines (p ∷ ps) (body, rest, e, n, a, c, r) =
+    let b = body_from body p.code c in
+    (body, rest, rw (e, n, a) refl, b.0, b.1, r)
+
+opens_tail : (name : List ℕ) (arity : ℕ) (lines : List Line) (ps : List Procedure) → Tail None (Opens name arity ∷ lines) ps → Tail (Some (opened name arity)) lines ps
+opens_tail name arity lines [] h = absurd cc
+opens_tail name arity lines (p ∷ ps) (body, rest, e, u, c, r) =
+    (body, rest, cc, cc, cc, body_to body p.code u c, r)
+
+tail_names : (o : Open) (l : List ℕ) (lines : List Line) (ps : List Procedure) → place_of o.labels l ≡ None → Tail (Some (labelled o l)) lines ps → Tail (Some o) (Names l ∷ lines) ps
+tail_names o l lines [] f h = absurd h
+tail_names o l lines (p ∷ ps) f (body, rest, e, n, a, c, r) = (Names l ∷ body, rest, ap (λ (x : List Line). Names l ∷ x) e, n, a, (f, rw (length-bare o.code) c), r)
+
+names_tail : (o : Open) (l : List ℕ) (lines : List Line) (ps : List Procedure) → Tail (Some o) (Names l ∷ lines) ps → (place_of o.labels l ≡ None) × Tail (Some (labelled o l)) lines ps
+names_tail o l lines [] h = absurd h
+names_tail o l lines (p ∷ ps) ([], rest, e, n, a, c, r) = absurd cc
+names_tail o l lines (p ∷ ps) (x ∷ body, rest, e, n, a, c, r) =
+    let h : x ≡ Names l = cc in
+    let d : Continues o.labels (bare o.code) (Names l ∷ body) p.code = subst (λ (y : Line). Continues o.labels (bare o.code) (y ∷ body) p.code) h c in
+    (d.0, (body, rest, cc, n, a, rw (length-bare o.code) at d.1, r))
+
+tail_does : (o : Open) (i : Instr) (l : List ℕ) (m : ℕ) (lines : List Line) (ps : List Procedure) → Tail (Some (longer o i l m)) lines ps → Tail (Some o) (Does i l ∷ lines) ps
+tail_does o i l m lines [] h = absurd h
+tail_does o i l m lines (p ∷ ps) (body, rest, e, n, a, c, r) = (Does i l ∷ body, rest, ap (λ (x : List Line). Does i l ∷ x) e, n, a, rw (bare-push o.code (record { instr = i; label = l; line = m })) at c, r)
+
+does_tail : (o : Open) (i : Instr) (l : List ℕ) (m : ℕ) (lines : List Line) (ps : List Procedure) → Tail (Some o) (Does i l ∷ lines) ps → Tail (Some (longer o i l m)) lines ps
+does_tail o i l m lines [] h = absurd h
+does_tail o i l m lines (p ∷ ps) ([], rest, e, n, a, c, r) = absurd cc
+does_tail o i l m lines (p ∷ ps) (x ∷ body, rest, e, n, a, c, r) =
+    let h : x ≡ Does i l = cc in
+    let d : Continues o.labels (bare o.code) (Does i l ∷ body) p.code = subst (λ (y : Line). Continues o.labels (bare o.code) (y ∷ body) p.code) h c in
+    (body, rest, cc, n, a, rw (bare-push o.code (record { instr = i; label = l; line = m })) d, r)
+
+tail_closes : (o : Open) (code : List Instr) (lines : List Line) (ps : List Procedure) → settle o.labels o.code ≡ Ok code → AreProcedures lines ps → Tail (Some o) (Closes ∷ lines) (record { name = o.name; arity = o.arity; code = code } ∷ ps)
+tail_closes o code lines ps e h = ([], lines, refl, refl, refl, settle_targets o.labels o.code code e, h)
+
+closes_tail : (o : Open) (lines : List Line) (p : Procedure) (ps : List Procedure) → Tail (Some o) (Closes ∷ lines) (p ∷ ps) → (p.name ≡ o.name) × (p.arity ≡ o.arity) × (settle o.labels o.code ≡ Ok p.code) × AreProcedures lines ps
+closes_tail o lines p ps ([], rest, e, n, a, c, r) = (n, a, targets_settle o.labels o.code p.code c, let h : rest ≡ lines = cc in subst (λ (x : List Line). AreProcedures x ps) h r)
+closes_tail o lines p ps (x ∷ body, rest, e, n, a, c, r) =
+    let h : x ≡ Closes = cc in
+    absurd (subst (λ (y : Line). Continues o.labels (bare o.code) (y ∷ body) p.code) h c)
+
+opens_inside : (o : Open) (name : List ℕ) (arity : ℕ) (lines : List Line) (ps : List Procedure) → Tail (Some o) (Opens name arity ∷ lines) ps → ⊥
+opens_inside o name arity lines [] h = h
+opens_inside o name arity lines (p ∷ ps) ([], rest, e, n, a, c, r) = cc
+opens_inside o name arity lines (p ∷ ps) (x ∷ body, rest, e, n, a, c, r) =
+    let h : x ≡ Opens name arity = cc in
+    subst (λ (y : Line). Continues o.labels (bare o.code) (y ∷ body) p.code) h c
+
+-- ---- one line
+
+pub guard_yes : {X : Type 0} (b : Bool) (x y : X) (f : AsmFault) → cond b (Ok x) (Err f) ≡ Ok y → (b ≡ true) × (x ≡ y)
+guard_yes true x y f e = (refl, cc)
+guard_yes false x y f e = absurd cc
+
+pub guard_no : {X : Type 0} (b : Bool) (x y : X) (f : AsmFault) → cond b (Err f) (Ok x) ≡ Ok y → (b ≡ false) × (x ≡ y)
+guard_no true x y f e = absurd cc
+guard_no false x y f e = (refl, cc)
+
+none_of : {X : Type 0} (o : Option X) → is_some o ≡ false → o ≡ None
+none_of None e = refl
+none_of (Some x) e = absurd cc
+
+abbrev pub done : {X : Type 0} → X → Result X AsmFault
+done x = Ok x
+
+pub ok_is : {X : Type 0} (x y : X) → done x ≡ done y → x ≡ y
+ok_is x y e = cc
+
+-- what is left after a line, put behind it
+step_found : (closed : List Procedure) (current : Option Open) (n : ℕ) (line : Line) (t : State) (all ps : List Procedure) (lines : List Line)
+    → step closed current n line ≡ Ok t → all ≡ t.closed ++ ps → Tail t.current lines ps
+    → (qs : List Procedure) × (all ≡ closed ++ qs) × Tail current (line ∷ lines) qs
+step_found closed None n (Opens name arity) t all ps lines e q h =
+    let g = guard_yes (ltb (length closed) 16) (record { closed = closed; current = Some (opened name arity) }) t (record { kind = TooLong; line = n }) e in
+    (ps, q ∙ ap (λ (s : State). s.closed ++ ps) (sym g.1), tail_opens name arity lines ps (subst (λ (s : State). Tail s.current lines ps) (sym g.1) h))
+step_found closed None n (Names l) t all ps lines e q h = absurd cc
+step_found closed None n (Does i l) t all ps lines e q h = absurd cc
+step_found closed None n Closes t all ps lines e q h = absurd cc
+step_found closed (Some o) n (Opens name arity) t all ps lines e q h = absurd cc
+step_found closed (Some o) n (Names l) t all ps lines e q h =
+    let g = guard_no (is_some (place_of o.labels l)) (record { closed = closed; current = Some (labelled o l) }) t (record { kind = LabelTwice; line = n }) e in
+    (ps, q ∙ ap (λ (s : State). s.closed ++ ps) (sym g.1), tail_names o l lines ps (none_of (place_of o.labels l) g.0) (subst (λ (s : State). Tail s.current lines ps) (sym g.1) h))
+step_found closed (Some o) n (Does i l) t all ps lines e q h =
+    let g = guard_yes (ltb (length o.code) 256) (record { closed = closed; current = Some (longer o i l n) }) t (record { kind = TooLong; line = n }) e in
+    (ps, q ∙ ap (λ (s : State). s.closed ++ ps) (sym g.1), tail_does o i l n lines ps (subst (λ (s : State). Tail s.current lines ps) (sym g.1) h))
+step_found closed (Some o) n Closes t all ps lines e q h = by (eqb (length o.code) 0) e
+  where
+    by : (b : Bool) → cond b (Err (record { kind = Syntax; line = n })) (settle o.labels o.code >>= λ code. Ok (record { closed = closed ++ (record { name = o.name; arity = o.arity; code = code } ∷ []); current = None })) ≡ Ok t → (qs : List Procedure) × (all ≡ closed ++ qs) × Tail (Some o) (Closes ∷ lines) qs
+    by true e = absurd cc
+    by false e =
+        let b = bind_ok (settle o.labels o.code) (λ code. done (record { closed = closed ++ (record { name = o.name; arity = o.arity; code = code } ∷ []); current = None })) t e in
+        let p : Procedure = record { name = o.name; arity = o.arity; code = b.0 } in
+        let g = ok_is (record { closed = closed ++ (p ∷ []); current = None }) t b.2 in (
+          p ∷ ps,
+          q ∙ (ap (λ (s : State). s.closed ++ ps) (sym g) ∙ append_assoc closed (p ∷ []) ps),
+          tail_closes o b.0 lines ps b.1 (subst (λ (s : State). Tail s.current lines ps) (sym g) h),
+        )
+
+pub step_some : (s : State) (n : ℕ) (o : Option Line) (t : State) → step_of s n o ≡ Ok t → (line : Line) × (o ≡ Some line) × (step s.closed s.current n line ≡ Ok t)
+step_some s n None t e = absurd cc
+step_some s n (Some line) t e = (line, refl, e)
+
+finish_found : (closed : List Procedure) (current : Option Open) (n : ℕ) (all : List Procedure) → finish closed current n ≡ Ok all → (all ≡ closed) × Tail current [] []
+finish_found [] None n all e = absurd cc
+finish_found (p ∷ ps) None n all e = (cc, refl)
+finish_found [] (Some o) n all e = absurd cc
+finish_found (p ∷ ps) (Some o) n all e = absurd cc
+
+-- what is read is in the grammar
+pub reads_found : (n : ℕ) (s : State) (texts : List (List ℕ)) (all : List Procedure) → reads n s texts ≡ Ok all
+    → (ps : List Procedure) × (all ≡ s.closed ++ ps) × (lines : List Line) × AreTexts texts lines × Tail s.current lines ps
+reads_found n s [] all e = let r = finish_found s.closed s.current n all e in ([], r.0 ∙ sym (append-nil s.closed), [], refl, r.1)
+reads_found n s ([] ∷ texts) all e = reads_found (n + 1) s texts all e
+reads_found n s ((b ∷ bs) ∷ texts) all e =
+    let a = bind_ok (step_of s n (line_of_bytes (b ∷ bs))) (λ t. reads (n + 1) t texts) all e in
+    let l = step_some s n (line_of_bytes (b ∷ bs)) a.0 a.1 in
+    let r = reads_found (n + 1) a.0 texts all a.2 in
+    let f = step_found s.closed s.current n l.0 a.0 all r.0 r.2 l.2 r.1 r.4 in
+    let t = line_takes (b ∷ bs) l.0 l.1 in
+    (f.0, f.1, l.0 ∷ r.2, (t.0, t.1, r.3), f.2)
+
+-- ---- and back
+
+pub record Bounded (closed ps : List Procedure) : Type 0 where
+  pub some : 0 < length closed + length ps
+  pub few : length closed + length ps < 17
+  pub codes : All (λ p. (0 < length p.code) × (length p.code < 257)) ps
+
+same_procedure : (p : Procedure) (name : List ℕ) (arity : ℕ) → p.name ≡ name → p.arity ≡ arity → p ≡ record { name = name; arity = arity; code = p.code }
+same_procedure p name arity e f = rw (← e, ← f) refl
+
+step_only : (closed : List Procedure) (current : Option Open) (n : ℕ) (line : Line) (lines : List Line) (ps : List Procedure)
+    → Tail current (line ∷ lines) ps → Bounded closed ps
+    → (t : State) × (step closed current n line ≡ Ok t) × (qs : List Procedure) × (t.closed ++ qs ≡ closed ++ ps) × Tail t.current lines qs × Bounded t.closed qs
+step_only closed None n (Opens name arity) lines [] h b = absurd cc
+step_only closed None n (Opens name arity) lines (p ∷ ps) h b =
+    let l : ltb (length closed) 16 ≡ true = lt-ltb _ _ (omega (arith, b.few)) in
+    (record { closed = closed; current = Some (opened name arity) }, rw l refl, p ∷ ps, refl, opens_tail name arity lines (p ∷ ps) h, b)
+step_only closed None n (Names l) lines [] h b = absurd cc
+step_only closed None n (Names l) lines (p ∷ ps) (body, rest, e, u, c, r) b = absurd cc
+step_only closed None n (Does i l) lines [] h b = absurd cc
+step_only closed None n (Does i l) lines (p ∷ ps) (body, rest, e, u, c, r) b = absurd cc
+step_only closed None n Closes lines [] h b = absurd cc
+step_only closed None n Closes lines (p ∷ ps) (body, rest, e, u, c, r) b = absurd cc
+step_only closed (Some o) n (Opens name arity) lines ps h b = absurd (opens_inside o name arity lines ps h)
+step_only closed (Some o) n (Names l) lines ps h b =
+    let t = names_tail o l lines ps h in
+    (record { closed = closed; current = Some (labelled o l) }, rw t.0 refl, ps, refl, t.1, b)
+step_only closed (Some o) n (Does i l) lines [] h b = absurd h
+step_only closed (Some o) n (Does i l) lines (p ∷ ps) h b =
+    let t = does_tail o i l n lines (p ∷ ps) h in
+    let k = length-continues o.labels (bare (longer o i l n).code) t.0 p.code t.5 in
+    let m : length (bare (longer o i l n).code) ≡ suc (length o.code) = length-bare (longer o i l n).code ∙ (length-append o.code (record { instr = i; label = l; line = n } ∷ []) ∙ add-one (length o.code)) in
+    let c = b.codes 0 p (omega arith) in
+    let z : ltb (length o.code) 256 ≡ true = lt-ltb _ _ (omega (arith, k, m, c.1)) in
+    (record { closed = closed; current = Some (longer o i l n) }, rw z refl, p ∷ ps, refl, t, b)
+step_only closed (Some o) n Closes lines [] h b = absurd h
+step_only closed (Some o) n Closes lines (p ∷ ps) h b =
+    let t = closes_tail o lines p ps h in
+    let c = b.codes 0 p (omega arith) in
+    let k : length p.code ≡ length o.code = length-targets o.labels (bare o.code) p.code (settle_targets o.labels o.code p.code t.2) ∙ length-bare o.code in
+    let z : eqb (length o.code) 0 ≡ false = ne_eqb _ _ (omega (arith, k, c.0)) in
+    let q : Procedure = record { name = o.name; arity = o.arity; code = p.code } in
+    let same : p ≡ q = same_procedure p o.name o.arity t.0 t.1 in (
+      record { closed = closed ++ (q ∷ []); current = None },
+      rw (z, t.2) refl,
+      ps,
+      append_assoc closed (q ∷ []) ps ∙ ap (λ (x : Procedure). closed ++ (x ∷ ps)) (sym same),
+      t.3,
+      record { some = omega (arith, length-append closed (q ∷ [])); few = omega (arith, b.few, length-append closed (q ∷ [])); codes = λ i d l. b.codes (suc i) d (omega arith) },
+    )
+
+finish_only : (closed : List Procedure) (current : Option Open) (n : ℕ) (ps : List Procedure) → Tail current [] ps → Bounded closed ps → finish closed current n ≡ Ok (closed ++ ps)
+finish_only closed (Some o) n [] h b = absurd h
+finish_only closed (Some o) n (p ∷ ps) ([], rest, e, n', a, c, r) b = absurd cc
+finish_only closed (Some o) n (p ∷ ps) (x ∷ body, rest, e, n', a, c, r) b = absurd cc
+finish_only closed None n (p ∷ ps) (body, rest, e, u, c, r) b = absurd cc
+finish_only [] None n [] h b = absurd (omega (arith, b.some))
+finish_only (q ∷ qs) None n [] h b = rw (append-nil qs) refl
+
+-- what is in the grammar is read
+pub reads_only : (n : ℕ) (s : State) (texts : List (List ℕ)) (lines : List Line) (ps : List Procedure) → AreTexts texts lines → Tail s.current lines ps → Bounded s.closed ps
+    → reads n s texts ≡ Ok (s.closed ++ ps)
+reads_only n s [] lines ps e h b = finish_only s.closed s.current n ps (subst (λ (ls : List Line). Tail s.current ls ps) e h) b
+reads_only n s ([] ∷ texts) lines ps e h b = reads_only (n + 1) s texts lines ps e h b
+reads_only n s ((x ∷ xs) ∷ texts) [] ps e h b = absurd e
+reads_only n s ((x ∷ xs) ∷ texts) (line ∷ lines) ps (e, f, g) h b =
+    let t = step_only s.closed s.current n line lines ps h b in
+    let r = reads_only (n + 1) t.0 texts lines t.2 g t.4 t.5 in
+    let l : line_of_bytes (x ∷ xs) ≡ Some line = ap line_of_bytes e ∙ line_again line f in
+    rw (l, t.1) (r ∙ ap Ok t.3)
+
+-- ---- whole texts
+
+pub assembled_found : (text : List ℕ) (ps : List Procedure) → assembled text ≡ Ok ps → IsTextOf text ps
+unfolding assembled
+assembled_found text ps e =
+    let r = reads_found 1 start (lines_of text) ps e in
+    let q : ps ≡ r.0 = r.1 in
+    record { lines = r.2; texts = r.3; procedures = subst (λ (x : List Procedure). AreProcedures r.2 x) (sym q) r.4 }
+
+pub assembled_only : (text : List ℕ) (ps : List Procedure) → Bounded [] ps → IsTextOf text ps → assembled text ≡ Ok ps
+unfolding assembled
+assembled_only text ps m t = reads_only 1 start (lines_of text) t.lines ps t.texts t.procedures m

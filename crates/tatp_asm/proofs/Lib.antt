@@ -1,0 +1,16 @@
+pub mod LineLemmas
+pub mod RoundTrip
+pub mod Tools
+pub mod FieldLaws
+pub mod OperandLaws
+pub mod InstructionLaws
+pub mod LineLaws
+pub mod LabelLaws
+pub mod Bodies
+pub mod Grammar
+pub mod Settling
+pub mod ModuleLaws
+pub mod Whole
+pub mod Printed
+pub mod PrintedText
+pub mod PushLaws

@@ -1,0 +1,20 @@
+-- Instructions with a target, and their targets.
+use Rattle.std.specs.Prelude.{ℕ, Bool, Option, Some, None, is_some}
+use Rattle.tatp_instr.specs.declared.instr.Instr.{Instr}
+use Rattle.tatp_instr.specs.declared.instr.Instr.TheVariants.{Jmp, Jz}
+
+-- the place that a jump names
+abbrev pub target_of : Instr → Option ℕ
+target_of (Jmp t) = Some t
+target_of (Jz a t) = Some t
+target_of instr = None
+
+-- whether it is a jump
+abbrev pub has_target : Instr → Bool
+has_target instr = is_some (target_of instr)
+
+-- the same instruction; a jump goes to this place
+abbrev pub aimed : Instr → ℕ → Instr
+aimed (Jmp t) place = Jmp place
+aimed (Jz a t) place = Jz a place
+aimed instr place = instr

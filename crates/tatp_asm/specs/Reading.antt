@@ -1,0 +1,111 @@
+-- Reading an assembly text from front to back, with the first fault that is met: docs/FORMATS.md, "Assembly text".
+use Rattle.std.specs.Prelude.{◌≡◌, ℕ, ◌+◌, ◌==◌, nat_lt, Bool, true, false, if◌then◌else◌, List, [], ◌∷◌, ◌++◌, length, bytes_eq, Option, Some, None, is_some, Result, Ok, Err}
+use Rattle.tatp_instr.specs.declared.instr.Instr.{Instr}
+use Rattle.tatp_encoding.specs.Modules.{Procedure}
+use Rattle.tatp_asm.specs.declared.fault.FaultKind.{FaultKind}
+use Rattle.tatp_asm.specs.declared.fault.FaultKind.TheVariants.{Syntax, NoSuchLabel, LabelTwice, TooLong}
+use Rattle.tatp_asm.specs.declared.fault.AsmFault.{AsmFault}
+use Rattle.tatp_asm.specs.declared.fault.AsmError.{AsmError}
+use Rattle.tatp_asm.specs.declared.fault.AsmError.TheVariants as errors
+use Rattle.tatp_asm.specs.Instrs.{has_target, aimed}
+use Rattle.tatp_asm.specs.Lines.{Line, Opens, Names, Does, Closes, lines_of}
+use Rattle.tatp_asm.specs.Words.{line_of_bytes}
+
+-- a fault of this line
+abbrev pub fault : {A : Type 0} → FaultKind → ℕ → Result A AsmFault
+fault kind line = Err (record { kind = kind; line = line })
+
+infixl 10 ◌>>=◌
+abbrev pub ◌>>=◌ : {A B : Type 0} → Result A AsmFault → (A → Result B AsmFault) → Result B AsmFault
+(Ok a) >>= f = f a
+(Err e) >>= f = Err e
+
+-- ---- what a function of the program gives
+-- an error is the fault, or memory ran out
+abbrev pub IsErrorOf : {B : Type 0} → AsmError → Result B AsmFault → Type 0
+IsErrorOf errors.NoMemory read = Unit {0}
+IsErrorOf (errors.Fault f) read = read ≡ Err f
+
+-- its result, seen so, is what is read, unless memory ran out
+abbrev pub Gives : {A B : Type 0} → (A → B) → Result A AsmError → Result B AsmFault → Type 0
+Gives view (Ok a) read = read ≡ Ok (view a)
+Gives view (Err e) read = IsErrorOf e read
+
+-- ---- a procedure under way
+-- an instruction, the label that it names, and its line
+pub record Pending : Type 0 where
+  pub instr : Instr
+  pub label : List ℕ
+  pub line : ℕ
+
+-- its labels with their places, and its instructions
+pub record Open : Type 0 where
+  pub name : List ℕ
+  pub arity : ℕ
+  pub labels : List (List ℕ × ℕ)
+  pub code : List Pending
+
+-- the procedures that have ended, and the one that has not
+pub record State : Type 0 where
+  pub closed : List Procedure
+  pub current : Option Open
+
+-- where a label stands
+abbrev pub place_of : List (List ℕ × ℕ) → List ℕ → Option ℕ
+place_of [] label = None
+place_of (l ∷ labels) label = if bytes_eq label l.0 then Some l.1 else place_of labels label
+
+-- an instruction with its target; the first value says whether it has one
+abbrev pub settled : Bool → Option ℕ → Pending → Result Instr AsmFault
+settled false place p = Ok p.instr
+settled true (Some place) p = Ok (aimed p.instr place)
+settled true None p = fault NoSuchLabel p.line
+
+abbrev pub settle : List (List ℕ × ℕ) → List Pending → Result (List Instr) AsmFault
+settle labels [] = Ok []
+settle labels (p ∷ more) = settled (has_target p.instr) (place_of labels p.label) p >>= λ i. settle labels more >>= λ code. Ok (i ∷ code)
+
+-- the procedure ends
+abbrev pub close : List Procedure → Open → ℕ → Result State AsmFault
+close closed o n =
+    if length o.code == 0 then fault Syntax n else
+    settle o.labels o.code >>= λ code. Ok (record { closed = closed ++ (record { name = o.name; arity = o.arity; code = code } ∷ []); current = None })
+
+-- ---- one line more, the line n
+abbrev pub step : List Procedure → Option Open → ℕ → Line → Result State AsmFault
+step closed None n (Opens name arity) =
+    if nat_lt (length closed) 16 then Ok (record { closed = closed; current = Some (record { name = name; arity = arity; labels = []; code = [] }) }) else
+    fault TooLong n
+step closed None n line = fault Syntax n
+step closed (Some o) n (Opens name arity) = fault Syntax n
+step closed (Some o) n (Names label) =
+    if is_some (place_of o.labels label) then fault LabelTwice n else
+    Ok (record { closed = closed; current = Some (record o { labels = o.labels ++ ((label, length o.code) ∷ []) }) })
+step closed (Some o) n (Does instr label) =
+    if nat_lt (length o.code) 256 then Ok (record { closed = closed; current = Some (record o { code = o.code ++ (record { instr = instr; label = label; line = n } ∷ []) }) }) else
+    fault TooLong n
+step closed (Some o) n Closes = close closed o n
+
+abbrev pub step_of : State → ℕ → Option Line → Result State AsmFault
+step_of s n None = fault Syntax n
+step_of s n (Some line) = step s.closed s.current n line
+
+-- ---- the text
+-- the text ends before the line n
+abbrev pub finish : List Procedure → Option Open → ℕ → Result (List Procedure) AsmFault
+finish [] None n = fault Syntax n
+finish (p ∷ more) None n = Ok (p ∷ more)
+finish closed (Some o) n = fault Syntax n
+
+-- the lines from the line n on
+abbrev pub reads : ℕ → State → List (List ℕ) → Result (List Procedure) AsmFault
+reads n s [] = finish s.closed s.current n
+reads n s ([] ∷ texts) = reads (n + 1) s texts
+reads n s ((byte ∷ bytes) ∷ texts) = step_of s n (line_of_bytes (byte ∷ bytes)) >>= λ t. reads (n + 1) t texts
+
+abbrev pub start : State
+start = record { closed = []; current = None }
+
+-- the procedures of a text, or its first fault
+unfoldable pub assembled : List ℕ → Result (List Procedure) AsmFault
+assembled text = reads 1 start (lines_of text)

@@ -1,0 +1,55 @@
+-- Assembly text, and the module that it is a text of: docs/FORMATS.md, "Assembly text".
+use Rattle.std.specs.Prelude.{◌≡◌, ℕ, suc, Bool, true, false, List, [], ◌∷◌, ◌++◌}
+use Rattle.tatp_instr.specs.declared.instr.Instr.{Instr}
+use Rattle.tatp_encoding.specs.Modules.{Procedure}
+use Rattle.tatp_asm.specs.Instrs.{has_target, aimed}
+use Rattle.tatp_asm.specs.Lines.{Line, Opens, Names, Does, Closes, lines_of, line_text, IsLine}
+
+-- how many of the lines are instructions
+abbrev pub count : List Line → ℕ
+count [] = 0
+count (Does instr label ∷ lines) = suc (count lines)
+count (_ ∷ lines) = count lines
+
+-- the label stands among the lines behind so many instructions
+abbrev pub Stands : List Line → List ℕ → ℕ → Type 0
+Stands lines label place = (before after : List Line) × (lines ≡ before ++ (Names label ∷ after)) × (place ≡ count before)
+
+-- no label stands twice
+abbrev pub NoneTwice : List Line → Type 0
+NoneTwice [] = Unit {0}
+NoneTwice (Names label ∷ lines) = ((place : ℕ) → Stands lines label place → ⊥) × NoneTwice lines
+NoneTwice (_ ∷ lines) = NoneTwice lines
+
+-- what the instruction of a line means among the lines of its procedure: a jump goes where its label stands
+abbrev pub Means : Bool → List Line → Instr → List ℕ → Instr → Type 0
+Means true body instr label meant = (place : ℕ) × Stands body label place × (meant ≡ aimed instr place)
+Means false body instr label meant = meant ≡ instr
+
+-- the instructions among these lines of a procedure are the code
+abbrev pub IsCode : List Line → List Line → List Instr → Type 0
+IsCode body [] code = code ≡ []
+IsCode body (Does instr label ∷ lines) [] = ⊥
+IsCode body (Does instr label ∷ lines) (meant ∷ code) = Means (has_target instr) body instr label meant × IsCode body lines code
+IsCode body (Names label ∷ lines) code = IsCode body lines code
+IsCode body (_ ∷ lines) code = ⊥
+
+-- the lines are these procedures, one behind another
+abbrev pub AreProcedures : List Line → List Procedure → Type 0
+AreProcedures lines [] = lines ≡ []
+AreProcedures lines (p ∷ more) =
+    (body rest : List Line) × (lines ≡ Opens p.name p.arity ∷ (body ++ (Closes ∷ rest)))
+    × NoneTwice body × IsCode body body p.code × AreProcedures rest more
+
+-- the texts without the empty ones are the texts of these lines
+abbrev pub AreTexts : List (List ℕ) → List Line → Type 0
+AreTexts [] lines = lines ≡ []
+AreTexts ([] ∷ texts) lines = AreTexts texts lines
+AreTexts ((byte ∷ bytes) ∷ texts) [] = ⊥
+AreTexts ((byte ∷ bytes) ∷ texts) (line ∷ lines) = (byte ∷ bytes ≡ line_text line) × IsLine line × AreTexts texts lines
+
+-- the text is a text of these procedures
+pub record IsTextOf (text : List ℕ) (m : List Procedure) : Type 0 where
+  pub lines : List Line
+  pub texts : AreTexts (lines_of text) lines
+  pub procedures : AreProcedures lines m

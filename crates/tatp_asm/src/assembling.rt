@@ -1,0 +1,118 @@
+//! The module of an assembly text, read once from front to back.
+ghost use Rattle.std.specs.Prelude.{◌≡◌, ◌≤◌, List, Ok, true, IfOk, OnOk};
+ghost use Rattle.tatp_encoding.specs.Modules.{Procedure, is_module};
+ghost use Rattle.tatp_asm.specs.Lines.{IsLine, lines_of};
+ghost use Rattle.tatp_asm.specs.Texts.{IsTextOf};
+ghost use Rattle.tatp_asm.specs.Reading.{Gives, step, finish, reads, start, assembled};
+ghost use Rattle.tatp_asm.specs.Views.{FitsAny, line_view, drafts, state_of};
+
+use crate::draft::{Draft, add_instruction, add_label, close_draft, fault, open_draft};
+use crate::fault::{AsmError, FaultKind};
+use crate::line::{Line, next_line, parse_line};
+use std::alloc::Global;
+use tatp_encoding::{Module, Proc};
+
+/// One line more, behind the procedures that have ended and the one that has not.
+fn add_line(
+    alloc: Global,
+    closed: &mut Vec<Proc>,
+    draft: &mut Option<Draft>,
+    line: Line,
+    number: u64,
+) -> Result<(), AsmError>
+    requires fits { FitsAny draft.old }
+    requires within { IsLine (line_view line) }
+    ensures gives { Gives (λ _. state_of closed.new.items draft.new) result (step closed.old.items (drafts draft.old) number (line_view line)) }
+    ensures fits { OnOk result (FitsAny draft.new) }
+{
+    match draft.take() {
+        None => match line {
+            Line::Opening(name, arity) => {
+                *draft = Some(open_draft(alloc, closed.len(), name, arity, number)?);
+            }
+            _ => return fault(FaultKind::Syntax, number),
+        },
+        Some(open) => match line {
+            Line::Opening(..) => return fault(FaultKind::Syntax, number),
+            Line::Label(label) => {
+                *draft = Some(add_label(alloc, open, label, number)?);
+            }
+            Line::Instruction(instr, label) => {
+                *draft = Some(add_instruction(open, instr, label, number)?);
+            }
+            Line::Ending => {
+                closed.push(close_draft(alloc, open, number)?)?;
+            }
+        },
+    }
+    Ok(())
+}
+
+/// The procedures of a text that ends before this line.
+fn finish(closed: Vec<Proc>, draft: Option<Draft>, number: u64) -> Result<Vec<Proc>, AsmError>
+    ensures { Gives (λ procs. procs.items) result (finish closed.items (drafts draft) number) }
+{
+    if draft.is_some() || closed.is_empty() {
+        return fault(FaultKind::Syntax, number);
+    }
+    Ok(closed)
+}
+
+/// The procedures of a text.
+fn procedures(alloc: Global, text: &[u8]) -> Result<Vec<Proc>, AsmError>
+    ensures { Gives (λ procs. procs.items) result (reads 1 start (lines_of text.now)) }
+{
+    let mut closed = Vec::new(alloc);
+    let mut draft = None;
+    let mut rest = text;
+    let mut number = 1;
+    'lines: loop {
+        match next_line(rest) {
+            None => return finish(closed, draft, number),
+            Some((line, after)) => {
+                if !line.is_empty() {
+                    match parse_line(line) {
+                        None => return fault(FaultKind::Syntax, number),
+                        Some(line) => add_line(alloc, &mut closed, &mut draft, line, number)?,
+                    }
+                }
+                rest = after;
+                number += 1;
+            }
+        }
+    }
+}
+
+#[tactic(auto, unfolding(crate::specs::Reading::assembled))]
+fn read_module(alloc: Global, text: &[u8]) -> Result<Module, AsmError>
+    ensures { Gives (λ m. m) result (assembled text.now) }
+{
+    let procs = procedures(alloc, text)?;
+    Ok(Module::new(procs))
+}
+
+/// The module of a text, which may be bytes that are no text: such a line has the fault 9 Syntax.
+/// Otherwise the first fault: lines are examined in order, and at each `end` the labels that the
+/// instructions of its procedure name.
+pub fn assemble_bytes(alloc: Global, text: &[u8]) -> Result<Module, AsmError>
+    // What is assembled has this text, and what has this text is assembled, unless memory runs out.
+    ensures found { IfOk result (λ m. IsTextOf text.now m) }
+    ensures only { (m : List Procedure) → is_module m ≡ true → IsTextOf text.now m → Gives (λ found. found) result (Ok m) }
+
+    // Which fault it is.
+    ensures exact { Gives (λ m. m) result (assembled text.now) }
+{
+    read_module(alloc, text)
+}
+
+/// The module of a text, or the first fault.
+pub fn assemble(alloc: Global, text: &str) -> Result<Module, AsmError>
+    // What is assembled has this text, and what has this text is assembled, unless memory runs out.
+    ensures found { IfOk result (λ m. IsTextOf text.now m) }
+    ensures only { (m : List Procedure) → is_module m ≡ true → IsTextOf text.now m → Gives (λ found. found) result (Ok m) }
+
+    // Which fault it is.
+    ensures exact { Gives (λ m. m) result (assembled text.now) }
+{
+    assemble_bytes(alloc, text.as_bytes())
+}

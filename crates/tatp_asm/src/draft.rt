@@ -1,0 +1,139 @@
+//! A procedure under way.
+ghost use Rattle.std.specs.Prelude.{◌≡◌, ◌≤◌, ◌++◌, ◌∷◌, [], List, Some, None, true, length, Err, IfOk, OnOk};
+ghost use Rattle.tatp_encoding.specs.Modules.{Procedure, is_name, is_procedure};
+ghost use Rattle.tatp_asm.specs.Instrs.{has_target};
+ghost use Rattle.tatp_asm.specs.Lines.{Opens, Names, Does, Closes, IsLine};
+ghost use Rattle.tatp_asm.specs.Reading.{Gives, step, settle, settled, place_of};
+ghost use Rattle.tatp_asm.specs.Views.{Fits, draft_view, labels_view, pending, all_pending};
+
+use crate::fault::{AsmError, AsmFault, FaultKind};
+use crate::labels::{Labels, place_of, put_label};
+use crate::name::Name;
+use crate::target::{aimed, target_of};
+use indexmap::IndexMap;
+use std::alloc::Global;
+use tatp_encoding::Proc;
+use tatp_instr::Instr;
+
+/// An instruction, with the label that it names, which is empty where it names none, and its line.
+#[derive(Drop)]
+pub(crate) struct Unsettled {
+    pub instr: Instr,
+    pub label: Name,
+    pub line: u64,
+}
+
+/// A procedure that has begun and not ended.
+#[derive(Drop)]
+pub(crate) struct Draft {
+    pub name: Name,
+    pub arity: u8,
+    pub labels: Labels,
+    pub code: Vec<Unsettled>,
+}
+
+/// A fault of a line.
+pub(crate) fn fault<T>(kind: FaultKind, line: u64) -> Result<T, AsmError>
+    ensures { result ≡ Err (AsmError.Fault (record { kind = kind; line = line })) }
+{
+    Err(AsmError::Fault(AsmFault { kind, line }))
+}
+
+/// An instruction with its target.
+fn settle_one(labels: &Labels, unsettled: &Unsettled) -> Result<Instr, AsmError>
+    ensures { Gives (λ i. i) result (settled (has_target unsettled.now.instr) (place_of (labels_view labels.now.entries) unsettled.now.label.bytes) (pending unsettled.now)) }
+{
+    match target_of(&unsettled.instr) {
+        None => Ok(unsettled.instr),
+        Some(_) => match place_of(labels, unsettled.label.as_str()) {
+            Some(place) => Ok(aimed(unsettled.instr, place)),
+            None => fault(FaultKind::NoSuchLabel, unsettled.line),
+        },
+    }
+}
+
+/// Instructions with their targets.
+fn settle_all(alloc: Global, labels: &Labels, code: &[Unsettled]) -> Result<Vec<Instr>, AsmError>
+    ensures gives { Gives (λ v. v.items) result (settle (labels_view labels.now.entries) (all_pending code.now)) }
+    ensures count { IfOk result (λ v. length v.items ≡ length code.now) }
+{
+    let mut instrs = Vec::with_capacity(alloc, code.len())?;
+    'code: for one in code {
+        instrs.push(settle_one(labels, one)?)?;
+    }
+    Ok(instrs)
+}
+
+/// A procedure that begins behind so many others.
+pub(crate) fn open_draft(
+    alloc: Global,
+    closed: usize,
+    name: Name,
+    arity: u8,
+    line: u64,
+) -> Result<Draft, AsmError>
+    requires { IsLine (Opens name.bytes arity) }
+    ensures gives { (procs : List Procedure) → length procs ≡ closed → Gives (λ d. record { closed = procs; current = Some (draft_view d) }) result (step procs None line (Opens name.bytes arity)) }
+    ensures fits { IfOk result Fits }
+{
+    if closed >= 16 {
+        return fault(FaultKind::TooLong, line);
+    }
+    Ok(Draft {
+        name,
+        arity,
+        labels: IndexMap::new(alloc),
+        code: Vec::new(alloc),
+    })
+}
+
+/// One label more.
+pub(crate) fn add_label(
+    alloc: Global,
+    draft: Draft,
+    label: Name,
+    line: u64,
+) -> Result<Draft, AsmError>
+    requires { Fits draft }
+    ensures gives { (closed : List Procedure) → Gives (λ d. record { closed = closed; current = Some (draft_view d) }) result (step closed (Some (draft_view draft)) line (Names label.bytes)) }
+    ensures fits { IfOk result Fits }
+{
+    let mut draft = draft;
+    if place_of(&draft.labels, label.as_str()).is_some() {
+        return fault(FaultKind::LabelTwice, line);
+    }
+    let place = draft.code.len() as u32;
+    put_label(alloc, &mut draft.labels, label.as_str(), place)?;
+    Ok(draft)
+}
+
+/// One instruction more.
+pub(crate) fn add_instruction(
+    draft: Draft,
+    instr: Instr,
+    label: Name,
+    line: u64,
+) -> Result<Draft, AsmError>
+    requires { Fits draft }
+    ensures gives { (closed : List Procedure) → Gives (λ d. record { closed = closed; current = Some (draft_view d) }) result (step closed (Some (draft_view draft)) line (Does instr label.bytes)) }
+    ensures fits { IfOk result Fits }
+{
+    let mut draft = draft;
+    if draft.code.len() >= 256 {
+        return fault(FaultKind::TooLong, line);
+    }
+    draft.code.push(Unsettled { instr, label, line })?;
+    Ok(draft)
+}
+
+/// The procedure that ends.
+pub(crate) fn close_draft(alloc: Global, draft: Draft, line: u64) -> Result<Proc, AsmError>
+    requires { Fits draft }
+    ensures { (closed : List Procedure) → Gives (λ p. record { closed = closed ++ (p ∷ []); current = None }) result (step closed (Some (draft_view draft)) line Closes) }
+{
+    if draft.code.is_empty() {
+        return fault(FaultKind::Syntax, line);
+    }
+    let code = settle_all(alloc, &draft.labels, &draft.code)?;
+    Ok(Proc::new(draft.name.as_str(), draft.arity, code))
+}

@@ -1,0 +1,36 @@
+//! The labels of a procedure, with their places.
+ghost use Rattle.std.specs.Prelude.{◌≡◌, ◌++◌, ◌∷◌, [], None, OnOk, IfErr};
+ghost use Rattle.std.specs.String.{string_bytes};
+ghost use Rattle.tatp_asm.specs.Reading.{place_of};
+ghost use Rattle.tatp_asm.specs.Views.{labels_view};
+
+use crate::fault::AsmError;
+use indexmap::IndexMap;
+use std::alloc::Global;
+
+/// Labels in the order of their lines, each with the number of instructions before it.
+pub(crate) type Labels = IndexMap<String, u32>;
+
+/// Where a label stands.
+pub(crate) fn place_of(labels: &Labels, label: &str) -> Option<u32>
+    ensures { result ≡ place_of (labels_view labels.now.entries) label.now }
+{
+    labels.get(label).copied()
+}
+
+/// Puts in a label that stands nowhere yet.
+#[tactic(auto, using(crate::proofs::LabelLaws::insert_label))]
+pub(crate) fn put_label(
+    alloc: Global,
+    labels: &mut Labels,
+    label: &str,
+    place: u32,
+) -> Result<(), AsmError>
+    requires { place_of (labels_view labels.old.entries) label.now ≡ None }
+    ensures ok { OnOk result (labels_view labels.new.entries ≡ labels_view labels.old.entries ++ ((label.now, place) ∷ [])) }
+    ensures err { IfErr result (λ e. e ≡ AsmError.NoMemory) }
+{
+    let label = String::from_str(alloc, label)?;
+    labels.insert(label, place)?;
+    Ok(())
+}

@@ -1,0 +1,125 @@
+//! One line: what it is.
+ghost use Rattle.std.specs.Prelude.{◌≡◌, ◌<◌, ◌≤◌, ◌∷◌, [], ◌==◌, option_map, length, position, IfSome, IfNone};
+ghost use Rattle.std.specs.List.{position_or_len};
+ghost use Rattle.std.specs.Option.{option_and_then};
+ghost use Rattle.tatp_asm.specs.Lines.{Opens, lines_of, IsLine};
+ghost use Rattle.tatp_asm.specs.Words.{before_colon, label_line, word_of, opening_of, line_of, line_of_bytes};
+ghost use Rattle.tatp_asm.specs.Views.{line_view};
+
+use crate::fields::{Split, below, is_label, is_name, split_fields};
+use crate::name::{Name, name_of};
+use crate::operands::instruction;
+use tatp_instr::Instr;
+
+/// A line that isn't empty.
+#[derive(Clone, Copy, Debug)]
+pub(crate) enum Line {
+    /// A procedure begins, of this name and arity.
+    Opening(Name, u8),
+    /// A label.
+    Label(Name),
+    /// An instruction. A jump has the target 0, and the label that it names beside it.
+    Instruction(Instr, Name),
+    /// The procedure ends.
+    Ending,
+}
+
+fn line_feed(text: &[u8]) -> Option<usize>
+    ensures { result ≡ position (λ byte. byte == 10) text.now }
+{
+    text.iter().position(|byte| *byte == b'\n')
+}
+
+/// How many bytes stand before the first line feed.
+#[tactic(auto, using(crate::proofs::LineLemmas::place_or_len))]
+fn line_len(text: &[u8]) -> usize
+    ensures { result ≡ position_or_len (λ byte. byte == 10) text.now }
+{
+    line_feed(text).unwrap_or(text.len())
+}
+
+/// The first line and what follows it, where there is one.
+#[tactic(auto, using(crate::proofs::LineLemmas::lines_first_slice, crate::proofs::LineLemmas::lines_last))]
+pub(crate) fn next_line(text: &[u8]) -> Option<(&[u8], &[u8])>
+    ensures line { IfSome result (λ found. lines_of text.now ≡ found.0.now ∷ lines_of found.1.now) }
+    ensures shorter { IfSome result (λ found. length found.1.now < length text.now) }
+    ensures none { IfNone result (lines_of text.now ≡ []) }
+{
+    if text.is_empty() {
+        return None;
+    }
+    let end = line_len(text);
+    if end < text.len() {
+        Some((&text[..end], &text[end + 1..]))
+    } else {
+        Some((text, &[]))
+    }
+}
+
+/// The label that a line is, which ends with a colon.
+#[tactic(auto, using(crate::proofs::Tools::label_short))]
+fn label_line(word: &str) -> Option<Line>
+    ensures { option_map line_view result ≡ option_and_then label_line (before_colon word.now) }
+{
+    let label = word.strip_suffix(':')?;
+    if is_label(label.as_bytes()) {
+        Some(Line::Label(name_of(label)))
+    } else {
+        None
+    }
+}
+
+/// The line that one word is.
+#[tactic(auto, unfolding(crate::specs::Words::word_of))]
+fn word_line(word: &str) -> Option<Line>
+    ensures { option_map line_view result ≡ word_of word.now }
+{
+    match word {
+        "end" => Some(Line::Ending),
+        "DEL" => Some(Line::Instruction(Instr::Del, Name::new())),
+        "DONE" => Some(Line::Instruction(Instr::Done, Name::new())),
+        _ => label_line(word),
+    }
+}
+
+/// The line that begins a procedure.
+#[tactic(auto, unfolding(crate::specs::Words::opening_of))]
+fn opening(word: &str, name: &str, arity: &str) -> Option<Line>
+    ensures { option_map line_view result ≡ opening_of word.now name.now arity.now }
+{
+    if word != "proc" || !is_name(name.as_bytes()) {
+        return None;
+    }
+    Some(Line::Opening(name_of(name), below(9, arity)? as u8))
+}
+
+/// The line that a text is.
+#[tactic(auto, unfolding(crate::specs::Words::line_of))]
+fn text_line(text: &str) -> Option<Line>
+    ensures { option_map line_view result ≡ line_of text.now }
+{
+    match split_fields(' ', text) {
+        Split::One(word) => word_line(word),
+        Split::Two(word, operands) => instruction(word, operands),
+        Split::Three(word, name, arity) => opening(word, name, arity),
+        Split::More => None,
+    }
+}
+
+#[tactic(auto, unfolding(crate::specs::Words::line_of_bytes))]
+fn bytes_line(line: &[u8]) -> Option<Line>
+    ensures { option_map line_view result ≡ line_of_bytes line.now }
+{
+    match str::from_utf8(line) {
+        Ok(text) => text_line(text),
+        Err(_) => None,
+    }
+}
+
+/// The line that bytes are, which may be no text.
+pub(crate) fn parse_line(line: &[u8]) -> Option<Line>
+    ensures value { option_map line_view result ≡ line_of_bytes line.now }
+    ensures within { IfSome result (λ l. IsLine (line_view l)) }
+{
+    bytes_line(line)
+}

@@ -1,0 +1,36 @@
+-- Code that is written place by place, and that keeps the loader's rules.
+use Rattle.std.specs.Prelude.{◌≡◌, ℕ, zero, suc, ◌+◌, ◌*◌, ◌<◌, ◌≤◌, List, [], ◌∷◌, length, Some, None, Result, Ok, Err, IfOk, IfErr, IsOk, slice_set}
+use Rattle.std.proofs.Common.{refl, sym, ap, subst, ◌∙◌, arith, get_or}
+use Rattle.tatp_encoding.specs.Modules.{Procedure}
+use Rattle.tatp_loader.specs.Rules.{first_fault}
+use Rattle.tatp_loader.specs.declared.fault.LoadFault.{LoadFault}
+use Rattle.tatp_procs.specs.Standard.{standard_module}
+use Rattle.tatp_instr.specs.declared.instr.Instr.{Instr}
+use Rattle.tatp_instr.specs.declared.instr.Instr.TheVariants.{Get}
+
+-- the first n columns, each read at every second place from 3 on
+abbrev pub with_reads : ℕ → List Instr → List Instr
+with_reads zero code = code
+with_reads (suc n) code = slice_set (with_reads n code) (3 + 2 * n) (Get 2 n)
+
+-- the standard module keeps the loader's rules
+pub check_accepts : (m : List Procedure) (answer : Result (List Procedure) LoadFault) → m ≡ standard_module → IfErr answer (λ fault. first_fault m ≡ Some fault) → IsOk answer
+check_accepts m (Ok loaded) is fault = refl
+check_accepts m (Err broken) is fault = let none : None ≡ Some broken = ap first_fault (sym is) ∙ fault in cc
+
+-- what is accepted is the module that was checked
+pub accepted_is : (m loaded : List Procedure) (answer : Result (List Procedure) LoadFault) → IfOk answer (λ l. l ≡ m) → answer ≡ Ok loaded → loaded ≡ m
+accepted_is m loaded answer value is = subst (λ a. IfOk a (λ l. l ≡ m)) is value
+
+-- a module of seven procedures
+pub seven_are : (m : List Procedure) (a b c d e f g : Procedure) → 7 ≤ length m → length m < 8 → a ≡ get_or m 0 a → b ≡ get_or m 1 b → c ≡ get_or m 2 c → d ≡ get_or m 3 d → e ≡ get_or m 4 e → f ≡ get_or m 5 f → g ≡ get_or m 6 g
+    → m ≡ a ∷ b ∷ c ∷ d ∷ e ∷ f ∷ g ∷ []
+seven_are [] a b c d e f g le lt ha hb hc hd he hf hg = absurd (omega arith)
+seven_are (p ∷ []) a b c d e f g le lt ha hb hc hd he hf hg = absurd (omega arith)
+seven_are (p ∷ q ∷ []) a b c d e f g le lt ha hb hc hd he hf hg = absurd (omega arith)
+seven_are (p ∷ q ∷ r ∷ []) a b c d e f g le lt ha hb hc hd he hf hg = absurd (omega arith)
+seven_are (p ∷ q ∷ r ∷ s ∷ []) a b c d e f g le lt ha hb hc hd he hf hg = absurd (omega arith)
+seven_are (p ∷ q ∷ r ∷ s ∷ t ∷ []) a b c d e f g le lt ha hb hc hd he hf hg = absurd (omega arith)
+seven_are (p ∷ q ∷ r ∷ s ∷ t ∷ u ∷ []) a b c d e f g le lt ha hb hc hd he hf hg = absurd (omega arith)
+seven_are (p ∷ q ∷ r ∷ s ∷ t ∷ u ∷ v ∷ []) a b c d e f g le lt ha hb hc hd he hf hg = λ i. sym ha i ∷ sym hb i ∷ sym hc i ∷ sym hd i ∷ sym he i ∷ sym hf i ∷ sym hg i ∷ []
+seven_are (p ∷ q ∷ r ∷ s ∷ t ∷ u ∷ v ∷ w ∷ more) a b c d e f g le lt ha hb hc hd he hf hg = absurd (omega arith)

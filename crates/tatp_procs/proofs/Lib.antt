@@ -1,0 +1,13 @@
+pub mod KeepLaws
+pub mod RunLaws
+pub mod HomeRowLaws
+pub mod PaddingLaws
+pub mod PerformLaws
+pub mod ReadLaws
+pub mod UpdateLaws
+pub mod ForwardingLaws
+pub mod StartLaws
+pub mod DestinationRunLaws
+pub mod DestinationLaws
+pub mod CodeLaws
+pub mod TransactionLaws

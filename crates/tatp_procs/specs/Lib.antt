@@ -1,0 +1,7 @@
+pub mod Calls
+pub mod Outputs
+pub mod Arguments
+pub mod Transactions
+pub mod Order
+pub mod Standard
+pub mod Replies

@@ -1,0 +1,126 @@
+//! The standard module: the seven transactions as procedures.
+ghost use Rattle.std.specs.Prelude.{◌≡◌, ◌↔◌, true, length, IsTrue, IfOk, Ok};
+ghost use Rattle.tatp_tables.specs.Database.{Database};
+ghost use Rattle.tatp_encoding.specs.Modules.{is_procedure};
+ghost use Rattle.tatp_procs.specs.declared.call.Call.{Call};
+ghost use Rattle.tatp_procs.specs.Arguments.{arguments_accepted};
+ghost use Rattle.tatp_procs.specs.Standard.{standard_module};
+ghost use Rattle.tatp_procs.specs.Replies.{IsConsistent, Performs};
+
+mod reads;
+mod registers;
+mod text;
+mod writes;
+
+use reads::{get_access_data, get_new_destination, get_subscriber_data};
+use std::alloc::{AllocError, Global};
+use tatp_encoding::{Module, Proc, encode};
+use tatp_instr::Instr;
+use tatp_loader::{Loaded, check};
+pub use text::STANDARD;
+use writes::{
+    delete_call_forwarding, insert_call_forwarding, update_location, update_subscriber_data,
+};
+
+/// The standard module. Run alone on a database that passes the audits A2 to A6, each of its procedures
+/// is its transaction, for all arguments in their domains.
+pub fn standard(alloc: Global) -> Result<Loaded, AllocError>
+    ensures value { IfOk result (λ loaded. loaded ≡ standard_module) }
+    ensures transactions { IfOk result (λ loaded. (call : Call) (u : Database) → IsConsistent u → arguments_accepted call ≡ Ok tt → Performs loaded call u) }
+{
+    let procs = procedures(alloc)?;
+    Ok(check(Module::new(procs)).unwrap())
+}
+
+/// Whether this is the standard module.
+pub fn is_standard(loaded: &Loaded) -> bool
+    ensures { IsTrue result ↔ (loaded.now ≡ standard_module) }
+{
+    let [a, b, c, d, e, f, g] = loaded.module().procs() else {
+        return false;
+    };
+    if !consists_of(a, "GET_SUBSCRIBER_DATA", 1, &get_subscriber_data()) {
+        return false;
+    }
+    if !consists_of(b, "GET_NEW_DESTINATION", 4, &get_new_destination()) {
+        return false;
+    }
+    if !consists_of(c, "GET_ACCESS_DATA", 2, &get_access_data()) {
+        return false;
+    }
+    if !consists_of(d, "UPDATE_SUBSCRIBER_DATA", 4, &update_subscriber_data()) {
+        return false;
+    }
+    if !consists_of(e, "UPDATE_LOCATION", 2, &update_location()) {
+        return false;
+    }
+    if !consists_of(f, "INSERT_CALL_FORWARDING", 5, &insert_call_forwarding()) {
+        return false;
+    }
+    consists_of(g, "DELETE_CALL_FORWARDING", 3, &delete_call_forwarding())
+}
+
+fn procedures(alloc: Global) -> Result<Vec<Proc>, AllocError>
+    ensures { IfOk result (λ procs. procs.items ≡ standard_module) }
+{
+    Ok(vec![in alloc;
+        procedure(alloc, "GET_SUBSCRIBER_DATA", 1, &get_subscriber_data())?,
+        procedure(alloc, "GET_NEW_DESTINATION", 4, &get_new_destination())?,
+        procedure(alloc, "GET_ACCESS_DATA", 2, &get_access_data())?,
+        procedure(
+            alloc,
+            "UPDATE_SUBSCRIBER_DATA",
+            4,
+            &update_subscriber_data()
+        )?,
+        procedure(alloc, "UPDATE_LOCATION", 2, &update_location())?,
+        procedure(
+            alloc,
+            "INSERT_CALL_FORWARDING",
+            5,
+            &insert_call_forwarding()
+        )?,
+        procedure(
+            alloc,
+            "DELETE_CALL_FORWARDING",
+            3,
+            &delete_call_forwarding()
+        )?,
+    ]?)
+}
+
+fn procedure(alloc: Global, name: &str, arity: u8, code: &[Instr]) -> Result<Proc, AllocError>
+    requires { is_procedure (record { name = name.now; arity = arity; code = code.now }) ≡ true }
+    ensures { IfOk result (λ p. p ≡ record { name = name.now; arity = arity; code = code.now }) }
+{
+    let mut kept = Vec::new(alloc);
+    kept.extend_from_slice(code)?;
+    Ok(Proc::new(name, arity, kept))
+}
+
+fn consists_of(procedure: &Proc, name: &str, arity: u8, code: &[Instr]) -> bool
+    ensures { IsTrue result ↔ (procedure.now ≡ record { name = name.now; arity = arity; code = code.now }) }
+{
+    procedure.name() == name && procedure.arity() == arity && is_code(procedure.code(), code)
+}
+
+fn is_code(code: &[Instr], other: &[Instr]) -> bool
+    ensures { IsTrue result ↔ (code.now ≡ other.now) }
+{
+    if code.len() != other.len() {
+        return false;
+    }
+    for i in 0..code.len() {
+        if !is_instr(&code[i], &other[i]) {
+            return false;
+        }
+    }
+    true
+}
+
+// By their bytes, which no two instructions share.
+fn is_instr(instr: &Instr, other: &Instr) -> bool
+    ensures { IsTrue result ↔ (instr.now ≡ other.now) }
+{
+    encode(instr) == encode(other)
+}

@@ -1,0 +1,83 @@
+//! Replies of calls.
+ghost use Rattle.std.specs.Prelude.{◌≡◌, ◌≤◌, length, nat_eq};
+ghost use Rattle.std.specs.Cmp.{partial_equiv_from_equiv};
+ghost use Rattle.std.specs.Cmp.Lexicographic.{pointwise, nat_list_eq_equiv};
+
+use std::marker::Model;
+use tatp_machine::Trap;
+
+/// The most values that a call puts out.
+const MOST: usize = 40;
+
+/// Values that a call put out, at most 40. Contracts see them as a list.
+#[derive(Clone, Copy, Debug)]
+pub struct Outputs {
+    count: usize,
+    /// With 0 behind the last.
+    values: [u64; 40],
+}
+
+impl Model for Outputs {
+    ghost use Rattle.std.specs.Prelude.{ℕ, List, take, length};
+    ghost use Rattle.tatp_procs.specs.Outputs.{ArePadded, padded, padded_count, padded_values};
+
+    ghost Value = { List ℕ };
+
+    ghost view = { λ a. take a.count a.values };
+
+    ghost invariant = { λ a. ArePadded 40 a.count a.values };
+
+    ghost inverse = { λ xs. record { count = length xs; values = padded 40 xs } };
+
+    ghost inverse_ok = { λ a h. λ i. record { count = padded_count a.count a.values h i; values = padded_values a.count a.values h i } };
+}
+
+impl Outputs {
+    /// These values.
+    pub fn from_slice(values: &[u64]) -> Outputs
+        requires { length values.now ≤ 40 }
+        ensures { result ≡ values.now }
+    {
+        let mut all = [0; 40];
+        all[..values.len()].copy_from_slice(values);
+        Outputs {
+            count: values.len(),
+            values: all,
+        }
+    }
+
+    /// The values, in the order in which they were put out.
+    pub fn as_slice(&self) -> &[u64]
+        ensures value { result.now ≡ self.now }
+        ensures most { length self.now ≤ 40 }
+    {
+        &self.values[..self.count]
+    }
+}
+
+impl PartialEq for Outputs {
+    ghost eq = { pointwise nat_eq };
+
+    ghost laws = { partial_equiv_from_equiv nat_list_eq_equiv };
+
+    fn eq(&self, other: &Outputs) -> bool {
+        self.as_slice() == other.as_slice()
+    }
+}
+
+impl Eq for Outputs {
+    ghost laws = { nat_list_eq_equiv };
+}
+
+/// What a call is answered.
+#[derive(Clone, Copy, Debug, PartialEq, Eq)]
+pub enum Reply {
+    /// It ended with these outputs.
+    Values(Outputs),
+    /// It ended with a failure, which its procedure numbers.
+    Failed(u32),
+    /// It was stopped.
+    Trapped(Trap),
+    /// It was not begun.
+    Refused,
+}

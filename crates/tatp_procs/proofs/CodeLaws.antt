@@ -1,9 +1,12 @@
 -- Code that is written place by place, and that keeps the loader's rules.
-use Rattle.std.specs.Prelude.{◌≡◌, ℕ, zero, suc, ◌+◌, ◌*◌, ◌<◌, ◌≤◌, List, [], ◌∷◌, length, Some, None, Result, Ok, Err, IfOk, IfErr, IsOk, slice_set}
+use Rattle.std.specs.Prelude.{◌≡◌, ℕ, zero, suc, ◌+◌, ◌*◌, ◌<◌, ◌≤◌, List, [], ◌∷◌, length, Some, None, Result, Ok, Err, IfOk, IfErr, IsOk, IsSomeAnd, slice_get, slice_set}
 use Rattle.std.proofs.Common.{refl, sym, ap, subst, ◌∙◌, arith, get_or}
 use Rattle.tatp_encoding.specs.Modules.{Procedure}
 use Rattle.tatp_loader.specs.Rules.{first_fault}
 use Rattle.tatp_loader.specs.declared.fault.LoadFault.{LoadFault}
+use Rattle.tatp_procs.specs.declared.call.Call.{Call}
+use Rattle.tatp_procs.specs.declared.call.Call.TheVariants.{GetSubscriberData, GetNewDestination, GetAccessData, UpdateSubscriberData, UpdateLocation, InsertCallForwarding, DeleteCallForwarding}
+use Rattle.tatp_procs.specs.Calls.{procedure_of, arguments_of}
 use Rattle.tatp_procs.specs.Standard.{standard_module}
 use Rattle.tatp_instr.specs.declared.instr.Instr.{Instr}
 use Rattle.tatp_instr.specs.declared.instr.Instr.TheVariants.{Get}
@@ -34,3 +37,20 @@ seven_are (p ∷ q ∷ r ∷ s ∷ t ∷ []) a b c d e f g le lt ha hb hc hd he 
 seven_are (p ∷ q ∷ r ∷ s ∷ t ∷ u ∷ []) a b c d e f g le lt ha hb hc hd he hf hg = absurd (omega arith)
 seven_are (p ∷ q ∷ r ∷ s ∷ t ∷ u ∷ v ∷ []) a b c d e f g le lt ha hb hc hd he hf hg = λ i. sym ha i ∷ sym hb i ∷ sym hc i ∷ sym hd i ∷ sym he i ∷ sym hf i ∷ sym hg i ∷ []
 seven_are (p ∷ q ∷ r ∷ s ∷ t ∷ u ∷ v ∷ w ∷ more) a b c d e f g le lt ha hb hc hd he hf hg = absurd (omega arith)
+
+-- the standard module has a procedure for each call, which takes its arguments
+pub arity_is : (call : Call) → IsSomeAnd (slice_get standard_module (procedure_of call)) (λ (p : Procedure). p.arity ≡ length (arguments_of call))
+arity_is (GetSubscriberData s) = refl
+arity_is (GetNewDestination s t b e) = refl
+arity_is (GetAccessData s t) = refl
+arity_is (UpdateSubscriberData s x t y) = refl
+arity_is (UpdateLocation n v) = refl
+arity_is (InsertCallForwarding n t b e x) = refl
+arity_is (DeleteCallForwarding n t b) = refl
+
+pub takes_arguments : (m : List Procedure) (call : Call) (arguments : List ℕ) (procedure : ℕ) → m ≡ standard_module → procedure ≡ procedure_of call → arguments ≡ arguments_of call
+    → IsSomeAnd (slice_get m procedure) (λ (p : Procedure). p.arity ≡ length arguments)
+takes_arguments m call arguments procedure is place are =
+    subst (λ k. IsSomeAnd (slice_get k procedure) (λ (p : Procedure). p.arity ≡ length arguments)) (sym is)
+    (subst (λ k. IsSomeAnd (slice_get standard_module k) (λ (p : Procedure). p.arity ≡ length arguments)) (sym place)
+    (subst (λ (k : List ℕ). IsSomeAnd (slice_get standard_module (procedure_of call)) (λ (p : Procedure). p.arity ≡ length k)) (sym are) (arity_is call)))

@@ -1,13 +1,17 @@
 //! Laws of the definitions, for the crates above. Nothing runs here: a clause is the law.
-ghost use Rattle.std.specs.Prelude.{◌≡◌, Ok};
+ghost use Rattle.std.specs.Prelude.{◌≡◌, Ok, IsSomeAnd, length, slice_get};
 ghost use Rattle.tatp_tables.specs.Database.{Database};
 ghost use Rattle.tatp_procs.specs.declared.call.Call.{Call};
+ghost use Rattle.tatp_encoding.specs.Modules.{Procedure};
+ghost use Rattle.tatp_procs.specs.Calls.{procedure_of, arguments_of};
 ghost use Rattle.tatp_procs.specs.Arguments.{arguments_accepted};
 ghost use Rattle.tatp_procs.specs.Standard.{standard_module};
 ghost use Rattle.tatp_procs.specs.Replies.{IsConsistent, Performs};
 
 /// Run alone on a consistent database, each standard procedure is its transaction, for all arguments
-/// in their domains: it ends, without a trap, with the transaction's reply, and leaves its database.
+/// in their domains: it ends, without a trap, with the transaction's reply, and leaves its database. It
+/// takes as many arguments as the call has.
 pub fn standard_procedures_are_transactions()
-    ensures { (call : Call) (u : Database) → IsConsistent u → arguments_accepted call ≡ Ok tt → Performs standard_module call u }
+    ensures performs { (call : Call) (u : Database) → IsConsistent u → arguments_accepted call ≡ Ok tt → Performs standard_module call u }
+    ensures arity { (call : Call) → IsSomeAnd (slice_get standard_module (procedure_of call)) (λ (p : Procedure). p.arity ≡ length (arguments_of call)) }
 {}

@@ -13,3 +13,6 @@ pub use domains::{BadArgument, args_ok};
 pub use laws::standard_procedures_are_transactions;
 pub use procedures::{STANDARD, is_standard, standard};
 pub use reply::{Outputs, Reply};
+
+#[cfg(test)]
+mod tests;

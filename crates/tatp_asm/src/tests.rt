@@ -50,10 +50,8 @@ fn labels_belong_to_their_procedure(rt: HostRuntime) -> Result<(), Fail> {
     let rt = &rt;
     let both = "proc A 0\nx:\nDONE\nend\nproc B 1\nDONE\nx:\nJMP @x\nend\n";
     let module = assemble(alloc, both)?;
-    assert_eq!(rt;
-        module.procs()[1].code(),
-        [Instr::Done, Instr::Jmp(1)].as_slice()
-    );
+    let second = module.procs().get(1).ok_or("a second procedure")?;
+    assert_eq!(rt; second.code(), [Instr::Done, Instr::Jmp(1)].as_slice());
     let other = "proc A 0\nx:\nDONE\nend\nproc B 0\nJMP @x\nend\n";
     expect_fault(rt, alloc, other, FaultKind::NoSuchLabel, 6);
     Ok(())
@@ -255,5 +253,21 @@ fn each_mnemonic(rt: HostRuntime) -> Result<(), Fail> {
     expect_printed(rt, alloc, ALL, ALL)?;
     let again = assemble_disassembled(alloc, &module)?;
     assert_eq!(rt; again.procs()[0].code(), expected.as_slice());
+    Ok(())
+}
+
+#[test]
+fn texts_of_faults(rt: HostRuntime) -> Result<(), Fail> {
+    let alloc = rt.alloc();
+    let missing = AsmError::Fault(AsmFault {
+        kind: FaultKind::NoSuchLabel,
+        line: 2,
+    });
+    assert_eq!(&rt;
+        format!(in alloc; "{missing}")?.as_str(),
+        "10 NoSuchLabel 2"
+    );
+    let memory = AsmError::NoMemory;
+    assert_eq!(&rt; format!(in alloc; "{memory}")?.as_str(), "46 NoMemory");
     Ok(())
 }

@@ -17,7 +17,8 @@ use Rattle.tatp_numbers.specs.Homes.{s_id_of}
 use Rattle.tatp_procs.specs.declared.call.Call.TheVariants.{GetNewDestination}
 use Rattle.tatp_procs.specs.Standard.{standard_module}
 use Rattle.tatp_procs.specs.Transactions.{start_time_of, end_time_of, numberx_of, is_active, destinations, some_of}
-use Rattle.tatp_procs.specs.Replies.{IsConsistent, Performs}
+use Rattle.tatp_procs.specs.Consistent.{IsConsistent}
+use Rattle.tatp_procs.specs.Performs.{Performs}
 use Rattle.tatp_procs.proofs.HomeRowLaws.{row_at-own, no_child, key_parts, forwarding_key_parts, home_found, row_length}
 use Rattle.tatp_procs.proofs.PerformLaws.{performs_failing, performs_reading, performs_without}
 use Rattle.tatp_procs.proofs.RunLaws.{run}

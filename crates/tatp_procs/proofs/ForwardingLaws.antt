@@ -17,7 +17,8 @@ use Rattle.tatp_numbers.specs.Homes.{s_id_of}
 use Rattle.tatp_procs.specs.declared.call.Call.TheVariants.{InsertCallForwarding, DeleteCallForwarding}
 use Rattle.tatp_procs.specs.Standard.{standard_module}
 use Rattle.tatp_procs.specs.Transactions.{replies, deletes, deletes_for, inserts_under, inserts_for}
-use Rattle.tatp_procs.specs.Replies.{IsConsistent, Performs}
+use Rattle.tatp_procs.specs.Consistent.{IsConsistent}
+use Rattle.tatp_procs.specs.Performs.{Performs}
 use Rattle.tatp_procs.proofs.RunLaws.{Over, run, run_homeless}
 use Rattle.tatp_procs.proofs.HomeRowLaws.{row_at-own, replaced-insert, replaced-remove, row_length, forwarding_key_parts}
 use Rattle.tatp_procs.proofs.UpdateLaws.{found_at_home, number_at_home}

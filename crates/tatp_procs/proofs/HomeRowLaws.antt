@@ -17,7 +17,7 @@ use Rattle.tatp_tables.proofs.SubscriberLaws.{has-rows_with_s_id, replaced_rows,
 use Rattle.tatp_numbers.specs.declared.key.Key.TheVariants.{Id}
 use Rattle.tatp_numbers.specs.Homes.{s_id_of, home_of_key}
 use Rattle.std.specs.Option.{option_map}
-use Rattle.tatp_procs.specs.Replies.{IsConsistent}
+use Rattle.tatp_procs.specs.Consistent.{IsConsistent}
 use Rattle.tatp_procs.proofs.KeepLaws.{AreHome}
 
 -- ---- finds

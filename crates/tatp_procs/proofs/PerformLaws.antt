@@ -15,7 +15,8 @@ use Rattle.tatp_numbers.specs.Homes.{home_of_key}
 use Rattle.tatp_procs.specs.declared.call.Call.{Call}
 use Rattle.tatp_procs.specs.Calls.{procedure_of, key_of, arguments_of}
 use Rattle.tatp_procs.specs.Transactions.{fails, replies, transaction}
-use Rattle.tatp_procs.specs.Replies.{answer_of, CallAlone, IsConsistent, Performs}
+use Rattle.tatp_procs.specs.Consistent.{IsConsistent}
+use Rattle.tatp_procs.specs.Performs.{answer_of, CallAlone, Performs}
 use Rattle.tatp_procs.proofs.KeepLaws.{puts_free}
 use Rattle.tatp_procs.proofs.RunLaws.{Over, run, run_homeless, outcome, run_leads, run_homeless_leads}
 use Rattle.tatp_procs.proofs.HomeRowLaws.{AreHome-of_subscriber}

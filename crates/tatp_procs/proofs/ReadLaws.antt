@@ -16,7 +16,8 @@ use Rattle.std.specs.Option.{option_map}
 use Rattle.tatp_procs.specs.Standard.{standard_module}
 use Rattle.tatp_procs.specs.declared.call.Call.TheVariants.{GetSubscriberData, GetAccessData}
 use Rattle.tatp_procs.specs.Transactions.{replies, reads}
-use Rattle.tatp_procs.specs.Replies.{IsConsistent, Performs}
+use Rattle.tatp_procs.specs.Consistent.{IsConsistent}
+use Rattle.tatp_procs.specs.Performs.{Performs}
 use Rattle.tatp_procs.proofs.RunLaws.{Over, run, run_homeless}
 use Rattle.tatp_procs.proofs.HomeRowLaws.{row_at-own, no_child, key_parts, home_found, row_length}
 use Rattle.tatp_procs.proofs.PerformLaws.{performs_failing, performs_reading, performs_without}

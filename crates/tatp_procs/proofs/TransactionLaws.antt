@@ -8,7 +8,8 @@ use Rattle.tatp_procs.specs.declared.call.Call.{Call}
 use Rattle.tatp_procs.specs.declared.call.Call.TheVariants.{GetSubscriberData, GetNewDestination, GetAccessData, UpdateSubscriberData, UpdateLocation, InsertCallForwarding, DeleteCallForwarding}
 use Rattle.tatp_procs.specs.Arguments.{accepted, arguments_accepted, fits_of}
 use Rattle.tatp_procs.specs.Standard.{standard_module}
-use Rattle.tatp_procs.specs.Replies.{IsConsistent, Performs}
+use Rattle.tatp_procs.specs.Consistent.{IsConsistent}
+use Rattle.tatp_procs.specs.Performs.{Performs}
 use Rattle.tatp_procs.proofs.ReadLaws.{get_subscriber_data_performs, get_access_data_performs}
 use Rattle.tatp_procs.proofs.UpdateLaws.{update_subscriber_data_performs, update_location_performs}
 use Rattle.tatp_procs.proofs.ForwardingLaws.{insert_call_forwarding_performs, delete_call_forwarding_performs}

@@ -17,7 +17,8 @@ use Rattle.tatp_numbers.specs.Homes.{s_id_of}
 use Rattle.tatp_procs.specs.declared.call.Call.TheVariants.{UpdateSubscriberData, UpdateLocation}
 use Rattle.tatp_procs.specs.Standard.{standard_module}
 use Rattle.tatp_procs.specs.Transactions.{replies, moves, updates_both}
-use Rattle.tatp_procs.specs.Replies.{IsConsistent, Performs}
+use Rattle.tatp_procs.specs.Consistent.{IsConsistent}
+use Rattle.tatp_procs.specs.Performs.{Performs}
 use Rattle.tatp_procs.proofs.RunLaws.{Over, run, run_homeless}
 use Rattle.tatp_procs.proofs.HomeRowLaws.{row_at-own, row_with_number-own, replaced-replace, key_parts, home_found, found_by_key, row_length}
 use Rattle.tatp_procs.proofs.PerformLaws.{performs_at, performs_failing, performs_without}

@@ -4,4 +4,5 @@ pub mod Arguments
 pub mod Transactions
 pub mod Order
 pub mod Standard
-pub mod Replies
+pub mod Consistent
+pub mod Performs

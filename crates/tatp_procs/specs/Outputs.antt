@@ -1,6 +1,6 @@
 -- Values kept in a fixed place, with 0 behind the last.
 use Rattle.std.specs.Prelude.{◌≡◌, ℕ, ◌-◌, ◌≤◌, List, ◌++◌, take, length, replicate}
-use Rattle.std.proofs.Common.{sym, arith}
+use Rattle.std.proofs.Common.{sym, subst}
 use Rattle.std.proofs.lemmas.List.{length-take-le}
 
 abbrev pub padded : ℕ → List ℕ → List ℕ
@@ -12,8 +12,9 @@ pub record ArePadded (room count : ℕ) (all : List ℕ) : Type 0 where
   pub most : count ≤ room
   pub zeros : all ≡ padded room (take count all)
 
+-- so the values give back what they are kept in
 pub padded_count : (count : ℕ) (all : List ℕ) → ArePadded 40 count all → length (take count all) ≡ count
-padded_count count all h = length-take-le count all (omega (arith, h.room_is, h.most))
+padded_count count all h = length-take-le count all (subst (λ n. count ≤ n) (sym h.room_is) h.most)
 
 pub padded_values : (count : ℕ) (all : List ℕ) → ArePadded 40 count all → padded 40 (take count all) ≡ all
 padded_values count all h = sym h.zeros

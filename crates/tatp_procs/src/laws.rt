@@ -1,12 +1,16 @@
 //! Laws of the definitions, for the crates above. Nothing runs here: a clause is the law.
 ghost use Rattle.std.specs.Prelude.{◌≡◌, Ok, IsSomeAnd, length, slice_get};
-ghost use Rattle.tatp_tables.specs.Database.{Database};
+ghost use Rattle.tatp_tables.specs.Database.{Database, database_of};
+ghost use Rattle.tatp_tables.specs.Home.{SubscriberRows, IsHome};
+ghost use Rattle.tatp_tables.specs.Clean.{IsClean};
+ghost use Rattle.tatp_tables.specs.declared.row.Rows.{Rows};
 ghost use Rattle.tatp_procs.specs.declared.call.Call.{Call};
 ghost use Rattle.tatp_encoding.specs.Modules.{Procedure};
 ghost use Rattle.tatp_procs.specs.Calls.{procedure_of, arguments_of};
 ghost use Rattle.tatp_procs.specs.Arguments.{arguments_accepted};
 ghost use Rattle.tatp_procs.specs.Standard.{standard_module};
-ghost use Rattle.tatp_procs.specs.Replies.{IsConsistent, Performs};
+ghost use Rattle.tatp_procs.specs.Consistent.{IsConsistent};
+ghost use Rattle.tatp_procs.specs.Performs.{Performs};
 
 /// Run alone on a consistent database, each standard procedure is its transaction, for all arguments
 /// in their domains: it ends, without a trap, with the transaction's reply, and leaves its database. It
@@ -14,4 +18,10 @@ ghost use Rattle.tatp_procs.specs.Replies.{IsConsistent, Performs};
 pub fn standard_procedures_are_transactions()
     ensures performs { (call : Call) (u : Database) → IsConsistent u → arguments_accepted call ≡ Ok tt → Performs standard_module call u }
     ensures arity { (call : Call) → IsSomeAnd (slice_get standard_module (procedure_of call)) (λ (p : Procedure). p.arity ≡ length (arguments_of call)) }
+{}
+
+/// Clean rows are consistent as a database, and so are the rows of a home.
+pub fn clean_rows_and_homes_are_consistent()
+    ensures rows { (r : Rows) → IsClean r → IsConsistent (database_of r) }
+    ensures homes { (home : SubscriberRows) → IsHome home → IsConsistent home.tables }
 {}

@@ -10,7 +10,7 @@ mod reply;
 
 pub use call::Call;
 pub use domains::{BadArgument, args_ok};
-pub use laws::standard_procedures_are_transactions;
+pub use laws::{clean_rows_and_homes_are_consistent, standard_procedures_are_transactions};
 pub use procedures::{STANDARD, is_standard, standard};
 pub use reply::{Outputs, Reply};
 

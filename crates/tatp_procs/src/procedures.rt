@@ -5,7 +5,8 @@ ghost use Rattle.tatp_encoding.specs.Modules.{is_procedure};
 ghost use Rattle.tatp_procs.specs.declared.call.Call.{Call};
 ghost use Rattle.tatp_procs.specs.Arguments.{arguments_accepted};
 ghost use Rattle.tatp_procs.specs.Standard.{standard_module};
-ghost use Rattle.tatp_procs.specs.Replies.{IsConsistent, Performs};
+ghost use Rattle.tatp_procs.specs.Consistent.{IsConsistent};
+ghost use Rattle.tatp_procs.specs.Performs.{Performs};
 
 mod reads;
 mod registers;

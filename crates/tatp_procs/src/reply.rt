@@ -6,9 +6,6 @@ ghost use Rattle.std.specs.Cmp.Lexicographic.{pointwise, nat_list_eq_equiv};
 use std::marker::Model;
 use tatp_machine::Trap;
 
-/// The most values that a call puts out.
-const MOST: usize = 40;
-
 /// Values that a call put out, at most 40. Contracts see them as a list.
 #[derive(Clone, Copy, Debug)]
 pub struct Outputs {

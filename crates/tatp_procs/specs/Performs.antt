@@ -1,8 +1,6 @@
--- A standard procedure against its transaction: what a call that ran alone is answered, and on which databases.
-use Rattle.std.specs.Prelude.{◌≡◌, ℕ, true, List, slice_index}
-use Rattle.tatp_tables.specs.Tuples.{Tuple, Tuples, has}
+-- A standard procedure against its transaction: what a call that ran alone is answered.
+use Rattle.std.specs.Prelude.{◌≡◌, ℕ, List}
 use Rattle.tatp_tables.specs.Database.{Database}
-use Rattle.tatp_tables.specs.Home.{AreRows, KeysAreUnique, ParentsExist}
 use Rattle.tatp_encoding.specs.Modules.{Procedure}
 use Rattle.tatp_machine.specs.declared.progress.End.{End}
 use Rattle.tatp_machine.specs.declared.progress.End.TheVariants.{Done, Failed as WithFailure, Trapped as WithTrap}
@@ -26,17 +24,6 @@ answer_of o = record { reply = reply_to o.end o.outputs; database = o.database }
 -- the call, run alone by this module on the database, with the home that its key names there, has this outcome
 abbrev pub CallAlone : List Procedure → Call → Database → Outcome → Type 0
 CallAlone modul call u o = Alone modul (procedure_of call) (arguments_of call) (home_of_key u.subscribers (key_of call)) u o
-
--- no two subscribers have one number
-abbrev pub NumbersAreUnique : Tuples → Type 0
-NumbersAreUnique u = (row other : Tuple) → has u row ≡ true → has u other ≡ true → slice_index row 1 ≡ slice_index other 1 → row ≡ other
-
--- no s_id and no other key stands twice, no number does, parents exist, and values are in their domains
-pub record IsConsistent (u : Database) : Type 0 where
-  pub keys : KeysAreUnique u
-  pub numbers : NumbersAreUnique u.subscribers
-  pub parents : ParentsExist u
-  pub rows : AreRows u
 
 -- run alone on the database, the call has an outcome, and it is what its transaction answers and leaves
 pub record Performs (modul : List Procedure) (call : Call) (u : Database) : Type 0 where

@@ -11,3 +11,4 @@ pub mod DestinationRunLaws
 pub mod DestinationLaws
 pub mod CodeLaws
 pub mod TransactionLaws
+pub mod ArgumentLaws

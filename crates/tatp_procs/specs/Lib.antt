@@ -5,3 +5,4 @@ pub mod Transactions
 pub mod Order
 pub mod Standard
 pub mod Replies
+pub mod CallText

@@ -3,12 +3,14 @@
 #![tactic(auto)]
 
 mod call;
+mod call_line;
 mod domains;
 mod laws;
 mod procedures;
 mod reply;
 
 pub use call::Call;
+pub use call_line::read_call;
 pub use domains::{BadArgument, args_ok};
 pub use laws::standard_procedures_are_transactions;
 pub use procedures::{STANDARD, is_standard, standard};

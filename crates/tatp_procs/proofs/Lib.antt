@@ -11,4 +11,6 @@ pub mod DestinationRunLaws
 pub mod DestinationLaws
 pub mod CodeLaws
 pub mod TransactionLaws
-pub mod ArgumentLaws
+pub mod ReadingLaws
+pub mod PrintingLaws
+pub mod CallTextLaws

@@ -1,9 +1,11 @@
 -- The call of a line, and the line of a call: docs/FORMATS.md.
-use Rattle.std.specs.Prelude.{ℕ, Bool, true, ◌&&◌, List, [], ◌∷◌, ◌++◌, slice_index, Option, Some, None, codes, bytes_eq, decimal, if◌then◌else◌}
-use Rattle.std.specs.Option.{option_map, option_and_then}
-use Rattle.tatp_tables.specs.Text.{fields_of, value_of}
+use Rattle.std.specs.Prelude.{ℕ, Bool, List, [], ◌∷◌, ◌++◌, slice_index, Option, None, codes, bytes_eq, if◌then◌else◌}
+use Rattle.std.specs.Option.{option_map}
+use Rattle.tatp_tables.specs.Text.{fields_of}
 use Rattle.tatp_procs.specs.declared.call.Call.{Call}
 use Rattle.tatp_procs.specs.declared.call.Call.TheVariants.{GetSubscriberData, GetNewDestination, GetAccessData, UpdateSubscriberData, UpdateLocation, InsertCallForwarding, DeleteCallForwarding}
+use Rattle.tatp_procs.specs.Calls.{arguments_of}
+use Rattle.tatp_procs.specs.ValuesText.{values_of, values_text, are_printable}
 
 -- ---- the columns that arguments name
 abbrev pub s_id : ℕ
@@ -37,13 +39,6 @@ abbrev pub numberx : ℕ
 numberx = 50
 
 -- ---- the call of a line
--- exactly one value of each of these columns, in their forms
-unfoldable pub values_of : List ℕ → List (List ℕ) → Option (List ℕ)
-values_of [] [] = Some []
-values_of [] (field ∷ more) = None
-values_of (c ∷ columns) [] = None
-values_of (c ∷ columns) (field ∷ more) = option_and_then (λ v. option_map (λ rest. v ∷ rest) (values_of columns more)) (value_of c field)
-
 abbrev pub call_of_fields : List (List ℕ) → Option Call
 call_of_fields [] = None
 call_of_fields (name ∷ fields) =
@@ -66,3 +61,32 @@ call_of_fields (name ∷ fields) =
 -- the call that a line is
 unfoldable pub call_of : List ℕ → Option Call
 call_of line = call_of_fields (fields_of line)
+
+-- ---- the line of a call
+-- the name of its procedure
+abbrev pub name_of : Call → List ℕ
+name_of (GetSubscriberData s) = codes "GET_SUBSCRIBER_DATA"
+name_of (GetNewDestination s t b e) = codes "GET_NEW_DESTINATION"
+name_of (GetAccessData s t) = codes "GET_ACCESS_DATA"
+name_of (UpdateSubscriberData s x t y) = codes "UPDATE_SUBSCRIBER_DATA"
+name_of (UpdateLocation n v) = codes "UPDATE_LOCATION"
+name_of (InsertCallForwarding n t b e x) = codes "INSERT_CALL_FORWARDING"
+name_of (DeleteCallForwarding n t b) = codes "DELETE_CALL_FORWARDING"
+
+-- the columns that its arguments name
+abbrev pub columns_of : Call → List ℕ
+columns_of (GetSubscriberData s) = s_id ∷ []
+columns_of (GetNewDestination s t b e) = s_id ∷ sf_type ∷ start_time ∷ end_time ∷ []
+columns_of (GetAccessData s t) = s_id ∷ ai_type ∷ []
+columns_of (UpdateSubscriberData s x t y) = s_id ∷ bit_1 ∷ sf_type ∷ data_a ∷ []
+columns_of (UpdateLocation n v) = sub_nbr ∷ vlr_location ∷ []
+columns_of (InsertCallForwarding n t b e x) = sub_nbr ∷ sf_type ∷ start_time ∷ end_time ∷ numberx ∷ []
+columns_of (DeleteCallForwarding n t b) = sub_nbr ∷ sf_type ∷ start_time ∷ []
+
+-- its name and its arguments
+abbrev pub call_text : Call → List ℕ
+call_text call = name_of call ++ values_text (columns_of call) (arguments_of call)
+
+-- whether its 15-digit numbers are in their domains
+abbrev pub is_printable_call : Call → Bool
+is_printable_call call = are_printable (columns_of call) (arguments_of call)

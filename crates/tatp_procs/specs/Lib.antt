@@ -5,4 +5,5 @@ pub mod Transactions
 pub mod Order
 pub mod Standard
 pub mod Replies
+pub mod ValuesText
 pub mod CallText

@@ -8,9 +8,10 @@ mod domains;
 mod laws;
 mod procedures;
 mod reply;
+mod values;
 
 pub use call::Call;
-pub use call_line::read_call;
+pub use call_line::{call_text, read_call};
 pub use domains::{BadArgument, args_ok};
 pub use laws::standard_procedures_are_transactions;
 pub use procedures::{STANDARD, is_standard, standard};

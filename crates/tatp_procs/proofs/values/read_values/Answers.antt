@@ -1,6 +1,6 @@
 use Rattle.std.proofs.Common.{◌∙◌, sym, arith}
-use Rattle.tatp_procs.proofs.ArgumentLaws.{no_values_bad, value_read, no_values_long}
-use Rattle.tatp_procs.proofs.call_line.read_arguments.Goals as goal
+use Rattle.tatp_procs.proofs.ReadingLaws.{no_values_bad, value_read, no_values_long}
+use Rattle.tatp_procs.proofs.values.read_values.Goals as goal
 
 pub returns-in_err-values : goal.returns-in_err-values
 returns-in_err-values g c =

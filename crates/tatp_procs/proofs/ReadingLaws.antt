@@ -1,11 +1,11 @@
--- Lemmas on a call's arguments, read one after another.
+-- Lemmas on values, read one after another.
 use Rattle.std.proofs.Common.{◌≡◌, ℕ, suc, ◌+◌, ◌<◌, ◌≤◌, ◌∙◌, sym, ap, subst, List, [], ◌∷◌, ◌++◌, length, take, drop, set, get_or, refl, arith, Option, Some, None, append_assoc, add-one, length-set, drop-cons}
 use Rattle.std.proofs.lemmas.Grind.{take-set_at}
 use Rattle.std.proofs.lemmas.Iterator.Adapters.{option_map_id}
 use Rattle.std.proofs.lemmas.List.{append-nil, take_all, drop_all}
 use Rattle.std.specs.Option.{option_map}
 use Rattle.tatp_tables.specs.Text.{value_of}
-use Rattle.tatp_procs.specs.CallText.{values_of}
+use Rattle.tatp_procs.specs.ValuesText.{values_of}
 
 -- values that those of the fields left complete, the first i being read
 pub record IsReadUpTo (columns : List ℕ) (all : List (List ℕ)) (i : ℕ) (values : List ℕ) (left : List (List ℕ)) : Type 0 where

@@ -7,3 +7,4 @@ pub mod Standard
 pub mod Replies
 pub mod ValuesText
 pub mod CallText
+pub mod ReplyText

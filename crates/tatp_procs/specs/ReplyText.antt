@@ -1,5 +1,5 @@
 -- The line of a reply: docs/FORMATS.md.
-use Rattle.std.specs.Prelude.{ℕ, List, [], ◌∷◌, ◌++◌, replicate, codes, decimal}
+use Rattle.std.specs.Prelude.{ℕ, List, [], ◌++◌, replicate, codes, decimal}
 use Rattle.std.specs.List.{range_with_len}
 use Rattle.tatp_machine.specs.Traps.{trap_name}
 use Rattle.tatp_procs.specs.declared.call.Call.{Call}

@@ -121,3 +121,6 @@ fn columns(call: &Call) -> &'static [u8]
         Call::DeleteCallForwarding { .. } => &[SUB_NBR, SF_TYPE, START_TIME],
     }
 }
+
+#[cfg(test)]
+mod tests;

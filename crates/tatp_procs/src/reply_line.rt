@@ -43,3 +43,6 @@ fn answer_columns(call: &Call) -> &'static [u8]
         _ => &[],
     }
 }
+
+#[cfg(test)]
+mod tests;

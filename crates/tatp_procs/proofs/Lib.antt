@@ -12,3 +12,6 @@ pub mod DestinationLaws
 pub mod CodeLaws
 pub mod TransactionLaws
 pub mod ConsistentLaws
+pub mod ReadingLaws
+pub mod PrintingLaws
+pub mod CallTextLaws

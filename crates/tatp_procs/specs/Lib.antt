@@ -6,3 +6,6 @@ pub mod Order
 pub mod Standard
 pub mod Consistent
 pub mod Performs
+pub mod ValuesText
+pub mod CallText
+pub mod ReplyText

@@ -13,23 +13,25 @@ use thiserror::Error;
 pub struct BadArgument(pub usize);
 
 /// The columns that arguments name.
-const SUB_NBR: u8 = 1;
+pub(crate) const S_ID: u8 = 0;
 
-const BIT_1: u8 = 2;
+pub(crate) const SUB_NBR: u8 = 1;
 
-const VLR_LOCATION: u8 = 33;
+pub(crate) const BIT_1: u8 = 2;
 
-const AI_TYPE: u8 = 35;
+pub(crate) const VLR_LOCATION: u8 = 33;
 
-const SF_TYPE: u8 = 41;
+pub(crate) const AI_TYPE: u8 = 35;
 
-const DATA_A: u8 = 44;
+pub(crate) const SF_TYPE: u8 = 41;
 
-const START_TIME: u8 = 48;
+pub(crate) const DATA_A: u8 = 44;
 
-const END_TIME: u8 = 49;
+pub(crate) const START_TIME: u8 = 48;
 
-const NUMBERX: u8 = 50;
+pub(crate) const END_TIME: u8 = 49;
+
+pub(crate) const NUMBERX: u8 = 50;
 
 /// Whether each argument is in the domain of the column that it names; an s_id may be any number.
 pub fn args_ok(call: &Call) -> Result<(), BadArgument>

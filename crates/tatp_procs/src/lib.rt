@@ -2,17 +2,24 @@
 //! as procedures of the register machine.
 #![tactic(auto)]
 
+mod ask;
 mod call;
+mod call_line;
 mod domains;
 mod laws;
 mod procedures;
 mod reply;
+mod reply_line;
+mod values;
 
+pub use ask::{Ask, Raw};
 pub use call::Call;
+pub use call_line::{call_text, read_call};
 pub use domains::{BadArgument, args_ok};
 pub use laws::{clean_rows_and_homes_are_consistent, standard_procedures_are_transactions};
 pub use procedures::{STANDARD, is_standard, standard};
 pub use reply::{Outputs, Reply};
+pub use reply_line::reply_text;
 
 #[cfg(test)]
 mod tests;

@@ -1,0 +1,47 @@
+-- Lemmas on values, printed one after another.
+use Rattle.std.proofs.Common.{◌≡◌, ℕ, zero, suc, ◌+◌, ◌<◌, ◌≤◌, ◌∙◌, sym, ap, List, [], ◌∷◌, ◌++◌, length, drop, get_or, refl, decimal, append_assoc, add-one, drop-cons}
+use Rattle.std.proofs.lemmas.List.{append-nil, drop_all}
+use Rattle.tatp_tables.specs.Domains.{is_in_domain}
+use Rattle.tatp_tables.specs.Text.{value_text}
+use Rattle.tatp_procs.specs.ValuesText.{values_text}
+
+-- a text that the values from place i on complete
+pub record IsPrintedUpTo (columns values all : List ℕ) (i : ℕ) (text : List ℕ) : Type 0 where
+  pub completed : text ++ values_text (drop i columns) (drop i values) ≡ all
+
+pub none_printed : (columns values text : List ℕ) → IsPrintedUpTo columns values (text ++ values_text columns values) 0 text
+none_printed columns values text = record { completed = refl }
+
+-- a value of no column
+in_decimal : (v : ℕ) → decimal v ≡ value_text 255 v
+unfolding value_text is_in_domain
+in_decimal v = refl
+
+first_printed : (columns : List ℕ) (i v : ℕ) (more : List ℕ) → values_text (drop i columns) (v ∷ more) ≡ 32 ∷ value_text (get_or columns i 255) v ++ values_text (drop (suc i) columns) more
+unfolding values_text
+first_printed [] zero v more = ap (λ t. 32 ∷ t ++ values_text [] more) (in_decimal v)
+first_printed [] (suc i) v more = ap (λ t. 32 ∷ t ++ values_text [] more) (in_decimal v)
+first_printed (c ∷ columns) zero v more = refl
+first_printed (c ∷ columns) (suc i) v more = first_printed columns i v more
+
+value_regrouped : (text value more : List ℕ) → ((text ++ 32 ∷ []) ++ value) ++ more ≡ text ++ (32 ∷ value ++ more)
+value_regrouped text value more = append_assoc (text ++ 32 ∷ []) value more ∙ append_assoc text (32 ∷ []) (value ++ more)
+
+pub value_printed : (columns values all : List ℕ) (i column : ℕ) (text spaced longer : List ℕ) → IsPrintedUpTo columns values all i text → i < length values → column ≡ get_or columns i 255 → spaced ≡ text ++ 32 ∷ [] → longer ≡ spaced ++ value_text column (get_or values i 0) → IsPrintedUpTo columns values all (i + 1) longer
+value_printed columns values all i column text spaced longer p l k s e =
+    let more = values_text (drop (suc i) columns) (drop (suc i) values) in
+    let value = value_text (get_or columns i 255) (get_or values i 0) in
+    let whole : longer ≡ (text ++ 32 ∷ []) ++ value = e ∙ (λ j. s j ++ value_text (k j) (get_or values i 0)) in
+    let here : values_text (drop i columns) (drop i values) ≡ 32 ∷ value ++ more = ap (values_text (drop i columns)) (drop-cons values i 0 l) ∙ first_printed columns i (get_or values i 0) (drop (suc i) values) in
+    record { completed = ap (λ n. longer ++ values_text (drop n columns) (drop n values)) (add-one i) ∙ (ap (λ front. front ++ more) whole ∙ (value_regrouped text value more ∙ (ap (λ rest. text ++ rest) (sym here) ∙ p.completed))) }
+
+nothing_printed : (columns : List ℕ) → values_text columns [] ≡ []
+unfolding values_text
+nothing_printed [] = refl
+nothing_printed (c ∷ columns) = refl
+
+pub all_printed : (columns values all : List ℕ) (i : ℕ) (text : List ℕ) → IsPrintedUpTo columns values all i text → length values ≤ i → text ≡ all
+all_printed columns values all i text p l =
+    let done : drop i values ≡ [] = drop_all i values l in
+    let rest : values_text (drop i columns) (drop i values) ≡ [] = ap (values_text (drop i columns)) done ∙ nothing_printed (drop i columns) in
+    sym (append-nil text) ∙ (ap (λ more. text ++ more) (sym rest) ∙ p.completed)

@@ -1,0 +1,92 @@
+-- The call of a line, and the line of a call: docs/FORMATS.md.
+use Rattle.std.specs.Prelude.{ℕ, Bool, List, [], ◌∷◌, ◌++◌, slice_index, Option, None, codes, bytes_eq, if◌then◌else◌}
+use Rattle.std.specs.Option.{option_map}
+use Rattle.tatp_tables.specs.Text.{fields_of}
+use Rattle.tatp_procs.specs.declared.call.Call.{Call}
+use Rattle.tatp_procs.specs.declared.call.Call.TheVariants.{GetSubscriberData, GetNewDestination, GetAccessData, UpdateSubscriberData, UpdateLocation, InsertCallForwarding, DeleteCallForwarding}
+use Rattle.tatp_procs.specs.Calls.{arguments_of}
+use Rattle.tatp_procs.specs.ValuesText.{values_of, values_text, are_printable}
+
+-- ---- the columns that arguments name
+abbrev pub s_id : ℕ
+s_id = 0
+
+abbrev pub sub_nbr : ℕ
+sub_nbr = 1
+
+abbrev pub bit_1 : ℕ
+bit_1 = 2
+
+abbrev pub vlr_location : ℕ
+vlr_location = 33
+
+abbrev pub ai_type : ℕ
+ai_type = 35
+
+abbrev pub sf_type : ℕ
+sf_type = 41
+
+abbrev pub data_a : ℕ
+data_a = 44
+
+abbrev pub start_time : ℕ
+start_time = 48
+
+abbrev pub end_time : ℕ
+end_time = 49
+
+abbrev pub numberx : ℕ
+numberx = 50
+
+-- ---- the call of a line
+abbrev pub call_of_fields : List (List ℕ) → Option Call
+call_of_fields [] = None
+call_of_fields (name ∷ fields) =
+    if bytes_eq name (codes "GET_SUBSCRIBER_DATA") then
+    option_map (λ a. GetSubscriberData (slice_index a 0)) (values_of (s_id ∷ []) fields) else
+    if bytes_eq name (codes "GET_NEW_DESTINATION") then
+    option_map (λ a. GetNewDestination (slice_index a 0) (slice_index a 1) (slice_index a 2) (slice_index a 3)) (values_of (s_id ∷ sf_type ∷ start_time ∷ end_time ∷ []) fields) else
+    if bytes_eq name (codes "GET_ACCESS_DATA") then
+    option_map (λ a. GetAccessData (slice_index a 0) (slice_index a 1)) (values_of (s_id ∷ ai_type ∷ []) fields) else
+    if bytes_eq name (codes "UPDATE_SUBSCRIBER_DATA") then
+    option_map (λ a. UpdateSubscriberData (slice_index a 0) (slice_index a 1) (slice_index a 2) (slice_index a 3)) (values_of (s_id ∷ bit_1 ∷ sf_type ∷ data_a ∷ []) fields) else
+    if bytes_eq name (codes "UPDATE_LOCATION") then
+    option_map (λ a. UpdateLocation (slice_index a 0) (slice_index a 1)) (values_of (sub_nbr ∷ vlr_location ∷ []) fields) else
+    if bytes_eq name (codes "INSERT_CALL_FORWARDING") then
+    option_map (λ a. InsertCallForwarding (slice_index a 0) (slice_index a 1) (slice_index a 2) (slice_index a 3) (slice_index a 4)) (values_of (sub_nbr ∷ sf_type ∷ start_time ∷ end_time ∷ numberx ∷ []) fields) else
+    if bytes_eq name (codes "DELETE_CALL_FORWARDING") then
+    option_map (λ a. DeleteCallForwarding (slice_index a 0) (slice_index a 1) (slice_index a 2)) (values_of (sub_nbr ∷ sf_type ∷ start_time ∷ []) fields) else
+    None
+
+-- the call that a line is
+unfoldable pub call_of : List ℕ → Option Call
+call_of line = call_of_fields (fields_of line)
+
+-- ---- the line of a call
+-- the name of its procedure
+abbrev pub name_of : Call → List ℕ
+name_of (GetSubscriberData s) = codes "GET_SUBSCRIBER_DATA"
+name_of (GetNewDestination s t b e) = codes "GET_NEW_DESTINATION"
+name_of (GetAccessData s t) = codes "GET_ACCESS_DATA"
+name_of (UpdateSubscriberData s x t y) = codes "UPDATE_SUBSCRIBER_DATA"
+name_of (UpdateLocation n v) = codes "UPDATE_LOCATION"
+name_of (InsertCallForwarding n t b e x) = codes "INSERT_CALL_FORWARDING"
+name_of (DeleteCallForwarding n t b) = codes "DELETE_CALL_FORWARDING"
+
+-- the columns that its arguments name
+abbrev pub columns_of : Call → List ℕ
+columns_of (GetSubscriberData s) = s_id ∷ []
+columns_of (GetNewDestination s t b e) = s_id ∷ sf_type ∷ start_time ∷ end_time ∷ []
+columns_of (GetAccessData s t) = s_id ∷ ai_type ∷ []
+columns_of (UpdateSubscriberData s x t y) = s_id ∷ bit_1 ∷ sf_type ∷ data_a ∷ []
+columns_of (UpdateLocation n v) = sub_nbr ∷ vlr_location ∷ []
+columns_of (InsertCallForwarding n t b e x) = sub_nbr ∷ sf_type ∷ start_time ∷ end_time ∷ numberx ∷ []
+columns_of (DeleteCallForwarding n t b) = sub_nbr ∷ sf_type ∷ start_time ∷ []
+
+-- its name and its arguments
+abbrev pub call_text : Call → List ℕ
+call_text call = name_of call ++ values_text (columns_of call) (arguments_of call)
+
+-- whether its 15-digit numbers are in their domains
+abbrev pub is_printable_call : Call → Bool
+is_printable_call call = are_printable (columns_of call) (arguments_of call)

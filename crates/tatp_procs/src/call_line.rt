@@ -1,0 +1,126 @@
+//! The call of a line, and the line of a call.
+ghost use Rattle.std.specs.Prelude.{◌≡◌, true, Some, IfOk};
+ghost use Rattle.std.specs.String.{string_bytes};
+ghost use Rattle.tatp_procs.specs.CallText.{call_of, call_text, is_printable_call, name_of, columns_of};
+
+use crate::Call;
+use crate::domains::{
+    AI_TYPE, BIT_1, DATA_A, END_TIME, NUMBERX, S_ID, SF_TYPE, START_TIME, SUB_NBR, VLR_LOCATION,
+};
+use crate::values::{read_values, with_values};
+use std::alloc::{AllocError, Global};
+use tatp_tables::Fields;
+
+/// The call that a line is: its name and its arguments, each in its column's form.
+#[tactic(auto, unfolding(crate::specs::CallText::call_of))]
+pub fn read_call(line: &str) -> Option<Call>
+    ensures { result ≡ call_of line.now }
+{
+    let mut fields = Fields::new(line);
+    match fields.next()? {
+        "GET_SUBSCRIBER_DATA" => {
+            let [s_id] = read_values(&mut fields, &[S_ID])?;
+            Some(Call::GetSubscriberData { s_id })
+        }
+        "GET_NEW_DESTINATION" => {
+            let [s_id, sf_type, start_time, end_time] = read_values(
+                &mut fields,
+                &[S_ID, SF_TYPE, START_TIME, END_TIME],
+            )?;
+            Some(Call::GetNewDestination {
+                s_id,
+                sf_type,
+                start_time,
+                end_time,
+            })
+        }
+        "GET_ACCESS_DATA" => {
+            let [s_id, ai_type] = read_values(&mut fields, &[S_ID, AI_TYPE])?;
+            Some(Call::GetAccessData { s_id, ai_type })
+        }
+        "UPDATE_SUBSCRIBER_DATA" => {
+            let [s_id, bit_1, sf_type, data_a] = read_values(
+                &mut fields,
+                &[S_ID, BIT_1, SF_TYPE, DATA_A],
+            )?;
+            Some(Call::UpdateSubscriberData {
+                s_id,
+                bit_1,
+                sf_type,
+                data_a,
+            })
+        }
+        "UPDATE_LOCATION" => {
+            let [sub_nbr, vlr_location] = read_values(&mut fields, &[SUB_NBR, VLR_LOCATION])?;
+            Some(Call::UpdateLocation {
+                sub_nbr,
+                vlr_location,
+            })
+        }
+        "INSERT_CALL_FORWARDING" => {
+            let [sub_nbr, sf_type, start_time, end_time, numberx] = read_values(
+                &mut fields,
+                &[SUB_NBR, SF_TYPE, START_TIME, END_TIME, NUMBERX],
+            )?;
+            Some(Call::InsertCallForwarding {
+                sub_nbr,
+                sf_type,
+                start_time,
+                end_time,
+                numberx,
+            })
+        }
+        "DELETE_CALL_FORWARDING" => {
+            let [sub_nbr, sf_type, start_time] = read_values(
+                &mut fields,
+                &[SUB_NBR, SF_TYPE, START_TIME],
+            )?;
+            Some(Call::DeleteCallForwarding {
+                sub_nbr,
+                sf_type,
+                start_time,
+            })
+        }
+        _ => None,
+    }
+}
+
+/// The line of a call.
+pub fn call_text(alloc: Global, call: &Call) -> Result<String, AllocError>
+    ensures text { IfOk result (λ text. string_bytes text ≡ call_text call.now) }
+    ensures read_back { IfOk result (λ text. is_printable_call call.now ≡ true → call_of (string_bytes text) ≡ Some call.now) }
+{
+    with_values(alloc, name(call), columns(call), &call.args())
+}
+
+fn name(call: &Call) -> &'static str
+    ensures { result.now ≡ name_of call.now }
+{
+    match call {
+        Call::GetSubscriberData { .. } => "GET_SUBSCRIBER_DATA",
+        Call::GetNewDestination { .. } => "GET_NEW_DESTINATION",
+        Call::GetAccessData { .. } => "GET_ACCESS_DATA",
+        Call::UpdateSubscriberData { .. } => "UPDATE_SUBSCRIBER_DATA",
+        Call::UpdateLocation { .. } => "UPDATE_LOCATION",
+        Call::InsertCallForwarding { .. } => "INSERT_CALL_FORWARDING",
+        Call::DeleteCallForwarding { .. } => "DELETE_CALL_FORWARDING",
+    }
+}
+
+/// The columns that its arguments name.
+fn columns(call: &Call) -> &'static [u8]
+    ensures { result.now ≡ columns_of call.now }
+{
+    match call {
+        Call::GetSubscriberData { .. } => &[S_ID],
+        Call::GetNewDestination { .. } => &[S_ID, SF_TYPE, START_TIME, END_TIME],
+        Call::GetAccessData { .. } => &[S_ID, AI_TYPE],
+        Call::UpdateSubscriberData { .. } => &[S_ID, BIT_1, SF_TYPE, DATA_A],
+        Call::UpdateLocation { .. } => &[SUB_NBR, VLR_LOCATION],
+        Call::InsertCallForwarding { .. } => &[SUB_NBR, SF_TYPE, START_TIME, END_TIME, NUMBERX],
+        Call::DeleteCallForwarding { .. } => &[SUB_NBR, SF_TYPE, START_TIME],
+    }
+}
+
+#[cfg(test)]
+mod tests;

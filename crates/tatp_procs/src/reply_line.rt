@@ -1,0 +1,48 @@
+//! The line of a reply.
+ghost use Rattle.std.specs.Prelude.{◌≡◌, IfOk};
+ghost use Rattle.std.specs.String.{string_bytes};
+ghost use Rattle.tatp_procs.specs.ReplyText.{answer_columns, reply_columns, reply_text};
+
+use crate::domains::NUMBERX;
+use crate::values::with_values;
+use crate::{Ask, Call, Reply};
+use std::alloc::{AllocError, Global};
+
+/// The line of a reply to what was asked.
+pub fn reply_text(alloc: Global, ask: &Ask, reply: &Reply) -> Result<String, AllocError>
+    ensures { IfOk result (λ text. string_bytes text ≡ reply_text ask.now reply.now) }
+{
+    match reply {
+        Reply::Values(values) => with_values(alloc, "OK", reply_columns(ask), values.as_slice()),
+        Reply::Failed(number) => format!(in alloc; "FAILED {number}"),
+        Reply::Trapped(trap) => format!(in alloc; "TRAPPED {trap}"),
+        Reply::Refused => String::from_str(alloc, "REFUSED 46 NoMemory"),
+    }
+}
+
+/// The columns in whose forms the values stand.
+fn reply_columns(ask: &Ask) -> &'static [u8]
+    ensures { result.now ≡ reply_columns ask.now }
+{
+    match ask {
+        Ask::Txn(call) => answer_columns(call),
+        Ask::Raw(_) => &[],
+    }
+}
+
+fn answer_columns(call: &Call) -> &'static [u8]
+    ensures { result.now ≡ answer_columns call.now }
+{
+    match call {
+        Call::GetSubscriberData { .. } => &[
+            0, 1, 2, 3, 4, 5, 6, 7, 8, 9, 10, 11, 12, 13, 14, 15, 16, 17, 18, 19, 20, 21, 22, 23,
+            24, 25, 26, 27, 28, 29, 30, 31, 32, 33,
+        ],
+        Call::GetNewDestination { .. } => &[NUMBERX; 40],
+        Call::GetAccessData { .. } => &[36, 37, 38, 39],
+        _ => &[],
+    }
+}
+
+#[cfg(test)]
+mod tests;

@@ -1,0 +1,62 @@
+//! Values in text, one after another, each in the form of the column that stands at its place.
+ghost use Rattle.std.specs.Prelude.{◌≡◌, ◌<◌, ◌^◌, ◌++◌, All, IfOk, OnOk, slice_index_or};
+ghost use Rattle.std.specs.String.{string_bytes};
+ghost use Rattle.tatp_procs.specs.ValuesText.{values_of, values_text};
+
+use std::alloc::{AllocError, Global};
+use tatp_tables::{Fields, push_value, read_value};
+
+/// Names no column, so that its values stand in decimal.
+const NO_COLUMN: u8 = 255;
+
+/// Exactly one value of each of these columns, which are all the fields left.
+#[tactic(auto, using(crate::proofs::ReadingLaws::none_read, crate::proofs::ReadingLaws::no_values_short, crate::proofs::ReadingLaws::no_values_bad, crate::proofs::ReadingLaws::value_read, crate::proofs::ReadingLaws::no_values_long, crate::proofs::ReadingLaws::all_read))]
+pub(crate) fn read_values<const N: usize>(
+    fields: &mut Fields,
+    columns: &[u8; N],
+) -> Option<[u64; N]>
+    ensures { result ≡ values_of columns.now fields.old }
+{
+    let mut values = [0; N];
+    for place in 0..N {
+        values[place] = read_value(columns[place], fields.next()?)?;
+    }
+    match fields.next() {
+        Some(_) => None,
+        None => Some(values),
+    }
+}
+
+/// These words, and the values.
+pub(crate) fn with_values(
+    alloc: Global,
+    words: &str,
+    columns: &[u8],
+    values: &[u64],
+) -> Result<String, AllocError>
+    ensures text { IfOk result (λ text. string_bytes text ≡ words.now ++ values_text columns.now values.now) }
+
+    // Tells a caller what the type says of the values.
+    ensures in_range { All (λ value. value < 2 ^ 64) values.now }
+{
+    let mut text = String::from_str(alloc, words)?;
+    push_values(&mut text, columns, values)?;
+    Ok(text)
+}
+
+#[tactic(auto, using(crate::proofs::PrintingLaws::none_printed, crate::proofs::PrintingLaws::value_printed, crate::proofs::PrintingLaws::all_printed))]
+fn push_values(text: &mut String, columns: &[u8], values: &[u64]) -> Result<(), AllocError>
+    ensures { OnOk result (string_bytes text.new ≡ string_bytes text.old ++ values_text columns.now values.now) }
+{
+    for (place, value) in values.iter().enumerate() {
+        text.push_str(" ")?;
+        push_value(text, column_at(columns, place), *value)?;
+    }
+    Ok(())
+}
+
+fn column_at(columns: &[u8], place: usize) -> u8
+    ensures { result ≡ slice_index_or columns.now place 255 }
+{
+    columns.get(place).copied().unwrap_or(NO_COLUMN)
+}

@@ -1,5 +1,5 @@
 //! The call of a line, and the line of a call.
-ghost use Rattle.std.specs.Prelude.{◌≡◌, true, Some, IfOk};
+ghost use Rattle.std.specs.Prelude.{◌≡◌, true, Some, IfOk, IfSome};
 ghost use Rattle.std.specs.String.{string_bytes};
 ghost use Rattle.tatp_procs.specs.CallText.{call_of, call_text, is_printable_call, name_of, columns_of};
 
@@ -12,8 +12,16 @@ use std::alloc::{AllocError, Global};
 use tatp_tables::Fields;
 
 /// The call that a line is: its name and its arguments, each in its column's form.
-#[tactic(auto, unfolding(crate::specs::CallText::call_of))]
 pub fn read_call(line: &str) -> Option<Call>
+    ensures call { result ≡ call_of line.now }
+    ensures printed { IfSome result (λ call. call_text call ≡ line.now) }
+    ensures printable { IfSome result (λ call. is_printable_call call ≡ true) }
+{
+    call_of_line(line)
+}
+
+#[tactic(auto, unfolding(crate::specs::CallText::call_of))]
+fn call_of_line(line: &str) -> Option<Call>
     ensures { result ≡ call_of line.now }
 {
     let mut fields = Fields::new(line);

@@ -1,13 +1,15 @@
--- Lemmas on a call and its line: what is printed is read.
-use Rattle.std.proofs.Common.{◌≡◌, ℕ, ◌<◌, ◌^◌, ◌∙◌, ap, subst, Bool, true, false, not, List, [], ◌∷◌, ◌++◌, slice_index, refl, Some, Result, Ok, Err, String, Global}
+-- Lemmas on a call and its line: what is printed is read, and what is read is printed so.
+use Rattle.std.proofs.Common.{sym, Option, ◌≡◌, ℕ, ◌<◌, ◌^◌, ◌∙◌, ap, subst, Bool, true, false, not, List, [], ◌∷◌, ◌++◌, slice_index, refl, Some, Result, Ok, Err, String, Global, suc, cond, length, arith, bytes_eq, None}
 use Rattle.std.proofs.lemmas.Bool.{and_parts, false≢true}
 use Rattle.std.proofs.lemmas.List.{append-nil}
 use Rattle.std.proofs.lemmas.List.Elements.{All-nil, All-cons, All-head, All-tail}
-use Rattle.std.proofs.lemmas.List.Splits.{slice_split_none, slice_split_at}
-use Rattle.std.specs.List.{All, list_all}
+use Rattle.std.proofs.lemmas.List.Splits.{slice_split_none, slice_split_at, join_with_byte-slice_split}
+use Rattle.std.proofs.lemmas.Option.{none-some, same_Some, option_and_then_some}
+use Rattle.std.proofs.lemmas.Slice.Eq.{bytes_eq-Decides}
+use Rattle.std.specs.List.{All, list_all, join_with_byte}
 use Rattle.std.specs.String.{string_bytes}
 use Rattle.std.specs.Result.{IfOk}
-use Rattle.std.specs.Option.{option_map}
+use Rattle.std.specs.Option.{IfSome, option_map}
 use Rattle.tatp_tables.specs.Text.{fields_of, value_of, value_text, is_printable}
 use Rattle.tatp_tables.proofs.FieldLaws.{is_space}
 use Rattle.tatp_tables.proofs.ValueLaws.{HasNoSpace, value_of-value_text, value_text-value_of}
@@ -91,3 +93,104 @@ pub printed_read_back : {E : Type 0} (r : Result (String Global) E) (call : Call
 printed_read_back (Err e) call name columns values n k a f h = tt
 printed_read_back (Ok text) call name columns values n k a f h = λ p.
     ap call_of (h ∙ (λ j. n j ++ values_text (k j) (a j))) ∙ call_of-call_text call (subst (All (λ v. v < 2 ^ 64)) a f) p
+
+-- ---- what is read is printed so
+option_map_some : {T U : Type 0} (f : T → U) (o : Option T) (y : U) → option_map f o ≡ Some y → (x : T) × (o ≡ Some x) × (f x ≡ y)
+option_map_some f None y h = absurd (none-some y h)
+option_map_some f (Some x) y h = (x, refl, same_Some (f x) y h)
+
+-- the fields that are read are the values' texts
+abbrev AreTexts : List ℕ → List (List ℕ) → List ℕ → Type 0
+AreTexts columns fields vs = (texts_of columns vs ≡ fields) × (are_printable columns vs ≡ true)
+
+more_texts : (c : ℕ) (cs field : List ℕ) (more : List (List ℕ)) (v : ℕ) (rest vs : List ℕ) → value_of c field ≡ Some v → AreTexts cs more rest → v ∷ rest ≡ vs → AreTexts (c ∷ cs) (field ∷ more) vs
+more_texts c cs field more v rest vs h r e =
+    let value = value_text-value_of c field v h in
+    subst (AreTexts (c ∷ cs) (field ∷ more)) e (rw (value.0, r.0) refl, rw (value.1, r.1) refl)
+
+texts_of-values_of : (columns : List ℕ) (fields : List (List ℕ)) (vs : List ℕ) → values_of columns fields ≡ Some vs → AreTexts columns fields vs
+unfolding values_of
+texts_of-values_of [] [] vs h = let e : [] ≡ vs = same_Some [] vs h in subst (AreTexts [] []) e (refl, refl)
+texts_of-values_of [] (field ∷ more) vs h = absurd (none-some vs h)
+texts_of-values_of (c ∷ cs) [] vs h = absurd (none-some vs h)
+texts_of-values_of (c ∷ cs) (field ∷ more) vs h =
+    option_and_then_some (λ v. option_map (λ rest. v ∷ rest) (values_of cs more)) (value_of c field) vs h (λ v is then.
+    let rest = option_map_some (λ rest. v ∷ rest) (values_of cs more) vs then in
+    more_texts c cs field more v rest.0 vs is (texts_of-values_of cs more rest.0 rest.1) rest.2)
+
+-- there is a value of each column
+printable_length : (columns vs : List ℕ) → are_printable columns vs ≡ true → length vs ≡ length columns
+printable_length [] [] h = refl
+printable_length [] (v ∷ vs) h = absurd (false≢true h)
+printable_length (c ∷ cs) [] h = absurd (false≢true h)
+printable_length (c ∷ cs) (v ∷ vs) h = ap suc (printable_length cs vs (and_parts (is_printable c v) (are_printable cs vs) h).1)
+
+-- the printed line is the fields joined by spaces
+joined-values_text : (columns vs front : List ℕ) → are_printable columns vs ≡ true → front ++ values_text columns vs ≡ join_with_byte 32 (front ∷ texts_of columns vs)
+unfolding values_text
+joined-values_text [] [] front h = append-nil front
+joined-values_text [] (v ∷ vs) front h = absurd (false≢true h)
+joined-values_text (c ∷ cs) [] front h = absurd (false≢true h)
+joined-values_text (c ∷ cs) (v ∷ vs) front h = ap (λ rest. front ++ (32 ∷ rest)) (joined-values_text cs vs (value_text c v) (and_parts (is_printable c v) (are_printable cs vs) h).1)
+
+-- a call that prints as these fields
+abbrev PrintsAs : List (List ℕ) → Call → Type 0
+PrintsAs fields call = (call_text call ≡ join_with_byte 32 fields) × (is_printable_call call ≡ true)
+
+same_bytes : (a b : List ℕ) → bytes_eq a b ≡ true → a ≡ b
+same_bytes a b h = (bytes_eq-Decides a b).0 h
+
+printed : (name : List ℕ) (fields : List (List ℕ)) (call : Call) (vs : List ℕ) → bytes_eq name (name_of call) ≡ true → values_of (columns_of call) fields ≡ Some vs → (length vs ≡ length (columns_of call) → arguments_of call ≡ vs) → PrintsAs (name ∷ fields) call
+printed name fields call vs t h g =
+    let texts = texts_of-values_of (columns_of call) fields vs h in
+    let own : arguments_of call ≡ vs = g (printable_length (columns_of call) vs texts.1) in
+    (ap (λ values. name_of call ++ values_text (columns_of call) values) own ∙ (joined-values_text (columns_of call) vs (name_of call) texts.1 ∙ (λ i. join_with_byte 32 (sym (same_bytes name (name_of call) t) i ∷ texts.0 i))), ap (are_printable (columns_of call)) own ∙ texts.1)
+
+-- so many values are those at their places
+one_of : (vs : List ℕ) → length vs ≡ 1 → slice_index vs 0 ∷ [] ≡ vs
+one_of [] h = absurd (omega arith)
+one_of (v ∷ []) h = refl
+one_of (v ∷ w ∷ vs) h = absurd (omega arith)
+
+two_of : (vs : List ℕ) → length vs ≡ 2 → slice_index vs 0 ∷ slice_index vs 1 ∷ [] ≡ vs
+two_of [] h = absurd (omega arith)
+two_of (v ∷ vs) h = ap (λ rest. v ∷ rest) (one_of vs (omega arith))
+
+three_of : (vs : List ℕ) → length vs ≡ 3 → slice_index vs 0 ∷ slice_index vs 1 ∷ slice_index vs 2 ∷ [] ≡ vs
+three_of [] h = absurd (omega arith)
+three_of (v ∷ vs) h = ap (λ rest. v ∷ rest) (two_of vs (omega arith))
+
+four_of : (vs : List ℕ) → length vs ≡ 4 → slice_index vs 0 ∷ slice_index vs 1 ∷ slice_index vs 2 ∷ slice_index vs 3 ∷ [] ≡ vs
+four_of [] h = absurd (omega arith)
+four_of (v ∷ vs) h = ap (λ rest. v ∷ rest) (three_of vs (omega arith))
+
+five_of : (vs : List ℕ) → length vs ≡ 5 → slice_index vs 0 ∷ slice_index vs 1 ∷ slice_index vs 2 ∷ slice_index vs 3 ∷ slice_index vs 4 ∷ [] ≡ vs
+five_of [] h = absurd (omega arith)
+five_of (v ∷ vs) h = ap (λ rest. v ∷ rest) (four_of vs (omega arith))
+
+-- one name's choice, or the rest
+by_name : (P : Call → Type 0) (t : Bool) (build : List ℕ → Call) (o : Option (List ℕ)) (rest : Option Call) (call : Call) → cond t (option_map build o) rest ≡ Some call → (t ≡ true → (vs : List ℕ) → o ≡ Some vs → P (build vs)) → (rest ≡ Some call → P call) → P call
+by_name P true build o rest call h f g = let read = option_map_some build o call h in subst P read.2 (f refl read.0 read.1)
+by_name P false build o rest call h f g = g h
+
+fields_read : (fields : List (List ℕ)) (call : Call) → call_of_fields fields ≡ Some call → PrintsAs fields call
+fields_read [] call h = absurd (none-some call h)
+fields_read (name ∷ fields) call h =
+    by_name (PrintsAs (name ∷ fields)) _ (λ a. GetSubscriberData (slice_index a 0)) (values_of (0 ∷ []) fields) _ call h (λ t vs e. printed name fields (GetSubscriberData (slice_index vs 0)) vs t e (one_of vs)) (λ h₁.
+    by_name (PrintsAs (name ∷ fields)) _ (λ a. GetNewDestination (slice_index a 0) (slice_index a 1) (slice_index a 2) (slice_index a 3)) (values_of (0 ∷ 41 ∷ 48 ∷ 49 ∷ []) fields) _ call h₁ (λ t vs e. printed name fields (GetNewDestination (slice_index vs 0) (slice_index vs 1) (slice_index vs 2) (slice_index vs 3)) vs t e (four_of vs)) (λ h₂.
+    by_name (PrintsAs (name ∷ fields)) _ (λ a. GetAccessData (slice_index a 0) (slice_index a 1)) (values_of (0 ∷ 35 ∷ []) fields) _ call h₂ (λ t vs e. printed name fields (GetAccessData (slice_index vs 0) (slice_index vs 1)) vs t e (two_of vs)) (λ h₃.
+    by_name (PrintsAs (name ∷ fields)) _ (λ a. UpdateSubscriberData (slice_index a 0) (slice_index a 1) (slice_index a 2) (slice_index a 3)) (values_of (0 ∷ 2 ∷ 41 ∷ 44 ∷ []) fields) _ call h₃ (λ t vs e. printed name fields (UpdateSubscriberData (slice_index vs 0) (slice_index vs 1) (slice_index vs 2) (slice_index vs 3)) vs t e (four_of vs)) (λ h₄.
+    by_name (PrintsAs (name ∷ fields)) _ (λ a. UpdateLocation (slice_index a 0) (slice_index a 1)) (values_of (1 ∷ 33 ∷ []) fields) _ call h₄ (λ t vs e. printed name fields (UpdateLocation (slice_index vs 0) (slice_index vs 1)) vs t e (two_of vs)) (λ h₅.
+    by_name (PrintsAs (name ∷ fields)) _ (λ a. InsertCallForwarding (slice_index a 0) (slice_index a 1) (slice_index a 2) (slice_index a 3) (slice_index a 4)) (values_of (1 ∷ 41 ∷ 48 ∷ 49 ∷ 50 ∷ []) fields) _ call h₅ (λ t vs e. printed name fields (InsertCallForwarding (slice_index vs 0) (slice_index vs 1) (slice_index vs 2) (slice_index vs 3) (slice_index vs 4)) vs t e (five_of vs)) (λ h₆.
+    by_name (PrintsAs (name ∷ fields)) _ (λ a. DeleteCallForwarding (slice_index a 0) (slice_index a 1) (slice_index a 2)) (values_of (1 ∷ 41 ∷ 48 ∷ []) fields) _ call h₆ (λ t vs e. printed name fields (DeleteCallForwarding (slice_index vs 0) (slice_index vs 1) (slice_index vs 2)) vs t e (three_of vs)) (λ h₇. absurd (none-some call h₇))))))))
+
+call_text-call_of : (line : List ℕ) (call : Call) → call_of line ≡ Some call → (call_text call ≡ line) × (is_printable_call call ≡ true)
+unfolding call_of
+call_text-call_of line call h =
+    let read = fields_read (fields_of line) call h in
+    (read.0 ∙ join_with_byte-slice_split 32 line, read.1)
+
+-- as the function's clauses say it
+pub call_text_of_read : (line : List ℕ) (result : Option Call) → result ≡ call_of line → IfSome result (λ call. call_text call ≡ line) × IfSome result (λ call. is_printable_call call ≡ true)
+call_text_of_read line None e = (tt, tt)
+call_text_of_read line (Some call) e = call_text-call_of line call (sym e)

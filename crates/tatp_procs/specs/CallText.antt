@@ -39,23 +39,39 @@ abbrev pub numberx : ℕ
 numberx = 50
 
 -- ---- the call of a line
+-- the call whose arguments the fields are: one of each column that they name
+abbrev pub get_subscriber_data_of : List (List ℕ) → Option Call
+get_subscriber_data_of fields = option_map (λ a. GetSubscriberData (slice_index a 0)) (values_of (s_id ∷ []) fields)
+
+abbrev pub get_new_destination_of : List (List ℕ) → Option Call
+get_new_destination_of fields = option_map (λ a. GetNewDestination (slice_index a 0) (slice_index a 1) (slice_index a 2) (slice_index a 3)) (values_of (s_id ∷ sf_type ∷ start_time ∷ end_time ∷ []) fields)
+
+abbrev pub get_access_data_of : List (List ℕ) → Option Call
+get_access_data_of fields = option_map (λ a. GetAccessData (slice_index a 0) (slice_index a 1)) (values_of (s_id ∷ ai_type ∷ []) fields)
+
+abbrev pub update_subscriber_data_of : List (List ℕ) → Option Call
+update_subscriber_data_of fields = option_map (λ a. UpdateSubscriberData (slice_index a 0) (slice_index a 1) (slice_index a 2) (slice_index a 3)) (values_of (s_id ∷ bit_1 ∷ sf_type ∷ data_a ∷ []) fields)
+
+abbrev pub update_location_of : List (List ℕ) → Option Call
+update_location_of fields = option_map (λ a. UpdateLocation (slice_index a 0) (slice_index a 1)) (values_of (sub_nbr ∷ vlr_location ∷ []) fields)
+
+abbrev pub insert_call_forwarding_of : List (List ℕ) → Option Call
+insert_call_forwarding_of fields = option_map (λ a. InsertCallForwarding (slice_index a 0) (slice_index a 1) (slice_index a 2) (slice_index a 3) (slice_index a 4)) (values_of (sub_nbr ∷ sf_type ∷ start_time ∷ end_time ∷ numberx ∷ []) fields)
+
+abbrev pub delete_call_forwarding_of : List (List ℕ) → Option Call
+delete_call_forwarding_of fields = option_map (λ a. DeleteCallForwarding (slice_index a 0) (slice_index a 1) (slice_index a 2)) (values_of (sub_nbr ∷ sf_type ∷ start_time ∷ []) fields)
+
+-- by its name
 abbrev pub call_of_fields : List (List ℕ) → Option Call
 call_of_fields [] = None
 call_of_fields (name ∷ fields) =
-    if bytes_eq name (codes "GET_SUBSCRIBER_DATA") then
-    option_map (λ a. GetSubscriberData (slice_index a 0)) (values_of (s_id ∷ []) fields) else
-    if bytes_eq name (codes "GET_NEW_DESTINATION") then
-    option_map (λ a. GetNewDestination (slice_index a 0) (slice_index a 1) (slice_index a 2) (slice_index a 3)) (values_of (s_id ∷ sf_type ∷ start_time ∷ end_time ∷ []) fields) else
-    if bytes_eq name (codes "GET_ACCESS_DATA") then
-    option_map (λ a. GetAccessData (slice_index a 0) (slice_index a 1)) (values_of (s_id ∷ ai_type ∷ []) fields) else
-    if bytes_eq name (codes "UPDATE_SUBSCRIBER_DATA") then
-    option_map (λ a. UpdateSubscriberData (slice_index a 0) (slice_index a 1) (slice_index a 2) (slice_index a 3)) (values_of (s_id ∷ bit_1 ∷ sf_type ∷ data_a ∷ []) fields) else
-    if bytes_eq name (codes "UPDATE_LOCATION") then
-    option_map (λ a. UpdateLocation (slice_index a 0) (slice_index a 1)) (values_of (sub_nbr ∷ vlr_location ∷ []) fields) else
-    if bytes_eq name (codes "INSERT_CALL_FORWARDING") then
-    option_map (λ a. InsertCallForwarding (slice_index a 0) (slice_index a 1) (slice_index a 2) (slice_index a 3) (slice_index a 4)) (values_of (sub_nbr ∷ sf_type ∷ start_time ∷ end_time ∷ numberx ∷ []) fields) else
-    if bytes_eq name (codes "DELETE_CALL_FORWARDING") then
-    option_map (λ a. DeleteCallForwarding (slice_index a 0) (slice_index a 1) (slice_index a 2)) (values_of (sub_nbr ∷ sf_type ∷ start_time ∷ []) fields) else
+    if bytes_eq name (codes "GET_SUBSCRIBER_DATA") then get_subscriber_data_of fields else
+    if bytes_eq name (codes "GET_NEW_DESTINATION") then get_new_destination_of fields else
+    if bytes_eq name (codes "GET_ACCESS_DATA") then get_access_data_of fields else
+    if bytes_eq name (codes "UPDATE_SUBSCRIBER_DATA") then update_subscriber_data_of fields else
+    if bytes_eq name (codes "UPDATE_LOCATION") then update_location_of fields else
+    if bytes_eq name (codes "INSERT_CALL_FORWARDING") then insert_call_forwarding_of fields else
+    if bytes_eq name (codes "DELETE_CALL_FORWARDING") then delete_call_forwarding_of fields else
     None
 
 -- the call that a line is

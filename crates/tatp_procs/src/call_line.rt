@@ -1,86 +1,40 @@
 //! The call of a line, and the line of a call.
-ghost use Rattle.std.specs.Prelude.{◌≡◌, true, Some, IfOk};
+ghost use Rattle.std.specs.Prelude.{◌≡◌, true, Some, IfOk, IfSome};
 ghost use Rattle.std.specs.String.{string_bytes};
 ghost use Rattle.tatp_procs.specs.CallText.{call_of, call_text, is_printable_call, name_of, columns_of};
+
+mod arguments;
 
 use crate::Call;
 use crate::domains::{
     AI_TYPE, BIT_1, DATA_A, END_TIME, NUMBERX, S_ID, SF_TYPE, START_TIME, SUB_NBR, VLR_LOCATION,
 };
-use crate::values::{read_values, with_values};
+use crate::values::with_values;
 use std::alloc::{AllocError, Global};
 use tatp_tables::Fields;
 
 /// The call that a line is: its name and its arguments, each in its column's form.
-#[tactic(auto, unfolding(crate::specs::CallText::call_of))]
 pub fn read_call(line: &str) -> Option<Call>
+    ensures call { result ≡ call_of line.now }
+    ensures printed { IfSome result (λ call. call_text call ≡ line.now) }
+    ensures printable { IfSome result (λ call. is_printable_call call ≡ true) }
+{
+    call_of_line(line)
+}
+
+#[tactic(auto, unfolding(crate::specs::CallText::call_of))]
+fn call_of_line(line: &str) -> Option<Call>
     ensures { result ≡ call_of line.now }
 {
     let mut fields = Fields::new(line);
     match fields.next()? {
-        "GET_SUBSCRIBER_DATA" => {
-            let [s_id] = read_values(&mut fields, &[S_ID])?;
-            Some(Call::GetSubscriberData { s_id })
-        }
-        "GET_NEW_DESTINATION" => {
-            let [s_id, sf_type, start_time, end_time] = read_values(
-                &mut fields,
-                &[S_ID, SF_TYPE, START_TIME, END_TIME],
-            )?;
-            Some(Call::GetNewDestination {
-                s_id,
-                sf_type,
-                start_time,
-                end_time,
-            })
-        }
-        "GET_ACCESS_DATA" => {
-            let [s_id, ai_type] = read_values(&mut fields, &[S_ID, AI_TYPE])?;
-            Some(Call::GetAccessData { s_id, ai_type })
-        }
-        "UPDATE_SUBSCRIBER_DATA" => {
-            let [s_id, bit_1, sf_type, data_a] = read_values(
-                &mut fields,
-                &[S_ID, BIT_1, SF_TYPE, DATA_A],
-            )?;
-            Some(Call::UpdateSubscriberData {
-                s_id,
-                bit_1,
-                sf_type,
-                data_a,
-            })
-        }
-        "UPDATE_LOCATION" => {
-            let [sub_nbr, vlr_location] = read_values(&mut fields, &[SUB_NBR, VLR_LOCATION])?;
-            Some(Call::UpdateLocation {
-                sub_nbr,
-                vlr_location,
-            })
-        }
-        "INSERT_CALL_FORWARDING" => {
-            let [sub_nbr, sf_type, start_time, end_time, numberx] = read_values(
-                &mut fields,
-                &[SUB_NBR, SF_TYPE, START_TIME, END_TIME, NUMBERX],
-            )?;
-            Some(Call::InsertCallForwarding {
-                sub_nbr,
-                sf_type,
-                start_time,
-                end_time,
-                numberx,
-            })
-        }
-        "DELETE_CALL_FORWARDING" => {
-            let [sub_nbr, sf_type, start_time] = read_values(
-                &mut fields,
-                &[SUB_NBR, SF_TYPE, START_TIME],
-            )?;
-            Some(Call::DeleteCallForwarding {
-                sub_nbr,
-                sf_type,
-                start_time,
-            })
-        }
+        "GET_SUBSCRIBER_DATA" => arguments::get_subscriber_data(&mut fields),
+        "GET_NEW_DESTINATION" => arguments::get_new_destination(&mut fields),
+        "GET_ACCESS_DATA" => arguments::get_access_data(&mut fields),
+        "UPDATE_SUBSCRIBER_DATA" => arguments::update_subscriber_data(&mut fields),
+        "UPDATE_LOCATION" => arguments::update_location(&mut fields),
+        "INSERT_CALL_FORWARDING" => arguments::insert_call_forwarding(&mut fields),
+        "DELETE_CALL_FORWARDING" => arguments::delete_call_forwarding(&mut fields),
         _ => None,
     }
 }

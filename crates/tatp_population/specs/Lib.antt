@@ -1,4 +1,3 @@
-pub mod Lines
 pub mod PopulationText
 pub mod Extents
 pub mod Opening

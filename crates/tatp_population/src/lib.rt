@@ -5,7 +5,6 @@
 mod choices;
 mod extent;
 mod generating;
-mod lines;
 mod open_error;
 mod opening;
 mod read_error;
@@ -15,7 +14,6 @@ mod rows;
 
 pub use extent::{ClosedExtent, Extent};
 pub use generating::generate;
-pub use lines::Lines;
 pub use open_error::OpenError;
 pub use opening::open;
 pub use read_error::ReadError;

@@ -16,7 +16,10 @@ pub use ask::{Ask, Raw};
 pub use call::Call;
 pub use call_line::{call_text, read_call};
 pub use domains::{BadArgument, args_ok};
-pub use laws::{clean_rows_and_homes_are_consistent, standard_procedures_are_transactions};
+pub use laws::{
+    clean_rows_and_homes_are_consistent, standard_procedures_are_transactions,
+    transactions_keep_databases_consistent,
+};
 pub use procedures::{STANDARD, is_standard, standard};
 pub use reply::{Outputs, Reply};
 pub use reply_line::reply_text;

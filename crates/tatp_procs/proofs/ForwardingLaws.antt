@@ -107,11 +107,11 @@ type_domain : (v : ℕ) → is_in_domain 47 v ≡ is_in_domain 41 v
 unfolding is_in_domain
 type_domain v = refl
 
-s_id_fits : (row : Tuple) → 1 ≤ length row → are_in_domain 0 row ≡ true → is_in_domain 0 (slice_index row 0) ≡ true
+pub s_id_fits : (row : Tuple) → 1 ≤ length row → are_in_domain 0 row ≡ true → is_in_domain 0 (slice_index row 0) ≡ true
 s_id_fits [] le h = absurd (omega arith)
 s_id_fits (x ∷ more) le h = (and_parts (is_in_domain 0 x) (are_in_domain 1 more) h).0
 
-row_fits : (s k b e x : ℕ) → is_in_domain 0 s ≡ true → is_in_domain 41 k ≡ true → is_in_domain 48 b ≡ true → is_in_domain 49 e ≡ true → is_in_domain 50 x ≡ true → are_in_domain 46 (s ∷ k ∷ b ∷ e ∷ x ∷ []) ≡ true
+pub row_fits : (s k b e x : ℕ) → is_in_domain 0 s ≡ true → is_in_domain 41 k ≡ true → is_in_domain 48 b ≡ true → is_in_domain 49 e ≡ true → is_in_domain 50 x ≡ true → are_in_domain 46 (s ∷ k ∷ b ∷ e ∷ x ∷ []) ≡ true
 row_fits s k b e x ds dk db de dx = rw (s_id_domain s, type_domain k, ds, dk, db, de, dx) refl
 
 pub insert_call_forwarding_performs : (u : Database) (n k b e x : ℕ) → IsConsistent u → is_in_domain 41 k ≡ true → is_in_domain 48 b ≡ true → is_in_domain 49 e ≡ true → is_in_domain 50 x ≡ true

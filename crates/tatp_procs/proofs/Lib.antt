@@ -12,6 +12,8 @@ pub mod DestinationLaws
 pub mod CodeLaws
 pub mod TransactionLaws
 pub mod ConsistentLaws
+pub mod KeptLaws
+pub mod ConsistentAfterLaws
 pub mod ReadingLaws
 pub mod PrintingLaws
 pub mod CallTextLaws

@@ -1,9 +1,14 @@
 -- Lemmas on values, printed one after another.
-use Rattle.std.proofs.Common.{◌≡◌, ℕ, zero, suc, ◌+◌, ◌<◌, ◌≤◌, ◌∙◌, sym, ap, List, [], ◌∷◌, ◌++◌, length, drop, get_or, refl, decimal, append_assoc, add-one, drop-cons}
+use Rattle.std.proofs.Common.{◌≡◌, ℕ, zero, suc, ◌+◌, ◌<◌, ◌≤◌, ◌∙◌, sym, ap, List, [], ◌∷◌, ◌++◌, length, drop, get_or, refl, decimal, append_assoc, add-one, drop-cons, Result, Ok, Err, codes}
+use Rattle.std.specs.Result.{OnOk}
 use Rattle.std.proofs.lemmas.List.{append-nil, drop_all}
 use Rattle.tatp_tables.specs.Domains.{is_in_domain}
 use Rattle.tatp_tables.specs.Text.{value_text}
+use Rattle.tatp_procs.specs.declared.ask.Ask.{Ask}
+use Rattle.tatp_procs.specs.declared.reply.Reply.{Reply}
+use Rattle.tatp_procs.specs.declared.reply.Reply.TheVariants.{Failed}
 use Rattle.tatp_procs.specs.ValuesText.{values_text}
+use Rattle.tatp_procs.specs.ReplyText.{reply_text}
 
 -- a text that the values from place i on complete
 pub record IsPrintedUpTo (columns values all : List ℕ) (i : ℕ) (text : List ℕ) : Type 0 where
@@ -45,3 +50,15 @@ all_printed columns values all i text p l =
     let done : drop i values ≡ [] = drop_all i values l in
     let rest : values_text (drop i columns) (drop i values) ≡ [] = ap (values_text (drop i columns)) done ∙ nothing_printed (drop i columns) in
     sym (append-nil text) ∙ (ap (λ more. text ++ more) (sym rest) ∙ p.completed)
+
+-- words, and values behind them
+pub words_and_values : (old words values between text : List ℕ) → between ≡ old ++ words → text ≡ between ++ values → text ≡ old ++ (words ++ values)
+words_and_values old words values between text w v = v ∙ (ap (λ front. front ++ values) w ∙ append_assoc old words values)
+
+-- the line of a failure
+pub failure_printed : {E : Type 0} (r : Result (Unit {0}) E) (ask : Ask) (reply : Reply) (n number : ℕ) (old between text : List ℕ) → reply ≡ Failed n → number ≡ n → between ≡ old ++ codes "FAILED "
+    → OnOk r (text ≡ between ++ value_text 255 number) → OnOk r (text ≡ old ++ reply_text ask reply)
+failure_printed (Err e) ask reply n number old between text is same w h = tt
+failure_printed (Ok done) ask reply n number old between text is same w h =
+    words_and_values old (codes "FAILED ") (decimal n) between text w (h ∙ ap (λ v. between ++ value_text 255 v) same ∙ ap (λ digits. between ++ digits) (sym (in_decimal n)))
+    ∙ ap (λ answer. old ++ reply_text ask answer) (sym is)

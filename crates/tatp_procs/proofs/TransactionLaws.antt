@@ -15,12 +15,12 @@ use Rattle.tatp_procs.proofs.UpdateLaws.{update_subscriber_data_performs, update
 use Rattle.tatp_procs.proofs.ForwardingLaws.{insert_call_forwarding_performs, delete_call_forwarding_performs}
 use Rattle.tatp_procs.proofs.DestinationLaws.{get_new_destination_performs}
 
-abbrev AllFit : List Bool → Type 0
+abbrev pub AllFit : List Bool → Type 0
 AllFit [] = Unit {0}
 AllFit (b ∷ more) = (b ≡ true) × AllFit more
 
 -- where no argument is the first that doesn't fit, each fits
-all_fit : (i : ℕ) (fits : List Bool) → accepted (position_from not i fits) ≡ Ok tt → AllFit fits
+pub all_fit : (i : ℕ) (fits : List Bool) → accepted (position_from not i fits) ≡ Ok tt → AllFit fits
 all_fit i [] h = tt
 all_fit i (true ∷ more) h = (refl, all_fit (i + 1) more h)
 all_fit i (false ∷ more) h = cc

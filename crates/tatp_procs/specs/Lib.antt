@@ -5,6 +5,7 @@ pub mod Transactions
 pub mod Order
 pub mod Standard
 pub mod Consistent
+pub mod Replies
 pub mod Performs
 pub mod ValuesText
 pub mod CallText

@@ -1,22 +1,13 @@
 -- A standard procedure against its transaction: what a call that ran alone is answered.
-use Rattle.std.specs.Prelude.{◌≡◌, ℕ, List}
+use Rattle.std.specs.Prelude.{◌≡◌, List}
 use Rattle.tatp_tables.specs.Database.{Database}
 use Rattle.tatp_encoding.specs.Modules.{Procedure}
-use Rattle.tatp_machine.specs.declared.progress.End.{End}
-use Rattle.tatp_machine.specs.declared.progress.End.TheVariants.{Done, Failed as WithFailure, Trapped as WithTrap}
 use Rattle.tatp_machine.specs.Runs.{Outcome, Alone}
 use Rattle.tatp_numbers.specs.Homes.{home_of_key}
-use Rattle.tatp_procs.specs.declared.reply.Reply.{Reply}
-use Rattle.tatp_procs.specs.declared.reply.Reply.TheVariants.{Values, Failed, Trapped}
 use Rattle.tatp_procs.specs.declared.call.Call.{Call}
+use Rattle.tatp_procs.specs.Replies.{reply_to}
 use Rattle.tatp_procs.specs.Calls.{procedure_of, key_of, arguments_of}
 use Rattle.tatp_procs.specs.Transactions.{Answer, transaction}
-
--- the reply to a call that ended so
-abbrev pub reply_to : End → List ℕ → Reply
-reply_to Done outputs = Values outputs
-reply_to (WithFailure n) outputs = Failed n
-reply_to (WithTrap trap) outputs = Trapped trap
 
 abbrev pub answer_of : Outcome → Answer
 answer_of o = record { reply = reply_to o.end o.outputs; database = o.database }

@@ -10,6 +10,9 @@ ghost use Rattle.tatp_procs.specs.Calls.{procedure_of, arguments_of};
 ghost use Rattle.tatp_procs.specs.Arguments.{arguments_accepted};
 ghost use Rattle.tatp_procs.specs.Standard.{standard_module};
 ghost use Rattle.tatp_procs.specs.Consistent.{IsConsistent};
+ghost use Rattle.tatp_procs.specs.Transactions.{transaction};
+ghost use Rattle.tatp_numbers.specs.declared.key.Key.{Key};
+ghost use Rattle.tatp_numbers.specs.Homes.{home_of_key};
 ghost use Rattle.tatp_procs.specs.Performs.{Performs};
 
 /// Run alone on a consistent database, each standard procedure is its transaction, for all arguments
@@ -24,4 +27,11 @@ pub fn standard_procedures_are_transactions()
 pub fn clean_rows_and_homes_are_consistent()
     ensures rows { (r : Rows) → IsClean r → IsConsistent (database_of r) }
     ensures homes { (home : SubscriberRows) → IsHome home → IsConsistent home.tables }
+{}
+
+/// No transaction breaks a database: its keys, numbers, parents and values stay in order, and each key
+/// names the subscriber that it named.
+pub fn transactions_keep_databases_consistent()
+    ensures consistent { (call : Call) (u : Database) → IsConsistent u → arguments_accepted call ≡ Ok tt → IsConsistent (transaction call u).database }
+    ensures keys { (call : Call) (u : Database) (key : Key) → IsConsistent u → arguments_accepted call ≡ Ok tt → home_of_key (transaction call u).database.subscribers key ≡ home_of_key u.subscribers key }
 {}

@@ -2,9 +2,10 @@
 ghost use Rattle.std.specs.Prelude.{◌≡◌, ◌≤◌, length, nat_eq};
 ghost use Rattle.std.specs.Cmp.{partial_equiv_from_equiv};
 ghost use Rattle.std.specs.Cmp.Lexicographic.{pointwise, nat_list_eq_equiv};
+ghost use Rattle.tatp_procs.specs.Replies.{reply_to};
 
 use std::marker::Model;
-use tatp_machine::Trap;
+use tatp_machine::{End, Trap};
 
 /// Values that a call put out, at most 40. Contracts see them as a list.
 #[derive(Clone, Copy, Debug)]
@@ -77,4 +78,18 @@ pub enum Reply {
     Trapped(Trap),
     /// It was not begun.
     Refused,
+}
+
+impl Reply {
+    /// The reply to a call that ended so, with these outputs.
+    pub fn of(end: End, outputs: &[u64]) -> Reply
+        requires { length outputs.now ≤ 40 }
+        ensures { result ≡ reply_to end outputs.now }
+    {
+        match end {
+            End::Done => Reply::Values(Outputs::from_slice(outputs)),
+            End::Failed(number) => Reply::Failed(number),
+            End::Trapped(trap) => Reply::Trapped(trap),
+        }
+    }
 }

@@ -1,22 +1,50 @@
 //! The line of a reply.
-ghost use Rattle.std.specs.Prelude.{◌≡◌, IfOk};
+ghost use Rattle.std.specs.Prelude.{◌≡◌, ◌++◌, IfOk, OnOk, codes};
 ghost use Rattle.std.specs.String.{string_bytes};
+ghost use Rattle.tatp_machine.specs.Traps.{trap_name};
 ghost use Rattle.tatp_procs.specs.ReplyText.{answer_columns, reply_columns, reply_text};
 
 use crate::domains::NUMBERX;
-use crate::values::with_values;
+use crate::values::{NO_COLUMN, push_values};
 use crate::{Ask, Call, Reply};
 use std::alloc::{AllocError, Global};
+use tatp_machine::Trap;
+use tatp_tables::push_value;
 
 /// The line of a reply to what was asked.
 pub fn reply_text(alloc: Global, ask: &Ask, reply: &Reply) -> Result<String, AllocError>
     ensures { IfOk result (λ text. string_bytes text ≡ reply_text ask.now reply.now) }
 {
+    let mut text = String::new(alloc);
+    push_reply(&mut text, ask, reply)?;
+    Ok(text)
+}
+
+/// Appends the line of a reply to what was asked.
+#[tactic(auto, using(crate::proofs::PrintingLaws::words_and_values))]
+pub fn push_reply(text: &mut String, ask: &Ask, reply: &Reply) -> Result<(), AllocError>
+    ensures { OnOk result (string_bytes text.new ≡ string_bytes text.old ++ reply_text ask.now reply.now) }
+{
     match reply {
-        Reply::Values(values) => with_values(alloc, "OK", reply_columns(ask), values.as_slice()),
-        Reply::Failed(number) => format!(in alloc; "FAILED {number}"),
-        Reply::Trapped(trap) => format!(in alloc; "TRAPPED {trap}"),
-        Reply::Refused => String::from_str(alloc, "REFUSED 46 NoMemory"),
+        Reply::Values(values) => {
+            text.push_str("OK")?;
+            push_values(text, reply_columns(ask), values.as_slice())
+        }
+        Reply::Failed(number) => {
+            text.push_str("FAILED ")?;
+            push_value(text, NO_COLUMN, u64::from(*number))
+        }
+        Reply::Trapped(trap) => text.push_str(trapped(trap)),
+        Reply::Refused => text.push_str("REFUSED 46 NoMemory"),
+    }
+}
+
+fn trapped(trap: &Trap) -> &'static str
+    ensures { result.now ≡ codes "TRAPPED " ++ trap_name trap.now }
+{
+    match trap {
+        Trap::NoCurrent => "TRAPPED NoCurrent",
+        Trap::Domain => "TRAPPED Domain",
     }
 }
 

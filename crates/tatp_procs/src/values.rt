@@ -7,7 +7,7 @@ use std::alloc::{AllocError, Global};
 use tatp_tables::{Fields, push_value, read_value};
 
 /// Names no column, so that its values stand in decimal.
-const NO_COLUMN: u8 = 255;
+pub(crate) const NO_COLUMN: u8 = 255;
 
 /// Exactly one value of each of these columns, which are all the fields left.
 #[tactic(auto, using(crate::proofs::ReadingLaws::none_read, crate::proofs::ReadingLaws::no_values_short, crate::proofs::ReadingLaws::no_values_bad, crate::proofs::ReadingLaws::value_read, crate::proofs::ReadingLaws::no_values_long, crate::proofs::ReadingLaws::all_read))]
@@ -44,8 +44,13 @@ pub(crate) fn with_values(
     Ok(text)
 }
 
+/// Appends the values.
 #[tactic(auto, using(crate::proofs::PrintingLaws::none_printed, crate::proofs::PrintingLaws::value_printed, crate::proofs::PrintingLaws::all_printed))]
-fn push_values(text: &mut String, columns: &[u8], values: &[u64]) -> Result<(), AllocError>
+pub(crate) fn push_values(
+    text: &mut String,
+    columns: &[u8],
+    values: &[u64],
+) -> Result<(), AllocError>
     ensures { OnOk result (string_bytes text.new ≡ string_bytes text.old ++ values_text columns.now values.now) }
 {
     for (place, value) in values.iter().enumerate() {

@@ -3,7 +3,7 @@ ghost use Rattle.std.specs.Prelude.{◌≡◌, IfOk, None, Some, false};
 ghost use Rattle.tatp_tables.specs.Clean.{IsClean};
 ghost use Rattle.tatp_procs.specs.Standard.{standard_module};
 
-use crate::{Call, Outputs, Reply};
+use crate::{Call, Reply};
 use std::alloc::{AllocError, Global};
 use tatp_loader::Loaded;
 use tatp_machine::{End, Machine, Progress};
@@ -57,17 +57,6 @@ fn finish_homeless(machine: &mut Machine) -> Result<End, &'static str>
     Err("no end")
 }
 
-fn reply(end: End, outputs: &[u64]) -> Result<Reply, &'static str> {
-    if outputs.len() > 40 {
-        return Err("too many outputs");
-    }
-    Ok(match end {
-        End::Done => Reply::Values(Outputs::from_slice(outputs)),
-        End::Failed(failure) => Reply::Failed(failure),
-        End::Trapped(trap) => Reply::Trapped(trap),
-    })
-}
-
 /// The reply to a call of a procedure of the standard module, run alone on a home.
 pub fn answer(loaded: &Loaded, home: &mut Home, call: &Call) -> Result<Reply, &'static str>
     requires { loaded.now ≡ standard_module }
@@ -81,7 +70,7 @@ pub fn answer(loaded: &Loaded, home: &mut Home, call: &Call) -> Result<Reply, &'
         Some(home.s_id()),
     );
     let end = finish(&mut machine, home)?;
-    reply(end, machine.outputs())
+    Ok(Reply::of(end, machine.outputs()))
 }
 
 /// The same without a home.
@@ -91,5 +80,5 @@ pub fn answer_homeless(loaded: &Loaded, call: &Call) -> Result<Reply, &'static s
     let arguments = call.args();
     let mut machine = Machine::enter(loaded, call.procedure(), arguments.as_slice(), None);
     let end = finish_homeless(&mut machine)?;
-    reply(end, machine.outputs())
+    Ok(Reply::of(end, machine.outputs()))
 }

@@ -3,7 +3,7 @@ use crate::{STANDARD, is_standard, standard};
 use std::test::Fail;
 use tatp_encoding::{Module, Proc};
 use tatp_instr::Instr;
-use tatp_loader::check;
+use tatp_loader::{check, save};
 
 #[test]
 fn the_standard_module_has_seven_procedures(rt: HostRuntime) -> Result<(), Fail> {
@@ -28,6 +28,19 @@ fn the_standard_module_has_seven_procedures(rt: HostRuntime) -> Result<(), Fail>
             assert_eq!(rt; procedure.code().len(), *len);
         }
     }
+    Ok(())
+}
+
+#[test]
+fn the_standard_module_has_one_size(rt: HostRuntime) -> Result<(), Fail> {
+    let loaded = standard(rt.alloc())?;
+    assert_eq!(rt; save(rt.alloc(), &loaded)?.len(), 1623);
+    let procs = loaded.module().procs();
+    let lengths = procs.iter().map(|procedure| procedure.code().len());
+    assert_eq!(rt;
+        lengths.fold(0, |total: usize, len| total.saturating_add(len)),
+        182
+    );
     Ok(())
 }
 

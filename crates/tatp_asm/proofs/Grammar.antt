@@ -9,7 +9,8 @@ use Rattle.tatp_instr.specs.declared.instr.Instr.{Instr}
 use Rattle.tatp_asm.specs.declared.fault.FaultKind.TheVariants.{Syntax, LabelTwice, TooLong}
 use Rattle.tatp_asm.specs.declared.fault.AsmFault.{AsmFault}
 use Rattle.tatp_asm.specs.Instrs.{has_target}
-use Rattle.tatp_asm.specs.Lines.{Line, Opens, Names, Does, Closes, lines_of}
+use Rattle.tatp_lines.specs.Lines.{lines_of}
+use Rattle.tatp_asm.specs.Lines.{Line, Opens, Names, Does, Closes}
 use Rattle.tatp_asm.specs.Words.{line_of_bytes}
 use Rattle.tatp_encoding.specs.Modules.{Procedure}
 use Rattle.tatp_asm.specs.Texts.{Stands, NoneTwice, IsCode, AreProcedures, AreTexts, IsTextOf}

@@ -1,4 +1,4 @@
-pub mod LineLemmas
+pub mod NumberLemmas
 pub mod RoundTrip
 pub mod Tools
 pub mod FieldLaws

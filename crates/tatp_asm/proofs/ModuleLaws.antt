@@ -12,7 +12,7 @@ use Rattle.tatp_asm.specs.declared.fault.FaultKind.TheVariants.{Syntax, LabelTwi
 use Rattle.tatp_asm.specs.Instrs.{has_target, aimed}
 use Rattle.tatp_asm.specs.Lines.{Line, Opens, Names, Does, Closes, IsLine}
 use Rattle.tatp_asm.specs.Words.{line_of_bytes}
-use Rattle.tatp_asm.specs.Lines.{lines_of}
+use Rattle.tatp_lines.specs.Lines.{lines_of}
 use Rattle.tatp_asm.specs.Reading.{◌>>=◌, Pending, Open, State, place_of, settled, settle, step, step_of, finish, reads, start}
 use Rattle.tatp_asm.proofs.Tools.{both}
 use Rattle.tatp_asm.proofs.LineLaws.{line_takes}

@@ -17,7 +17,7 @@ use Rattle.tatp_asm.specs.Reading.{place_of}
 use Rattle.tatp_asm.specs.Printing.{label_at, is_target, is_named, with_label, label_of, instruction_line, body_lines, module_lines}
 use Rattle.tatp_asm.proofs.Tools.{both}
 use Rattle.tatp_asm.proofs.Bodies.{labels_from, code_of, aimed_at, targets, IsInner, code_from, stands_found}
-use Rattle.tatp_asm.proofs.LineLemmas.{own}
+use Rattle.tatp_asm.proofs.NumberLemmas.{own}
 
 -- ---- labels of places
 abbrev rest_of : List ℕ → List ℕ

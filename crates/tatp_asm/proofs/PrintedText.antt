@@ -1,5 +1,5 @@
 -- The text that is printed of a module is a text of it.
-use Rattle.std.proofs.Common.{◌≡◌, ℕ, suc, ◌+◌, ◌<◌, ◌≤◌, ◌^◌, sym, subst, Bool, true, false, ◌&&◌, eqb, List, [], ◌∷◌, ◌++◌, length, refl, arith, decimal}
+use Rattle.std.proofs.Common.{◌≡◌, ℕ, suc, ◌+◌, ◌<◌, ◌≤◌, ◌^◌, ◌∙◌, sym, subst, Bool, true, false, ◌&&◌, eqb, List, [], ◌∷◌, ◌++◌, length, refl, arith, decimal}
 use Rattle.std.specs.Prelude.{nat_le}
 use Rattle.std.specs.Str.{all_ascii_digits}
 use Rattle.std.specs.List.{list_all}
@@ -11,11 +11,13 @@ use Rattle.tatp_instr.specs.declared.instr.Instr.{Instr}
 use Rattle.tatp_instr.specs.declared.instr.Instr.TheVariants.{Jmp, Jz}
 use Rattle.tatp_encoding.specs.Modules.{Procedure, is_name, is_from_to, is_procedure, jumps_stay, is_module}
 use Rattle.tatp_encoding.specs.Spelling.{IsInstr}
-use Rattle.tatp_asm.specs.Lines.{Line, Opens, Names, Does, Closes, lines_of, line_text, IsLine, is_label, is_label_byte}
+use Rattle.tatp_lines.specs.Lines.{lines_of}
+use Rattle.tatp_asm.specs.Lines.{Line, Opens, Names, Does, Closes, line_text, IsLine, is_label, is_label_byte}
 use Rattle.tatp_asm.specs.Texts.{AreTexts, IsTextOf}
 use Rattle.tatp_asm.specs.Ranges.{AreInstrs, HaveInstrs}
 use Rattle.tatp_asm.specs.Printing.{label_at, is_named, with_label, instruction_line, body_lines, module_lines, lines_text, disassembled}
-use Rattle.tatp_asm.proofs.LineLemmas.{own}
+use Rattle.tatp_lines.proofs.LineLaws.{lines_of-cons, lines_of-nil}
+use Rattle.tatp_asm.proofs.NumberLemmas.{own}
 use Rattle.tatp_asm.proofs.Tools.{both, not_true, free, plain_no_feed}
 use Rattle.tatp_asm.proofs.LineLaws.{line_all}
 use Rattle.tatp_asm.proofs.Printed.{AreShort, printed_are}
@@ -31,8 +33,8 @@ not_empty (Does (Jz a t) l) e = absurd cc
 not_empty (Does _ l) e = absurd cc
 
 lines_next : (s rest : List ℕ) → list_all (free 10) s ≡ true → lines_of (s ++ (10 ∷ rest)) ≡ s ∷ lines_of rest
-lines_next [] rest h = refl
-lines_next (b ∷ bs) rest h = let r = both (free 10 b) (list_all (free 10) bs) h in rw (not_true (eqb b 10) r.0, lines_next bs rest r.1) refl
+lines_next [] rest h = lines_of-cons 10 rest
+lines_next (b ∷ bs) rest h = let r = both (free 10 b) (list_all (free 10) bs) h in lines_of-cons b (bs ++ (10 ∷ rest)) ∙ rw (not_true (eqb b 10) r.0, lines_next bs rest r.1) refl
 
 texts_one : (s : List ℕ) (line : Line) (texts : List (List ℕ)) (lines : List Line) → s ≡ line_text line → IsLine line → AreTexts texts lines → AreTexts (s ∷ texts) (line ∷ lines)
 texts_one [] line texts lines e h k = absurd (not_empty line e)
@@ -43,7 +45,7 @@ AreLines [] = Unit {0}
 AreLines (line ∷ lines) = IsLine line × AreLines lines
 
 texts_of_lines : (lines : List Line) → AreLines lines → AreTexts (lines_of (lines_text lines)) lines
-texts_of_lines [] h = refl
+texts_of_lines [] h = subst (λ (ts : List (List ℕ)). AreTexts ts []) (sym lines_of-nil) refl
 texts_of_lines (line ∷ lines) (h, k) =
     let e : lines_of (lines_text (line ∷ lines)) ≡ line_text line ∷ lines_of (lines_text lines) =
     lines_next (line_text line) (lines_text lines) (line_all (free 10) plain_no_feed refl refl line h) in

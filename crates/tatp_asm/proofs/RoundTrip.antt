@@ -8,7 +8,7 @@ use Rattle.std.specs.Str.Parse.{digits_value}
 use Rattle.std.proofs.lemmas.Option.{cond_some}
 use Rattle.tatp_tables.specs.Text.{is_number, number_of}
 use Rattle.tatp_asm.specs.Words.{below}
-use Rattle.tatp_asm.proofs.LineLemmas.{own, number_test, number_test_parts}
+use Rattle.tatp_asm.proofs.NumberLemmas.{own, number_test, number_test_parts}
 
 -- no leading zero
 first_digit : (n : ℕ) → n < 2 ^ 64 → get_or (decimal n) 0 0 ≡ 48 → length (decimal n) ≤ 1

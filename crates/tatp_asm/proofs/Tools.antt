@@ -10,7 +10,7 @@ use Rattle.std.proofs.lemmas.Slice.Eq.{bytes_eq-Decides}
 use Rattle.std.proofs.lemmas.Fmt.{digits_decimal}
 use Rattle.tatp_encoding.specs.Modules.{is_from_to, is_name, is_name_byte}
 use Rattle.tatp_asm.specs.Lines.{is_label, is_letter, is_label_byte}
-use Rattle.tatp_asm.proofs.LineLemmas.{own}
+use Rattle.tatp_asm.proofs.NumberLemmas.{own}
 
 -- ---- options and tests
 pub some_is : {X : Type 0} (x y : X) → Some x ≡ Some y → x ≡ y

@@ -8,7 +8,8 @@ use Rattle.tatp_asm.specs.declared.fault.AsmFault.{AsmFault}
 use Rattle.tatp_asm.specs.declared.fault.AsmError.{AsmError}
 use Rattle.tatp_asm.specs.declared.fault.AsmError.TheVariants as errors
 use Rattle.tatp_asm.specs.Instrs.{has_target, aimed}
-use Rattle.tatp_asm.specs.Lines.{Line, Opens, Names, Does, Closes, lines_of}
+use Rattle.tatp_lines.specs.Lines.{lines_of}
+use Rattle.tatp_asm.specs.Lines.{Line, Opens, Names, Does, Closes}
 use Rattle.tatp_asm.specs.Words.{line_of_bytes}
 
 -- a fault of this line

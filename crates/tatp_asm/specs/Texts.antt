@@ -3,7 +3,8 @@ use Rattle.std.specs.Prelude.{◌≡◌, ℕ, suc, Bool, true, false, List, [], 
 use Rattle.tatp_instr.specs.declared.instr.Instr.{Instr}
 use Rattle.tatp_encoding.specs.Modules.{Procedure}
 use Rattle.tatp_asm.specs.Instrs.{has_target, aimed}
-use Rattle.tatp_asm.specs.Lines.{Line, Opens, Names, Does, Closes, lines_of, line_text, IsLine}
+use Rattle.tatp_lines.specs.Lines.{lines_of}
+use Rattle.tatp_asm.specs.Lines.{Line, Opens, Names, Does, Closes, line_text, IsLine}
 
 -- how many of the lines are instructions
 abbrev pub count : List Line → ℕ

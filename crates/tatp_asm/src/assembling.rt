@@ -1,16 +1,18 @@
 //! The module of an assembly text, read once from front to back.
 ghost use Rattle.std.specs.Prelude.{◌≡◌, ◌≤◌, List, Ok, true, IfOk, OnOk};
 ghost use Rattle.tatp_encoding.specs.Modules.{Procedure, is_module};
-ghost use Rattle.tatp_asm.specs.Lines.{IsLine, lines_of};
+ghost use Rattle.tatp_lines.specs.Lines.{lines_of};
+ghost use Rattle.tatp_asm.specs.Lines.{IsLine};
 ghost use Rattle.tatp_asm.specs.Texts.{IsTextOf};
 ghost use Rattle.tatp_asm.specs.Reading.{Gives, step, finish, reads, start, assembled};
 ghost use Rattle.tatp_asm.specs.Views.{FitsAny, line_view, drafts, state_of};
 
 use crate::draft::{Draft, add_instruction, add_label, close_draft, fault, open_draft};
 use crate::fault::{AsmError, FaultKind};
-use crate::line::{Line, next_line, parse_line};
+use crate::line::{Line, parse_line};
 use std::alloc::Global;
 use tatp_encoding::{Module, Proc};
+use tatp_lines::next_line;
 
 /// One line more, behind the procedures that have ended and the one that has not.
 fn add_line(

@@ -1,8 +1,7 @@
 //! One line: what it is.
-ghost use Rattle.std.specs.Prelude.{◌≡◌, ◌<◌, ◌≤◌, ◌∷◌, [], ◌==◌, option_map, length, position, IfSome, IfNone};
-ghost use Rattle.std.specs.List.{position_or_len};
+ghost use Rattle.std.specs.Prelude.{◌≡◌, option_map, IfSome};
 ghost use Rattle.std.specs.Option.{option_and_then};
-ghost use Rattle.tatp_asm.specs.Lines.{Opens, lines_of, IsLine};
+ghost use Rattle.tatp_asm.specs.Lines.{IsLine};
 ghost use Rattle.tatp_asm.specs.Words.{before_colon, label_line, word_of, opening_of, line_of, line_of_bytes};
 ghost use Rattle.tatp_asm.specs.Views.{line_view};
 
@@ -22,38 +21,6 @@ pub(crate) enum Line {
     Instruction(Instr, Name),
     /// The procedure ends.
     Ending,
-}
-
-fn line_feed(text: &[u8]) -> Option<usize>
-    ensures { result ≡ position (λ byte. byte == 10) text.now }
-{
-    text.iter().position(|byte| *byte == b'\n')
-}
-
-/// How many bytes stand before the first line feed.
-#[tactic(auto, using(crate::proofs::LineLemmas::place_or_len))]
-fn line_len(text: &[u8]) -> usize
-    ensures { result ≡ position_or_len (λ byte. byte == 10) text.now }
-{
-    line_feed(text).unwrap_or(text.len())
-}
-
-/// The first line and what follows it, where there is one.
-#[tactic(auto, using(crate::proofs::LineLemmas::lines_first_slice, crate::proofs::LineLemmas::lines_last))]
-pub(crate) fn next_line(text: &[u8]) -> Option<(&[u8], &[u8])>
-    ensures line { IfSome result (λ found. lines_of text.now ≡ found.0.now ∷ lines_of found.1.now) }
-    ensures shorter { IfSome result (λ found. length found.1.now < length text.now) }
-    ensures none { IfNone result (lines_of text.now ≡ []) }
-{
-    if text.is_empty() {
-        return None;
-    }
-    let end = line_len(text);
-    if end < text.len() {
-        Some((&text[..end], &text[end + 1..]))
-    } else {
-        Some((text, &[]))
-    }
 }
 
 /// The label that a line is, which ends with a colon.

@@ -1,5 +1,5 @@
 use Rattle.std.proofs.Common.{◌≡◌, ◌≤◌, ◌+◌, length}
-use Rattle.tatp_asm.specs.Lines.{lines_of}
+use Rattle.tatp_lines.specs.Lines.{lines_of}
 use Rattle.tatp_asm.specs.Reading.{reads, start}
 use Rattle.tatp_asm.specs.Views.{state_of, FitsAny}
 use Rattle.tatp_asm.proofs.assembling.procedures.Given as goal

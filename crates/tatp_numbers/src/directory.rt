@@ -1,5 +1,5 @@
 //! The directory: the home of each key.
-ghost use Rattle.std.specs.Prelude.{◌≡◌, ℕ, IfOk, OnOk, Err, nat_eq};
+ghost use Rattle.std.specs.Prelude.{◌≡◌, ℕ, IfOk, OnOk, Err, length, nat_eq};
 ghost use Rattle.indexmap.specs.IndexMap.{get};
 ghost use Rattle.tatp_tables.specs.Tuples.{set_of};
 ghost use Rattle.tatp_numbers.specs.Homes.{home_of_key};
@@ -37,6 +37,7 @@ impl Directory {
     /// The directory of these Subscriber rows.
     pub fn build(alloc: Global, rows: &[[u64; 34]]) -> Result<Directory, BuildError>
         requires { IdsRunToLength rows.now }
+        ensures count { IfOk result (λ directory. directory.count ≡ length rows.now) }
         ensures homes { IfOk result (λ directory. (key : Key) → answer directory key ≡ home_of_key (set_of rows.now) key) }
         ensures differ { OnOk result (NumbersDiffer rows.now) }
         ensures twice { result ≡ Err BuildError.NumberTwice → NumberRepeats rows.now }

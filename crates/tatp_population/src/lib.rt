@@ -15,7 +15,7 @@ mod rows;
 pub use extent::{ClosedExtent, Extent};
 pub use generating::generate;
 pub use open_error::OpenError;
-pub use opening::open;
+pub use opening::{discard, open};
 pub use read_error::ReadError;
 pub use reading::read;
 

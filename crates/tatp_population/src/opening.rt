@@ -26,7 +26,7 @@ const MOST_SUBSCRIBERS: usize = 100_000;
 const EXTENT_SIZE: usize = 64;
 
 /// Spends extents that come to nothing.
-pub(crate) fn discard(extents: Vec<Extent>) {
+pub fn discard(extents: Vec<Extent>) {
     let mut rest = extents;
     while let Some(extent) = rest.pop() {
         let _ = extent.close();
@@ -96,7 +96,8 @@ fn admit(alloc: Global, rows: &Rows) -> Result<(), OpenError>
 /// The directory of clean rows.
 fn directory_of(alloc: Global, rows: &Rows) -> Result<Directory, AllocError>
     requires { IsClean rows.now }
-    ensures { IfOk result (λ directory. (key : Key) → answer directory key ≡ home_of_key (set_of rows.now.subscribers) key) }
+    ensures count { IfOk result (λ directory. directory.count ≡ length rows.now.subscribers) }
+    ensures homes { IfOk result (λ directory. (key : Key) → answer directory key ≡ home_of_key (set_of rows.now.subscribers) key) }
 {
     clean_rows_make_a_directory();
     match Directory::build(alloc, rows.subscribers.as_slice()) {
@@ -132,6 +133,7 @@ pub fn open(
 
     // One after another the homes of the extents are those of all subscribers, each once.
     ensures homes { IfOk result (λ opened. flat_map (λ extent. extent.homes) opened.0.items ≡ homes_in (database_of rows) 1 (length rows.subscribers)) }
+    ensures count { IfOk result (λ opened. opened.1.count ≡ length rows.subscribers) }
     ensures directory { IfOk result (λ opened. (key : Key) → answer opened.1 key ≡ home_of_key (set_of rows.subscribers) key) }
     ensures few { OnOk result (length rows.subscribers ≤ most_subscribers) }
     ensures clean { OnOk result (IsClean rows) }

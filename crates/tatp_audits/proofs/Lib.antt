@@ -7,3 +7,4 @@ pub mod Fitting
 pub mod Miscounts
 pub mod Verdicts
 pub mod CleanRows
+pub mod PrintingLaws

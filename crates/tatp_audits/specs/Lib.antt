@@ -1,2 +1,3 @@
 pub mod Failing
 pub mod Audits
+pub mod Printing

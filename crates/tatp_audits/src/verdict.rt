@@ -1,4 +1,7 @@
 //! What the audits say.
+ghost use Rattle.std.specs.Prelude.{◌≡◌, Some};
+ghost use Rattle.tatp_audits.specs.Audits.{says_clean};
+ghost use Rattle.tatp_audits.specs.Printing.{key_text, verdict_text};
 
 use std::fmt;
 
@@ -39,7 +42,18 @@ pub enum Verdict {
     Counts(u64),
 }
 
+impl Verdict {
+    /// Whether it says that the rows are clean.
+    pub fn is_clean(&self) -> bool
+        ensures { result ≡ says_clean self.now }
+    {
+        matches!(self, Verdict::Clean { .. })
+    }
+}
+
 impl fmt::Display for Key {
+    ghost output = { λ key. Some (key_text key) };
+
     fn fmt<W: fmt::Write>(&self, f: &mut fmt::Formatter<W>) -> fmt::Result {
         match self {
             Key::S([s_id]) => write!(f, "S {s_id}"),
@@ -51,6 +65,8 @@ impl fmt::Display for Key {
 }
 
 impl fmt::Display for Verdict {
+    ghost output = { λ verdict. Some (verdict_text verdict) };
+
     fn fmt<W: fmt::Write>(&self, f: &mut fmt::Formatter<W>) -> fmt::Result {
         match self {
             Verdict::Clean {

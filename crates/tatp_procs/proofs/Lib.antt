@@ -15,5 +15,6 @@ pub mod ConsistentLaws
 pub mod KeptLaws
 pub mod ConsistentAfterLaws
 pub mod ReadingLaws
+pub mod ExtendsLaws
 pub mod PrintingLaws
 pub mod CallTextLaws

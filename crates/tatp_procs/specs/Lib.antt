@@ -7,6 +7,7 @@ pub mod Standard
 pub mod Consistent
 pub mod Replies
 pub mod Performs
+pub mod Extends
 pub mod ValuesText
 pub mod CallText
 pub mod ReplyText

@@ -1,7 +1,8 @@
 //! The line of a reply.
-ghost use Rattle.std.specs.Prelude.{◌≡◌, ◌++◌, IfOk, OnOk, codes};
+ghost use Rattle.std.specs.Prelude.{◌≡◌, ◌++◌, IfOk, OnErr, OnOk, codes};
 ghost use Rattle.std.specs.String.{string_bytes};
 ghost use Rattle.tatp_machine.specs.Traps.{trap_name};
+ghost use Rattle.tatp_procs.specs.Extends.{Extends};
 ghost use Rattle.tatp_procs.specs.ReplyText.{answer_columns, reply_columns, reply_text};
 
 use crate::domains::NUMBERX;
@@ -20,10 +21,25 @@ pub fn reply_text(alloc: Global, ask: &Ask, reply: &Reply) -> Result<String, All
     Ok(text)
 }
 
-/// Appends the line of a reply to what was asked.
-#[tactic(auto, using(crate::proofs::PrintingLaws::words_and_values))]
+/// Appends the line of a reply to what was asked. An error leaves the text as it was.
+#[tactic(auto, using(crate::proofs::ExtendsLaws::may_be_cut, crate::proofs::ExtendsLaws::cut_back))]
 pub fn push_reply(text: &mut String, ask: &Ask, reply: &Reply) -> Result<(), AllocError>
-    ensures { OnOk result (string_bytes text.new ≡ string_bytes text.old ++ reply_text ask.now reply.now) }
+    ensures ok { OnOk result (string_bytes text.new ≡ string_bytes text.old ++ reply_text ask.now reply.now) }
+    ensures err { OnErr result (string_bytes text.new ≡ string_bytes text.old) }
+{
+    let before = text.len();
+    let pushed = push_line(text, ask, reply);
+    if pushed.is_err() {
+        text.truncate(before);
+    }
+    pushed
+}
+
+/// The same. An error may leave the line's beginning.
+#[tactic(auto, using(crate::proofs::PrintingLaws::words_and_values))]
+fn push_line(text: &mut String, ask: &Ask, reply: &Reply) -> Result<(), AllocError>
+    ensures ok { OnOk result (string_bytes text.new ≡ string_bytes text.old ++ reply_text ask.now reply.now) }
+    ensures err { OnErr result (Extends (string_bytes text.old) (string_bytes text.new)) }
 {
     match reply {
         Reply::Values(values) => {

@@ -1,6 +1,7 @@
 //! Values in text, one after another, each in the form of the column that stands at its place.
-ghost use Rattle.std.specs.Prelude.{◌≡◌, ◌<◌, ◌^◌, ◌++◌, All, IfOk, OnOk, slice_index_or};
+ghost use Rattle.std.specs.Prelude.{◌≡◌, ◌<◌, ◌^◌, ◌++◌, All, IfOk, OnOk, OnErr, slice_index_or};
 ghost use Rattle.std.specs.String.{string_bytes};
+ghost use Rattle.tatp_procs.specs.Extends.{Extends};
 ghost use Rattle.tatp_procs.specs.ValuesText.{values_of, values_text};
 
 use std::alloc::{AllocError, Global};
@@ -44,14 +45,15 @@ pub(crate) fn with_values(
     Ok(text)
 }
 
-/// Appends the values.
+/// Appends the values. An error may leave some of them.
 #[tactic(auto, using(crate::proofs::PrintingLaws::none_printed, crate::proofs::PrintingLaws::value_printed, crate::proofs::PrintingLaws::all_printed))]
 pub(crate) fn push_values(
     text: &mut String,
     columns: &[u8],
     values: &[u64],
 ) -> Result<(), AllocError>
-    ensures { OnOk result (string_bytes text.new ≡ string_bytes text.old ++ values_text columns.now values.now) }
+    ensures ok { OnOk result (string_bytes text.new ≡ string_bytes text.old ++ values_text columns.now values.now) }
+    ensures err { OnErr result (Extends (string_bytes text.old) (string_bytes text.new)) }
 {
     for (place, value) in values.iter().enumerate() {
         text.push_str(" ")?;

@@ -113,3 +113,13 @@ fn prints_the_other_replies(rt: HostRuntime) -> Result<(), Fail> {
     }
     Ok(())
 }
+
+#[test]
+fn lines_stand_one_behind_another(rt: HostRuntime) -> Result<(), Fail> {
+    let mut text = String::new(rt.alloc());
+    push_reply(&mut text, &UPDATE_LOCATION, &values(&[]))?;
+    text.push_str("\n")?;
+    push_reply(&mut text, &UPDATE_LOCATION, &Reply::Failed(1))?;
+    assert_eq!(rt; text.as_str(), "OK\nFAILED 1");
+    Ok(())
+}

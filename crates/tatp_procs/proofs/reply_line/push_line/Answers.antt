@@ -1,8 +1,8 @@
 use Rattle.std.specs.String.{string_bytes}
 use Rattle.tatp_procs.proofs.PrintingLaws.{failure_printed}
-use Rattle.tatp_procs.proofs.reply_line.push_reply.Goals as goal
+use Rattle.tatp_procs.proofs.reply_line.push_line.Goals as goal
 
-pub returns-in_ok-push_str-in-Failed : goal.returns-in_ok-push_str-in-Failed
-returns-in_ok-push_str-in-Failed c =
+pub returns-in_ok-push_str-in-Failed-clause-ok : goal.returns-in_ok-push_str-in-Failed-clause-ok
+returns-in_ok-push_str-in-Failed-clause-ok c =
     failure_printed c.push_value.result c.args.ask.now c.args.reply.now c.in-Failed.number c.from.result (string_bytes c.args.text.now) (string_bytes c.push_str-in-Failed.new.self) (string_bytes c.push_value.new.text)
     c.in-Failed.is c.from.ensures c.in_ok-push_str-in-Failed.ensures.bytes c.push_value.ensures.ok

@@ -1,0 +1,10 @@
+pub mod StreamLaws
+pub mod LineTextLaws
+pub mod RowLaws
+pub mod DotLaws
+pub mod GoingLaws
+pub mod RunningLaws
+pub mod HoldingLaws
+pub mod AnsweringLaws
+pub mod ServingLaws
+pub mod WritingLaws

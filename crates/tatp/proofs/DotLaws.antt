@@ -1,5 +1,5 @@
 -- A line `.` behind rows, and rows without one.
-use Rattle.std.specs.Prelude.{◌≡◌, ℕ, ◌+◌, Bool, true, false, List, [], ◌∷◌, length, Option, Some, None, Result, Ok, Err, cond, codes, bytes_eq}
+use Rattle.std.specs.Prelude.{◌≡◌, ℕ, ◌+◌, Bool, true, false, List, [], ◌∷◌, length, Option, Some, None, Result, Ok, Err, cond, codes}
 use Rattle.std.specs.Str.{is_utf8}
 use Rattle.std.proofs.Common.{refl, sym, ap, subst, ◌∙◌, arith}
 use Rattle.std.proofs.lemmas.Slice.Eq.{bytes_eq-Decides}
@@ -11,7 +11,7 @@ use Rattle.tatp_population.specs.PopulationText.{on_rows, row_first, in_tables}
 use Rattle.tatp.specs.declared.fault.Fault.{Fault}
 use Rattle.tatp.specs.declared.fault.Fault.TheVariants.{BadLine, NotClean, TooMany, NoMemory, ReadFault, WriteFault, Assembly, Module}
 use Rattle.tatp.specs.Refusing.{RefusesReading}
-use Rattle.tatp.specs.RowLines.{row_in, rows_from, rows_of_lines, is_dot, before_dot, behind_dot, Work, work_by, brought}
+use Rattle.tatp.specs.RowLines.{row_in, rows_from, rows_of_lines, is_dot, before_dot, behind_dot, brought}
 
 -- ---- where there is no line `.`, all lines stand before it
 no_dot_step : (t : Bool) (line : List ℕ) (more : List (List ℕ)) → (behind_dot more ≡ None → before_dot more ≡ more)

@@ -45,12 +45,15 @@ pub goes_answered : (all lines more : List (List ℕ)) (held holding after : Sub
 goes_answered all lines more held holding after old new pending answered ended line goes e answers k first h =
     let now = goes first h in
     let told = answers now.0 now.1 in
-    let g = now.2 in
-    ((line_answer false (call_in line) now.0).database, told.1, record {
-      written = g.written;
-      held = g.held;
-      whole = rw (k, told.0) ((g.whole ∙ ap (λ ls. g.written ++ (pending ++ replies [] ls now.0)) e) ∙ line_behind line more now.0 g.written pending);
-    })
+    let g = now.2 in (
+      (line_answer false (call_in line) now.0).database,
+      told.1,
+      record {
+        written = g.written;
+        held = g.held;
+        whole = rw (k, told.0) ((g.whole ∙ ap (λ ls. g.written ++ (pending ++ replies [] ls now.0)) e) ∙ line_behind line more now.0 g.written pending);
+      },
+    )
 
 -- ---- what is pending is written
 flushed : (all lines : List (List ℕ)) (first u : Database) (old new then : Option (List ℕ)) (pending : List ℕ)

@@ -8,3 +8,4 @@ pub mod HoldingLaws
 pub mod AnsweringLaws
 pub mod ServingLaws
 pub mod WritingLaws
+pub mod OrderLaws

@@ -1,6 +1,5 @@
 -- What a run leaves where it is cut short.
 use Rattle.std.proofs.Common.{◌≡◌, ℕ, List, [], ◌++◌, ◌⊎◌, ◌≤◌, length, Option, Result, Ok, Err, OnErr, IfErr, inl, inr, sym}
-use Rattle.std.specs.Io.KnownBytes.{Appends}
 use Rattle.tatp_tables.specs.Database.{database_of}
 use Rattle.tatp_tables.specs.Clean.{IsClean}
 use Rattle.tatp_population.specs.Opening.{most_subscribers, RefusesRows}

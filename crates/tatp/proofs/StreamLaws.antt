@@ -1,5 +1,5 @@
 -- The bytes that a reader has left and a writer holds.
-use Rattle.std.proofs.Common.{◌≡◌, ℕ, ◌≤◌, ◌∙◌, sym, ap, List, [], ◌∷◌, ◌++◌, length, take, drop, refl, arith, Option, Some, None, append_assoc}
+use Rattle.std.proofs.Common.{◌≡◌, ℕ, ◌≤◌, ◌∙◌, sym, ap, subst, List, [], ◌++◌, length, refl, Option, Some, None, append_assoc}
 use Rattle.std.specs.Io.KnownBytes.{Appends, Consumes, Keeps, IsAtEnd}
 use Rattle.std.specs.Option.{IfSome}
 use Rattle.std.proofs.lemmas.List.{append-nil}
@@ -39,3 +39,8 @@ appends_then_keeps None b c xs h k = tt
 appends_then_keeps (Some us) None c xs h k = absurd h
 appends_then_keeps (Some us) (Some bs) None xs h k = k
 appends_then_keeps (Some us) (Some bs) (Some cs) xs h k = k ∙ h
+
+-- what was all taken is no longer than what took it may hold
+pub input_within : (known : Option (List ℕ)) (taken : List ℕ) (most : ℕ) → IfSome known (λ input. taken ≡ input) → length taken ≤ most → IfSome known (λ input. length input ≤ most)
+input_within None taken most h k = tt
+input_within (Some input) taken most h k = subst (λ xs. length xs ≤ most) h k

@@ -9,3 +9,4 @@ pub mod Writing
 pub mod ModuleCommands
 pub mod AuditCommand
 pub mod Tasks
+pub mod AnsweredCalls

@@ -1,7 +1,7 @@
 -- Why the lines of an input are refused.
-use Rattle.std.specs.Prelude.{◌≡◌, ℕ, List, Result, Err}
+use Rattle.std.specs.Prelude.{◌≡◌, ℕ, Result, Err}
 use Rattle.tatp.specs.declared.fault.Fault.{Fault}
-use Rattle.tatp.specs.declared.fault.Fault.TheVariants.{BadLine, NotClean, TooMany, NoMemory, ReadFault, WriteFault, Assembly, Module}
+use Rattle.tatp.specs.declared.fault.Fault.TheVariants.{BadLine, NoMemory}
 
 -- by what was to be read, or the number of the line that is wrong
 abbrev pub RefusesReading : {A : Type 0} → Result A ℕ → Fault → Type 0

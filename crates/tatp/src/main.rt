@@ -8,6 +8,7 @@ ghost use Rattle.tatp.specs.Tasks.{IsTask};
 mod audit;
 mod command_line;
 mod fault;
+mod laws;
 mod modules;
 mod population;
 mod rows;

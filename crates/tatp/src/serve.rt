@@ -147,7 +147,8 @@ fn serve_input<W: Write>(
 
 /// Reads rows and calls, or calls alone, and writes a reply to each line of calls.
 ///
-/// All is read, and the rows are opened, before the first reply is written.
+/// All is read, and the rows are opened, before the first reply is written. An input of more than
+/// [`MOST_BYTES`] bytes is refused.
 pub fn serve<R: Read, W: Write>(
     alloc: Global,
     reader: &mut R,
@@ -159,6 +160,7 @@ pub fn serve<R: Read, W: Write>(
         WritesServed population input (W.contents writer.old) (W.contents writer.new))) }
     ensures faults { IfErr result (λ fault. IfSome (R.remaining reader.old) (λ input.
         Leaves population input (W.contents writer.old) (W.contents writer.new) fault)) }
+    ensures limit { OnOk result (IfSome (R.remaining reader.old) (λ input. length input ≤ MOST_BYTES)) }
 {
     let input = read_all(alloc, reader)?;
     serve_input(alloc, population, &input, writer)

@@ -42,10 +42,11 @@ fn read_some<R: Read>(reader: &mut R, chunk: &mut [u8], all: &mut Vec<u8>) -> Re
 
 /// All that a reader gives, at most [`MOST_BYTES`] bytes. Any error of the reader ends it, an
 /// interrupted read too.
-#[tactic(auto, using(crate::proofs::StreamLaws::consumes_none, crate::proofs::StreamLaws::consumes_both, crate::proofs::StreamLaws::consumed_all))]
+#[tactic(auto, using(crate::proofs::StreamLaws::consumes_none, crate::proofs::StreamLaws::consumes_both, crate::proofs::StreamLaws::consumed_all, crate::proofs::StreamLaws::input_within))]
 pub(crate) fn read_all<R: Read>(alloc: Global, reader: &mut R) -> Result<Vec<u8>, Fault>
     ensures all { IfOk result (λ all. IfSome (R.remaining reader.old) (λ input. all.items ≡ input)) }
     ensures within { IfOk result (λ all. vec_len all ≤ MOST_BYTES) }
+    ensures limit { OnOk result (IfSome (R.remaining reader.old) (λ input. length input ≤ MOST_BYTES)) }
     ensures faults { IfErr result (λ fault. (fault ≡ ReadFault) ⊎ (fault ≡ NoMemory)) }
 {
     let mut chunk = [0u8; CHUNK];

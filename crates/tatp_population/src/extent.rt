@@ -2,12 +2,13 @@
 ghost use Rattle.std.specs.Prelude.{◌≡◌, ◌+◌, ◌<◌, ◌≤◌, ◌↔◌, IfOk, IsSome, IfSome, length};
 ghost use Rattle.std.specs.List.{range_with_len};
 ghost use Rattle.std.specs.Option.{option_copied};
-ghost use Rattle.tatp_population.specs.Extents.{IsExtent, LiesIn, first_subscriber, s_ids, home_among};
+ghost use Rattle.tatp_population.specs.Extents.{IsExtent, LiesIn, first_subscriber, last_stamp_of, s_ids, home_among};
 ghost use Rattle.tatp_population.specs.Opening.{opened_extent};
 ghost use Rattle.tatp_population.specs.Closing.{state_of};
 
 use std::alloc::{AllocError, Global};
 use std::marker::Model;
+use tatp_procs::Entry;
 use tatp_tables::Home;
 
 /// The homes of up to 64 subscribers in a row. It can be neither copied nor dropped, so no home is
@@ -18,7 +19,7 @@ pub struct Extent {
     mixed: bool,
     opening: Vec<Home>,
     homes: Vec<Home>,
-    last_stamp: u64,
+    log: Vec<Entry>,
 }
 
 impl Model for Extent {
@@ -34,7 +35,7 @@ impl Model for Extent {
       mixed = a.mixed;
       opening = a.opening.items;
       homes = a.homes.items;
-      last_stamp = a.last_stamp;
+      log = a.log.items;
     } };
 
     ghost invariant = { λ a. AreHomesOfExtent a.number a.opening.items a.homes.items };
@@ -53,8 +54,8 @@ pub struct ClosedExtent {
     pub opening: Vec<Home>,
     /// Its homes when it was closed.
     pub homes: Vec<Home>,
-    /// The last stamp that was logged, 0 before the first.
-    pub last_stamp: u64,
+    /// The calls that were logged, in the order of their stamps.
+    pub log: Vec<Entry>,
 }
 
 /// The first subscriber of an extent.
@@ -100,7 +101,7 @@ impl Extent {
             mixed: false,
             opening,
             homes,
-            last_stamp: 0,
+            log: Vec::new(alloc),
         })
     }
 
@@ -128,9 +129,12 @@ impl Extent {
 
     /// The last stamp that was logged, 0 before the first.
     pub fn last_stamp(&self) -> u64
-        ensures { result ≡ self.now.last_stamp }
+        ensures { result ≡ last_stamp_of self.now.log }
     {
-        self.last_stamp
+        match self.log.last() {
+            Some(entry) => entry.stamp,
+            None => 0,
+        }
     }
 
     /// The home of a subscriber as it is now, where the subscriber lies in this extent.
@@ -153,7 +157,7 @@ impl Extent {
             mixed,
             opening,
             homes,
-            last_stamp,
+            log,
         } = self;
         ClosedExtent {
             number,
@@ -161,7 +165,7 @@ impl Extent {
             mixed,
             opening,
             homes,
-            last_stamp,
+            log,
         }
     }
 }

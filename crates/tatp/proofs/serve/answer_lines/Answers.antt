@@ -1,6 +1,4 @@
-use Rattle.std.proofs.Common.{◌≡◌, ℕ}
 use Rattle.std.proofs.lemmas.Result.{err_from_is_err_and, on_ok_weaker, on_err_weaker}
-use Rattle.tatp.proofs.StreamLaws.{appends_none}
 use Rattle.tatp.proofs.GoingLaws.{goes_start, goes_answered, goes_told, goes_done, goes_front}
 use Rattle.tatp.proofs.serve.answer_lines.Goals as goal
 
@@ -26,8 +24,8 @@ pub returns-in_err-write_much-in-Some-clause-front : goal.returns-in_err-write_m
 returns-in_err-write_much-in-Some-clause-front g c =
     let p = err_from_is_err_and c.from_residual-in_err-write_much-in-Some.result c.from_residual-in_err-write_much-in-Some.ensures.1 in
     rw p.1 (goes_front _ _ _ _ _ _ _ _ c.in_err-write_much-in-Some.ensures.front.0
-        (goes_answered _ _ _ _ _ _ _ _ _ _ _ _ c.lines.invariant.goes c.in-Some.ensures.line c.in_ok-answer_line-in-Some.ensures.answered c.in_ok-push_str-in-Some.ensures.bytes)
-        c.in_err-write_much-in-Some.ensures.front.1)
+    (goes_answered _ _ _ _ _ _ _ _ _ _ _ _ c.lines.invariant.goes c.in-Some.ensures.line c.in_ok-answer_line-in-Some.ensures.answered c.in_ok-push_str-in-Some.ensures.bytes)
+    c.in_err-write_much-in-Some.ensures.front.1)
 
 pub lines-preserved : goal.lines-preserved
 lines-preserved g c =

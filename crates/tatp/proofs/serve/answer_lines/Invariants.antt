@@ -1,4 +1,4 @@
-use Rattle.std.proofs.Common.{◌≡◌, length}
+use Rattle.std.proofs.Common.{length}
 use Rattle.std.specs.String.{string_bytes}
 use Rattle.tatp_tables.specs.Database.{Database}
 use Rattle.tatp_lines.specs.Lines.{lines_of}

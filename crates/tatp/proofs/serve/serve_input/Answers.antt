@@ -1,6 +1,4 @@
-use Rattle.std.proofs.Common.{◌≡◌, ℕ}
 use Rattle.std.proofs.lemmas.Result.{err_from_is_err_and, on_err_weaker}
-use Rattle.tatp.specs.declared.fault.Fault.{Fault}
 use Rattle.tatp.proofs.ServingLaws.{leaves_unopened, leaves_cut}
 use Rattle.tatp.proofs.serve.serve_input.Goals as goal
 

@@ -1,6 +1,5 @@
-use Rattle.std.proofs.Common.{length, take, ap, sym, subst}
+use Rattle.std.proofs.Common.{length}
 use Rattle.std.proofs.Math.Seq.{take-length}
-use Rattle.std.specs.Io.KnownBytes.{Appends}
 use Rattle.tatp.proofs.StreamLaws.{appends_then_keeps}
 use Rattle.tatp.proofs.streams.write_last.Goals as goal
 

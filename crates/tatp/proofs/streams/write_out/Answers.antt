@@ -1,4 +1,4 @@
-use Rattle.std.proofs.Common.{◌≤◌, ◌+◌, ◌++◌, ◌∙◌, sym, ap, subst, take, drop, length, arith, take-add, length-drop}
+use Rattle.std.proofs.Common.{◌++◌, ◌∙◌, sym, ap, subst, take, length, arith, take-add, length-drop}
 use Rattle.std.proofs.lemmas.List.{take_rest}
 use Rattle.std.specs.Io.KnownBytes.{Appends}
 use Rattle.tatp.proofs.StreamLaws.{appends_both}

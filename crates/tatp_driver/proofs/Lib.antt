@@ -1,0 +1,2 @@
+pub mod DrawnCallLaws
+pub mod DrawnWordsLaws

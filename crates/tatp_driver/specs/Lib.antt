@@ -1,0 +1,2 @@
+pub mod DrawnCall
+pub mod DrawnWords

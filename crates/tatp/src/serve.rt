@@ -1,5 +1,5 @@
 //! The command `call`: a reply to each line of calls.
-ghost use Rattle.std.specs.Prelude.{◌≡◌, ℕ, ◌≤◌, ◌++◌, ◌∷◌, ◌⊎◌, [], take, length, Ok, false, IfOk, IfErr, OnOk, OnErr, IfSome};
+ghost use Rattle.std.specs.Prelude.{◌≡◌, ℕ, ◌≤◌, ◌++◌, ◌∷◌, ◌⊎◌, [], take, length, Ok, false, IfOk, IfErr, OnOk, OnErr, IfSome, Some, List};
 ghost use Rattle.std.specs.Io.KnownBytes.{Appends};
 ghost use Rattle.std.specs.String.{string_bytes};
 ghost use Rattle.tatp_tables.specs.Database.{Database, database_of};
@@ -166,10 +166,11 @@ pub fn serve<R: Read, W: Write>(
     serve_input(alloc, population, &input, writer)
 }
 
-/// What is written for an input.
+/// What is written for an input. Where there is a fault, what was written is let go.
 pub fn served(alloc: Global, population: Population, input: &[u8]) -> Result<Vec<u8>, Fault>
     requires { IsPopulation population }
-    ensures { IfOk result (λ written. Served population input.now [] written.items) }
+    ensures served { IfOk result (λ written. Served population input.now [] written.items) }
+    ensures faults { IfErr result (λ fault. (written : List ℕ) × Leaves population input.now (Some []) (Some written) fault) }
 {
     let mut written = Vec::new(alloc);
     let mut reader = input;

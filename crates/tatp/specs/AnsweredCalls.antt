@@ -1,12 +1,12 @@
 -- The calls among lines, and what is written for the lines by the replies to these calls.
-use Rattle.std.specs.Prelude.{ℕ, List, [], ◌∷◌, ◌++◌, Option, Some, None, Result, Ok, Err, codes, decimal}
+use Rattle.std.specs.Prelude.{ℕ, List, [], ◌∷◌, ◌++◌, Option, Some, None, Result, Ok, Err}
 use Rattle.tatp_procs.specs.declared.ask.Ask.TheVariants.{Txn}
 use Rattle.tatp_procs.specs.declared.call.Call.{Call}
 use Rattle.tatp_procs.specs.declared.domains.BadArgument.{BadArgument}
 use Rattle.tatp_procs.specs.declared.reply.Reply.{Reply}
 use Rattle.tatp_procs.specs.Arguments.{arguments_accepted}
 use Rattle.tatp_procs.specs.ReplyText.{reply_text}
-use Rattle.tatp.specs.Served.{call_in}
+use Rattle.tatp.specs.Served.{call_in, no_call_text, bad_argument_text}
 
 -- ---- the calls
 -- a call before others, where its arguments are accepted
@@ -30,11 +30,11 @@ calls_of (line ∷ more) = line_before (call_in line) (calls_of more)
 abbrev pub call_told : Call → Result (Unit {0}) BadArgument → List Reply → (List Reply → List ℕ) → List ℕ
 call_told call (Ok fits) (reply ∷ replies) later = reply_text (Txn call) reply ++ 10 ∷ later replies
 call_told call (Ok fits) [] later = []
-call_told call (Err bad) replies later = (codes "REFUSED 26 BadArgument " ++ decimal bad.0) ++ 10 ∷ later replies
+call_told call (Err bad) replies later = bad_argument_text bad ++ 10 ∷ later replies
 
 -- a line that is no call takes none
 abbrev pub line_told : Option Call → List Reply → (List Reply → List ℕ) → List ℕ
-line_told None replies later = codes "REFUSED 5 BadLine" ++ 10 ∷ later replies
+line_told None replies later = no_call_text ++ 10 ∷ later replies
 line_told (Some call) replies later = call_told call (arguments_accepted call) replies later
 
 -- a line of text for each line, by the replies to the calls that are answered

@@ -29,6 +29,14 @@ use Rattle.tatp.specs.RowLines.{Work, brought}
 unfoldable pub call_in : List ℕ → Option Call
 call_in line = if is_utf8 line then call_of line else None
 
+-- of a line that is no call
+abbrev pub no_call_text : List ℕ
+no_call_text = codes "REFUSED 5 BadLine"
+
+-- of a call with an argument outside its domain
+abbrev pub bad_argument_text : BadArgument → List ℕ
+bad_argument_text bad = codes "REFUSED 26 BadArgument " ++ decimal bad.0
+
 -- the reply to a line, and the database after it
 pub record LineAnswer : Type 0 where
   pub text : List ℕ
@@ -36,13 +44,13 @@ pub record LineAnswer : Type 0 where
 
 -- of a call, where it was refused its memory or not
 abbrev pub call_answer : Bool → Call → Result (Unit {0}) BadArgument → Database → LineAnswer
-call_answer refused call (Err bad) u = record { text = codes "REFUSED 26 BadArgument " ++ decimal bad.0; database = u }
+call_answer refused call (Err bad) u = record { text = bad_argument_text bad; database = u }
 call_answer true call (Ok fits) u = record { text = reply_text (Txn call) Refused; database = u }
 call_answer false call (Ok fits) u = record { text = reply_text (Txn call) (transaction call u).reply; database = (transaction call u).database }
 
 -- of a line, where it is a call or not
 abbrev pub line_answer : Bool → Option Call → Database → LineAnswer
-line_answer refused None u = record { text = codes "REFUSED 5 BadLine"; database = u }
+line_answer refused None u = record { text = no_call_text; database = u }
 line_answer refused (Some call) u = call_answer refused call (arguments_accepted call) u
 
 -- ---- all lines

@@ -1,5 +1,5 @@
 //! The command `audit`: the verdict on rows.
-ghost use Rattle.std.specs.Prelude.{◌≡◌, ◌≤◌, length, IfOk, IfErr, IfSome};
+ghost use Rattle.std.specs.Prelude.{◌≡◌, ◌≤◌, length, IfOk, IfErr, IfSome, OnOk};
 ghost use Rattle.std.specs.String.{string_bytes};
 ghost use Rattle.tatp_lines.specs.Lines.{lines_of};
 ghost use Rattle.tatp.specs.AuditCommand.{IsVerdictOn, verdict_line, TellsVerdict, WritesVerdict};
@@ -41,6 +41,7 @@ pub fn run_audit<R: Read, W: Write>(
         WritesVerdict input (W.contents writer.old) (W.contents writer.new) clean)) }
     ensures faults { IfErr result (λ fault. IfSome (R.remaining reader.old) (λ input.
         LeavesText (RefusesReading (rows_of_lines (lines_of input))) (TellsVerdict input) (W.contents writer.old) (W.contents writer.new) fault)) }
+    ensures limit { OnOk result (IfSome (R.remaining reader.old) (λ input. length input ≤ MOST_BYTES)) }
 {
     let input = read_all(alloc, reader)?;
     let verdict = judged(alloc, &input)?;

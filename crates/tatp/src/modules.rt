@@ -6,7 +6,7 @@ ghost use Rattle.tatp.specs.ModuleCommands.{IsModuleOfText, IsTextOfModule, IsAp
 ghost use Rattle.tatp.specs.Writing.{WritesText, LeavesText};
 
 use crate::fault::Fault;
-use crate::streams::{read_all, write_last};
+use crate::streams::{MOST_BYTES, read_all, write_last};
 use std::alloc::{AllocError, Global};
 use std::io::{Read, Write};
 use tatp_asm::{assemble_bytes, disassemble};
@@ -72,6 +72,7 @@ pub fn run_asm<R: Read, W: Write>(
         WritesText (IsModuleOfText text) (W.contents writer.old) (W.contents writer.new))) }
     ensures faults { IfErr result (λ fault. IfSome (R.remaining reader.old) (λ text.
         LeavesText (RefusesText text) (IsModuleOfText text) (W.contents writer.old) (W.contents writer.new) fault)) }
+    ensures limit { OnOk result (IfSome (R.remaining reader.old) (λ input. length input ≤ MOST_BYTES)) }
 {
     let text = read_all(alloc, reader)?;
     let bytes = assembled(alloc, &text)?;
@@ -88,6 +89,7 @@ pub fn run_dis<R: Read, W: Write>(
         WritesText (IsTextOfModule bytes) (W.contents writer.old) (W.contents writer.new))) }
     ensures faults { IfErr result (λ fault. IfSome (R.remaining reader.old) (λ bytes.
         LeavesText (RefusesBytes bytes) (IsTextOfModule bytes) (W.contents writer.old) (W.contents writer.new) fault)) }
+    ensures limit { OnOk result (IfSome (R.remaining reader.old) (λ input. length input ≤ MOST_BYTES)) }
 {
     let bytes = read_all(alloc, reader)?;
     let text = disassembled(alloc, &bytes)?;
@@ -105,6 +107,7 @@ pub fn run_check<R: Read, W: Write>(
         WritesText (IsApprovalOf bytes) (W.contents writer.old) (W.contents writer.new))) }
     ensures faults { IfErr result (λ fault. IfSome (R.remaining reader.old) (λ bytes.
         LeavesText (RefusesBytes bytes) (IsApprovalOf bytes) (W.contents writer.old) (W.contents writer.new) fault)) }
+    ensures limit { OnOk result (IfSome (R.remaining reader.old) (λ input. length input ≤ MOST_BYTES)) }
 {
     let bytes = read_all(alloc, reader)?;
     let text = approved(alloc, &bytes)?;

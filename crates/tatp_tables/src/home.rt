@@ -10,6 +10,7 @@ ghost use Rattle.tatp_tables.specs.Home.{IsHome};
 ghost use Rattle.tatp_tables.specs.Cells.{type_keys, forwarding_keys};
 
 mod changes;
+mod comparing;
 mod listing;
 mod loading;
 

@@ -17,7 +17,7 @@ pub use fault::Fault;
 pub use laws::served_calls_are_in_order;
 pub use modules::{run_asm, run_check, run_dis};
 pub use population::Population;
-pub use serving::{serve, served};
+pub use serving::serve;
 
 #[cfg(test)]
 mod tests;

@@ -165,15 +165,3 @@ pub fn serve<R: Read, W: Write>(
     let input = read_all(alloc, reader)?;
     serve_input(alloc, population, &input, writer)
 }
-
-/// What is written for an input. Where there is a fault, what was written is let go.
-pub fn served(alloc: Global, population: Population, input: &[u8]) -> Result<Vec<u8>, Fault>
-    requires { IsPopulation population }
-    ensures served { IfOk result (λ written. Served population input.now [] written.items) }
-    ensures faults { IfErr result (λ fault. (written : List ℕ) × Leaves population input.now (Some []) (Some written) fault) }
-{
-    let mut written = Vec::new(alloc);
-    let mut reader = input;
-    serve(alloc, &mut reader, &mut written, population)?;
-    Ok(written)
-}

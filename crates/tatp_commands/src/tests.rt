@@ -1,6 +1,4 @@
-//! Whole runs: what a run writes for its input, and the fault that ends it.
-mod audit;
+//! What a run leaves where a read or a write fails, and the standard module from its text.
 mod calls;
-mod fixture;
 mod modules;
 mod streams;

@@ -7,12 +7,20 @@ use tatp_tables::Home;
 /// A change of a home, with what undoes it.
 #[derive(Clone, Copy, Debug, PartialEq, Eq)]
 pub enum Change {
-    /// (column, key, before): The column was set in the row with this key, and had this value before.
-    Put(u32, [u64; 3], u64),
-    /// (key): The Call_Forwarding row with this key was inserted.
-    Inserted([u64; 3]),
-    /// (row): This Call_Forwarding row was deleted.
-    Deleted([u64; 5]),
+    /// The column was set in the row with this key, and had this value before.
+    Put {
+        column: u32,
+        key: [u64; 3],
+        before: u64,
+    },
+    /// The Call_Forwarding row with this key was inserted.
+    Inserted {
+        key: [u64; 3],
+    },
+    /// This Call_Forwarding row was deleted.
+    Deleted {
+        row: [u64; 5],
+    },
 }
 
 /// Undoes a change, where nothing has changed the home since.
@@ -22,13 +30,17 @@ fn undo_one(change: Change, home: &mut Home)
     ensures same { home.new.s_id ≡ home.old.s_id }
 {
     match change {
-        Change::Put(column, key, before) => {
+        Change::Put {
+            column,
+            key,
+            before,
+        } => {
             let _ = home.put(column as u8, key, before);
         }
-        Change::Inserted(key) => {
+        Change::Inserted { key } => {
             let _ = home.delete_cf(key);
         }
-        Change::Deleted(row) => {
+        Change::Deleted { row } => {
             let _ = home.insert_cf(row);
         }
     }

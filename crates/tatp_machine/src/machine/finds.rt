@@ -10,7 +10,7 @@ ghost use Rattle.tatp_machine.specs.Machines.{Turns};
 use super::Machine;
 use crate::Progress;
 use tatp_instr::{Instr, KeyRegisters, Register};
-use tatp_tables::{Home, Table};
+use tatp_tables::{Home, Table, what_holds_of_every_home};
 
 /// The key of the Subscriber row with this s_id.
 #[tactic(auto, using(crate::proofs::FindLaws::subscriber_key))]
@@ -25,8 +25,8 @@ fn subscriber_at(home: &Home, s_id: u64) -> Option<[u64; 3]>
 fn subscriber_with_number(home: &Home, number: u64) -> Option<[u64; 3]>
     ensures { result ≡ option_map (key_of_row Table.Subscriber) (row_with_number home.now.tables.subscribers number) }
 {
-    let s_id = home.s_id();
-    home.has_number(number).then_some([s_id, 0, 0])
+    what_holds_of_every_home(home);
+    home.has_number(number).then_some([home.s_id(), 0, 0])
 }
 
 /// The key of the Access_Info row with this s_id and ai_type.

@@ -24,27 +24,27 @@ fn a_module_read_and_written(rt: HostRuntime) -> Result<(), Fail> {
 #[test]
 fn numbers_and_texts_of_faults(rt: HostRuntime) -> Result<(), Fail> {
     let numbers = [
-        (FaultKind::BadOp, 6),
-        (FaultKind::UnusedNotZero, 7),
-        (FaultKind::BadRegister, 8),
-        (FaultKind::Truncated, 13),
-        (FaultKind::BadMagic, 14),
-        (FaultKind::Extra, 15),
-        (FaultKind::NameTwice, 16),
-        (FaultKind::BadHeader, 17),
-        (FaultKind::BackwardJump, 18),
-        (FaultKind::BadTarget, 19),
-        (FaultKind::FixedColumn, 20),
-        (FaultKind::NoSuchArgument, 21),
-        (FaultKind::TooManyOut, 22),
-        (FaultKind::TooManyWrites, 23),
-        (FaultKind::NoEnd, 24),
+        (LoadFaultKind::BadOp, 6),
+        (LoadFaultKind::UnusedNotZero, 7),
+        (LoadFaultKind::BadRegister, 8),
+        (LoadFaultKind::Truncated, 13),
+        (LoadFaultKind::BadMagic, 14),
+        (LoadFaultKind::Extra, 15),
+        (LoadFaultKind::NameTwice, 16),
+        (LoadFaultKind::BadHeader, 17),
+        (LoadFaultKind::BackwardJump, 18),
+        (LoadFaultKind::BadTarget, 19),
+        (LoadFaultKind::FixedColumn, 20),
+        (LoadFaultKind::NoSuchArgument, 21),
+        (LoadFaultKind::TooManyOut, 22),
+        (LoadFaultKind::TooManyWrites, 23),
+        (LoadFaultKind::NoEnd, 24),
     ];
     for (kind, number) in numbers {
         assert_eq!(rt; kind as u8, number);
     }
     let fault = LoadFault {
-        kind: FaultKind::BadTarget,
+        kind: LoadFaultKind::BadTarget,
         procedure: 3,
         instruction: 17,
     };

@@ -11,7 +11,7 @@ use Rattle.tatp_numbers.specs.declared.key.Key.{Key}
 use Rattle.tatp_procs.specs.declared.call.Call.{Call}
 use Rattle.tatp_procs.specs.declared.reply.Reply.{Reply}
 use Rattle.tatp_procs.specs.Arguments.{arguments_accepted}
-use Rattle.tatp_procs.specs.Calls.{procedure_of, key_of, arguments_of}
+use Rattle.tatp_procs.specs.Calls.{procedure_of, key_of_call, arguments_of}
 use Rattle.tatp_procs.specs.Consistent.{IsConsistent}
 use Rattle.tatp_procs.specs.Performs.{answer_of}
 use Rattle.tatp_procs.specs.Replies.{reply_to}
@@ -31,7 +31,7 @@ pub record IsCalled (modul : List Procedure) (procedure : ℕ) (arguments : List
   pub fits : arguments_accepted call ≡ Ok tt
 
 -- an outcome on a consistent database is the transaction's answer
-outcome_is : (modul : List Procedure) (procedure : ℕ) (arguments : List ℕ) (call : Call) (home : Option ℕ) (u : Database) (o : Outcome) → IsCalled modul procedure arguments call → IsConsistent u → home_of_key u.subscribers (key_of call) ≡ home
+outcome_is : (modul : List Procedure) (procedure : ℕ) (arguments : List ℕ) (call : Call) (home : Option ℕ) (u : Database) (o : Outcome) → IsCalled modul procedure arguments call → IsConsistent u → home_of_key u.subscribers (key_of_call call) ≡ home
     → Alone modul procedure arguments home u o → answer_of o ≡ transaction call u
 outcome_is modul procedure arguments call home u o called is named alone =
     (standard_performs_as modul called.standard call u is called.fits).each o
@@ -46,14 +46,14 @@ pub record IsAnswered (call : Call) (u : Database) (reply : Reply) (after : Subs
   pub held : Holds after (transaction call u).database
 
 -- what the directory answers is what the key names in the database
-named : (held : Subscribers) (call : Call) (key : Key) (home : Option ℕ) (u : Database) → Holds held u → key ≡ key_of call → home ≡ answer held.directory key → home_of_key u.subscribers (key_of call) ≡ home
-named held call key home u h key_is found = sym (h.keys (key_of call)) ∙ ap (answer held.directory) (sym key_is) ∙ sym found
+named : (held : Subscribers) (call : Call) (key : Key) (home : Option ℕ) (u : Database) → Holds held u → key ≡ key_of_call call → home ≡ answer held.directory key → home_of_key u.subscribers (key_of_call call) ≡ home
+named held call key home u h key_is found = sym (h.keys (key_of_call call)) ∙ ap (answer held.directory) (sym key_is) ∙ sym found
 
 -- without a home
 abbrev pub RanHomeless : List Procedure → ℕ → List ℕ → Reply → Type 0
 RanHomeless modul procedure arguments reply = (u : Database) → (o : Outcome) × Alone modul procedure arguments None u o × (o.database ≡ u) × (reply ≡ reply_to o.end o.outputs)
 
-pub answered_homeless : (held : Subscribers) (modul : List Procedure) (procedure : ℕ) (arguments : List ℕ) (call : Call) (key : Key) (reply : Reply) → IsCalled modul procedure arguments call → key ≡ key_of call → None ≡ answer held.directory key
+pub answered_homeless : (held : Subscribers) (modul : List Procedure) (procedure : ℕ) (arguments : List ℕ) (call : Call) (key : Key) (reply : Reply) → IsCalled modul procedure arguments call → key ≡ key_of_call call → None ≡ answer held.directory key
     → RanHomeless modul procedure arguments reply → (u : Database) → Holds held u → IsAnswered call u reply held
 answered_homeless held modul procedure arguments call key reply called key_is found ran u h =
     let end = ran u in
@@ -63,7 +63,7 @@ answered_homeless held modul procedure arguments call key reply called key_is fo
     }
 
 -- on the home of a subscriber
-pub answered_on_home : (held after : Subscribers) (modul : List Procedure) (procedure : ℕ) (arguments : List ℕ) (call : Call) (key : Key) (s : ℕ) (home left : SubscriberRows) (reply : Reply) → IsCalled modul procedure arguments call → key ≡ key_of call
+pub answered_on_home : (held after : Subscribers) (modul : List Procedure) (procedure : ℕ) (arguments : List ℕ) (call : Call) (key : Key) (s : ℕ) (home left : SubscriberRows) (reply : Reply) → IsCalled modul procedure arguments call → key ≡ key_of_call call
     → Some s ≡ answer held.directory key → home ≡ slice_index_or held.homes.items (s - 1) home → RanAlone modul procedure arguments home.s_id home.tables left.tables reply → left.s_id ≡ home.s_id → HaveSId left.s_id left.tables
     → after.directory ≡ held.directory → after.homes.items ≡ slice_set held.homes.items (s - 1) left → (u : Database) → Holds held u → IsAnswered call u reply after
 answered_on_home held after modul procedure arguments call key s home left reply called key_is found at ran same own directory homes u h =

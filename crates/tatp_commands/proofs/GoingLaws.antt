@@ -25,11 +25,11 @@ pub goes_start : (all : List (List ℕ)) (held : Subscribers) (old : Option (Lis
 goes_start all held old pending e first h = (first, h, record { written = []; held = appends_none old; whole = rw e refl })
 
 -- ---- a line is answered
-line_behind : (line : List ℕ) (more : List (List ℕ)) (u : Database) (written pending : List ℕ)
+line_after : (line : List ℕ) (more : List (List ℕ)) (u : Database) (written pending : List ℕ)
     → written ++ (pending ++ replies [] (line ∷ more) u)
     ≡ written ++ (((pending ++ (line_answer false (call_in line) u).text) ++ 10 ∷ []) ++ replies [] more (line_answer false (call_in line) u).database)
 unfolding replies
-line_behind line more u written pending =
+line_after line more u written pending =
     let text = (line_answer false (call_in line) u).text in
     let later = replies [] more (line_answer false (call_in line) u).database in
     ap (λ rest. written ++ rest) (sym (append_assoc (pending ++ text) (10 ∷ []) later ∙ append_assoc pending text (10 ∷ later)))
@@ -51,7 +51,7 @@ goes_answered all lines more held holding after old new pending answered ended l
       record {
         written = g.written;
         held = g.held;
-        whole = rw (k, told.0) ((g.whole ∙ ap (λ ls. g.written ++ (pending ++ replies [] ls now.0)) e) ∙ line_behind line more now.0 g.written pending);
+        whole = rw (k, told.0) ((g.whole ∙ ap (λ ls. g.written ++ (pending ++ replies [] ls now.0)) e) ∙ line_after line more now.0 g.written pending);
       },
     )
 

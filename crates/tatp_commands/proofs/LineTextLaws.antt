@@ -3,7 +3,7 @@ use Rattle.std.proofs.Common.{◌≡◌, ℕ, Bool, true, false, List, None, ref
 use Rattle.std.proofs.lemmas.Str.{IsUtf8-from_is_utf8, is_utf8-from_IsUtf8}
 use Rattle.std.specs.Str.{is_utf8, IsUtf8}
 use Rattle.tatp_tables.specs.Text.{row_of}
-use Rattle.tatp_procs.specs.CallText.{call_of}
+use Rattle.tatp_procs.specs.CallText.{call_of_line}
 use Rattle.tatp_commands.specs.RowLines.{row_in}
 use Rattle.tatp_commands.specs.Served.{call_in}
 
@@ -19,7 +19,7 @@ pub row_in_no_text : (bs : List ℕ) → ¬ (IsUtf8 bs) → row_in bs ≡ None
 unfolding row_in
 row_in_no_text bs u = rw (no_text bs (is_utf8 bs) refl u) refl
 
-pub call_in_text : (bs : List ℕ) → IsUtf8 bs → call_in bs ≡ call_of bs
+pub call_in_text : (bs : List ℕ) → IsUtf8 bs → call_in bs ≡ call_of_line bs
 unfolding call_in
 call_in_text bs u = rw (is_utf8-from_IsUtf8 bs u) refl
 

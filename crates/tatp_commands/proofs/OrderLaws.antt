@@ -35,9 +35,9 @@ told_in_order (line ∷ more) u = line_in_order more (call_in line) u (told_in_o
 abbrev Later : List (List ℕ) → List (List ℕ) → Type 0
 Later more lines = (u : Database) → replies [] (lines ++ more) u ≡ replies [] lines u ++ replies [] more (in_order u (calls_of lines)).database
 
--- the text of a line goes before what is said of the lines behind it
+-- the text of a line goes before what is said of the lines after it
 before_later : (text rest front later : List ℕ) → rest ≡ front ++ later → text ++ 10 ∷ rest ≡ (text ++ 10 ∷ front) ++ later
-before_later text rest front later e = ap (λ behind. text ++ 10 ∷ behind) e ∙ sym (append_assoc text (10 ∷ front) later)
+before_later text rest front later e = ap (λ rest. text ++ 10 ∷ rest) e ∙ sym (append_assoc text (10 ∷ front) later)
 
 call_later : (more lines : List (List ℕ)) (call : Call) (fits : Result (Unit {0}) BadArgument) (u : Database) → Later more lines
     → (call_answer false call fits u).text ++ 10 ∷ replies [] (lines ++ more) (call_answer false call fits u).database

@@ -20,7 +20,7 @@ rows_from n (line ∷ more) = row_first n (row_in line) (rows_from (n + 1) more)
 abbrev pub rows_of_lines : List (List ℕ) → Result Rows ℕ
 rows_of_lines lines = on_rows in_tables (rows_from 1 lines)
 
--- ---- an input of rows, a line `.` and lines behind it
+-- ---- an input of rows, a line `.` and lines after it
 abbrev pub is_dot : List ℕ → Bool
 is_dot line = bytes_eq line (codes ".")
 
@@ -29,17 +29,17 @@ abbrev pub before_dot : List (List ℕ) → List (List ℕ)
 before_dot [] = []
 before_dot (line ∷ more) = if is_dot line then [] else line ∷ before_dot more
 
--- the lines behind it, where there is one
-abbrev pub behind_dot : List (List ℕ) → Option (List (List ℕ))
-behind_dot [] = None
-behind_dot (line ∷ more) = if is_dot line then Some more else behind_dot more
+-- the lines after it, where there is one
+abbrev pub after_dot : List (List ℕ) → Option (List (List ℕ))
+after_dot [] = None
+after_dot (line ∷ more) = if is_dot line then Some more else after_dot more
 
 -- rows, and the lines of the calls on them
 pub record Work : Type 0 where
   pub rows : Rows
   pub calls : List (List ℕ)
 
--- by the rows before the line `.`, and the lines behind it; where that line is missing, its number would be n
+-- by the rows before the line `.`, and the lines after it; where that line is missing, its number would be n
 abbrev pub work_by : ℕ → Result Rows ℕ → Option (List (List ℕ)) → Result Work ℕ
 work_by n (Err bad) calls = Err bad
 work_by n (Ok rows) None = Err n
@@ -49,4 +49,4 @@ work_by n (Ok rows) (Some calls) = Ok (record { rows = rows; calls = calls })
 abbrev pub brought : List ℕ → Result Work ℕ
 brought input =
     let lines = lines_of input in
-    work_by (length lines + 1) (rows_of_lines (before_dot lines)) (behind_dot lines)
+    work_by (length lines + 1) (rows_of_lines (before_dot lines)) (after_dot lines)

@@ -17,7 +17,7 @@ use Rattle.tatp_procs.specs.declared.ask.Ask.TheVariants.{Txn}
 use Rattle.tatp_procs.specs.declared.reply.Reply.TheVariants.{Refused}
 use Rattle.tatp_procs.specs.declared.domains.BadArgument.{BadArgument}
 use Rattle.tatp_procs.specs.Arguments.{arguments_accepted}
-use Rattle.tatp_procs.specs.CallText.{call_of}
+use Rattle.tatp_procs.specs.CallText.{call_of_line}
 use Rattle.tatp_procs.specs.ReplyText.{reply_text}
 use Rattle.tatp_procs.specs.Transactions.{transaction}
 use Rattle.tatp_commands.specs.declared.population.Population.{Population}
@@ -27,7 +27,7 @@ use Rattle.tatp_commands.specs.RowLines.{Work, brought}
 -- ---- one line
 -- the call that a line is, which has to be text
 unfoldable pub call_in : List ℕ → Option Call
-call_in line = if is_utf8 line then call_of line else None
+call_in line = if is_utf8 line then call_of_line line else None
 
 -- of a line that is no call
 abbrev pub no_call_text : List ℕ

@@ -13,7 +13,7 @@ use thiserror::Error;
 /// Why a command stops. Its text is its number, its name and its details.
 #[derive(Clone, Copy, Debug, PartialEq, Eq, Error)]
 pub enum Fault {
-    /// The line with this number, counted from 1, is no row; or it is the first behind the last and
+    /// The line with this number, counted from 1, is no row; or it is the first after the last and
     /// the line `.` is missing.
     #[error("5 BadLine {0}")]
     BadLine(u64),

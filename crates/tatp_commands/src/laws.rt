@@ -9,7 +9,7 @@ ghost use Rattle.tatp_commands.specs.Served.{replies, work_of, Served};
 
 /// Where no line is refused its memory, the calls with arguments in their domains are answered in the
 /// order of their lines, each on the database that the calls before it leave; all other lines are
-/// refused and change nothing. So it is of lines, of lines behind others, and of all that is written
+/// refused and change nothing. So it is of lines, of lines after others, and of all that is written
 /// for an input.
 pub fn served_calls_are_in_order()
     ensures told { (lines : List (List ℕ)) (u : Database) → replies [] lines u ≡ told lines (in_order u (calls_of lines)).replies }

@@ -2,7 +2,7 @@
 ghost use Rattle.std.specs.Prelude.{◌≡◌, ◌+◌, ◌≤◌, Ok, IfOk, IfErr, length};
 ghost use Rattle.std.specs.Option.{option_map};
 ghost use Rattle.tatp_lines.specs.Lines.{lines_of};
-ghost use Rattle.tatp_commands.specs.RowLines.{row_in, is_dot, rows_of_lines, before_dot, behind_dot, Work, brought};
+ghost use Rattle.tatp_commands.specs.RowLines.{row_in, is_dot, rows_of_lines, before_dot, after_dot, Work, brought};
 ghost use Rattle.tatp_commands.specs.Refusing.{RefusesReading};
 
 use crate::fault::Fault;
@@ -15,7 +15,7 @@ use tatp_tables::{Row, Rows, read_row};
 #[derive(Drop)]
 struct Front<'a> {
     rows: Rows,
-    /// The number of the line behind the rows, counted from 1.
+    /// The number of the line after the rows, counted from 1.
     number: u64,
     /// What follows the line `.`, where there is one.
     calls: Option<&'a [u8]>,
@@ -43,7 +43,7 @@ fn read_front(alloc: Global, input: &[u8]) -> Result<Front<'_>, Fault>
     requires { length input.now ≤ MOST_BYTES }
     ensures rows { IfOk result (λ front. rows_of_lines (before_dot (lines_of input.now)) ≡ Ok front.rows) }
     ensures number { IfOk result (λ front. front.number ≡ length (before_dot (lines_of input.now)) + 1) }
-    ensures calls { IfOk result (λ front. behind_dot (lines_of input.now) ≡ option_map (λ calls. lines_of calls.now) front.calls) }
+    ensures calls { IfOk result (λ front. after_dot (lines_of input.now) ≡ option_map (λ calls. lines_of calls.now) front.calls) }
     ensures faults { IfErr result (RefusesReading (rows_of_lines (before_dot (lines_of input.now)))) }
 {
     let mut rows = Rows::new(alloc);

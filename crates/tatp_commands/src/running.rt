@@ -9,7 +9,7 @@ ghost use Rattle.tatp_procs.specs.Replies.{reply_to};
 use tatp_loader::Loaded;
 use tatp_machine::{Machine, Progress};
 use tatp_procs::Reply;
-use tatp_tables::Home;
+use tatp_tables::{Home, what_holds_of_every_home};
 
 /// Runs a call of a procedure on its home. Over every database in which the home has these rows, the
 /// reply and the rows after it are those of the call run alone.
@@ -21,13 +21,10 @@ pub(crate) fn run(loaded: &Loaded, procedure: usize, arguments: &[u64], home: &m
     ensures same { home.new.s_id ≡ home.old.s_id }
     ensures home { IsHome home.new }
 {
+    what_holds_of_every_home(home);
     let mut machine = Machine::enter(loaded, procedure, arguments, Some(home.s_id()));
     'steps: loop {
-        let progress = machine.step(home);
-
-        // What holds of every home holds of it after each step.
-        let _own = home.s_id();
-        match progress {
+        match machine.step(home) {
             Progress::Running => {}
             Progress::Ended(end) => return Reply::of(end, machine.outputs()),
         }

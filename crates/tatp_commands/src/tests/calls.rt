@@ -4,7 +4,7 @@ use crate::serving::serve;
 use crate::tests::streams::{Narrow, Slow};
 use std::test::Fail;
 
-/// The rows of one subscriber, and the line behind them.
+/// The rows of one subscriber, and the line after them.
 const ROWS: &str = "\
 S 1 000000000000001 0 0 0 0 0 0 0 0 0 0 0 0 0 0 0 0 0 0 0 0 0 0 0 0 0 0 0 0 0 0 1 1
 A 1 1 0 0 AAA AAAAA

@@ -1,5 +1,5 @@
 use Rattle.std.proofs.Common.{◌≡◌, ◌-◌, None, false, length}
-use Rattle.tatp_machine.specs.Machines.{call_without_home}
+use Rattle.tatp_machine.specs.Machines.{homeless_call_state}
 use Rattle.tatp_commands.proofs.RunningLaws.{ContinuesHomeless}
 use Rattle.tatp_commands.proofs.running.run_homeless.Given as goal
 
@@ -7,7 +7,7 @@ abbrev pub invariant-steps : goal.invariant-steps
 invariant-steps l = record {
   running : l.machine.ended ≡ false;
   home : l.machine.frame.home ≡ None;
-  continues : ContinuesHomeless l.loaded l.procedure l.arguments (call_without_home l.machine);
+  continues : ContinuesHomeless l.loaded l.procedure l.arguments (homeless_call_state l.machine);
 }
 
 abbrev pub decreases-steps : goal.decreases-steps

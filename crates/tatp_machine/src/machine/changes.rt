@@ -51,7 +51,11 @@ impl<'m> Machine<'m> {
             return self.trap(home, Trap::NoCurrent);
         };
         match home.put(column as u8, key, self.value(a)) {
-            Ok(before) => self.note(Change::Put(column, key, before)),
+            Ok(before) => self.note(Change::Put {
+                column,
+                key,
+                before,
+            }),
             Err(Refusal::Domain) => self.trap(home, Trap::Domain),
             Err(_) => self.trap(home, Trap::NoCurrent),
         }
@@ -67,7 +71,9 @@ impl<'m> Machine<'m> {
         match home.insert_cf(row) {
             Ok(()) => {
                 self.write(d, 1);
-                self.note(Change::Inserted([row[0], row[1], row[2]]))
+                self.note(Change::Inserted {
+                    key: [row[0], row[1], row[2]],
+                })
             }
             Err(Refusal::Domain) => self.trap(home, Trap::Domain),
             Err(Refusal::NoParent) => self.set(d, 3),
@@ -87,7 +93,7 @@ impl<'m> Machine<'m> {
         match home.delete_cf(key) {
             Ok(row) => {
                 self.make_current(Table::CallForwarding, None);
-                self.note(Change::Deleted(row))
+                self.note(Change::Deleted { row })
             }
             Err(_) => self.trap(home, Trap::NoCurrent),
         }

@@ -75,8 +75,8 @@ call_of_fields (name ∷ fields) =
     None
 
 -- the call that a line is
-unfoldable pub call_of : List ℕ → Option Call
-call_of line = call_of_fields (fields_of line)
+unfoldable pub call_of_line : List ℕ → Option Call
+call_of_line line = call_of_fields (fields_of line)
 
 -- ---- the line of a call
 -- the name of its procedure

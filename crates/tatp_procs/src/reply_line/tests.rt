@@ -25,12 +25,9 @@ const UPDATE_LOCATION: Ask = Ask::Txn(Call::UpdateLocation {
     vlr_location: 7,
 });
 
-const RAW: Ask = Ask::Raw(Raw {
-    procedure: 2,
-    count: 2,
-    args: [1; 8],
-    key: Key::Id(1),
-});
+fn raw() -> Ask {
+    Ask::Raw(Raw::new(2, &[1, 1], Key::Id(1)))
+}
 
 fn values(values: &[u64]) -> Reply
     requires { length values.now ≤ 40 }
@@ -63,7 +60,7 @@ fn prints_values_in_the_forms_of_their_columns(rt: HostRuntime) -> Result<(), Fa
         ),
         (UPDATE_LOCATION, values(&[]), "OK"),
         (
-            RAW,
+            raw(),
             values(&[0, 0, 4276545, 280267669825]),
             "OK 0 0 4276545 280267669825",
         ),
@@ -107,7 +104,7 @@ fn prints_the_other_replies(rt: HostRuntime) -> Result<(), Fail> {
         (Reply::Trapped(Trap::NoCurrent), "TRAPPED NoCurrent"),
         (Reply::Refused, "REFUSED 46 NoMemory"),
     ] {
-        for ask in [GET_ACCESS_DATA, RAW] {
+        for ask in [GET_ACCESS_DATA, raw()] {
             assert_eq!(rt; reply_text(rt.alloc(), &ask, &reply)?.as_str(), line);
         }
     }
@@ -115,7 +112,7 @@ fn prints_the_other_replies(rt: HostRuntime) -> Result<(), Fail> {
 }
 
 #[test]
-fn lines_stand_one_behind_another(rt: HostRuntime) -> Result<(), Fail> {
+fn lines_stand_one_after_another(rt: HostRuntime) -> Result<(), Fail> {
     let mut text = String::new(rt.alloc());
     push_reply(&mut text, &UPDATE_LOCATION, &values(&[]))?;
     text.push_str("\n")?;

@@ -1,4 +1,4 @@
--- Values kept in a fixed place, with 0 behind the last.
+-- Values kept in a fixed place, with 0 after the last.
 use Rattle.std.specs.Prelude.{◌≡◌, ℕ, ◌-◌, ◌≤◌, List, ◌++◌, take, length, replicate}
 use Rattle.std.proofs.Common.{sym, subst}
 use Rattle.std.proofs.lemmas.List.{length-take-le}
@@ -13,8 +13,8 @@ pub record ArePadded (room count : ℕ) (all : List ℕ) : Type 0 where
   pub zeros : all ≡ padded room (take count all)
 
 -- so the values give back what they are kept in
-pub padded_count : (count : ℕ) (all : List ℕ) → ArePadded 40 count all → length (take count all) ≡ count
-padded_count count all h = length-take-le count all (subst (λ n. count ≤ n) (sym h.room_is) h.most)
+pub padded_count : (room count : ℕ) (all : List ℕ) → ArePadded room count all → length (take count all) ≡ count
+padded_count room count all h = length-take-le count all (subst (λ n. count ≤ n) (sym h.room_is) h.most)
 
-pub padded_values : (count : ℕ) (all : List ℕ) → ArePadded 40 count all → padded 40 (take count all) ≡ all
-padded_values count all h = sym h.zeros
+pub padded_values : (room count : ℕ) (all : List ℕ) → ArePadded room count all → padded room (take count all) ≡ all
+padded_values room count all h = sym h.zeros

@@ -1,5 +1,5 @@
--- Rows pass all tests exactly where they are clean.
-use Rattle.std.specs.Prelude.{◌≡◌, ◌≢◌, ℕ, ◌≤◌, ◌+◌, ◌*◌, ◌==◌, max, nat_le, Bool, true, false, cond, not, ◌&&◌, ◌||◌, List, [], ◌∷◌, map, take, length, count_by, All, slice_index, slice_index_or}
+-- The tests of each audit pass exactly where its statement holds, and all exactly where rows are clean.
+use Rattle.std.specs.Prelude.{◌≡◌, ◌≢◌, ◌↔◌, ℕ, ◌≤◌, ◌+◌, ◌*◌, ◌==◌, max, nat_le, Bool, true, false, cond, not, ◌&&◌, ◌||◌, List, [], ◌∷◌, ◌++◌, map, take, length, count_by, All, slice_index, slice_index_or}
 use Rattle.std.specs.Cmp.Lexicographic.{texts_ties}
 use Rattle.std.proofs.Common.{refl, sym, ap, ◌∙◌, subst, arith, inl, inr}
 use Rattle.std.proofs.lemmas.Bool.{cases_lt, and_parts}
@@ -12,13 +12,13 @@ use Rattle.tatp_tables.specs.Tuples.{Tuple, same}
 use Rattle.tatp_tables.specs.Keys.{has_number}
 use Rattle.tatp_tables.specs.Columns.{column_count}
 use Rattle.tatp_tables.specs.Domains.{is_between, is_row}
-use Rattle.tatp_tables.specs.Clean.{count_of_key, IdsRunFromOne, NumbersStandOnce, KeysStandOnce, IsCountWithin, IsClean}
+use Rattle.tatp_tables.specs.Clean.{count_of_key, IdsRunFromOne, NumbersStandOnce, KeysStandOnce, ParentsStand, ValuesFit, CountsFit, IsCountWithin, IsClean}
 use Rattle.tatp_tables.specs.declared.row.Rows.{Rows}
 use Rattle.tatp_tables.specs.declared.table.Table.{Table}
 use Rattle.tatp_tables.specs.declared.table.Table.TheVariants.{Subscriber, AccessInfo, SpecialFacility, CallForwarding}
 use Rattle.tatp_tables.proofs.TupleLaws.{same_is}
 use Rattle.tatp_audits.specs.Failing.{times, is_twice, is_wrong, NoneFails}
-use Rattle.tatp_audits.specs.Audits.{is_astray, numbers, is_orphan, place_outside, is_miscounted, is_short_or_long, tests, AllPass}
+use Rattle.tatp_audits.specs.Audits.{Test, id_tests, number_tests, key_tests, parent_tests, value_tests, count_tests, is_astray, numbers, is_orphan, place_outside, is_miscounted, is_short_or_long, tests, AllPass, HaveTheirColumns}
 use Rattle.tatp_audits.proofs.Order.{same_itself}
 use Rattle.tatp_audits.proofs.KeyCounts.{times_fronts}
 
@@ -106,15 +106,11 @@ keys_from r a f c = record {
   forwardings = λ s kind start. key_from 3 r.forwardings (s ∷ kind ∷ start ∷ []) refl c;
 }
 
--- rows of a table are as long as it has columns
-row_length : (t : Table) (row : Tuple) → is_row t row ≡ true → length row ≡ column_count t
-row_length t row h = let e : (length row == column_count t) ≡ true = (and_parts (length row == column_count t) _ h).0 in grind (arith, nat_tests)
-
 front_length : (n : ℕ) (row : Tuple) → n ≤ length row → length (take n row) ≡ n
 front_length n row h = length-take-le n row h
 
-fronts : (t : Table) (n : ℕ) (rows : List Tuple) → n ≤ column_count t → All (λ row. is_row t row ≡ true) rows → All (λ row. length (take n row) ≡ n) rows
-fronts t n rows le fit = λ j d h. let e : length (slice_index_or rows j d) ≡ column_count t = row_length t (slice_index_or rows j d) (fit j d h) in front_length n (slice_index_or rows j d) (omega arith)
+fronts : (t : Table) (n : ℕ) (rows : List Tuple) → n ≤ column_count t → All (λ row. length row ≡ column_count t) rows → All (λ row. length (take n row) ≡ n) rows
+fronts t n rows le long = λ j d h. let e : length (slice_index_or rows j d) ≡ column_count t = long j d h in front_length n (slice_index_or rows j d) (omega arith)
 
 of_length : (n : ℕ) (rows : List Tuple) (k : Tuple) → All (λ row. length (take n row) ≡ n) rows → (length k ≡ n → count_of_key k rows ≤ 1) → is_twice (map (take n) rows) k ≡ false
 of_length n rows k long once = elim (cases_lt (length k) n) [
@@ -138,11 +134,11 @@ triples rows (s ∷ kind ∷ []) h e = absurd (omega arith)
 triples rows (s ∷ kind ∷ start ∷ []) h e = h s kind start
 triples rows (s ∷ kind ∷ start ∷ t ∷ more) h e = absurd (omega arith)
 
-none_pair_twice : (t : Table) (rows : List Tuple) → 2 ≤ column_count t → All (λ row. is_row t row ≡ true) rows → ((s kind : ℕ) → count_of_key (s ∷ kind ∷ []) rows ≤ 1) → NoneFails (is_twice (map (take 2) rows))
-none_pair_twice t rows le fit once = λ k. of_length 2 rows k (fronts t 2 rows le fit) (pairs rows k once)
+none_pair_twice : (t : Table) (rows : List Tuple) → 2 ≤ column_count t → All (λ row. length row ≡ column_count t) rows → ((s kind : ℕ) → count_of_key (s ∷ kind ∷ []) rows ≤ 1) → NoneFails (is_twice (map (take 2) rows))
+none_pair_twice t rows le long once = λ k. of_length 2 rows k (fronts t 2 rows le long) (pairs rows k once)
 
-none_triple_twice : (t : Table) (rows : List Tuple) → 3 ≤ column_count t → All (λ row. is_row t row ≡ true) rows → ((s kind start : ℕ) → count_of_key (s ∷ kind ∷ start ∷ []) rows ≤ 1) → NoneFails (is_twice (map (take 3) rows))
-none_triple_twice t rows le fit once = λ k. of_length 3 rows k (fronts t 3 rows le fit) (triples rows k once)
+none_triple_twice : (t : Table) (rows : List Tuple) → 3 ≤ column_count t → All (λ row. length row ≡ column_count t) rows → ((s kind start : ℕ) → count_of_key (s ∷ kind ∷ start ∷ []) rows ≤ 1) → NoneFails (is_twice (map (take 3) rows))
+none_triple_twice t rows le long once = λ k. of_length 3 rows k (fronts t 3 rows le long) (triples rows k once)
 
 -- ---- parents and counts
 some_stand : (n : ℕ) → nat_le 1 n ≡ true → 1 ≤ n
@@ -175,73 +171,123 @@ neither false false true e = cc
 neither false true c e = cc
 neither true b c e = cc
 
--- ---- all six
-pub clean_from : (r : Rows) → AllPass (tests r) → IsClean r
-clean_from r h = record {
-  ids = ids_from r h.0;
-  numbers = numbers_from r h.1.0;
-  keys = keys_from r h.1.1.0 h.1.1.1.0 h.1.1.1.1.0;
-  parents = record {
-    accesses = parents_from 1 2 r.subscribers r.accesses h.1.1.1.1.1.0;
-    facilities = parents_from 1 2 r.subscribers r.facilities h.1.1.1.1.1.1.0;
-    forwardings = parents_from 2 3 r.facilities r.forwardings h.1.1.1.1.1.1.1.0;
-  };
-  values = record {
-    subscribers = each_right (is_row Subscriber) (place_outside Subscriber) r.subscribers h.1.1.1.1.1.1.1.1.0;
-    accesses = each_right (is_row AccessInfo) (place_outside AccessInfo) r.accesses h.1.1.1.1.1.1.1.1.1.0;
-    facilities = each_right (is_row SpecialFacility) (place_outside SpecialFacility) r.facilities h.1.1.1.1.1.1.1.1.1.1.0;
-    forwardings = each_right (is_row CallForwarding) (place_outside CallForwarding) r.forwardings h.1.1.1.1.1.1.1.1.1.1.1.0;
-  };
-  counts = record {
-    accesses = counts_from 1 1 4 r.accesses r.subscribers (λ k. (neither (is_miscounted 1 1 4 r.accesses r.subscribers k) (is_miscounted 1 1 4 r.facilities r.subscribers k) (is_miscounted 2 0 3 r.forwardings r.facilities k) (h.1.1.1.1.1.1.1.1.1.1.1.1.0 k)).0);
-    facilities = counts_from 1 1 4 r.facilities r.subscribers (λ k. (neither (is_miscounted 1 1 4 r.accesses r.subscribers k) (is_miscounted 1 1 4 r.facilities r.subscribers k) (is_miscounted 2 0 3 r.forwardings r.facilities k) (h.1.1.1.1.1.1.1.1.1.1.1.1.0 k)).1);
-    forwardings = counts_from 2 0 3 r.forwardings r.facilities (λ k. (neither (is_miscounted 1 1 4 r.accesses r.subscribers k) (is_miscounted 1 1 4 r.facilities r.subscribers k) (is_miscounted 2 0 3 r.forwardings r.facilities k) (h.1.1.1.1.1.1.1.1.1.1.1.1.0 k)).2);
-  };
-}
+-- ---- each audit
+pub ids_are : (r : Rows) → AllPass (id_tests r) ↔ IdsRunFromOne r
+ids_are r = (λ h. ids_from r h.0, λ ids. (none_astray r ids, tt))
 
-pub pass_from : (r : Rows) → IsClean r → AllPass (tests r)
-pass_from r clean = (
-  none_astray r clean.ids,
-  (
-    none_number_twice r clean.numbers,
+pub numbers_are : (r : Rows) → AllPass (number_tests r) ↔ NumbersStandOnce r
+numbers_are r = (λ h. numbers_from r h.0, λ once. (none_number_twice r once, tt))
+
+pub keys_are : (r : Rows) → HaveTheirColumns r → AllPass (key_tests r) ↔ KeysStandOnce r
+keys_are r long = (
+  λ h. keys_from r h.0 h.1.0 h.1.1.0,
+  λ keys. (
+    none_pair_twice AccessInfo r.accesses (omega arith) long.accesses keys.accesses,
     (
-      none_pair_twice AccessInfo r.accesses (omega arith) clean.values.accesses clean.keys.accesses,
+      none_pair_twice SpecialFacility r.facilities (omega arith) long.facilities keys.facilities,
+      (none_triple_twice CallForwarding r.forwardings (omega arith) long.forwardings keys.forwardings, tt),
+    ),
+  ),
+)
+
+pub parents_are : (r : Rows) → AllPass (parent_tests r) ↔ ParentsStand r
+parents_are r = (
+  λ h. record {
+    accesses = parents_from 1 2 r.subscribers r.accesses h.0;
+    facilities = parents_from 1 2 r.subscribers r.facilities h.1.0;
+    forwardings = parents_from 2 3 r.facilities r.forwardings h.1.1.0;
+  },
+  λ stand. (
+    none_orphan 1 2 r.subscribers r.accesses stand.accesses,
+    (none_orphan 1 2 r.subscribers r.facilities stand.facilities, (none_orphan 2 3 r.facilities r.forwardings stand.forwardings, tt)),
+  ),
+)
+
+pub values_are : (r : Rows) → AllPass (value_tests r) ↔ ValuesFit r
+values_are r = (
+  λ h. record {
+    subscribers = each_right (is_row Subscriber) (place_outside Subscriber) r.subscribers h.0;
+    accesses = each_right (is_row AccessInfo) (place_outside AccessInfo) r.accesses h.1.0;
+    facilities = each_right (is_row SpecialFacility) (place_outside SpecialFacility) r.facilities h.1.1.0;
+    forwardings = each_right (is_row CallForwarding) (place_outside CallForwarding) r.forwardings h.1.1.1.0;
+  },
+  λ fit. (
+    none_wrong (is_row Subscriber) (place_outside Subscriber) r.subscribers fit.subscribers,
+    (
+      none_wrong (is_row AccessInfo) (place_outside AccessInfo) r.accesses fit.accesses,
       (
-        none_pair_twice SpecialFacility r.facilities (omega arith) clean.values.facilities clean.keys.facilities,
-        (
-          none_triple_twice CallForwarding r.forwardings (omega arith) clean.values.forwardings clean.keys.forwardings,
-          (
-            none_orphan 1 2 r.subscribers r.accesses clean.parents.accesses,
-            (
-              none_orphan 1 2 r.subscribers r.facilities clean.parents.facilities,
-              (
-                none_orphan 2 3 r.facilities r.forwardings clean.parents.forwardings,
-                (
-                  none_wrong (is_row Subscriber) (place_outside Subscriber) r.subscribers clean.values.subscribers,
-                  (
-                    none_wrong (is_row AccessInfo) (place_outside AccessInfo) r.accesses clean.values.accesses,
-                    (
-                      none_wrong (is_row SpecialFacility) (place_outside SpecialFacility) r.facilities clean.values.facilities,
-                      (
-                        none_wrong (is_row CallForwarding) (place_outside CallForwarding) r.forwardings clean.values.forwardings,
-                        (
-                          none_counted,
-                          tt,
-                        ),
-                      ),
-                    ),
-                  ),
-                ),
-              ),
-            ),
-          ),
-        ),
+        none_wrong (is_row SpecialFacility) (place_outside SpecialFacility) r.facilities fit.facilities,
+        (none_wrong (is_row CallForwarding) (place_outside CallForwarding) r.forwardings fit.forwardings, tt),
       ),
     ),
   ),
 )
-  where
-    none_counted : NoneFails (is_short_or_long r)
-    none_counted k = λ i. none_miscounted 1 1 4 r.accesses r.subscribers clean.counts.accesses k i
-        || none_miscounted 1 1 4 r.facilities r.subscribers clean.counts.facilities k i
-        || none_miscounted 2 0 3 r.forwardings r.facilities clean.counts.forwardings k i
+
+-- no key is miscounted in one of the three ways where none is short or long
+parts_counted : (r : Rows) → NoneFails (is_short_or_long r)
+    → NoneFails (is_miscounted 1 1 4 r.accesses r.subscribers) × NoneFails (is_miscounted 1 1 4 r.facilities r.subscribers) × NoneFails (is_miscounted 2 0 3 r.forwardings r.facilities)
+parts_counted r h =
+    let parts = λ (k : Tuple). neither (is_miscounted 1 1 4 r.accesses r.subscribers k) (is_miscounted 1 1 4 r.facilities r.subscribers k) (is_miscounted 2 0 3 r.forwardings r.facilities k) (h k) in
+    (λ k. (parts k).0, λ k. (parts k).1, λ k. (parts k).2)
+
+none_counted : (r : Rows) → CountsFit r → NoneFails (is_short_or_long r)
+none_counted r fit k = λ i. none_miscounted 1 1 4 r.accesses r.subscribers fit.accesses k i
+    || none_miscounted 1 1 4 r.facilities r.subscribers fit.facilities k i
+    || none_miscounted 2 0 3 r.forwardings r.facilities fit.forwardings k i
+
+pub counts_are : (r : Rows) → AllPass (count_tests r) ↔ CountsFit r
+counts_are r = (
+  λ h. let none = parts_counted r h.0 in record {
+    accesses = counts_from 1 1 4 r.accesses r.subscribers none.0;
+    facilities = counts_from 1 1 4 r.facilities r.subscribers none.1;
+    forwardings = counts_from 2 0 3 r.forwardings r.facilities none.2;
+  },
+  λ fit. (none_counted r fit, tt),
+)
+
+-- ---- all six
+both_pass : (first second : List Test) → AllPass first → AllPass second → AllPass (first ++ second)
+both_pass [] second a b = b
+both_pass (t ∷ first) second a b = (a.0, both_pass first second a.1 b)
+
+each_passes : (first second : List Test) → AllPass (first ++ second) → AllPass first × AllPass second
+each_passes [] second h = (tt, h)
+each_passes (t ∷ first) second h = let more = each_passes first second h.1 in ((h.0, more.0), more.1)
+
+-- rows whose values fit have their table's columns
+columns_of_rows : (t : Table) (rows : List Tuple) → All (λ row. is_row t row ≡ true) rows → All (λ row. length row ≡ column_count t) rows
+columns_of_rows t rows fit = λ j d h.
+    let e : (length (slice_index_or rows j d) == column_count t) ≡ true = (and_parts (length (slice_index_or rows j d) == column_count t) _ (fit j d h)).0 in
+    grind (arith, nat_tests)
+
+have_their_columns : (r : Rows) → ValuesFit r → HaveTheirColumns r
+have_their_columns r fit = record {
+  accesses = columns_of_rows AccessInfo r.accesses fit.accesses;
+  facilities = columns_of_rows SpecialFacility r.facilities fit.facilities;
+  forwardings = columns_of_rows CallForwarding r.forwardings fit.forwardings;
+}
+
+pub clean_from : (r : Rows) → AllPass (tests r) → IsClean r
+clean_from r h =
+    let ids = each_passes (id_tests r) (number_tests r ++ (key_tests r ++ (parent_tests r ++ (value_tests r ++ count_tests r)))) h in
+    let numbers = each_passes (number_tests r) (key_tests r ++ (parent_tests r ++ (value_tests r ++ count_tests r))) ids.1 in
+    let keys = each_passes (key_tests r) (parent_tests r ++ (value_tests r ++ count_tests r)) numbers.1 in
+    let parents = each_passes (parent_tests r) (value_tests r ++ count_tests r) keys.1 in
+    let values = each_passes (value_tests r) (count_tests r) parents.1 in
+    let fit = (values_are r).0 values.0 in
+    record {
+      ids = (ids_are r).0 ids.0;
+      numbers = (numbers_are r).0 numbers.0;
+      keys = (keys_are r (have_their_columns r fit)).0 keys.0;
+      parents = (parents_are r).0 parents.0;
+      values = fit;
+      counts = (counts_are r).0 values.1;
+    }
+
+pub pass_from : (r : Rows) → IsClean r → AllPass (tests r)
+pass_from r clean =
+    both_pass (id_tests r) (number_tests r ++ (key_tests r ++ (parent_tests r ++ (value_tests r ++ count_tests r)))) ((ids_are r).1 clean.ids)
+    (both_pass (number_tests r) (key_tests r ++ (parent_tests r ++ (value_tests r ++ count_tests r))) ((numbers_are r).1 clean.numbers)
+    (both_pass (key_tests r) (parent_tests r ++ (value_tests r ++ count_tests r)) ((keys_are r (have_their_columns r clean.values)).1 clean.keys)
+    (both_pass (parent_tests r) (value_tests r ++ count_tests r) ((parents_are r).1 clean.parents)
+    (both_pass (value_tests r) (count_tests r) ((values_are r).1 clean.values) ((counts_are r).1 clean.counts)))))

@@ -1,14 +1,14 @@
 -- The six audits in their order, each a list of tests on keys, table by table, and the verdict.
-use Rattle.std.specs.Prelude.{◌≡◌, ℕ, suc, ◌==◌, ◌⊎◌, ◌||◌, ◌&&◌, not, nat_le, max, Bool, true, false, List, [], ◌∷◌, ◌++◌, map, take, length, slice_index, Option, MatchOption, if◌then◌else◌}
+use Rattle.std.specs.Prelude.{◌≡◌, ℕ, suc, ◌==◌, ◌⊎◌, ◌||◌, ◌&&◌, not, nat_le, max, Bool, true, false, List, [], ◌∷◌, ◌++◌, map, take, length, All, slice_index, Option, MatchOption, if◌then◌else◌}
 use Rattle.tatp_tables.specs.Tuples.{Tuple}
-use Rattle.tatp_tables.specs.Columns.{key_length, first_column}
+use Rattle.tatp_tables.specs.Columns.{key_length, column_count, first_column}
 use Rattle.tatp_tables.specs.Domains.{is_between, is_in_domain, is_row}
 use Rattle.tatp_tables.specs.Clean.{count_of_key}
 use Rattle.tatp_tables.specs.declared.row.Rows.{Rows}
 use Rattle.tatp_tables.specs.declared.table.Table.{Table}
 use Rattle.tatp_tables.specs.declared.table.Table.TheVariants.{Subscriber, AccessInfo, SpecialFacility, CallForwarding}
 use Rattle.tatp_audits.specs.Failing.{is_twice, is_wrong, NoneFails, IsLeast}
-use Rattle.tatp_audits.specs.declared.verdict.Key.TheVariants.{S, A, F, C}
+use Rattle.tatp_audits.specs.declared.verdict.FailedKey.TheVariants.{S, A, F, C}
 use Rattle.tatp_audits.specs.declared.verdict.Verdict.{Verdict}
 use Rattle.tatp_audits.specs.declared.verdict.Verdict.TheVariants.{Clean, Ids, NumberTwice, KeyTwice, NoParent, OutsideDomain, Counts}
 
@@ -103,6 +103,12 @@ tests r = id_tests r ++ (number_tests r ++ (key_tests r ++ (parent_tests r ++ (v
 abbrev pub AllPass : List Test → Type 0
 AllPass [] = Unit {0}
 AllPass (t ∷ more) = NoneFails t.fails × AllPass more
+
+-- each row that has a key has all its table's columns
+pub record HaveTheirColumns (r : Rows) : Type 0 where
+  pub accesses : All (λ row. length row ≡ column_count AccessInfo) r.accesses
+  pub facilities : All (λ row. length row ≡ column_count SpecialFacility) r.facilities
+  pub forwardings : All (λ row. length row ≡ column_count CallForwarding) r.forwardings
 
 -- the verdict is that of the first test that some key fails, on the least such key
 abbrev pub FirstFails : List Test → Verdict → Type 0

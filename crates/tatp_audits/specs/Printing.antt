@@ -1,7 +1,7 @@
 -- The text of a verdict: docs/FORMATS.md, "Verdicts".
 use Rattle.std.specs.Prelude.{ℕ, ◌-◌, List, ◌++◌, length, replicate, slice_index, codes, decimal}
-use Rattle.tatp_audits.specs.declared.verdict.Key.{Key}
-use Rattle.tatp_audits.specs.declared.verdict.Key.TheVariants.{S, A, F, C}
+use Rattle.tatp_audits.specs.declared.verdict.FailedKey.{FailedKey}
+use Rattle.tatp_audits.specs.declared.verdict.FailedKey.TheVariants.{S, A, F, C}
 use Rattle.tatp_audits.specs.declared.verdict.Verdict.{Verdict}
 use Rattle.tatp_audits.specs.declared.verdict.Verdict.TheVariants.{Clean, Ids, NumberTwice, KeyTwice, NoParent, OutsideDomain, Counts}
 
@@ -14,7 +14,7 @@ abbrev pub fifteen_digits : ℕ → List ℕ
 fifteen_digits n = replicate (15 - length (decimal n)) 48 ++ decimal n
 
 -- the table's letter and the parts of the key
-abbrev pub key_text : Key → List ℕ
+abbrev pub key_text : FailedKey → List ℕ
 key_text (S k) = codes "S" ++ field (slice_index k 0)
 key_text (A k) = codes "A" ++ field (slice_index k 0) ++ field (slice_index k 1)
 key_text (F k) = codes "F" ++ field (slice_index k 0) ++ field (slice_index k 1)

@@ -11,7 +11,7 @@ use crate::least::lower;
 use crate::parents::least_orphan;
 use crate::twice::{access_twice, facility_twice, forwarding_twice, number_twice};
 use crate::values::least_outside;
-use crate::verdict::{Key, Verdict};
+use crate::verdict::{FailedKey, Verdict};
 use std::alloc::{AllocError, Global};
 use tatp_tables::{Rows, Table};
 
@@ -40,13 +40,13 @@ fn audit_keys(alloc: Global, rows: &Rows) -> Result<Option<Verdict>, AllocError>
     ensures { IfOk result (Told (key_tests rows.now)) }
 {
     if let Some(key) = access_twice(alloc, rows)? {
-        return Ok(Some(Verdict::KeyTwice(Key::A(key))));
+        return Ok(Some(Verdict::KeyTwice(FailedKey::A(key))));
     }
     if let Some(key) = facility_twice(alloc, rows)? {
-        return Ok(Some(Verdict::KeyTwice(Key::F(key))));
+        return Ok(Some(Verdict::KeyTwice(FailedKey::F(key))));
     }
     if let Some(key) = forwarding_twice(alloc, rows)? {
-        return Ok(Some(Verdict::KeyTwice(Key::C(key))));
+        return Ok(Some(Verdict::KeyTwice(FailedKey::C(key))));
     }
     Ok(None)
 }
@@ -58,13 +58,13 @@ fn audit_parents(alloc: Global, rows: &Rows) -> Result<Option<Verdict>, AllocErr
     let subscribers = rows.subscribers.as_slice();
     let facilities = rows.facilities.as_slice();
     if let Some(key) = least_orphan::<6, 2, 34, 1>(alloc, rows.accesses.as_slice(), subscribers)? {
-        return Ok(Some(Verdict::NoParent(Key::A(key))));
+        return Ok(Some(Verdict::NoParent(FailedKey::A(key))));
     }
     if let Some(key) = least_orphan::<6, 2, 34, 1>(alloc, facilities, subscribers)? {
-        return Ok(Some(Verdict::NoParent(Key::F(key))));
+        return Ok(Some(Verdict::NoParent(FailedKey::F(key))));
     }
     if let Some(key) = least_orphan::<5, 3, 6, 2>(alloc, rows.forwardings.as_slice(), facilities)? {
-        return Ok(Some(Verdict::NoParent(Key::C(key))));
+        return Ok(Some(Verdict::NoParent(FailedKey::C(key))));
     }
     Ok(None)
 }
@@ -85,25 +85,25 @@ fn audit_values(rows: &Rows) -> Option<Verdict>
 {
     if let Some(place) = least_outside::<34, 1, 2>(rows.subscribers.as_slice(), Table::Subscriber) {
         let (key, column) = parts(place);
-        return Some(Verdict::OutsideDomain(Key::S(key), column));
+        return Some(Verdict::OutsideDomain(FailedKey::S(key), column));
     }
     if let Some(place) = least_outside::<6, 2, 3>(rows.accesses.as_slice(), Table::AccessInfo) {
         let (key, column) = parts(place);
-        return Some(Verdict::OutsideDomain(Key::A(key), column));
+        return Some(Verdict::OutsideDomain(FailedKey::A(key), column));
     }
     if let Some(place) = least_outside::<6, 2, 3>(
         rows.facilities.as_slice(),
         Table::SpecialFacility,
     ) {
         let (key, column) = parts(place);
-        return Some(Verdict::OutsideDomain(Key::F(key), column));
+        return Some(Verdict::OutsideDomain(FailedKey::F(key), column));
     }
     if let Some(place) = least_outside::<5, 3, 4>(
         rows.forwardings.as_slice(),
         Table::CallForwarding,
     ) {
         let (key, column) = parts(place);
-        return Some(Verdict::OutsideDomain(Key::C(key), column));
+        return Some(Verdict::OutsideDomain(FailedKey::C(key), column));
     }
     None
 }

@@ -6,6 +6,7 @@ mod audits;
 mod counts;
 mod ids;
 mod keys;
+mod laws;
 mod least;
 mod parents;
 mod twice;
@@ -13,7 +14,8 @@ mod values;
 mod verdict;
 
 pub use audits::audit;
-pub use verdict::{Key, Verdict};
+pub use laws::each_audit_is_its_statement;
+pub use verdict::{FailedKey, Verdict};
 
 #[cfg(test)]
 mod tests;

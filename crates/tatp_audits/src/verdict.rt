@@ -5,9 +5,9 @@ ghost use Rattle.tatp_audits.specs.Printing.{key_text, verdict_text};
 
 use std::fmt;
 
-/// The primary key of a row of a table.
+/// The primary key of a row that fails an audit.
 #[derive(Clone, Copy, Debug, PartialEq, Eq)]
-pub enum Key {
+pub enum FailedKey {
     /// Of a Subscriber row: s_id.
     S([u64; 1]),
     /// Of an Access_Info row: s_id, ai_type.
@@ -28,16 +28,16 @@ pub enum Verdict {
         facilities: usize,
         forwardings: usize,
     },
-    /// Of 1 to the number of subscribers, this isn't the s_id of exactly one.
+    /// Of 1 to the number of subscribers, 1 in any case, this isn't the s_id of exactly one.
     Ids(u64),
     /// Two subscribers have this number.
     NumberTwice(u64),
     /// Two rows have this primary key.
-    KeyTwice(Key),
+    KeyTwice(FailedKey),
     /// The row with this key refers to a row that isn't there.
-    NoParent(Key),
+    NoParent(FailedKey),
     /// The row with this key has a value outside its column's domain, in this column.
-    OutsideDomain(Key, u8),
+    OutsideDomain(FailedKey, u8),
     /// A subscriber with this s_id, or one of its facilities, has fewer or more rows than it may.
     Counts(u64),
 }
@@ -51,15 +51,15 @@ impl Verdict {
     }
 }
 
-impl fmt::Display for Key {
+impl fmt::Display for FailedKey {
     ghost output = { λ key. Some (key_text key) };
 
     fn fmt<W: fmt::Write>(&self, f: &mut fmt::Formatter<W>) -> fmt::Result {
         match self {
-            Key::S([s_id]) => write!(f, "S {s_id}"),
-            Key::A([s_id, ai_type]) => write!(f, "A {s_id} {ai_type}"),
-            Key::F([s_id, sf_type]) => write!(f, "F {s_id} {sf_type}"),
-            Key::C([s_id, sf_type, start_time]) => write!(f, "C {s_id} {sf_type} {start_time}"),
+            FailedKey::S([s_id]) => write!(f, "S {s_id}"),
+            FailedKey::A([s_id, ai_type]) => write!(f, "A {s_id} {ai_type}"),
+            FailedKey::F([s_id, sf_type]) => write!(f, "F {s_id} {sf_type}"),
+            FailedKey::C([s_id, sf_type, start_time]) => write!(f, "C {s_id} {sf_type} {start_time}"),
         }
     }
 }

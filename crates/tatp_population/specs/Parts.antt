@@ -1,0 +1,20 @@
+-- An extent's parts.
+use Rattle.std.specs.Prelude.{ℕ}
+use Rattle.tatp_population.specs.Extents.{ExtentState}
+use Rattle.tatp_population.specs.Pinning.{PinnedState}
+use Rattle.tatp_population.specs.declared.parts.ExtentParts.{ExtentParts}
+
+-- the extent that has these parts
+abbrev pub state_of : ExtentParts → ExtentState
+state_of parts = record {
+  number = parts.number;
+  moves = parts.moves;
+  mixed = parts.mixed;
+  opening = parts.opening.items;
+  homes = parts.homes.items;
+  log = parts.log.items;
+}
+
+-- the extent that has these parts, pinned on the home of this subscriber
+abbrev pub pinned_state_of : ExtentParts → ℕ → PinnedState
+pinned_state_of parts s = record { extent = state_of parts; s_id = s }

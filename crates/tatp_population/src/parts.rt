@@ -1,0 +1,30 @@
+//! The parts of an extent, and of the log of calls without a home.
+
+use tatp_procs::Entry;
+use tatp_tables::Home;
+
+/// What an extent is made of. They tell nothing of each other: an [`crate::Extent`] does.
+#[derive(Debug, Drop)]
+pub struct ExtentParts {
+    /// Which extent it is, counted from 1.
+    pub number: u32,
+    /// How often it was moved.
+    pub moves: u16,
+    /// Whether a call that is no standard transaction has ended on it.
+    pub mixed: bool,
+    /// Its homes at the opening.
+    pub opening: Vec<Home>,
+    /// Its homes now.
+    pub homes: Vec<Home>,
+    /// The calls that were logged, in the order of their stamps.
+    pub log: Vec<Entry>,
+}
+
+/// What the log of the calls without a home is made of.
+#[derive(Debug, Drop)]
+pub struct HomelessParts {
+    /// Whether a call that is no standard transaction has ended.
+    pub mixed: bool,
+    /// The calls that were logged, in the order of their stamps.
+    pub log: Vec<Entry>,
+}

@@ -1,0 +1,9 @@
+pub mod ListLaws
+pub mod HomeLaws
+pub mod PlaceLaws
+pub mod SiteLaws
+pub mod CallLaws
+pub mod MoveLaws
+pub mod ShownLaws
+pub mod EndLaws
+pub mod RunnerLaws

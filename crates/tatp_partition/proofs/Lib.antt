@@ -4,6 +4,8 @@ pub mod PlaceLaws
 pub mod SiteLaws
 pub mod CallLaws
 pub mod MoveLaws
+pub mod NameLaws
+pub mod BeginLaws
 pub mod ShownLaws
 pub mod EndLaws
 pub mod RunnerLaws

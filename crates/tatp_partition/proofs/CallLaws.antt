@@ -3,11 +3,11 @@ use Rattle.std.proofs.Common.{◌≡◌, ◌≢◌, inl, inr, ℕ, suc, ◌+◌,
 use Rattle.std.specs.Option.{option_flatten, option_map, option_and_then, option_map_or}
 use Rattle.std.proofs.Math.ListN.{set, length-set}
 use Rattle.tatp_encoding.specs.Modules.{Procedure}
-use Rattle.tatp_tables.specs.Database.{Database, no_tables, of_subscriber}
+use Rattle.tatp_tables.specs.Database.{Database, no_tables, of_subscriber, with_subscriber}
 use Rattle.tatp_tables.specs.Home.{SubscriberRows, HaveSId, IsHome}
 use Rattle.tatp_numbers.specs.Homes.{home_of_key}
 use Rattle.tatp_machine.specs.Calls.{CallState}
-use Rattle.tatp_machine.specs.Lines.{Line, rows_of_home}
+use Rattle.tatp_machine.specs.Lines.{Line, rows_of_home, with_home_rows}
 use Rattle.tatp_machine.specs.Runs.{LinesLead, call_at_entry}
 use Rattle.tatp_procs.specs.declared.entry.Entry.{Entry}
 use Rattle.tatp_population.specs.Extents.{ExtentState, IsExtent, extent_of, home_at, with_home_at, with_entry, as_mixed, last_stamp_of}
@@ -16,7 +16,7 @@ use Rattle.tatp_partition.specs.declared.item.Item.{Item}
 use Rattle.tatp_partition.specs.Asks.{Fits, arities_of, key_asked, procedure_asked, arguments_asked}
 use Rattle.tatp_partition.specs.Sites.{SiteState, RunningCall, HomelessCalls, slot, home_here, rows_here, with_rows_here, last_stamp_here}
 use Rattle.tatp_partition.specs.Obstacles.{greater_stamp}
-use Rattle.tatp_partition.specs.Running.{CameByLines, after_end, at_entry, call_begun, begun}
+use Rattle.tatp_partition.specs.Running.{AreRowsOf, CameByLines, after_end, at_entry, call_begun, begun}
 use Rattle.tatp_partition.specs.Sound.{HasExtent, extent_set_back, with_entry_rows, IsOnHome, IsInPlace, IsRunning, IsSite}
 use Rattle.tatp_partition.proofs.ListLaws.{same_or_not, get_set_same, set_cases}
 use Rattle.tatp_partition.proofs.HomeLaws.{IsIn, is_in_extent, home_put, put_twice, put_back, elsewhere, entry_put}
@@ -100,6 +100,25 @@ came_on procedures r call rows after home entry came line =
     let moved = subst (λ (k : Option ℕ). LinesLead (suc came.lines) (start k r.call.entry) r.call.entry call after) (sym home) lead in
     record { lines = suc came.lines; lead = subst (λ (u : Database). LinesLead (suc came.lines) (start call.frame.home u) u call after) (sym entry) moved }
 
+-- ---- the rows of a home as a database of their own
+-- what is cited of databases
+pub record AreRowsAlone : Type 0 where
+  pub alone : (v : Database) (k : ℕ) → HaveSId k v → of_subscriber v k ≡ v
+  pub put : (v w : Database) (k : ℕ) → HaveSId k v → with_subscriber v k w ≡ w
+
+home_rows : (s : SiteState) (r : RunningCall) (h : ℕ) (place : IsOnHome h (key_asked r.ask) (home_here s h) r.call.entry) → rows_here s (Some h) ≡ place.rows
+home_rows s r h place = ap (λ (v : Option SubscriberRows). option_map_or (λ (k : SubscriberRows). k.tables) v no_tables) place.found
+
+-- the rows of a home are those of its subscriber alone
+pub rows_alone : AreRowsAlone → (s : SiteState) (r : RunningCall) (home : Option ℕ) → IsInPlace s r home → rows_of_home (rows_here s home) home ≡ rows_here s home
+rows_alone laws s r None place = refl
+rows_alone laws s r (Some h) place = subst (λ (v : Database). of_subscriber v h ≡ v) (sym (home_rows s r h place)) (laws.alone place.rows h place.now.own)
+
+-- and others are put in their place as a whole
+pub rows_put_alone : AreRowsAlone → (s : SiteState) (r : RunningCall) (home : Option ℕ) (rows : Database) → IsInPlace s r home → AreRowsOf home rows → with_home_rows (rows_here s home) home rows ≡ rows
+rows_put_alone laws s r None rows place own = sym own
+rows_put_alone laws s r (Some h) rows place own = ap (λ (v : Database). with_subscriber v h rows) (home_rows s r h place) ∙ laws.put place.rows rows h place.now.own
+
 -- ---- a line
 -- the call of a home makes a line
 pub line_on_home : (s : SiteState) (r : RunningCall) (call : CallState) (h : ℕ) (rows : Database) → IsSite s → s.running ≡ Some r → r.call.frame.home ≡ Some h → call.frame.home ≡ r.call.frame.home → call.entry ≡ r.call.entry
@@ -169,20 +188,13 @@ end_without_home s r homeless site is at log =
     site_kept s None homeless site (λ i z has. sym (ap (λ (k : Option RunningCall). extent_set_back k z) is ∙ no_extent r z at)) log (λ n. absurd (n place.0)) (λ q e. absurd cc)
 
 -- ---- a beginning
--- the rows of a home are those of its subscriber alone
-rows_alone : (s : SiteState) (r : RunningCall) (home : Option ℕ) → ((v : Database) (k : ℕ) → HaveSId k v → of_subscriber v k ≡ v) → IsInPlace s r home → rows_of_home (rows_here s home) home ≡ rows_here s home
-rows_alone s r None alone place = refl
-rows_alone s r (Some h) alone place =
-    let are : rows_here s (Some h) ≡ place.rows = ap (λ (v : Option SubscriberRows). option_map_or (λ (k : SubscriberRows). k.tables) v no_tables) place.found in
-    subst (λ (v : Database). of_subscriber v h ≡ v) (sym are) (alone place.rows h place.now.own)
-
 -- a call at its entry is set back as it is
 entry_is_back : (s : SiteState) (r : RunningCall) (home : Option ℕ) (i : ℕ) (z : ExtentState) → IsSite s → IsInPlace s r home → HasExtent s i z → with_entry_rows home (rows_here s home) z ≡ z
 entry_is_back s r None i z site place has = refl
 entry_is_back s r (Some h) i z site place has =
     let home : SubscriberRows = record { s_id = h; tables = place.rows } in
     let found = is_in_extent s.slots h home place.found in
-    let are : rows_here s (Some h) ≡ place.rows = ap (λ (v : Option SubscriberRows). option_map_or (λ (k : SubscriberRows). k.tables) v no_tables) place.found in
+    let are = home_rows s r h place in
     let number = site.numbered i z has in
     elim (same_or_not i (extent_of h)) [
       | inl same ↦
@@ -195,11 +207,11 @@ entry_is_back s r (Some h) i z site place has =
       | inr n ↦ elsewhere (Some h) (rows_here s (Some h)) z (λ k e same. n (sym number ∙ sym same ∙ ap extent_of (sym (let f : h ≡ k = cc in f))))
     ]
 
-pub call_begins : (s : SiteState) (item : Item) → ((v : Database) (k : ℕ) → HaveSId k v → of_subscriber v k ≡ v) → IsSite s → s.running ≡ None → IsInPlace s (call_begun s item) item.home → Fits (arities_of s.procedures) item.ask
+pub call_begins : (s : SiteState) (item : Item) → AreRowsAlone → IsSite s → s.running ≡ None → IsInPlace s (call_begun s item) item.home → Fits (arities_of s.procedures) item.ask
     → greater_stamp s item.seen item.home + 1 < 2 ^ 64 → IsSite (begun s item)
-call_begins s item alone site idle place fits stamp =
+call_begins s item laws site idle place fits stamp =
     let r : RunningCall = call_begun s item in
-    let start = rows_alone s r item.home alone place in
+    let start = rows_alone laws s r item.home place in
     site_kept s (Some r) s.homeless site
     (λ i z has. entry_is_back s r item.home i z site place has ∙ sym (ap (λ (k : Option RunningCall). extent_set_back k z) idle))
     site.homeless site.elsewhere

@@ -8,4 +8,5 @@ pub mod NameLaws
 pub mod BeginLaws
 pub mod ShownLaws
 pub mod EndLaws
+pub mod StepLaws
 pub mod RunnerLaws

@@ -13,6 +13,8 @@ use crate::{Breakpoint, Item, Offer, SiteRefusal, Stepped};
 use arrayvec::ArrayVec;
 use std::alloc::Global;
 use tatp_machine::Progress;
+use tatp_population::homes_stand_in_their_places;
+use tatp_tables::rows_of_one_subscriber;
 
 impl<'m> Site<'m> {
     ghost use Rattle.tatp_partition.specs.Asks.{Fits, arities_of};
@@ -31,6 +33,8 @@ impl<'m> Site<'m> {
             Err(refusal) => return Err(refusal),
             Ok(()) => {}
         }
+        rows_of_one_subscriber();
+        homes_stand_in_their_places();
         match item.home {
             None => {
                 if self.homeless.reserve(alloc).is_err() {

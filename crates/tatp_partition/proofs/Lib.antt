@@ -9,4 +9,5 @@ pub mod BeginLaws
 pub mod ShownLaws
 pub mod EndLaws
 pub mod StepLaws
+pub mod CompletionLaws
 pub mod RunnerLaws

@@ -2,7 +2,7 @@
 ghost use Rattle.std.specs.Prelude.{◌≡◌, ◌+◌, ◌<◌, ◌≤◌, ◌^◌, ◌&&◌, max, Some, None, true, false, IfSome, IfNone};
 ghost use Rattle.tatp_population.specs.Extents.{IsExtent, last_stamp_of};
 ghost use Rattle.tatp_population.specs.Pinning.{HasItsHome, Logs};
-ghost use Rattle.tatp_population.specs.HomelessLog.{RecordsHomeless};
+ghost use Rattle.tatp_population.specs.HomelessLog.{IsHomeless, RecordsHomeless};
 ghost use Rattle.tatp_partition.specs.Asks.{is_transaction};
 ghost use Rattle.tatp_partition.specs.Showing.{pinned_of, pins_extent, homeless_shown, IsEmptyAt};
 ghost use Rattle.tatp_partition.specs.Runners.{OfRunning, MayStep, TurnsRunning, MayEnd, Completes, IsSetFree, is_logged, slots_after, homeless_after};
@@ -12,7 +12,7 @@ use crate::asks::is_transaction;
 use crate::slots::Slots;
 use crate::{Completion, Item};
 use tatp_machine::{End, Machine, Progress};
-use tatp_population::{Extent, Homeless, Pinned};
+use tatp_population::{Extent, Homeless, Pinned, what_holds_of_every_homeless_log};
 use tatp_procs::{Ask, Entry, Reply};
 
 /// A call that runs: what was offered, its machine, and the extent of its home, if it has one.
@@ -84,6 +84,7 @@ pub fn end_running(
     ensures completes { OfRunning (Completes end homeless.old result) running.old }
     ensures slots { slots.new ≡ slots_after (is_logged standard running.old) result.entry (pinned_of running.old) slots.old }
     ensures homeless { homeless_shown homeless.new ≡ homeless_after (is_logged standard running.old) result.entry (pinned_of running.old) (homeless_shown homeless.old) }
+    ensures history { IsHomeless homeless.new.mixed homeless.new.log }
     ensures free { IsSetFree (is_logged standard running.old) result.entry (pinned_of running.old) }
 {
     match running.take() {
@@ -100,12 +101,14 @@ pub fn end_running(
                 None => {
                     let entry = entry_of(&item, reply, homeless.last_stamp());
                     end_homeless(homeless, logged, &entry);
+                    what_holds_of_every_homeless_log(homeless);
                     return Completion { extent: 0, entry };
                 }
                 Some(pinned) => {
                     let extent = pinned.number();
                     let entry = entry_of(&item, reply, pinned.last_stamp());
                     slots.lower(extent as u64, set_free(pinned, logged, &entry));
+                    what_holds_of_every_homeless_log(homeless);
                     return Completion { extent, entry };
                 }
             }

@@ -174,7 +174,7 @@ line_without_home s r call site is at home entry line =
     site_kept s (Some after) s.homeless site (λ i z has. no_extent after z at' ∙ sym (ap (λ (k : Option RunningCall). extent_set_back k z) is ∙ no_extent r z at)) site.homeless site.elsewhere (λ q' e. let same : after ≡ q' = cc in subst (IsRunning t) same runs)
 
 -- ---- an end
-number_after_end : (logged : Bool) (entry : Entry) (x : ExtentState) → (after_end logged entry x).number ≡ x.number
+pub number_after_end : (logged : Bool) (entry : Entry) (x : ExtentState) → (after_end logged entry x).number ≡ x.number
 number_after_end logged entry x = elim (logged && not x.mixed) as (λ (b : Bool). (if b then with_entry x entry else as_mixed x).number ≡ x.number) [ true ↦ refl | false ↦ refl ]
 
 -- the call of a home ends, which leaves this extent

@@ -22,23 +22,24 @@ use Rattle.tatp_procs.specs.Replies.{reply_to}
 use Rattle.tatp_procs.specs.Standard.{standard_module}
 use Rattle.tatp_procs.specs.Transactions.{Answer, transaction}
 use Rattle.tatp_population.specs.Extents.{ExtentState, extent_of, home_at, with_home_at, last_stamp_of}
-use Rattle.tatp_population.specs.HomelessLog.{HomelessState, RecordsHomeless}
+use Rattle.tatp_population.specs.HomelessLog.{HomelessState, IsHomeless, RecordsHomeless}
 use Rattle.tatp_population.specs.Pinning.{PinnedState, HasItsHome, Logs}
 use Rattle.tatp_partition.specs.declared.item.Item.{Item}
+use Rattle.tatp_partition.specs.declared.item.Completion.{Completion}
 use Rattle.tatp_partition.specs.declared.runner.Runner.{Runner}
 use Rattle.tatp_partition.specs.declared.site.Site.TheInside.{Inside}
 use Rattle.tatp_partition.specs.Asks.{is_transaction, key_asked, AreInDomains}
-use Rattle.tatp_partition.specs.Sites.{SiteState, RunningCall, home_here, rows_here, last_stamp_here}
+use Rattle.tatp_partition.specs.Sites.{SiteState, RunningCall, HomelessCalls, home_here, rows_here, with_rows_here, last_stamp_here}
 use Rattle.tatp_partition.specs.Obstacles.{greater_stamp}
-use Rattle.tatp_partition.specs.Running.{AreRowsOf, CameByLines}
-use Rattle.tatp_partition.specs.Showing.{rows_shown, call_shown, runner_shown}
+use Rattle.tatp_partition.specs.Running.{AreRowsOf, CameByLines, EndsCall, is_logged, after_end, with_end, entry_of, extent_number}
+use Rattle.tatp_partition.specs.Showing.{with_pinned, pinned_of, rows_shown, call_shown, runner_shown, homeless_shown}
 use Rattle.tatp_partition.specs.Sound.{IsOnHome, IsInPlace, IsRunning, IsSite}
 use Rattle.tatp_partition.specs.Fields.{site_of, IsPinnedFor, IsSound}
-use Rattle.tatp_partition.specs.Runners.{OfRunning, MayEnd, GoesOnWith, Turns, TurnsRunning, entry_shown, last_stamp_shown, with_rows_shown}
+use Rattle.tatp_partition.specs.Runners.{OfRunning, MayEnd, GoesOnWith, Completes, Turns, TurnsRunning, IsSetFree, entry_shown, last_stamp_shown, number_shown, with_rows_shown, logs_running, slots_after, homeless_after}
 use Rattle.tatp_partition.proofs.HomeLaws.{home_put, stands}
 use Rattle.tatp_partition.proofs.NameLaws.{none_named}
-use Rattle.tatp_partition.proofs.ShownLaws.{IsShown, pinned_slot, pinned_home, rows_are, stamp_is, still_stamp}
-use Rattle.tatp_partition.proofs.CallLaws.{AreRowsAlone, rows_alone, rows_put_alone, own_extent}
+use Rattle.tatp_partition.proofs.ShownLaws.{IsShown, pinned_slot, pinned_home, rows_are, stamp_is, number_is, rows_put, other_put, end_put, still_at, still_empty, still_stamp, still_number}
+use Rattle.tatp_partition.proofs.CallLaws.{AreRowsAlone, rows_alone, rows_put_alone, own_extent, number_after_end, end_on_home, end_without_home}
 use Rattle.tatp_partition.proofs.EndLaws.{AreTransactions, answered, transaction_ends, logs_of}
 use Rattle.tatp_partition.proofs.StepLaws.{HasTurned, turned, Runs, runs, frame_shown}
 
@@ -158,3 +159,99 @@ pub ready_to_end : AreRowsAlone → AreTransactions → (a : Inside) (running : 
 ready_to_end alone laws a running end h turns =
     let t = turned a.running (Ended end) running turns in
     subst (OfRunning (MayEnd end a.standard a.homeless)) (sym t.is) (may_end alone laws a t.old t.new end h t.was t.turns)
+
+-- ---- the site after it
+-- the site after an end, by its fields
+pub ended_as : (a : Inside) (r r' : Runner) (end : End) (slots : List (Option ExtentState)) (homeless : HomelessState) (completion : Completion) → IsSound a → a.running ≡ Some r → Turns r (Ended end) r' → Completes end a.homeless completion r'
+    → slots ≡ slots_after (logs_running a.standard (Some r')) completion.entry r'.pinned a.slots → homeless_shown homeless ≡ homeless_after (logs_running a.standard (Some r')) completion.entry r'.pinned (homeless_shown a.homeless)
+    → EndsCall (site_of a) completion (site_of (record a { slots = slots; running = None; homeless = homeless }))
+ended_as a r r' end slots homeless completion h was t done slots_are log_is =
+    let s : SiteState = site_of a in
+    let q : RunningCall = runner_shown r in
+    let home : Option ℕ = r.machine.frame.home in
+    let rows : Database = rows_shown r'.pinned in
+    let f = runs a r h was in
+    let entry : Entry = completion.entry in
+    let p : Option PinnedState = with_rows_shown r.pinned rows in
+    let idle : SiteState = record s { running = None } in
+    let left : SiteState = record idle { slots = with_pinned a.slots p } in
+    let shown : IsShown idle a.slots home r.pinned = record { shown = f.shown.shown; empty = f.shown.empty; at = f.shown.at } in
+    let shown_left : IsShown left a.slots home p = record { shown = refl; empty = still_empty a.slots r.pinned rows f.shown.empty; at = still_at home r.pinned rows f.shown.at } in
+    let last : last_stamp_shown r'.pinned a.homeless ≡ last_stamp_here s q.call.frame.home = ap (λ k. last_stamp_shown k a.homeless) t.pinned ∙ still_stamp r.pinned rows a.homeless ∙ sym (ap (last_stamp_here s) f.home ∙ stamp_is s a.slots home r.pinned a.homeless refl f.shown) in
+    let frame : r'.machine.frame ≡ q.call.frame = t.ended end refl ∙ sym (frame_shown r.machine r.pinned) in
+    let made : entry_shown r' end (last_stamp_shown r'.pinned a.homeless) ≡ entry_of s q end = λ i. record {
+      client = (t.item i).client;
+      number = (t.item i).number;
+      ask = (t.item i).ask;
+      reply = reply_to end (frame i).outputs;
+      stamp = max (t.item i).seen (last i) + 1;
+    } in
+    let logged : logs_running a.standard (Some r') ≡ is_logged left entry = ap (λ (k : Ask). a.standard && is_transaction k) (sym (ap (λ (k : Entry). k.ask) done.entry)) in
+    record {
+      running = q;
+      end = end;
+      rows = rows;
+      is = f.is;
+      ends = λ u same.
+        let here : rows_of_home u home ≡ rows_shown r.pinned = ap (rows_of_home u) (sym f.home) ∙ same ∙ ap (rows_here s) f.home ∙ rows_are s a.slots home r.pinned f.shown in
+        subst (λ (k : Option ℕ). Ends q.call u end (with_home_rows u k rows)) (sym f.home) (t.steps u here);
+      home = subst (λ (k : Option ℕ). AreRowsOf k rows) (sym f.home) t.home;
+      entry = done.entry ∙ made;
+      extent = done.extent ∙ ap number_shown t.pinned ∙ still_number r.pinned rows ∙ number_is s a.slots home r.pinned f.shown ∙ ap extent_number (sym f.home);
+      after =
+        (λ i. record s { slots = slots_are i; running = None; homeless = log_is i })
+        ∙ ap (λ (k : Bool). record s { slots = slots_after k entry r'.pinned a.slots; running = None; homeless = homeless_after k entry r'.pinned (homeless_shown a.homeless) }) logged
+        ∙ ap (λ (k : Option PinnedState). record s { slots = slots_after (is_logged left entry) entry k a.slots; running = None; homeless = homeless_after (is_logged left entry) entry k (homeless_shown a.homeless) }) t.pinned
+        ∙ sym (end_put left a.slots home p entry shown_left)
+        ∙ ap (λ (k : SiteState). with_end k home entry) (sym (rows_put idle a.slots home r.pinned rows shown))
+        ∙ ap (λ (k : Option ℕ). with_end (with_rows_here idle k rows) k entry) (sym f.home);
+    }
+
+ended_site : (s : SiteState) (slots : List (Option ExtentState)) (q : RunningCall) (home : Option ℕ) (p : Option PinnedState) (rows : Database) (logged : Bool) (entry : Entry) (new : List (Option ExtentState)) (log : HomelessCalls)
+    → IsShown s slots home p → IsSite s → s.running ≡ Some q → q.call.frame.home ≡ home → new ≡ slots_after logged entry (with_rows_shown p rows) slots → log ≡ homeless_after logged entry (with_rows_shown p rows) s.homeless
+    → IsSetFree logged entry (with_rows_shown p rows) → IsHomeless log.mixed log.log → IsSite (record s { slots = new; running = None; homeless = log })
+ended_site s slots q home None rows logged entry new log shown site is at slots_are log_is free history =
+    subst (λ (k : List (Option ExtentState)). IsSite (record s { slots = k; running = None; homeless = log })) (shown.shown ∙ sym slots_are) (end_without_home s q log site is (at ∙ shown.at) history)
+ended_site s slots q home (Some p) rows logged entry new log shown site is at slots_are log_is free history =
+    let x : ExtentState = with_home_at p.extent p.s_id (record { s_id = p.s_id; tables = rows }) in
+    let y : ExtentState = after_end logged entry x in
+    let has : slice_get s.slots (extent_of p.s_id) ≡ Some (Some p.extent) = stands s.slots (extent_of p.s_id) p.extent (pinned_slot s slots home p shown) in
+    let ended : IsSite (record s { slots = set s.slots (extent_of p.s_id) (Some y); running = None }) = end_on_home s q p.s_id p.extent y site is (at ∙ shown.at.0) has (number_after_end logged entry x) free in
+    subst (λ (k : HomelessCalls). IsSite (record s { slots = new; running = None; homeless = k })) (sym log_is)
+    (subst (λ (k : List (Option ExtentState)). IsSite (record s { slots = k; running = None })) (other_put s slots home p y shown ∙ sym slots_are) ended)
+
+pub sound_after : (a : Inside) (r r' : Runner) (end : End) (slots : List (Option ExtentState)) (homeless : HomelessState) (entry : Entry) → IsSound a → a.running ≡ Some r → Turns r (Ended end) r'
+    → slots ≡ slots_after (logs_running a.standard (Some r')) entry r'.pinned a.slots → homeless_shown homeless ≡ homeless_after (logs_running a.standard (Some r')) entry r'.pinned (homeless_shown a.homeless)
+    → IsSetFree (logs_running a.standard (Some r')) entry r'.pinned → IsHomeless homeless.mixed homeless.log → IsSound (record a { slots = slots; running = None; homeless = homeless })
+sound_after a r r' end slots homeless entry h was t slots_are log_is free history =
+    let f = runs a r h was in
+    let logged : Bool = logs_running a.standard (Some r') in
+    let rows : Database = rows_shown r'.pinned in
+    record {
+      site = ended_site (site_of a) a.slots (runner_shown r) r.machine.frame.home r.pinned rows logged entry slots (homeless_shown homeless) f.shown h.site f.is f.home
+          (slots_are ∙ ap (λ (k : Option PinnedState). slots_after logged entry k a.slots) t.pinned)
+          (log_is ∙ ap (λ (k : Option PinnedState). homeless_after logged entry k (homeless_shown a.homeless)) t.pinned)
+          (subst (IsSetFree logged entry) t.pinned free) history;
+      emptied = tt;
+      runner = λ q e. absurd cc;
+    }
+
+-- as the code knows it
+pub record HasEnded (a : Inside) (slots : List (Option ExtentState)) (running : Option Runner) (homeless : HomelessState) (completion : Completion) : Type 0 where
+  pub ends : EndsCall (site_of a) completion (site_of (record a { slots = slots; running = running; homeless = homeless }))
+  pub sound : IsSound (record a { slots = slots; running = running; homeless = homeless })
+
+pub has_ended : (a : Inside) (turned_to after : Option Runner) (end : End) (slots : List (Option ExtentState)) (homeless : HomelessState) (completion : Completion) → IsSound a → TurnsRunning a.running (Ended end) turned_to → after ≡ None
+    → OfRunning (Completes end a.homeless completion) turned_to
+    → slots ≡ slots_after (logs_running a.standard turned_to) completion.entry (pinned_of turned_to) a.slots → homeless_shown homeless ≡ homeless_after (logs_running a.standard turned_to) completion.entry (pinned_of turned_to) (homeless_shown a.homeless)
+    → IsSetFree (logs_running a.standard turned_to) completion.entry (pinned_of turned_to) → IsHomeless homeless.mixed homeless.log → HasEnded a slots after homeless completion
+has_ended a turned_to after end slots homeless completion h turns none done slots_are log_is free history =
+    let t = turned a.running (Ended end) turned_to turns in
+    let entry : Entry = completion.entry in
+    let slots_at : slots ≡ slots_after (logs_running a.standard (Some t.new)) entry t.new.pinned a.slots = slots_are ∙ ap (λ (k : Option Runner). slots_after (logs_running a.standard k) entry (pinned_of k) a.slots) t.is in
+    let log_at : homeless_shown homeless ≡ homeless_after (logs_running a.standard (Some t.new)) entry t.new.pinned (homeless_shown a.homeless) = log_is ∙ ap (λ (k : Option Runner). homeless_after (logs_running a.standard k) entry (pinned_of k) (homeless_shown a.homeless)) t.is in
+    subst (λ (k : Option Runner). HasEnded a slots k homeless completion) (sym none)
+    (record {
+      ends = ended_as a t.old t.new end slots homeless completion h t.was t.turns (subst (OfRunning (Completes end a.homeless completion)) t.is done) slots_at log_at;
+      sound = sound_after a t.old t.new end slots homeless entry h t.was t.turns slots_at log_at (subst (λ (k : Option Runner). IsSetFree (logs_running a.standard k) entry (pinned_of k)) t.is free) history;
+    })

@@ -56,6 +56,13 @@ changed s slots home p change h =
     ∙ ap (λ (e : ℕ). set (set slots p.extent.number (Some p.extent)) e (Some (change p.extent))) h.at.1
     ∙ set_set slots p.extent.number (Some p.extent) (Some (change p.extent))
 
+-- another extent in its place
+pub other_put : (s : SiteState) (slots : List (Option ExtentState)) (home : Option ℕ) (p : PinnedState) (y : ExtentState) → IsShown s slots home (Some p) → set s.slots (extent_of p.s_id) (Some y) ≡ set slots p.extent.number (Some y)
+other_put s slots home p y h =
+    ap (λ (k : List (Option ExtentState)). set k (extent_of p.s_id) (Some y)) h.shown
+    ∙ ap (λ (e : ℕ). set (set slots p.extent.number (Some p.extent)) e (Some y)) h.at.1
+    ∙ set_set slots p.extent.number (Some p.extent) (Some y)
+
 -- ---- other rows of the home
 pub rows_put : (s : SiteState) (slots : List (Option ExtentState)) (home : Option ℕ) (p : Option PinnedState) (rows : Database) → IsShown s slots home p
     → with_rows_here s home rows ≡ record s { slots = with_pinned slots (with_rows_shown p rows) }

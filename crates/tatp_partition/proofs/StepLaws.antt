@@ -1,5 +1,5 @@
 -- One instruction at a site whose fields show a running call.
-use Rattle.std.proofs.Common.{◌≡◌, ℕ, ◌+◌, ◌<◌, ◌^◌, max, List, Option, Some, None, IsSomeAnd, refl, sym, ◌∙◌, ap, subst}
+use Rattle.std.proofs.Common.{◌≡◌, ℕ, ◌+◌, ◌<◌, ◌^◌, max, Bool, true, is_some, List, Option, Some, None, IsSomeAnd, refl, sym, ◌∙◌, ap, subst}
 use Rattle.tatp_tables.specs.Database.{Database, no_tables, of_subscriber, with_subscriber}
 use Rattle.tatp_tables.specs.Home.{SubscriberRows, HaveSId}
 use Rattle.tatp_machine.specs.declared.progress.Progress.{Progress}
@@ -9,15 +9,17 @@ use Rattle.tatp_machine.specs.Lines.{Line, rows_of_home, with_home_rows}
 use Rattle.tatp_machine.specs.Machines.{MachineState, IsLater}
 use Rattle.tatp_population.specs.Extents.{ExtentState, home_at}
 use Rattle.tatp_population.specs.Pinning.{PinnedState, HasItsHome}
+use Rattle.tatp_partition.specs.declared.item.Breakpoint.{Breakpoint}
 use Rattle.tatp_partition.specs.declared.item.Item.{Item}
 use Rattle.tatp_partition.specs.declared.runner.Runner.{Runner}
 use Rattle.tatp_partition.specs.declared.site.Site.TheInside.{Inside}
 use Rattle.tatp_partition.specs.Sites.{SiteState, RunningCall, rows_here, with_rows_here}
+use Rattle.tatp_partition.specs.Obstacles.{obstacle_to_step, one_obstacle}
 use Rattle.tatp_partition.specs.Running.{AreRowsOf, GoesOn}
 use Rattle.tatp_partition.specs.Showing.{with_pinned, pinned_of, IsEmptyAt, rows_shown, call_shown, runner_shown, running_shown}
 use Rattle.tatp_partition.specs.Sound.{IsInPlace, IsRunning, IsSite}
 use Rattle.tatp_partition.specs.Fields.{site_of, IsPinnedFor, IsRunner, IsSound}
-use Rattle.tatp_partition.specs.Runners.{IsItsHome, MayStep, Turns, TurnsRunning, with_rows_shown}
+use Rattle.tatp_partition.specs.Runners.{OfRunning, IsItsHome, MayStep, Turns, TurnsRunning, with_rows_shown}
 use Rattle.tatp_partition.proofs.ShownLaws.{IsAt, IsShown, pinned_home, rows_are, rows_put, still_empty}
 use Rattle.tatp_partition.proofs.CallLaws.{AreRowsAlone, rows_alone, rows_put_alone, line_on_home, line_without_home}
 
@@ -81,6 +83,17 @@ may_step a r h was =
     let f = runs a r h was in
     let place : IsInPlace (site_of a) (runner_shown r) r.machine.frame.home = subst (IsInPlace (site_of a) (runner_shown r)) f.home f.sound.in_place in
     record { going = f.runner.going; home = its_home (site_of a) a.slots (runner_shown r) r.machine.frame.home r.pinned f.shown place }
+
+pub may_turn : (a : Inside) → IsSound a → is_some a.running ≡ true → OfRunning MayStep a.running
+may_turn a h some = elim a.running as (λ (r : Option Runner). a.running ≡ r → is_some r ≡ true → OfRunning MayStep r) [ None ↦ λ e k. absurd cc | Some r ↦ λ e k. may_step a r h e ] refl some
+
+-- where nothing stands against a step, a call runs
+pub free_runs : (running : Option Runner) (stopped : Bool) (breakpoints : List Breakpoint) → obstacle_to_step (running_shown running) stopped breakpoints ≡ None → is_some running ≡ true
+free_runs None stopped breakpoints h = absurd cc
+free_runs (Some r) stopped breakpoints h = refl
+
+pub runs_free : (a : Inside) → is_some a.running ≡ true → one_obstacle (site_of a) ≡ None
+runs_free a some = elim a.running as (λ (r : Option Runner). is_some r ≡ true → one_obstacle (record (site_of a) { running = running_shown r }) ≡ None) [ None ↦ λ k. absurd cc | Some r ↦ λ k. refl ] some
 
 -- ---- a site goes on
 goes_on_at : AreRowsAlone → (s s' : SiteState) (g : GoesOn s s') (home : Option ℕ) → IsSite s → g.running.call.frame.home ≡ home → IsSite s'

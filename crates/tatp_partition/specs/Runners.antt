@@ -65,9 +65,9 @@ last_stamp_shown (Some p) h = last_stamp_of p.extent.log
 abbrev pub entry_shown : Runner → End → ℕ → Entry
 entry_shown r end last = record { client = r.item.client; number = r.item.number; ask = r.item.ask; reply = reply_to end r.machine.frame.outputs; stamp = max r.item.seen last + 1 }
 
--- a call is logged where it is a transaction and the module is the standard one
-abbrev pub is_logged : Bool → Option Runner → Bool
-is_logged standard running = option_map_or (λ (r : Runner). standard && is_transaction r.item.ask) running false
+-- the running call will be logged, being a transaction under the standard module
+abbrev pub logs_running : Bool → Option Runner → Bool
+logs_running standard running = option_map_or (λ (r : Runner). standard && is_transaction r.item.ask) running false
 
 -- where the call is logged, its entry goes on with the log
 abbrev pub GoesOnWith : Bool → Entry → Option PinnedState → HomelessState → Type 0

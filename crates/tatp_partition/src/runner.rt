@@ -5,7 +5,7 @@ ghost use Rattle.tatp_population.specs.Pinning.{HasItsHome, Logs};
 ghost use Rattle.tatp_population.specs.HomelessLog.{IsHomeless, RecordsHomeless};
 ghost use Rattle.tatp_partition.specs.Asks.{is_transaction};
 ghost use Rattle.tatp_partition.specs.Showing.{pinned_of, pins_extent, homeless_shown, IsEmptyAt};
-ghost use Rattle.tatp_partition.specs.Runners.{OfRunning, MayStep, TurnsRunning, MayEnd, Completes, IsSetFree, is_logged, slots_after, homeless_after};
+ghost use Rattle.tatp_partition.specs.Runners.{OfRunning, MayStep, TurnsRunning, MayEnd, Completes, IsSetFree, logs_running, slots_after, homeless_after};
 ghost use Rattle.tatp_partition.specs.Running.{after_end, homeless_after_end};
 
 use crate::asks::is_transaction;
@@ -82,10 +82,10 @@ pub fn end_running(
     requires place { IsEmptyAt slots.old (pinned_of running.old) }
     ensures running { running.new ≡ None }
     ensures completes { OfRunning (Completes end homeless.old result) running.old }
-    ensures slots { slots.new ≡ slots_after (is_logged standard running.old) result.entry (pinned_of running.old) slots.old }
-    ensures homeless { homeless_shown homeless.new ≡ homeless_after (is_logged standard running.old) result.entry (pinned_of running.old) (homeless_shown homeless.old) }
+    ensures slots { slots.new ≡ slots_after (logs_running standard running.old) result.entry (pinned_of running.old) slots.old }
+    ensures homeless { homeless_shown homeless.new ≡ homeless_after (logs_running standard running.old) result.entry (pinned_of running.old) (homeless_shown homeless.old) }
     ensures history { IsHomeless homeless.new.mixed homeless.new.log }
-    ensures free { IsSetFree (is_logged standard running.old) result.entry (pinned_of running.old) }
+    ensures free { IsSetFree (logs_running standard running.old) result.entry (pinned_of running.old) }
 {
     match running.take() {
         None => unreachable!(),

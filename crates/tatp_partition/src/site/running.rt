@@ -12,8 +12,9 @@ use crate::slots::fill;
 use crate::{Breakpoint, Item, Offer, SiteRefusal, Stepped};
 use arrayvec::ArrayVec;
 use std::alloc::Global;
-use tatp_machine::Progress;
+use tatp_machine::{Progress, lines_then_an_end_are_a_run};
 use tatp_population::homes_stand_in_their_places;
+use tatp_procs::{clean_rows_and_homes_are_consistent, standard_procedures_are_transactions};
 use tatp_tables::rows_of_one_subscriber;
 
 impl<'m> Site<'m> {
@@ -84,6 +85,10 @@ impl<'m> Site<'m> {
             Some(refusal) => return Err(refusal),
             None => {}
         }
+        rows_of_one_subscriber();
+        lines_then_an_end_are_a_run();
+        standard_procedures_are_transactions();
+        clean_rows_and_homes_are_consistent();
         match turn(&mut self.running) {
             Progress::Running => return Ok(Stepped::Moved),
             Progress::Ended(end) => {
@@ -108,6 +113,10 @@ impl<'m> Site<'m> {
         if self.running.is_none() {
             return Err(SiteRefusal::NotRunning);
         }
+        rows_of_one_subscriber();
+        lines_then_an_end_are_a_run();
+        standard_procedures_are_transactions();
+        clean_rows_and_homes_are_consistent();
         match turn(&mut self.running) {
             Progress::Running => return Ok(Stepped::Moved),
             Progress::Ended(end) => {

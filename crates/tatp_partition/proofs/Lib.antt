@@ -10,4 +10,5 @@ pub mod ShownLaws
 pub mod EndLaws
 pub mod StepLaws
 pub mod CompletionLaws
+pub mod CloseLaws
 pub mod RunnerLaws

@@ -6,7 +6,7 @@ use Rattle.tatp_machine.specs.declared.progress.End.{End}
 use Rattle.tatp_machine.specs.declared.progress.Progress.{Progress}
 use Rattle.tatp_machine.specs.declared.progress.Progress.TheVariants.{Running, Ended}
 use Rattle.tatp_machine.specs.Lines.{Steps, rows_of_home, with_home_rows}
-use Rattle.tatp_machine.specs.Machines.{IsLater}
+use Rattle.tatp_machine.specs.Machines.{IsLater, call_state}
 use Rattle.tatp_procs.specs.declared.entry.Entry.{Entry}
 use Rattle.tatp_procs.specs.Replies.{reply_to}
 use Rattle.tatp_population.specs.Extents.{ExtentState, IsExtent, with_home_at, last_stamp_of}
@@ -102,3 +102,17 @@ homeless_after logged entry (Some p) h = h
 abbrev pub IsSetFree : Bool → Entry → Option PinnedState → Type 0
 IsSetFree logged entry None = Unit {0}
 IsSetFree logged entry (Some p) = IsExtent (after_end logged entry p.extent)
+
+-- ---- a call that is given up
+-- its pinned extent with the rows that its home had at entry
+abbrev pub extent_given_back : Runner → PinnedState → ExtentState
+extent_given_back r p = with_home_at p.extent p.s_id (record { s_id = p.s_id; tables = (call_state r.machine (rows_shown (Some p))).entry })
+
+-- the machine's home is the pinned one, and the extent so is what its log makes of it
+abbrev pub MayBeSetBack : Runner → Option PinnedState → Type 0
+MayBeSetBack r None = Unit {0}
+MayBeSetBack r (Some p) = (r.machine.frame.home ≡ Some p.s_id) × HasItsHome p × IsExtent (extent_given_back r p)
+
+abbrev pub slots_given_back : Runner → Option PinnedState → List (Option ExtentState) → List (Option ExtentState)
+slots_given_back r None slots = slots
+slots_given_back r (Some p) slots = slice_set slots p.extent.number (Some (extent_given_back r p))

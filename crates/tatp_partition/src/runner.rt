@@ -5,7 +5,7 @@ ghost use Rattle.tatp_population.specs.Pinning.{HasItsHome, Logs};
 ghost use Rattle.tatp_population.specs.HomelessLog.{IsHomeless, RecordsHomeless};
 ghost use Rattle.tatp_partition.specs.Asks.{is_transaction};
 ghost use Rattle.tatp_partition.specs.Showing.{pinned_of, pins_extent, homeless_shown, IsEmptyAt};
-ghost use Rattle.tatp_partition.specs.Runners.{OfRunning, MayStep, TurnsRunning, MayEnd, Completes, IsSetFree, logs_running, slots_after, homeless_after};
+ghost use Rattle.tatp_partition.specs.Runners.{OfRunning, MayStep, TurnsRunning, MayEnd, Completes, IsSetFree, logs_running, slots_after, homeless_after, MayBeSetBack, slots_given_back};
 ghost use Rattle.tatp_partition.specs.Running.{after_end, homeless_after_end};
 
 use crate::asks::is_transaction;
@@ -111,6 +111,29 @@ pub fn end_running(
                     what_holds_of_every_homeless_log(homeless);
                     return Completion { extent, entry };
                 }
+            }
+        }
+    }
+}
+
+impl<'m> Runner<'m> {
+    /// Gives the call up: the places with its extent set back.
+    pub fn set_back(self, slots: &mut Slots<Extent>)
+        requires ready { MayBeSetBack self self.pinned }
+        requires place { IsEmptyAt slots.old self.pinned }
+        ensures { slots.new ≡ slots_given_back self.entry self.entry.pinned slots.old }
+    {
+        let Runner {
+            item: _,
+            machine,
+            pinned,
+        } = self;
+        match pinned {
+            None => return,
+            Some(mut pinned) => {
+                machine.set_back(pinned.home_mut());
+                slots.lower(pinned.number() as u64, pinned.set_free());
+                return;
             }
         }
     }

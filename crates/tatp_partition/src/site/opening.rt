@@ -2,7 +2,6 @@
 ghost use Rattle.std.specs.Prelude.{◌≡◌, ◌+◌, IfOk, IfErr, None, replicate};
 
 use super::Site;
-use crate::runner::Runner;
 use crate::slots::Slots;
 use arrayvec::ArrayVec;
 use std::alloc::{AllocError, Global};
@@ -70,23 +69,12 @@ impl<'m> Site<'m> {
             homeless,
         } = self;
         match running {
-            None => {}
+            None => return (slots.into_items(), homeless),
             Some(runner) => {
-                let Runner {
-                    item: _,
-                    machine,
-                    pinned,
-                } = runner;
-                match pinned {
-                    None => {}
-                    Some(mut pinned) => {
-                        machine.set_back(pinned.home_mut());
-                        slots.lower(pinned.number() as u64, pinned.set_free());
-                    }
-                }
+                runner.set_back(&mut slots);
+                return (slots.into_items(), homeless);
             }
         }
-        (slots.into_items(), homeless)
     }
 }
 

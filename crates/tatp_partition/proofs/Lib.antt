@@ -11,4 +11,5 @@ pub mod EndLaws
 pub mod StepLaws
 pub mod CompletionLaws
 pub mod CloseLaws
+pub mod OpenLaws
 pub mod RunnerLaws

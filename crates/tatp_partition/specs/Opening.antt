@@ -16,9 +16,9 @@ pub record AreNumbered (count : ℕ) (extents : List ExtentState) : Type 0 where
 abbrev pub extent_numbered : List ExtentState → ℕ → Option ExtentState
 extent_numbered extents e = find (λ (x : ExtentState). x.number == e) extents
 
--- places for the numbers 0 to this, each with its extent, if it is one of these
+-- so many places, for the numbers from 0 on, each with its extent, if it is one of these
 abbrev pub in_places : ℕ → List ExtentState → List (Option ExtentState)
-in_places count extents = map (extent_numbered extents) (range_with_len 0 (count + 1))
+in_places places extents = map (extent_numbered extents) (range_with_len 0 places)
 
 -- a site that was just opened
 abbrev pub opened_site : List Procedure → ℕ → ℕ → List ExtentState → Bool → SiteState
@@ -26,7 +26,7 @@ opened_site procedures partition count extents standard = record {
   partition = partition;
   procedures = procedures;
   standard = standard;
-  slots = in_places count extents;
+  slots = in_places (count + 1) extents;
   running = None;
   stopped = false;
   stops = 0;

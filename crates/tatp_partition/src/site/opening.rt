@@ -1,16 +1,20 @@
 //! A site is opened and closed.
-ghost use Rattle.std.specs.Prelude.{◌≡◌, ◌+◌, IfOk, IfErr, None, replicate};
+ghost use Rattle.std.specs.Prelude.{◌≡◌, ◌+◌, ◌-◌, ℕ, IfOk, IfErr, Some, None, length, replicate, slice_get};
+ghost use Rattle.tatp_population.specs.Extents.{ExtentState, IsExtent};
+ghost use Rattle.tatp_partition.specs.Opening.{AreNumbered, in_places};
 
 use super::Site;
 use crate::slots::Slots;
 use arrayvec::ArrayVec;
 use std::alloc::{AllocError, Global};
 use tatp_loader::Loaded;
-use tatp_population::{Extent, Homeless};
+use tatp_population::{
+    Extent, Homeless, what_holds_of_every_extent, what_holds_of_every_homeless_log,
+};
 use tatp_procs::is_standard;
 
 impl<'m> Site<'m> {
-    ghost use Rattle.tatp_partition.specs.Opening.{AreNumbered, opened_site, slots_set_back};
+    ghost use Rattle.tatp_partition.specs.Opening.{opened_site, slots_set_back};
     ghost use Rattle.tatp_partition.specs.Sound.{IsSite};
     ghost use Rattle.tatp_partition.specs.Showing.{homeless_shown};
 
@@ -28,25 +32,23 @@ impl<'m> Site<'m> {
         ensures fields { IfOk result (λ site. site ≡ opened_site loaded.now partition count extents.items site.standard) }
         ensures back { IfErr result (λ back. back.items ≡ extents.items) }
     {
-        let mut places = match empty_places(alloc, count) {
+        let mut slots = match empty_places(alloc, count) {
             Ok(places) => places,
             Err(_) => return Err(extents),
         };
-        let mut rest = extents;
-        while let Some(extent) = rest.pop() {
-            places.lower(extent.number() as u64, extent);
-        }
-        rest.destroy_empty();
+        fill_places(&mut slots, extents);
+        let homeless = Homeless::new(alloc);
+        what_holds_of_every_homeless_log(&homeless);
         return Ok(Site {
             loaded,
             standard: is_standard(loaded),
             partition,
-            slots: places,
+            slots,
             running: None,
             stopped: false,
             stops: 0,
             breakpoints: ArrayVec::new(),
-            homeless: Homeless::new(alloc),
+            homeless,
         });
     }
 
@@ -87,4 +89,19 @@ fn empty_places(alloc: Global, count: u32) -> Result<Slots<Extent>, AllocError>
         places.push_reserved(None);
     }
     Ok(Slots::of(places))
+}
+
+/// Puts extents into their places, which are empty.
+fn fill_places(slots: &mut Slots<Extent>, extents: Vec<Extent>)
+    requires numbers { AreNumbered (length slots.old - 1) extents.items }
+    requires empty { slots.old ≡ replicate (length slots.old) None }
+    ensures places { slots.new ≡ in_places (length slots.old) extents.items }
+    ensures sound { (e : ℕ) (x : ExtentState) → slice_get slots.new e ≡ Some (Some x) → IsExtent x }
+{
+    let mut rest = extents;
+    while let Some(extent) = rest.pop() {
+        what_holds_of_every_extent(&extent);
+        slots.lower(extent.number() as u64, extent);
+    }
+    rest.destroy_empty();
 }

@@ -1,14 +1,13 @@
 -- Where a call may begin, and the site with the call at its entry, by its fields.
-use Rattle.std.proofs.Common.{◌≡◌, ℕ, ◌+◌, ◌<◌, ◌≤◌, ◌^◌, Bool, true, false, is_some, if◌then◌else◌, List, [], ◌∷◌, Option, Some, None, Result, Ok, IsSome, slice_get, refl, sym, ◌∙◌, ap, subst}
+use Rattle.std.proofs.Common.{◌≡◌, ℕ, ◌+◌, ◌<◌, ◌≤◌, ◌^◌, true, is_some, List, Option, Some, None, Ok, IsSome, slice_get, refl, sym, ◌∙◌, ap, subst}
 use Rattle.std.proofs.Math.ListN.{set}
 use Rattle.std.specs.Option.{option_flatten, option_and_then, option_map_or}
 use Rattle.tatp_tables.specs.Database.{Database, no_tables}
 use Rattle.tatp_tables.specs.Home.{SubscriberRows, IsHome}
 use Rattle.tatp_numbers.specs.Homes.{home_of_key}
-use Rattle.tatp_machine.specs.Calls.{CallState, Frame, entered}
-use Rattle.tatp_machine.specs.Machines.{MachineState, machine_at_entry, call_state, homeless_call_state}
+use Rattle.tatp_machine.specs.Calls.{Frame, entered}
+use Rattle.tatp_machine.specs.Machines.{MachineState, machine_at_entry}
 use Rattle.tatp_machine.specs.Undo.{undone}
-use Rattle.tatp_machine.specs.declared.change.Change.{Change}
 use Rattle.tatp_population.specs.Extents.{ExtentState, extent_of, home_at}
 use Rattle.tatp_population.specs.HomelessLog.{HomelessState}
 use Rattle.tatp_population.specs.Pinning.{PinnedState}
@@ -18,11 +17,11 @@ use Rattle.tatp_partition.specs.declared.refusal.SiteRefusal.TheVariants.{Runnin
 use Rattle.tatp_partition.specs.declared.runner.Runner.{Runner}
 use Rattle.tatp_partition.specs.declared.site.Site.TheInside.{Inside}
 use Rattle.tatp_partition.specs.Asks.{Fits, arities_of, key_asked, procedure_asked, arguments_asked}
-use Rattle.tatp_partition.specs.Sites.{SiteState, HomelessCalls, slot, home_here, rows_here}
+use Rattle.tatp_partition.specs.Sites.{SiteState, home_here, rows_here}
 use Rattle.tatp_partition.specs.Obstacles.{unless, begin_obstacle, greater_stamp}
-use Rattle.tatp_partition.specs.Running.{at_entry, call_begun, begun}
-use Rattle.tatp_partition.specs.Showing.{with_pinned, pinned_of, rows_shown, running_shown, homeless_shown}
-use Rattle.tatp_partition.specs.Sound.{HasExtent, IsInPlace, IsSite}
+use Rattle.tatp_partition.specs.Running.{call_begun, begun}
+use Rattle.tatp_partition.specs.Showing.{with_pinned, pinned_of, rows_shown, running_shown}
+use Rattle.tatp_partition.specs.Sound.{IsInPlace, IsSite}
 use Rattle.tatp_partition.specs.Fields.{site_of, IsRunner, IsSound}
 use Rattle.tatp_partition.proofs.ListLaws.{get_set_same, set_set, set_same}
 use Rattle.tatp_partition.proofs.NameLaws.{named_own}
@@ -112,11 +111,11 @@ begun_pinned_by a item h x m laws sound may fits at has entering =
     let number : x.number ≡ e = sound.site.numbered e x here in
     let p : PinnedState = record { extent = x; s_id = h } in
     let slots : with_pinned (set a.slots e None) (Some p) ≡ s.slots =
-        ap (λ (n : ℕ). set (set a.slots e None) n (Some x)) number ∙ set_set a.slots e None (Some x) ∙ set_same a.slots e (Some x) has ∙ same_slots in
+    ap (λ (n : ℕ). set (set a.slots e None) n (Some x)) number ∙ set_set a.slots e None (Some x) ∙ set_same a.slots e (Some x) has ∙ same_slots in
     let frame : m.frame ≡ entered s.procedures (procedure_asked item.ask) (arguments_asked item.ask) item.home = ap (λ (k : MachineState). k.frame) entering in
     let rows : undone m.changes (rows_shown (Some p)) ≡ rows_here s item.home =
-        ap (λ (k : MachineState). undone k.changes (rows_shown (Some p))) entering
-        ∙ sym (ap (rows_here s) at ∙ ap (λ v. option_map_or (λ (k : SubscriberRows). k.tables) (option_and_then (λ (z : ExtentState). home_at z h) (option_flatten v)) no_tables) here) in
+    ap (λ (k : MachineState). undone k.changes (rows_shown (Some p))) entering
+    ∙ sym (ap (rows_here s) at ∙ ap (λ v. option_map_or (λ (k : SubscriberRows). k.tables) (option_and_then (λ (z : ExtentState). home_at z h) (option_flatten v)) no_tables) here) in
     let r : Runner = record { item = item; machine = m; pinned = Some p } in
     let shows : site_of (record a { slots = set a.slots e None; running = Some r }) ≡ begun s item = λ i. record s {
       slots = slots i;

@@ -1,5 +1,5 @@
 -- A site stays one where a call begins, goes on and ends.
-use Rattle.std.proofs.Common.{◌≡◌, ◌≢◌, inl, inr, ℕ, suc, ◌+◌, ◌<◌, ◌≤◌, ◌^◌, ◌&&◌, not, max, Bool, false, true, if◌then◌else◌, List, [], length, Option, Some, None, slice_get, refl, sym, ◌∙◌, ap, subst}
+use Rattle.std.proofs.Common.{◌≡◌, ◌≢◌, inl, inr, ℕ, suc, ◌+◌, ◌<◌, ◌≤◌, ◌^◌, ◌&&◌, not, max, Bool, false, true, if◌then◌else◌, List, [], Option, Some, None, slice_get, refl, sym, ◌∙◌, ap, subst}
 use Rattle.std.specs.Option.{option_flatten, option_map, option_and_then, option_map_or}
 use Rattle.std.proofs.Math.ListN.{set, length-set}
 use Rattle.tatp_encoding.specs.Modules.{Procedure}
@@ -14,12 +14,12 @@ use Rattle.tatp_population.specs.Extents.{ExtentState, IsExtent, extent_of, home
 use Rattle.tatp_population.specs.HomelessLog.{IsHomeless}
 use Rattle.tatp_partition.specs.declared.item.Item.{Item}
 use Rattle.tatp_partition.specs.Asks.{Fits, arities_of, key_asked, procedure_asked, arguments_asked}
-use Rattle.tatp_partition.specs.Sites.{SiteState, RunningCall, HomelessCalls, slot, home_here, rows_here, with_rows_here, last_stamp_here}
+use Rattle.tatp_partition.specs.Sites.{SiteState, RunningCall, HomelessCalls, home_here, rows_here, with_rows_here, last_stamp_here}
 use Rattle.tatp_partition.specs.Obstacles.{greater_stamp}
-use Rattle.tatp_partition.specs.Running.{AreRowsOf, CameByLines, after_end, at_entry, call_begun, begun}
+use Rattle.tatp_partition.specs.Running.{AreRowsOf, CameByLines, after_end, call_begun, begun}
 use Rattle.tatp_partition.specs.Sound.{HasExtent, extent_set_back, with_entry_rows, IsOnHome, IsInPlace, IsRunning, IsSite}
 use Rattle.tatp_partition.proofs.ListLaws.{same_or_not, get_set_same, set_cases}
-use Rattle.tatp_partition.proofs.HomeLaws.{IsIn, is_in_extent, home_put, put_twice, put_back, elsewhere, entry_put}
+use Rattle.tatp_partition.proofs.HomeLaws.{is_in_extent, home_put, put_twice, put_back, elsewhere, entry_put}
 
 -- ---- a site with another extent of the same number in its place, and another call
 abbrev pub with_call_and : SiteState → ℕ → ExtentState → Option RunningCall → SiteState
@@ -136,8 +136,8 @@ line_on_home s r call h rows site is at home entry own line =
     let there : home_here t h ≡ Some new = ap (λ v. option_and_then (λ (z : ExtentState). home_at z h) (option_flatten v)) (get_set_same s.slots (extent_of h) (Some y) (Some x) found.here) ∙ home_put x h (record { s_id = h; tables = place.rows }) new found.at in
     let rows_are : rows_here t (Some h) ≡ rows = ap (λ (v : Option SubscriberRows). option_map_or (λ (k : SubscriberRows). k.tables) v no_tables) there in
     let stamp_is : last_stamp_here t (Some h) ≡ last_stamp_here s (Some h) =
-        ap (λ v. option_map_or (λ (z : ExtentState). last_stamp_of z.log) (option_flatten v) 0) (get_set_same s.slots (extent_of h) (Some y) (Some x) found.here)
-        ∙ sym (ap (λ v. option_map_or (λ (z : ExtentState). last_stamp_of z.log) (option_flatten v) 0) found.here) in
+    ap (λ v. option_map_or (λ (z : ExtentState). last_stamp_of z.log) (option_flatten v) 0) (get_set_same s.slots (extent_of h) (Some y) (Some x) found.here)
+    ∙ sym (ap (λ v. option_map_or (λ (z : ExtentState). last_stamp_of z.log) (option_flatten v) 0) found.here) in
     let came : CameByLines s.procedures after rows = came_on s.procedures r call (rows_here s (Some h)) rows home entry (subst (λ (k : Option ℕ). CameByLines s.procedures r (rows_here s k)) at q.came) line in
     let runs : IsRunning t after = record {
       in_place = subst (IsInPlace t after) (sym at') (record { rows = rows; found = there; now = own; before = subst (λ (u : Database). IsHome (record { s_id = h; tables = u })) (sym entry) place.before; named = subst (λ (u : Database). home_of_key u.subscribers (key_asked r.ask) ≡ Some h) (sym entry) place.named });
@@ -147,9 +147,9 @@ line_on_home s r call h rows site is at home entry own line =
     } in
     let whole : with_rows_here (record s { running = Some after }) (Some h) rows ≡ t = ap (λ (v : Option ExtentState). record s { slots = set s.slots (extent_of h) (option_map (λ (z : ExtentState). with_home_at z h new) v); running = Some after }) (ap option_flatten found.here) in
     let own_is : IsExtent (extent_set_back (Some after) y) =
-        subst IsExtent
-        (sym (ap (λ (k : Option ℕ). with_entry_rows k call.entry y) at' ∙ entry_put h call.entry y (sym (site.numbered (extent_of h) x found.here)) ∙ ap (λ (u : Database). with_home_at y h (record { s_id = h; tables = u })) entry ∙ put_twice x h new (record { s_id = h; tables = r.call.entry })))
-        (own_extent s r h x site is at found.here) in
+    subst IsExtent
+    (sym (ap (λ (k : Option ℕ). with_entry_rows k call.entry y) at' ∙ entry_put h call.entry y (sym (site.numbered (extent_of h) x found.here)) ∙ ap (λ (u : Database). with_home_at y h (record { s_id = h; tables = u })) entry ∙ put_twice x h new (record { s_id = h; tables = r.call.entry })))
+    (own_extent s r h x site is at found.here) in
     subst IsSite (sym whole)
     (site_replaced s (extent_of h) x y (Some after) site found.here refl own_is
     (λ i z n has. let o = other_extents s r h site is at i z n has in ap (λ (k : Option ℕ). with_entry_rows k call.entry z) at' ∙ o.1 call.entry ∙ sym o.0)
@@ -216,11 +216,11 @@ call_begins s item laws site idle place fits stamp =
     (λ i z has. entry_is_back s r item.home i z site place has ∙ sym (ap (λ (k : Option RunningCall). extent_set_back k z) idle))
     site.homeless site.elsewhere
     (λ q e.
-      let same : r ≡ q = cc in
-      subst (IsRunning (begun s item)) same
-      (record {
-        in_place = place;
-        came = record { lines = 0; lead = (ap (λ (u : Database). record { frame = r.call.frame; entry = u }) (sym start), refl) };
-        fits = fits;
-        stamp = stamp;
-      }))
+    let same : r ≡ q = cc in
+    subst (IsRunning (begun s item)) same
+    (record {
+      in_place = place;
+      came = record { lines = 0; lead = (ap (λ (u : Database). record { frame = r.call.frame; entry = u }) (sym start), refl) };
+      fits = fits;
+      stamp = stamp;
+    }))

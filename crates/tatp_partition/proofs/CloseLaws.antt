@@ -2,22 +2,21 @@
 use Rattle.std.proofs.Common.{◌≡◌, ◌≢◌, ℕ, zero, suc, List, [], ◌∷◌, map, Option, Some, None, slice_get, refl, sym, ◌∙◌, ap, subst}
 use Rattle.std.specs.Option.{option_map}
 use Rattle.std.proofs.Math.ListN.{set}
-use Rattle.tatp_tables.specs.Home.{SubscriberRows}
-use Rattle.tatp_population.specs.Extents.{ExtentState, IsExtent, extent_of, home_at, with_home_at}
-use Rattle.tatp_population.specs.Pinning.{PinnedState, HasItsHome}
+use Rattle.tatp_population.specs.Extents.{ExtentState, IsExtent, extent_of, with_home_at}
+use Rattle.tatp_population.specs.Pinning.{PinnedState}
 use Rattle.tatp_partition.specs.declared.runner.Runner.{Runner}
 use Rattle.tatp_partition.specs.declared.site.Site.TheInside.{Inside}
 use Rattle.tatp_partition.specs.Sites.{SiteState, RunningCall}
 use Rattle.tatp_partition.specs.Opening.{slots_set_back}
 use Rattle.tatp_partition.specs.Showing.{with_pinned, pinned_of, IsEmptyAt, call_shown, runner_shown, running_shown}
-use Rattle.tatp_partition.specs.Sound.{extent_set_back, with_entry_rows, IsSite}
+use Rattle.tatp_partition.specs.Sound.{extent_set_back, with_entry_rows}
 use Rattle.tatp_partition.specs.Fields.{site_of, IsSound}
 use Rattle.tatp_partition.specs.Runners.{IsItsHome, extent_given_back, MayBeSetBack, slots_given_back}
-use Rattle.tatp_partition.proofs.ListLaws.{get_set_same, get_set_other}
+use Rattle.tatp_partition.proofs.ListLaws.{get_set_other}
 use Rattle.tatp_partition.proofs.HomeLaws.{stands, entry_put}
 use Rattle.tatp_partition.proofs.ShownLaws.{IsShown, pinned_slot}
 use Rattle.tatp_partition.proofs.CallLaws.{no_extent, other_extents, own_extent}
-use Rattle.tatp_partition.proofs.StepLaws.{Runs, runs, may_step}
+use Rattle.tatp_partition.proofs.StepLaws.{runs, may_step}
 
 -- ---- lists
 map_set : {A : Type 0} (f : A → A) (xs : List A) (i : ℕ) (x : A) → map f (set xs i x) ≡ set (map f xs) i (f x)
@@ -56,8 +55,8 @@ closed_by a r None h was pins =
     let s : SiteState = site_of a in
     let shown : IsShown s a.slots r.machine.frame.home None = subst (IsShown s a.slots r.machine.frame.home) pins f.shown in
     sym (
-      map_same (option_map (extent_set_back s.running)) s.slots (λ i v is. same_slot (extent_set_back s.running) v (λ z _. ap (λ (k : Option RunningCall). extent_set_back k z) f.is ∙ no_extent (runner_shown r) z (f.home ∙ shown.at)))
-      ∙ shown.shown)
+    map_same (option_map (extent_set_back s.running)) s.slots (λ i v is. same_slot (extent_set_back s.running) v (λ z _. ap (λ (k : Option RunningCall). extent_set_back k z) f.is ∙ no_extent (runner_shown r) z (f.home ∙ shown.at)))
+    ∙ shown.shown)
 closed_by a r (Some p) h was pins =
     let f = runs a r h was in
     let s : SiteState = site_of a in
@@ -67,17 +66,17 @@ closed_by a r (Some p) h was pins =
     let at : q.call.frame.home ≡ Some p.s_id = f.home ∙ shown.at.0 in
     let back : Option ExtentState → Option ExtentState = option_map (extent_set_back s.running) in
     let others : map back a.slots ≡ a.slots = map_same back a.slots (λ i v is. same_slot (extent_set_back s.running) v (λ z e.
-      let has : slice_get a.slots i ≡ Some (Some z) = is ∙ ap Some e in
-      let other : i ≢ n = λ same. let k : Some None ≡ Some (Some z) = sym shown.empty ∙ ap (slice_get a.slots) (sym same) ∙ has in cc in
-      let here : slice_get s.slots i ≡ Some (Some z) = ap (λ k. slice_get k i) shown.shown ∙ get_set_other a.slots n i (Some p.extent) other ∙ has in
-      (other_extents s q p.s_id h.site f.is at i z (λ same. other (same ∙ shown.at.1)) here).0)) in
+    let has : slice_get a.slots i ≡ Some (Some z) = is ∙ ap Some e in
+    let other : i ≢ n = λ same. let k : Some None ≡ Some (Some z) = sym shown.empty ∙ ap (slice_get a.slots) (sym same) ∙ has in cc in
+    let here : slice_get s.slots i ≡ Some (Some z) = ap (λ k. slice_get k i) shown.shown ∙ get_set_other a.slots n i (Some p.extent) other ∙ has in
+    (other_extents s q p.s_id h.site f.is at i z (λ same. other (same ∙ shown.at.1)) here).0)) in
     let own : extent_set_back s.running p.extent ≡ extent_given_back r p =
-        ap (λ (k : Option RunningCall). extent_set_back k p.extent) f.is ∙ ap (λ (k : Option ℕ). with_entry_rows k q.call.entry p.extent) at ∙ entry_put p.s_id q.call.entry p.extent shown.at.1 ∙ same_entry r p pins in
+    ap (λ (k : Option RunningCall). extent_set_back k p.extent) f.is ∙ ap (λ (k : Option ℕ). with_entry_rows k q.call.entry p.extent) at ∙ entry_put p.s_id q.call.entry p.extent shown.at.1 ∙ same_entry r p pins in
     sym (
-      ap (map back) shown.shown
-      ∙ map_set back a.slots n (Some p.extent)
-      ∙ ap (λ (xs : List (Option ExtentState)). set xs n (back (Some p.extent))) others
-      ∙ ap (λ (x : ExtentState). set a.slots n (Some x)) own)
+    ap (map back) shown.shown
+    ∙ map_set back a.slots n (Some p.extent)
+    ∙ ap (λ (xs : List (Option ExtentState)). set xs n (back (Some p.extent))) others
+    ∙ ap (λ (x : ExtentState). set a.slots n (Some x)) own)
 
 pub closed : (a : Inside) (r : Runner) → IsSound a → a.running ≡ Some r → slots_given_back r r.pinned a.slots ≡ slots_set_back (site_of a)
 closed a r h was = closed_by a r r.pinned h was refl

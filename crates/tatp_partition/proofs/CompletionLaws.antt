@@ -1,15 +1,14 @@
 -- A call that ends at a site whose fields show it.
-use Rattle.std.proofs.Common.{◌≡◌, ℕ, ◌+◌, ◌<◌, ◌≤◌, ◌^◌, ◌&&◌, max, Bool, true, false, IsTrue, IsSomeAnd, List, Option, Some, None, Ok, slice_get, refl, sym, ◌∙◌, ap, subst, arith}
+use Rattle.std.proofs.Common.{◌≡◌, ℕ, ◌+◌, ◌<◌, ◌^◌, ◌&&◌, max, Bool, true, false, IsSomeAnd, List, Option, Some, None, Ok, slice_get, refl, sym, ◌∙◌, ap, subst, arith}
 use Rattle.std.proofs.Math.ListN.{set}
 use Rattle.tatp_encoding.specs.Modules.{Procedure}
 use Rattle.tatp_tables.specs.Database.{Database, no_tables}
-use Rattle.tatp_tables.specs.Home.{SubscriberRows, IsHome}
+use Rattle.tatp_tables.specs.Home.{SubscriberRows}
 use Rattle.tatp_tables.proofs.ChangeLaws.{IsHome-none}
-use Rattle.tatp_numbers.specs.declared.key.Key.{Key}
 use Rattle.tatp_numbers.specs.Homes.{home_of_key}
 use Rattle.tatp_machine.specs.declared.progress.End.{End}
 use Rattle.tatp_machine.specs.declared.progress.Progress.TheVariants.{Ended}
-use Rattle.tatp_machine.specs.Calls.{CallState, Frame}
+use Rattle.tatp_machine.specs.Calls.{Frame}
 use Rattle.tatp_machine.specs.Lines.{Ends, rows_of_home, with_home_rows}
 use Rattle.tatp_procs.specs.declared.ask.Ask.{Ask}
 use Rattle.tatp_procs.specs.declared.ask.Ask.TheVariants.{Txn, Raw}
@@ -21,18 +20,17 @@ use Rattle.tatp_procs.specs.Consistent.{IsConsistent}
 use Rattle.tatp_procs.specs.Replies.{reply_to}
 use Rattle.tatp_procs.specs.Standard.{standard_module}
 use Rattle.tatp_procs.specs.Transactions.{Answer, transaction}
-use Rattle.tatp_population.specs.Extents.{ExtentState, extent_of, home_at, with_home_at, last_stamp_of}
-use Rattle.tatp_population.specs.HomelessLog.{HomelessState, IsHomeless, RecordsHomeless}
-use Rattle.tatp_population.specs.Pinning.{PinnedState, HasItsHome, Logs}
+use Rattle.tatp_population.specs.Extents.{ExtentState, extent_of, home_at, with_home_at}
+use Rattle.tatp_population.specs.HomelessLog.{HomelessState, IsHomeless}
+use Rattle.tatp_population.specs.Pinning.{PinnedState}
 use Rattle.tatp_partition.specs.declared.item.Item.{Item}
 use Rattle.tatp_partition.specs.declared.item.Completion.{Completion}
 use Rattle.tatp_partition.specs.declared.runner.Runner.{Runner}
 use Rattle.tatp_partition.specs.declared.site.Site.TheInside.{Inside}
 use Rattle.tatp_partition.specs.Asks.{is_transaction, key_asked, AreInDomains}
 use Rattle.tatp_partition.specs.Sites.{SiteState, RunningCall, HomelessCalls, home_here, rows_here, with_rows_here, last_stamp_here}
-use Rattle.tatp_partition.specs.Obstacles.{greater_stamp}
 use Rattle.tatp_partition.specs.Running.{AreRowsOf, CameByLines, EndsCall, is_logged, after_end, with_end, entry_of, extent_number}
-use Rattle.tatp_partition.specs.Showing.{with_pinned, pinned_of, rows_shown, call_shown, runner_shown, homeless_shown}
+use Rattle.tatp_partition.specs.Showing.{with_pinned, pinned_of, rows_shown, runner_shown, homeless_shown}
 use Rattle.tatp_partition.specs.Sound.{IsOnHome, IsInPlace, IsRunning, IsSite}
 use Rattle.tatp_partition.specs.Fields.{site_of, IsPinnedFor, IsSound}
 use Rattle.tatp_partition.specs.Runners.{OfRunning, MayEnd, GoesOnWith, Completes, Turns, TurnsRunning, IsSetFree, entry_shown, last_stamp_shown, number_shown, with_rows_shown, logs_running, slots_after, homeless_after}
@@ -41,7 +39,7 @@ use Rattle.tatp_partition.proofs.NameLaws.{none_named}
 use Rattle.tatp_partition.proofs.ShownLaws.{IsShown, pinned_slot, pinned_home, rows_are, stamp_is, number_is, rows_put, other_put, end_put, still_at, still_empty, still_stamp, still_number}
 use Rattle.tatp_partition.proofs.CallLaws.{AreRowsAlone, rows_alone, rows_put_alone, own_extent, number_after_end, end_on_home, end_without_home}
 use Rattle.tatp_partition.proofs.EndLaws.{AreTransactions, answered, transaction_ends, logs_of}
-use Rattle.tatp_partition.proofs.StepLaws.{HasTurned, turned, Runs, runs, frame_shown}
+use Rattle.tatp_partition.proofs.StepLaws.{turned, runs, frame_shown}
 
 -- ---- what is asked
 pub record IsTransaction (ask : Ask) : Type 0 where
@@ -98,9 +96,9 @@ goes_on_with : (s : SiteState) (slots : List (Option ExtentState)) (q : RunningC
     → (logged ≡ true → (call : Call) × (q.ask ≡ Txn call) × IsAnswered q call end rows)
     → GoesOnWith logged entry (with_rows_shown p rows) h
 goes_on_with s slots q home None room r rows end entry logged h shown own site is at place home_rows ask reply later answers = (
-    own.1,
-    later,
-    λ on unmixed.
+  own.1,
+  later,
+  λ on unmixed.
       let a = answers on in
       let none : q.call.entry ≡ no_tables = (subst (IsInPlace s q) shown.at place).1 in
       record {
@@ -109,7 +107,7 @@ goes_on_with s slots q home None room r rows end entry logged h shown own site i
         accepted = a.2.accepted;
         reply = reply ∙ ap (λ (k : Answer). k.reply) a.2.answer ∙ ap (λ (u : Database). (transaction a.0 u).reply) none;
       },
-  )
+)
 goes_on_with s slots q home (Some p) room r rows end entry logged h shown own site is at place home_rows ask reply later answers =
     let place_at : IsOnHome p.s_id (key_asked q.ask) (home_here s p.s_id) q.call.entry = subst (IsInPlace s q) shown.at.0 place in
     let old : SubscriberRows = record { s_id = p.s_id; tables = place_at.rows } in
@@ -118,12 +116,12 @@ goes_on_with s slots q home (Some p) room r rows end entry logged h shown own si
     let put : home_at (with_home_at p.extent p.s_id new) p.s_id ≡ Some new = home_put p.extent p.s_id old new there in (
       subst (λ (v : Option SubscriberRows). IsSomeAnd v (λ (k : SubscriberRows). k.s_id ≡ p.s_id)) (sym put) refl,
       λ on unmixed.
-        let a = answers on in
-        let named : home_of_key q.call.entry.subscribers (key_of_call a.0) ≡ Some p.s_id = subst (λ (k : Ask). home_of_key q.call.entry.subscribers (key_asked k) ≡ Some p.s_id) a.1 place_at.named in
-        logs_of p.extent p.s_id old q.call.entry rows a.0 entry there
-        (own_extent s q p.s_id p.extent site is (at ∙ shown.at.0) (stands s.slots (extent_of p.s_id) p.extent (pinned_slot s slots home p shown)))
-        unmixed (ask ∙ a.1) a.2.accepted named
-        (ap (λ k. record { reply = k; database = rows }) reply ∙ a.2.answer) later,
+          let a = answers on in
+          let named : home_of_key q.call.entry.subscribers (key_of_call a.0) ≡ Some p.s_id = subst (λ (k : Ask). home_of_key q.call.entry.subscribers (key_asked k) ≡ Some p.s_id) a.1 place_at.named in
+          logs_of p.extent p.s_id old q.call.entry rows a.0 entry there
+          (own_extent s q p.s_id p.extent site is (at ∙ shown.at.0) (stands s.slots (extent_of p.s_id) p.extent (pinned_slot s slots home p shown)))
+          unmixed (ask ∙ a.1) a.2.accepted named
+          (ap (λ k. record { reply = k; database = rows }) reply ∙ a.2.answer) later,
     )
 
 pub may_end : AreRowsAlone → AreTransactions → (a : Inside) (r r' : Runner) (end : End) → IsSound a → a.running ≡ Some r → Turns r (Ended end) r' → MayEnd end a.standard a.homeless r'
@@ -144,9 +142,9 @@ may_end alone laws a r r' end h was t =
     let frame : r'.machine.frame ≡ q.call.frame = t.ended end refl ∙ sym (frame_shown r.machine r.pinned) in
     let ends : (u : Database) → rows_of_home u home ≡ rows_here s home → Ends q.call u end (with_home_rows u home rows) = λ u same. t.steps u (same ∙ rows_are s a.slots home r.pinned f.shown) in
     let answers : logged ≡ true → (call : Call) × (q.ask ≡ Txn call) × IsAnswered q call end rows = λ on.
-        let parts = both a.standard (is_transaction r'.item.ask) on in
-        let is = asks_transaction q.ask (ap is_transaction (sym ask) ∙ parts.1) in
-        (is.call, is.asked, is_answered alone laws s q home is.call rows end f.home f.sound place t.home ends (h.site.standard.0 parts.0) is.asked) in
+    let parts = both a.standard (is_transaction r'.item.ask) on in
+    let is = asks_transaction q.ask (ap is_transaction (sym ask) ∙ parts.1) in
+    (is.call, is.asked, is_answered alone laws s q home is.call rows end f.home f.sound place t.home ends (h.site.standard.0 parts.0) is.asked) in
     record {
       stamp = stamp;
       log = subst (λ (p : Option PinnedState). GoesOnWith logged entry p a.homeless) (sym t.pinned)
@@ -193,18 +191,18 @@ ended_as a r r' end slots homeless completion h was t done slots_are log_is =
       rows = rows;
       is = f.is;
       ends = λ u same.
-        let here : rows_of_home u home ≡ rows_shown r.pinned = ap (rows_of_home u) (sym f.home) ∙ same ∙ ap (rows_here s) f.home ∙ rows_are s a.slots home r.pinned f.shown in
-        subst (λ (k : Option ℕ). Ends q.call u end (with_home_rows u k rows)) (sym f.home) (t.steps u here);
+          let here : rows_of_home u home ≡ rows_shown r.pinned = ap (rows_of_home u) (sym f.home) ∙ same ∙ ap (rows_here s) f.home ∙ rows_are s a.slots home r.pinned f.shown in
+          subst (λ (k : Option ℕ). Ends q.call u end (with_home_rows u k rows)) (sym f.home) (t.steps u here);
       home = subst (λ (k : Option ℕ). AreRowsOf k rows) (sym f.home) t.home;
       entry = done.entry ∙ made;
       extent = done.extent ∙ ap number_shown t.pinned ∙ still_number r.pinned rows ∙ number_is s a.slots home r.pinned f.shown ∙ ap extent_number (sym f.home);
       after =
-        (λ i. record s { slots = slots_are i; running = None; homeless = log_is i })
-        ∙ ap (λ (k : Bool). record s { slots = slots_after k entry r'.pinned a.slots; running = None; homeless = homeless_after k entry r'.pinned (homeless_shown a.homeless) }) logged
-        ∙ ap (λ (k : Option PinnedState). record s { slots = slots_after (is_logged left entry) entry k a.slots; running = None; homeless = homeless_after (is_logged left entry) entry k (homeless_shown a.homeless) }) t.pinned
-        ∙ sym (end_put left a.slots home p entry shown_left)
-        ∙ ap (λ (k : SiteState). with_end k home entry) (sym (rows_put idle a.slots home r.pinned rows shown))
-        ∙ ap (λ (k : Option ℕ). with_end (with_rows_here idle k rows) k entry) (sym f.home);
+          (λ i. record s { slots = slots_are i; running = None; homeless = log_is i })
+          ∙ ap (λ (k : Bool). record s { slots = slots_after k entry r'.pinned a.slots; running = None; homeless = homeless_after k entry r'.pinned (homeless_shown a.homeless) }) logged
+          ∙ ap (λ (k : Option PinnedState). record s { slots = slots_after (is_logged left entry) entry k a.slots; running = None; homeless = homeless_after (is_logged left entry) entry k (homeless_shown a.homeless) }) t.pinned
+          ∙ sym (end_put left a.slots home p entry shown_left)
+          ∙ ap (λ (k : SiteState). with_end k home entry) (sym (rows_put idle a.slots home r.pinned rows shown))
+          ∙ ap (λ (k : Option ℕ). with_end (with_rows_here idle k rows) k entry) (sym f.home);
     }
 
 ended_site : (s : SiteState) (slots : List (Option ExtentState)) (q : RunningCall) (home : Option ℕ) (p : Option PinnedState) (rows : Database) (logged : Bool) (entry : Entry) (new : List (Option ExtentState)) (log : HomelessCalls)

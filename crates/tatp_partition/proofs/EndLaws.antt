@@ -1,8 +1,7 @@
 -- A transaction's call that ends is answered as the transaction says, and goes into the log.
-use Rattle.std.proofs.Common.{◌≡◌, ℕ, ◌+◌, ◌<◌, false, List, Option, Some, None, Ok, slice_get, refl, sym, ◌∙◌, ap, subst}
+use Rattle.std.proofs.Common.{◌≡◌, ℕ, ◌<◌, false, Option, Some, Ok, sym, ◌∙◌, ap, subst}
 use Rattle.std.proofs.Math.ListN.{set}
-use Rattle.tatp_encoding.specs.Modules.{Procedure}
-use Rattle.tatp_tables.specs.Database.{Database, no_tables, of_subscriber, with_subscriber}
+use Rattle.tatp_tables.specs.Database.{Database}
 use Rattle.tatp_tables.specs.Home.{SubscriberRows, IsHome}
 use Rattle.tatp_numbers.specs.Homes.{home_of_key}
 use Rattle.tatp_machine.specs.declared.progress.End.{End}
@@ -16,14 +15,13 @@ use Rattle.tatp_procs.specs.declared.entry.Entry.{Entry}
 use Rattle.tatp_procs.specs.Arguments.{arguments_accepted}
 use Rattle.tatp_procs.specs.Calls.{key_of_call}
 use Rattle.tatp_procs.specs.Consistent.{IsConsistent}
-use Rattle.tatp_procs.specs.Performs.{Performs, CallAlone, answer_of}
+use Rattle.tatp_procs.specs.Performs.{Performs}
 use Rattle.tatp_procs.specs.Replies.{reply_to}
 use Rattle.tatp_procs.specs.Standard.{standard_module}
 use Rattle.tatp_procs.specs.Transactions.{Answer, transaction}
 use Rattle.tatp_population.specs.Extents.{ExtentState, IsExtent, home_at, with_home_at, place_in, last_stamp_of}
 use Rattle.tatp_population.specs.Pinning.{Logs}
-use Rattle.tatp_population.specs.Histories.{Records, with_tables}
-use Rattle.tatp_population.specs.HomelessLog.{RecordsHomeless}
+use Rattle.tatp_population.specs.Histories.{with_tables}
 use Rattle.tatp_partition.specs.Asks.{procedure_asked, arguments_asked}
 use Rattle.tatp_partition.specs.Sites.{RunningCall}
 use Rattle.tatp_partition.specs.Running.{CameByLines}
@@ -77,9 +75,9 @@ logs_of x h old before after call entry there own unmixed asked accepted named a
         named = named;
         reply = ap (λ (a : Answer). a.reply) answer;
         homes = sym (
-          ap (λ (u : Database). set (set y.homes i home) i (with_tables home u)) left
-          ∙ set_set y.homes i home new
-          ∙ set_set x.homes i new new);
+            ap (λ (u : Database). set (set y.homes i home) i (with_tables home u)) left
+            ∙ set_set y.homes i home new
+            ∙ set_set x.homes i new new);
       };
       later = later;
     }

@@ -1,22 +1,19 @@
 -- An extent leaves a site and lands at one: what shows, and that the site stays sound.
-use Rattle.std.proofs.Common.{◌≡◌, ◌≢◌, inl, inr, ◌⊎◌, ℕ, zero, suc, ◌+◌, ◌<◌, ◌≤◌, ◌^◌, ◌==◌, Bool, true, false, is_some, is_none, if◌then◌else◌, List, [], ◌∷◌, length, Option, Some, None, Ok, Err, slice_get, refl, sym, ◌∙◌, ap, subst, arith}
+use Rattle.std.proofs.Common.{◌≡◌, ◌≢◌, inl, inr, ℕ, zero, suc, ◌≤◌, ◌^◌, ◌==◌, Bool, true, false, is_none, List, [], ◌∷◌, Option, Some, None, Ok, Err, slice_get, refl, sym, ◌∙◌, ap, subst}
 use Rattle.std.specs.Option.{option_flatten, option_and_then, option_map, option_map_or}
 use Rattle.std.proofs.Math.ListN.{set, length-set}
 use Rattle.std.proofs.lemmas.Bool.{eq-eqb, eqb-true}
-use Rattle.std.proofs.lemmas.Bool.Decides.{nat_tests}
-use Rattle.tatp_machine.specs.Calls.{CallState}
 use Rattle.tatp_machine.specs.Machines.{MachineState}
-use Rattle.tatp_tables.specs.Home.{SubscriberRows}
 use Rattle.tatp_population.specs.Extents.{ExtentState, IsExtent, extent_of, home_at}
 use Rattle.tatp_population.specs.Pinning.{PinnedState}
 use Rattle.tatp_partition.specs.declared.refusal.SiteRefusal.TheVariants.{NotHere, Pinned, MoveCountFull}
 use Rattle.tatp_partition.specs.declared.runner.Runner.{Runner}
 use Rattle.tatp_partition.specs.declared.site.Site.TheInside.{Inside}
 use Rattle.tatp_partition.specs.Sites.{SiteState, RunningCall, slot, home_here, home_of_running}
-use Rattle.tatp_partition.specs.Obstacles.{first_of, is_pinned, is_move_count_full, take_obstacle}
-use Rattle.tatp_partition.specs.Moving.{LandedState, moved, with_extent, Takes, Gives, HasPlaceFor}
+use Rattle.tatp_partition.specs.Obstacles.{first_of, is_pinned, is_move_count_full}
+use Rattle.tatp_partition.specs.Moving.{LandedState, moved, with_extent, Takes, Gives}
 use Rattle.tatp_partition.specs.Showing.{with_pinned, pinned_of, IsEmptyAt, is_in, call_shown, running_shown}
-use Rattle.tatp_partition.specs.Sound.{HasExtent, extent_set_back, with_entry_rows, IsInPlace, IsRunning, IsSite}
+use Rattle.tatp_partition.specs.Sound.{extent_set_back, IsInPlace, IsRunning, IsSite}
 use Rattle.tatp_partition.specs.Fields.{site_of, IsPinnedFor, IsRunner, IsSound}
 use Rattle.tatp_partition.proofs.ListLaws.{same_or_not, differs, get_set_same, get_set_other}
 use Rattle.tatp_partition.proofs.HomeLaws.{stays_set_back}

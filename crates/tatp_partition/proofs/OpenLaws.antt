@@ -1,12 +1,11 @@
 -- Extents put into the places of a site that is opened.
-use Rattle.std.proofs.Common.{◌≡◌, ◌≢◌, inl, inr, ℕ, zero, suc, ◌+◌, ◌-◌, ◌<◌, ◌≤◌, ◌^◌, ◌==◌, ◌↔◌, Bool, true, false, IsTrue, cond, List, [], ◌∷◌, ◌++◌, length, map, find, replicate, Option, Some, None, slice_get, refl, sym, ◌∙◌, ap, subst, arith}
+use Rattle.std.proofs.Common.{◌≡◌, ◌≢◌, inl, inr, ℕ, zero, suc, ◌+◌, ◌-◌, ◌<◌, ◌≤◌, ◌^◌, ◌==◌, ◌↔◌, Bool, true, false, IsTrue, cond, List, [], ◌∷◌, ◌++◌, length, map, replicate, Option, Some, None, slice_get, refl, sym, ◌∙◌, ap, subst, arith}
 use Rattle.std.specs.List.{range_with_len}
 use Rattle.std.proofs.Math.ListN.{set}
 use Rattle.std.proofs.Math.Seq.{append_snoc}
 use Rattle.std.proofs.lemmas.List.{append-nil}
 use Rattle.std.proofs.lemmas.Bool.{eq-eqb, eqb-true}
 use Rattle.std.proofs.lemmas.List.FromFn.{length-map-range_with_len}
-use Rattle.tatp_encoding.specs.Modules.{Procedure}
 use Rattle.tatp_procs.specs.Standard.{standard_module}
 use Rattle.tatp_population.specs.Extents.{ExtentState, IsExtent}
 use Rattle.tatp_population.specs.HomelessLog.{IsHomeless}
@@ -82,9 +81,9 @@ none_placed places all slots empty =
       whole = sym (append-nil all);
       slots_are = are;
       sound = λ e x is.
-        let there : slice_get (in_places places []) e ≡ Some (Some x) = ap (λ k. slice_get k e) (sym are) ∙ is in
-        let empty_there = range_get (extent_numbered []) places e 0 e (omega arith) (range_past (extent_numbered []) places e 0 (Some x) there) in
-        absurd (let f : Some None ≡ Some (Some x) = sym empty_there ∙ there in cc);
+          let there : slice_get (in_places places []) e ≡ Some (Some x) = ap (λ k. slice_get k e) (sym are) ∙ is in
+          let empty_there = range_get (extent_numbered []) places e 0 e (omega arith) (range_past (extent_numbered []) places e 0 (Some x) there) in
+          absurd (let f : Some None ≡ Some (Some x) = sym empty_there ∙ there in cc);
     }
 
 -- one more, which was the last of the rest
@@ -102,10 +101,10 @@ its_place_is_free places all rest x slots numbers p =
     let whole = together all rest p.placed x p.whole in
     let here : slice_get all (length rest) ≡ Some x = ap (λ k. slice_get k (length rest)) whole ∙ seam rest x p.placed in
     let none : extent_numbered p.placed x.number ≡ None = none_numbered p.placed x.number (λ j y is same.
-        let k : ℕ = length rest + suc j in
-        let there : slice_get all k ≡ Some y = ap (λ xs. slice_get xs k) whole ∙ past_seam rest x p.placed j k refl ∙ is in
-        let apart : length rest ≢ k = λ e. omega (arith, e) in
-        numbers.differ (length rest) k x y here there apart (sym same)) in
+    let k : ℕ = length rest + suc j in
+    let there : slice_get all k ≡ Some y = ap (λ xs. slice_get xs k) whole ∙ past_seam rest x p.placed j k refl ∙ is in
+    let apart : length rest ≢ k = λ e. omega (arith, e) in
+    numbers.differ (length rest) k x y here there apart (sym same)) in
     ap (λ k. slice_get k x.number) p.slots_are ∙ range_get (extent_numbered p.placed) places x.number 0 x.number (omega arith) (its_place places all rest x slots numbers p) ∙ ap Some none
 
 pub one_more_placed : (places : ℕ) (all rest : List ExtentState) (x : ExtentState) (slots : List (Option ExtentState)) → AreNumbered (places - 1) all → ArePlaced places all (rest ++ x ∷ []) slots → IsExtent x → ArePlaced places all rest (set slots x.number (Some x))
@@ -119,9 +118,9 @@ one_more_placed places all rest x slots numbers p own =
       placed = x ∷ p.placed;
       whole = together all rest p.placed x p.whole;
       slots_are =
-        ap (λ k. set k n (Some x)) p.slots_are
-        ∙ ap (set (map before (range_with_len 0 places)) n) it
-        ∙ range_set before after places n 0 n (omega arith) (its_place places all rest x slots numbers p) others;
+          ap (λ k. set k n (Some x)) p.slots_are
+          ∙ ap (set (map before (range_with_len 0 places)) n) it
+          ∙ range_set before after places n 0 n (omega arith) (its_place places all rest x slots numbers p) others;
       sound = λ e y is. elim (set_cases slots n e (Some x) None (Some y) (its_place_is_free places all rest x slots numbers p) is) as (λ _. IsExtent y) [
         | inl here ↦ let same : x ≡ y = cc in subst IsExtent same own
         | inr there ↦ p.sound e y there.1
@@ -142,10 +141,10 @@ opened_is_sound a places all idle slots_are least most sound standard history un
         least = subst (λ (n : ℕ). 1 ≤ n) (sym long) least;
         most = subst (λ (n : ℕ). n ≤ 2 ^ 32) (sym long) most;
         numbered = λ e x has.
-          let found : slice_get (in_places places all) e ≡ Some (Some x) = ap (λ k. slice_get k e) (sym slots_are) ∙ there e x has in
-          let at = range_get (extent_numbered all) places e 0 e (omega arith) (range_past (extent_numbered all) places e 0 (Some x) found) in
-          let one : Some (extent_numbered all e) ≡ Some (Some x) = sym at ∙ found in
-          its_number all e x cc;
+            let found : slice_get (in_places places all) e ≡ Some (Some x) = ap (λ k. slice_get k e) (sym slots_are) ∙ there e x has in
+            let at = range_get (extent_numbered all) places e 0 e (omega arith) (range_past (extent_numbered all) places e 0 (Some x) found) in
+            let one : Some (extent_numbered all e) ≡ Some (Some x) = sym at ∙ found in
+            its_number all e x cc;
         extents = λ e x has. subst (λ (k : Option RunningCall). IsExtent (extent_set_back k x)) (sym none) (sound e x (there e x has));
         running = λ r is. let f : None ≡ Some r = sym none ∙ is in absurd cc;
         standard = standard;

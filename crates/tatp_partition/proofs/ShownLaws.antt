@@ -1,5 +1,5 @@
 -- The pinned extent that a site shows in its place, its home's rows, and what becomes of it.
-use Rattle.std.proofs.Common.{◌≡◌, ℕ, ◌&&◌, Bool, List, length, Option, Some, None, slice_get, refl, sym, ◌∙◌, ap, subst}
+use Rattle.std.proofs.Common.{◌≡◌, ℕ, List, Option, Some, None, refl, sym, ◌∙◌, ap}
 use Rattle.std.specs.Option.{option_flatten, option_map, option_and_then, option_map_or}
 use Rattle.std.proofs.Math.ListN.{set}
 use Rattle.tatp_tables.specs.Database.{Database, no_tables}

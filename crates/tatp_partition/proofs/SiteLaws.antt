@@ -1,21 +1,17 @@
 -- What a site keeps.
-use Rattle.std.proofs.Common.{◌≡◌, ◌≢◌, ◌⊎◌, inl, inr, ℕ, ◌+◌, ◌<◌, ◌≤◌, ◌^◌, ◌==◌, max, Bool, true, false, is_some, List, length, Option, Some, None, slice_get, refl, sym, ◌∙◌, ap, subst}
-use Rattle.std.specs.Option.{option_flatten, option_and_then, option_map_or}
-use Rattle.std.proofs.Math.ListN.{set}
+use Rattle.std.proofs.Common.{◌≡◌, ℕ, ◌+◌, ◌<◌, ◌≤◌, ◌^◌, max, Bool, List, length, Option, Some, None, refl, sym, ◌∙◌, ap, subst}
+use Rattle.std.specs.Option.{option_and_then, option_map_or}
 use Rattle.arrayvec.specs.ArrayVec.{ArrayVec}
-use Rattle.tatp_tables.specs.Database.{Database, no_tables}
-use Rattle.tatp_tables.specs.Home.{SubscriberRows, IsHome}
-use Rattle.tatp_numbers.specs.Homes.{home_of_key}
-use Rattle.tatp_population.specs.Extents.{ExtentState, IsExtent, extent_of, home_at, last_stamp_of}
+use Rattle.tatp_tables.specs.Database.{no_tables}
+use Rattle.tatp_tables.specs.Home.{SubscriberRows}
+use Rattle.tatp_population.specs.Extents.{ExtentState, extent_of, home_at, last_stamp_of}
 use Rattle.tatp_partition.specs.declared.item.Breakpoint.{Breakpoint}
-use Rattle.tatp_partition.specs.Asks.{key_asked}
-use Rattle.tatp_partition.specs.Sites.{SiteState, RunningCall, slot, home_here, rows_here, last_stamp_here, home_of_running}
-use Rattle.tatp_partition.specs.Obstacles.{greater_stamp, is_pinned}
+use Rattle.tatp_partition.specs.Sites.{SiteState, RunningCall, slot, rows_here}
+use Rattle.tatp_partition.specs.Obstacles.{greater_stamp}
 use Rattle.tatp_partition.specs.Running.{CameByLines}
-use Rattle.tatp_partition.specs.Sound.{HasExtent, IsInPlace, IsRunning, IsSite}
+use Rattle.tatp_partition.specs.Sound.{IsInPlace, IsSite}
 use Rattle.tatp_partition.specs.declared.site.Site.TheInside.{Inside}
 use Rattle.tatp_partition.specs.Fields.{site_of, IsSound}
-use Rattle.tatp_partition.proofs.ListLaws.{same_or_not, get_set_same, get_set_other}
 
 -- stops and breakpoints change nothing else
 pub site_with : (s : SiteState) (stopped : Bool) (stops : ℕ) (breakpoints : List Breakpoint) → length breakpoints ≤ 8 → IsSite s → IsSite (record s { stopped = stopped; stops = stops; breakpoints = breakpoints })

@@ -1,14 +1,14 @@
 -- One instruction at a site whose fields show a running call.
-use Rattle.std.proofs.Common.{◌≡◌, ℕ, ◌+◌, ◌<◌, ◌^◌, max, Bool, true, is_some, List, Option, Some, None, IsSomeAnd, refl, sym, ◌∙◌, ap, subst}
-use Rattle.tatp_tables.specs.Database.{Database, no_tables, of_subscriber, with_subscriber}
-use Rattle.tatp_tables.specs.Home.{SubscriberRows, HaveSId}
+use Rattle.std.proofs.Common.{◌≡◌, ℕ, Bool, true, is_some, List, Option, Some, None, IsSomeAnd, refl, sym, ◌∙◌, ap, subst}
+use Rattle.tatp_tables.specs.Database.{Database, no_tables}
+use Rattle.tatp_tables.specs.Home.{SubscriberRows}
 use Rattle.tatp_machine.specs.declared.progress.Progress.{Progress}
 use Rattle.tatp_machine.specs.declared.progress.Progress.TheVariants.{Running}
 use Rattle.tatp_machine.specs.Calls.{CallState, Frame}
 use Rattle.tatp_machine.specs.Lines.{Line, rows_of_home, with_home_rows}
 use Rattle.tatp_machine.specs.Machines.{MachineState, IsLater}
 use Rattle.tatp_population.specs.Extents.{ExtentState, home_at}
-use Rattle.tatp_population.specs.Pinning.{PinnedState, HasItsHome}
+use Rattle.tatp_population.specs.Pinning.{PinnedState}
 use Rattle.tatp_partition.specs.declared.item.Breakpoint.{Breakpoint}
 use Rattle.tatp_partition.specs.declared.item.Item.{Item}
 use Rattle.tatp_partition.specs.declared.runner.Runner.{Runner}
@@ -141,15 +141,15 @@ moved_on a r r' h was t =
       rows = rows;
       is = f.is;
       line = λ u same.
-        let here : rows_of_home u home ≡ rows_shown r.pinned = ap (rows_of_home u) (sym f.home) ∙ same ∙ ap (rows_here s) f.home ∙ rows_are s a.slots home r.pinned f.shown in
-        subst (λ (k : Option ℕ). Line q.call u call (with_home_rows u k rows)) (sym f.home) (t.steps u here);
+          let here : rows_of_home u home ≡ rows_shown r.pinned = ap (rows_of_home u) (sym f.home) ∙ same ∙ ap (rows_here s) f.home ∙ rows_are s a.slots home r.pinned f.shown in
+          subst (λ (k : Option ℕ). Line q.call u call (with_home_rows u k rows)) (sym f.home) (t.steps u here);
       later = later_shown r.machine r'.machine r.pinned r'.pinned (t.running refl).1;
       home = subst (λ (k : Option ℕ). AreRowsOf k rows) (sym f.home) t.home;
       after =
-        ap (λ (i : Item). record s { slots = with_pinned a.slots r'.pinned; running = Some (record { client = i.client; number = i.number; seen = i.seen; ask = i.ask; call = call }) }) t.item
-        ∙ ap (λ (p : Option PinnedState). record went { slots = with_pinned a.slots p }) t.pinned
-        ∙ sym (rows_put went a.slots home r.pinned rows shown)
-        ∙ ap (λ (k : Option ℕ). with_rows_here went k rows) (sym f.home);
+          ap (λ (i : Item). record s { slots = with_pinned a.slots r'.pinned; running = Some (record { client = i.client; number = i.number; seen = i.seen; ask = i.ask; call = call }) }) t.item
+          ∙ ap (λ (p : Option PinnedState). record went { slots = with_pinned a.slots p }) t.pinned
+          ∙ sym (rows_put went a.slots home r.pinned rows shown)
+          ∙ ap (λ (k : Option ℕ). with_rows_here went k rows) (sym f.home);
     }
 
 pub sound_on : AreRowsAlone → (a : Inside) (r r' : Runner) → IsSound a → a.running ≡ Some r → Turns r Running r' → IsSound (record a { running = Some r' })
@@ -160,9 +160,9 @@ sound_on laws a r r' h was t =
       site = goes_on laws (site_of a) (site_of (record a { running = Some r' })) (moved_on a r r' h was t) h.site;
       emptied = subst (IsEmptyAt a.slots) (sym t.pinned) (still_empty a.slots r.pinned (rows_shown r'.pinned) f.shown.empty);
       runner = λ q e.
-        let same : r' ≡ q = cc in
-        subst (IsRunner a.homeless.room) same
-        (record { going = on.0; pinned = subst (IsPinnedFor a.homeless.room r') (sym t.pinned) (still_pinned a.homeless.room r r' r.pinned (rows_shown r'.pinned) on.1.home f.runner.pinned) });
+          let same : r' ≡ q = cc in
+          subst (IsRunner a.homeless.room) same
+          (record { going = on.0; pinned = subst (IsPinnedFor a.homeless.room r') (sym t.pinned) (still_pinned a.homeless.room r r' r.pinned (rows_shown r'.pinned) on.1.home f.runner.pinned) });
     }
 
 -- as the code knows it

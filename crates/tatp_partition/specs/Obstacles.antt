@@ -1,5 +1,5 @@
 -- Why a method is refused: the first obstacle that is there, in their order.
-use Rattle.std.specs.Prelude.{ℕ, ◌-◌, ◌^◌, ◌==◌, ◌&&◌, nat_le, max, not, Bool, false, if◌then◌else◌, List, [], ◌∷◌, length, is_some, is_none, Option, Some, None, Result, Ok, Err}
+use Rattle.std.specs.Prelude.{ℕ, ◌-◌, ◌^◌, ◌==◌, ◌&&◌, max, not, Bool, false, if◌then◌else◌, List, [], ◌∷◌, length, is_some, is_none, Option, Some, None, Result, Ok, Err}
 use Rattle.std.specs.Option.{option_map_or}
 use Rattle.tatp_tables.specs.Home.{SubscriberRows}
 use Rattle.tatp_numbers.specs.Homes.{home_of_key}

@@ -17,7 +17,7 @@ use Rattle.tatp_partition.specs.declared.runner.Runner.{Runner}
 use Rattle.tatp_partition.specs.Asks.{is_transaction}
 use Rattle.tatp_partition.specs.Sites.{HomelessCalls}
 use Rattle.tatp_partition.specs.Running.{AreRowsOf, after_end, homeless_after_end}
-use Rattle.tatp_partition.specs.Showing.{rows_shown, call_shown, homeless_shown}
+use Rattle.tatp_partition.specs.Showing.{rows_shown, call_shown}
 
 -- this holds of the call that runs, and there is one
 abbrev pub OfRunning : (Runner → Type 0) → Option Runner → Type 0

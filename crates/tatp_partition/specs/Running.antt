@@ -22,7 +22,7 @@ use Rattle.tatp_partition.specs.declared.refusal.SiteRefusal.{SiteRefusal}
 use Rattle.tatp_partition.specs.declared.refusal.SiteRefusal.TheVariants.{NotHere}
 use Rattle.tatp_partition.specs.Asks.{procedure_asked, arguments_asked, is_transaction}
 use Rattle.tatp_partition.specs.Sites.{SiteState, RunningCall, HomelessCalls, rows_here, with_rows_here, with_slot}
-use Rattle.tatp_partition.specs.Obstacles.{begin_obstacle, step_obstacle, one_obstacle, greater_stamp}
+use Rattle.tatp_partition.specs.Obstacles.{begin_obstacle, greater_stamp}
 
 -- ---- beginning
 -- the call at its entry, with the rows of its home here

@@ -1,5 +1,5 @@
 -- What contracts see of a site, and where homes stand in it.
-use Rattle.std.specs.Prelude.{◌≡◌, ℕ, Bool, List, length, Option, Some, None, slice_get, slice_set, refl}
+use Rattle.std.specs.Prelude.{ℕ, Bool, List, Option, Some, None, slice_get, slice_set, refl}
 use Rattle.std.specs.Option.{option_map, option_map_or, option_and_then, option_flatten}
 use Rattle.std.specs.Coded.{Coded, code_by, coded×, coded_ℕ, coded_bool, coded_list, coded_option}
 use Rattle.tatp_instr.specs.declared.instr.Instr.{Instr}

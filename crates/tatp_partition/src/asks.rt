@@ -92,8 +92,6 @@ pub fn enter<'m>(loaded: &'m Loaded, item: &Item) -> Machine<'m>
         Ask::Txn(call) => {
             Machine::enter(loaded, call.procedure(), call.args().as_slice(), item.home)
         }
-        Ask::Raw(raw) => {
-            Machine::enter(loaded, raw.procedure() as usize, raw.args(), item.home)
-        }
+        Ask::Raw(raw) => { Machine::enter(loaded, raw.procedure() as usize, raw.args(), item.home) }
     }
 }

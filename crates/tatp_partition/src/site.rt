@@ -6,12 +6,11 @@ mod reading;
 mod running;
 mod stopping;
 
-pub use reading::what_holds_of_every_site;
-
 use crate::Breakpoint;
 use crate::runner::Runner;
 use crate::slots::Slots;
 use arrayvec::ArrayVec;
+pub use reading::what_holds_of_every_site;
 use std::marker::Model;
 use tatp_loader::Loaded;
 use tatp_population::{Extent, Homeless};

@@ -16,4 +16,4 @@ pub returns-in-Some-home-clause-place : goal.returns-in-Some-home-clause-place
 returns-in-Some-home-clause-place c =
     always c.stamp_left-in-Some-home.result _
     (rw (← c.self.view_is)
-      (begins_at c.self.inside c.args.item.now c.in-Some.s_id c.in-Some-get.extent.now c.in-Some-home.home.now (idle c.self.inside.running (sym c.is_some.ensures ∙ c.if-is_some.false)) c.in-Some.is (search rules) (search rules) c.in-Some-home.ensures.own c.what_holds_of_every_home.ensures (sym c.is_named.ensures ∙ c.if-not-is_named.false)))
+    (begins_at c.self.inside c.args.item.now c.in-Some.s_id c.in-Some-get.extent.now c.in-Some-home.home.now (idle c.self.inside.running (sym c.is_some.ensures ∙ c.if-is_some.false)) c.in-Some.is (search rules) (search rules) c.in-Some-home.ensures.own c.what_holds_of_every_home.ensures (sym c.is_named.ensures ∙ c.if-not-is_named.false)))

@@ -1,4 +1,4 @@
-use Rattle.std.proofs.Common.{sym, ◌∙◌, ap}
+use Rattle.std.proofs.Common.{◌∙◌, ap}
 use Rattle.tatp_partition.specs.Opening.{slots_set_back}
 use Rattle.tatp_partition.proofs.CloseLaws.{may_be_set_back, closed, closed_idle}
 use Rattle.tatp_partition.proofs.site.Site.close.Goals as goal

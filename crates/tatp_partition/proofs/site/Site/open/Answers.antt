@@ -1,4 +1,4 @@
-use Rattle.std.proofs.Common.{◌≡◌, ℕ, ◌+◌, ◌≤◌, ◌^◌, false, List, length, refl, sym, ◌∙◌, ap, subst, arith, None}
+use Rattle.std.proofs.Common.{◌≡◌, ◌+◌, ◌≤◌, false, List, length, refl, sym, ◌∙◌, ap, subst, arith, None}
 use Rattle.std.proofs.lemmas.List.{length-replicate}
 use Rattle.tatp_partition.specs.declared.item.Breakpoint.{Breakpoint}
 use Rattle.tatp_partition.specs.Fields.{IsSound}

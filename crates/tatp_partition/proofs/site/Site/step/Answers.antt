@@ -1,6 +1,4 @@
 use Rattle.std.proofs.Common.{sym}
-use Rattle.tatp_partition.proofs.CallLaws.{AreRowsAlone}
-use Rattle.tatp_partition.proofs.EndLaws.{AreTransactions}
 use Rattle.tatp_partition.proofs.StepLaws.{may_turn, free_runs, HasMoved, has_moved}
 use Rattle.tatp_partition.proofs.CompletionLaws.{ready_to_end, HasEnded, has_ended}
 use Rattle.tatp_partition.proofs.site.Site.step.Goals as goal

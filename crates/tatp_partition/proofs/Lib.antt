@@ -1,0 +1,15 @@
+pub mod ListLaws
+pub mod HomeLaws
+pub mod PlaceLaws
+pub mod SiteLaws
+pub mod CallLaws
+pub mod MoveLaws
+pub mod NameLaws
+pub mod BeginLaws
+pub mod ShownLaws
+pub mod EndLaws
+pub mod StepLaws
+pub mod CompletionLaws
+pub mod CloseLaws
+pub mod OpenLaws
+pub mod RunnerLaws

@@ -1,0 +1,12 @@
+pub mod Asks
+pub mod Sites
+pub mod Breaks
+pub mod Obstacles
+pub mod Moving
+pub mod Running
+pub mod Stopping
+pub mod Showing
+pub mod Runners
+pub mod Sound
+pub mod Fields
+pub mod Opening

@@ -1,0 +1,160 @@
+//! A call that begins, goes on and ends.
+ghost use Rattle.std.specs.Prelude.{◌≡◌, None, Some};
+ghost use Rattle.tatp_partition.specs.Obstacles.{obstacle_to_step};
+ghost use Rattle.tatp_partition.specs.Showing.{running_shown};
+
+use super::Site;
+use super::reading::extent_of;
+use super::stopping::is_break;
+use crate::asks::enter;
+use crate::runner::{Runner, end_running, turn};
+use crate::slots::fill;
+use crate::{Breakpoint, Item, Offer, SiteRefusal, Stepped};
+use arrayvec::ArrayVec;
+use std::alloc::Global;
+use tatp_machine::{Progress, lines_then_an_end_are_a_run};
+use tatp_population::homes_stand_in_their_places;
+use tatp_procs::{clean_rows_and_homes_are_consistent, standard_procedures_are_transactions};
+use tatp_tables::rows_of_one_subscriber;
+
+impl<'m> Site<'m> {
+    ghost use Rattle.tatp_partition.specs.Asks.{Fits, arities_of};
+    ghost use Rattle.tatp_partition.specs.Obstacles.{step_obstacle, one_obstacle};
+    ghost use Rattle.tatp_partition.specs.Running.{Begins, AdvancesUnless};
+    ghost use Rattle.tatp_partition.specs.Sound.{IsSite};
+
+    /// Begins a call, unless its home isn't here.
+    pub fn offer_begin(&mut self, alloc: Global, item: Item) -> Result<Offer, SiteRefusal>
+        requires { Fits (arities_of self.old.procedures) item.ask }
+        ensures begins { Begins self.old item result self.new }
+        ensures site { IsSite self.new }
+    {
+        match self.check_item(&item) {
+            Err(SiteRefusal::NotHere) => return Ok(Offer::Away(item)),
+            Err(refusal) => return Err(refusal),
+            Ok(()) => {}
+        }
+        rows_of_one_subscriber();
+        homes_stand_in_their_places();
+        match item.home {
+            None => {
+                if self.homeless.reserve(alloc).is_err() {
+                    return Ok(Offer::Denied(item));
+                }
+                let machine = enter(self.loaded, &item);
+                fill(
+                    &mut self.running,
+                    Runner {
+                        item,
+                        machine,
+                        pinned: None,
+                    },
+                );
+                return Ok(Offer::Began);
+            }
+            Some(s_id) => match self.slots.lift(extent_of(s_id)) {
+                None => unreachable!(),
+                Some(extent) => match extent.pin(alloc, s_id) {
+                    Err(extent) => {
+                        self.slots.lower(extent_of(s_id), extent);
+                        return Ok(Offer::Denied(item));
+                    }
+                    Ok(pinned) => {
+                        let machine = enter(self.loaded, &item);
+                        fill(
+                            &mut self.running,
+                            Runner {
+                                item,
+                                machine,
+                                pinned: Some(pinned),
+                            },
+                        );
+                        return Ok(Offer::Began);
+                    }
+                },
+            },
+        }
+    }
+
+    /// One instruction of the running call, unless the site is stopped or has a breakpoint there.
+    pub fn step(&mut self) -> Result<Stepped, SiteRefusal>
+        ensures steps { AdvancesUnless (step_obstacle self.old) self.old result self.new }
+        ensures site { IsSite self.new }
+    {
+        match step_refusal(&self.running, self.stopped, &self.breakpoints) {
+            Some(refusal) => return Err(refusal),
+            None => {}
+        }
+        rows_of_one_subscriber();
+        lines_then_an_end_are_a_run();
+        standard_procedures_are_transactions();
+        clean_rows_and_homes_are_consistent();
+        match turn(&mut self.running) {
+            Progress::Running => return Ok(Stepped::Moved),
+            Progress::Ended(end) => {
+                let completion = end_running(
+                    &mut self.running,
+                    end,
+                    self.standard,
+                    &mut self.slots,
+                    &mut self.homeless,
+                );
+                return Ok(Stepped::Ended(completion));
+            }
+        }
+    }
+
+    /// One instruction of the running call, whether or not the site is stopped or has a breakpoint
+    /// there.
+    pub fn one(&mut self) -> Result<Stepped, SiteRefusal>
+        ensures steps { AdvancesUnless (one_obstacle self.old) self.old result self.new }
+        ensures site { IsSite self.new }
+    {
+        if self.running.is_none() {
+            return Err(SiteRefusal::NotRunning);
+        }
+        rows_of_one_subscriber();
+        lines_then_an_end_are_a_run();
+        standard_procedures_are_transactions();
+        clean_rows_and_homes_are_consistent();
+        match turn(&mut self.running) {
+            Progress::Running => return Ok(Stepped::Moved),
+            Progress::Ended(end) => {
+                let completion = end_running(
+                    &mut self.running,
+                    end,
+                    self.standard,
+                    &mut self.slots,
+                    &mut self.homeless,
+                );
+                return Ok(Stepped::Ended(completion));
+            }
+        }
+    }
+}
+
+/// Why a step is not made.
+fn step_refusal(
+    running: &Option<Runner<'_>>,
+    stopped: bool,
+    breakpoints: &ArrayVec<Breakpoint, 8>,
+) -> Option<SiteRefusal>
+    ensures { result ≡ obstacle_to_step (running_shown running.now) stopped breakpoints.now.items }
+{
+    match running {
+        None => Some(SiteRefusal::NotRunning),
+        Some(runner) => {
+            if stopped {
+                Some(SiteRefusal::Stopped)
+            } else if is_break(
+                breakpoints,
+                runner.machine.proc() as u64,
+                runner.machine.pc() as u64,
+            ) {
+                Some(SiteRefusal::AtBreak)
+            } else {
+                None
+            }
+        }
+    }
+}

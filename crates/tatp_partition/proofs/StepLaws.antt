@@ -1,5 +1,5 @@
 -- One instruction at a site whose fields show a running call.
-use Rattle.std.proofs.Common.{◌≡◌, ℕ, Bool, true, is_some, List, Option, Some, None, IsSomeAnd, refl, sym, ◌∙◌, ap, subst}
+use Rattle.std.proofs.Common.{◌≡◌, ℕ, Bool, true, false, is_some, is_none, if◌then◌else◌, List, Option, Some, None, Result, Ok, Err, IsSomeAnd, refl, sym, ◌∙◌, ap, subst}
 use Rattle.tatp_tables.specs.Database.{Database, no_tables}
 use Rattle.tatp_tables.specs.Home.{SubscriberRows}
 use Rattle.tatp_machine.specs.declared.progress.Progress.{Progress}
@@ -11,11 +11,14 @@ use Rattle.tatp_population.specs.Extents.{ExtentState, home_at}
 use Rattle.tatp_population.specs.Pinning.{PinnedState}
 use Rattle.tatp_partition.specs.declared.item.Breakpoint.{Breakpoint}
 use Rattle.tatp_partition.specs.declared.item.Item.{Item}
+use Rattle.tatp_partition.specs.declared.item.Stepped.{Stepped}
+use Rattle.tatp_partition.specs.declared.refusal.SiteRefusal.{SiteRefusal}
+use Rattle.tatp_partition.specs.declared.refusal.SiteRefusal.TheVariants.{NotRunning}
 use Rattle.tatp_partition.specs.declared.runner.Runner.{Runner}
 use Rattle.tatp_partition.specs.declared.site.Site.TheInside.{Inside}
 use Rattle.tatp_partition.specs.Sites.{SiteState, RunningCall, rows_here, with_rows_here}
-use Rattle.tatp_partition.specs.Obstacles.{obstacle_to_step, one_obstacle}
-use Rattle.tatp_partition.specs.Running.{AreRowsOf, GoesOn}
+use Rattle.tatp_partition.specs.Obstacles.{obstacle_to_step, step_obstacle, one_obstacle}
+use Rattle.tatp_partition.specs.Running.{AreRowsOf, GoesOn, AdvancesUnless}
 use Rattle.tatp_partition.specs.Showing.{with_pinned, pinned_of, IsEmptyAt, rows_shown, call_shown, runner_shown, running_shown}
 use Rattle.tatp_partition.specs.Sound.{IsInPlace, IsRunning, IsSite}
 use Rattle.tatp_partition.specs.Fields.{site_of, IsPinnedFor, IsRunner, IsSound}
@@ -87,13 +90,19 @@ may_step a r h was =
 pub may_turn : (a : Inside) → IsSound a → is_some a.running ≡ true → OfRunning MayStep a.running
 may_turn a h some = elim a.running as (λ (r : Option Runner). a.running ≡ r → is_some r ≡ true → OfRunning MayStep r) [ None ↦ λ e k. absurd cc | Some r ↦ λ e k. may_step a r h e ] refl some
 
--- where nothing stands against a step, a call runs
-pub free_runs : (running : Option Runner) (stopped : Bool) (breakpoints : List Breakpoint) → obstacle_to_step (running_shown running) stopped breakpoints ≡ None → is_some running ≡ true
-free_runs None stopped breakpoints h = absurd cc
-free_runs (Some r) stopped breakpoints h = refl
-
 pub runs_free : (a : Inside) → is_some a.running ≡ true → one_obstacle (site_of a) ≡ None
 runs_free a some = elim a.running as (λ (r : Option Runner). is_some r ≡ true → one_obstacle (record (site_of a) { running = running_shown r }) ≡ None) [ None ↦ λ k. absurd cc | Some r ↦ λ k. refl ] some
+
+-- a step that nothing stands against is made as one
+some_runs : (running : Option RunningCall) (stopped : Bool) (breakpoints : List Breakpoint) → obstacle_to_step running stopped breakpoints ≡ None → is_none running ≡ false
+some_runs None stopped breakpoints h = absurd cc
+some_runs (Some r) stopped breakpoints h = refl
+
+pub steps_as_one : (s : SiteState) (result : Result Stepped SiteRefusal) (s' : SiteState) → step_obstacle s ≡ None → AdvancesUnless (one_obstacle s) s result s' → AdvancesUnless (step_obstacle s) s result s'
+steps_as_one s (Ok stepped) s' free h = (free, h.1)
+steps_as_one s (Err refusal) s' free h =
+    let none : one_obstacle s ≡ None = ap (λ (b : Bool). if b then Some NotRunning else None) (some_runs s.running s.stopped s.breakpoints free) in
+    absurd (let f : None ≡ Some refusal = sym none ∙ h.0 in cc)
 
 -- ---- a site goes on
 goes_on_at : AreRowsAlone → (s s' : SiteState) (g : GoesOn s s') (home : Option ℕ) → IsSite s → g.running.call.frame.home ≡ home → IsSite s'

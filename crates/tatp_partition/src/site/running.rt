@@ -83,24 +83,7 @@ impl<'m> Site<'m> {
     {
         match step_refusal(&self.running, self.stopped, &self.breakpoints) {
             Some(refusal) => return Err(refusal),
-            None => {}
-        }
-        rows_of_one_subscriber();
-        lines_then_an_end_are_a_run();
-        standard_procedures_are_transactions();
-        clean_rows_and_homes_are_consistent();
-        match turn(&mut self.running) {
-            Progress::Running => return Ok(Stepped::Moved),
-            Progress::Ended(end) => {
-                let completion = end_running(
-                    &mut self.running,
-                    end,
-                    self.standard,
-                    &mut self.slots,
-                    &mut self.homeless,
-                );
-                return Ok(Stepped::Ended(completion));
-            }
+            None => return self.one(),
         }
     }
 

@@ -1,39 +1,8 @@
-use Rattle.std.proofs.Common.{sym}
-use Rattle.tatp_partition.proofs.StepLaws.{may_turn, free_runs, HasMoved, has_moved}
-use Rattle.tatp_partition.proofs.CompletionLaws.{ready_to_end, HasEnded, has_ended}
+use Rattle.std.proofs.Common.{◌≡◌, None, sym, subst}
+use Rattle.tatp_partition.specs.Obstacles.{step_obstacle}
+use Rattle.tatp_partition.specs.Sites.{SiteState}
+use Rattle.tatp_partition.proofs.StepLaws.{steps_as_one}
 use Rattle.tatp_partition.proofs.site.Site.step.Goals as goal
 
-pub turn-requires : goal.turn-requires
-turn-requires c = may_turn c.self.inside c.self.invariant (free_runs c.self.inside.running c.self.inside.stopped c.self.inside.breakpoints.items (sym c.in-None.ensures))
-
-moved : (c : goal.In-Running) → HasMoved c.self.inside c.turn.new.running
-moved c = has_moved (record { alone = c.rows_of_one_subscriber.ensures.alone; put = c.rows_of_one_subscriber.ensures.put_alone }) c.self.inside c.turn.new.running c.self.invariant c.in-Running.ensures
-
-pub invariant_of-self : goal.invariant_of-self
-invariant_of-self c = (moved c).sound
-
-pub returns-in-Running-clause-steps : goal.returns-in-Running-clause-steps
-returns-in-Running-clause-steps c = rw (← c.self.view_is) (sym c.in-None.ensures, (moved c).moves)
-
-pub returns-in-Running-clause-site : goal.returns-in-Running-clause-site
-returns-in-Running-clause-site c = (moved c).sound.site
-
-pub end_running-completion-requires-clause-ready : goal.end_running-completion-requires-clause-ready
-end_running-completion-requires-clause-ready c =
-    ready_to_end (record { alone = c.rows_of_one_subscriber.ensures.alone; put = c.rows_of_one_subscriber.ensures.put_alone })
-    (record { run = c.lines_then_an_end_are_a_run.ensures.ends; performs = c.standard_procedures_are_transactions.ensures.performs; consistent = c.clean_rows_and_homes_are_consistent.ensures.homes })
-    c.self.inside c.turn.new.running c.in-Ended.end c.self.invariant c.in-Ended.ensures
-
-ended : (c : goal.After-end_running-completion) → HasEnded c.self.inside c.end_running-completion.new.slots c.end_running-completion.new.running c.end_running-completion.new.homeless c.end_running-completion.result
-ended c =
-    let e = c.end_running-completion in
-    has_ended c.self.inside c.turn.new.running e.new.running c.in-Ended.end e.new.slots e.new.homeless e.result c.self.invariant c.in-Ended.ensures e.ensures.running e.ensures.completes e.ensures.slots e.ensures.homeless e.ensures.free e.ensures.history
-
-pub invariant_of-self-in-Ended : goal.invariant_of-self-in-Ended
-invariant_of-self-in-Ended c = (ended c).sound
-
-pub returns-in-Ended-clause-steps : goal.returns-in-Ended-clause-steps
-returns-in-Ended-clause-steps c = rw (← c.self.view_is) (sym c.in-None.ensures, (ended c).ends)
-
-pub returns-in-Ended-clause-site : goal.returns-in-Ended-clause-site
-returns-in-Ended-clause-site c = (ended c).sound.site
+pub returns-in-None-clause-steps : goal.returns-in-None-clause-steps
+returns-in-None-clause-steps c = steps_as_one c.args.self.now c.one.result c.one.new.self (subst (λ (s : SiteState). step_obstacle s ≡ None) c.self.view_is (sym c.in-None.ensures)) c.one.ensures.steps

@@ -8,13 +8,13 @@ ghost use Rattle.tatp_asm.specs.Reading.{Gives, step, finish, reads, start, asse
 ghost use Rattle.tatp_asm.specs.Views.{FitsAny, line_view, drafts, state_of};
 
 use crate::draft::{Draft, add_instruction, add_label, close_draft, fault, open_draft};
-use crate::fault::{AsmError, FaultKind};
+use crate::fault::{AsmError, AsmFaultKind};
 use crate::line::{Line, parse_line};
 use std::alloc::Global;
 use tatp_encoding::{Module, Proc};
 use tatp_lines::next_line;
 
-/// One line more, behind the procedures that have ended and the one that has not.
+/// One line more, after the procedures that have ended and the one that has not.
 fn add_line(
     alloc: Global,
     closed: &mut Vec<Proc>,
@@ -32,10 +32,10 @@ fn add_line(
             Line::Opening(name, arity) => {
                 *draft = Some(open_draft(alloc, closed.len(), name, arity, number)?);
             }
-            _ => return fault(FaultKind::Syntax, number),
+            _ => return fault(AsmFaultKind::Syntax, number),
         },
         Some(open) => match line {
-            Line::Opening(..) => return fault(FaultKind::Syntax, number),
+            Line::Opening(..) => return fault(AsmFaultKind::Syntax, number),
             Line::Label(label) => {
                 *draft = Some(add_label(alloc, open, label, number)?);
             }
@@ -55,7 +55,7 @@ fn finish(closed: Vec<Proc>, draft: Option<Draft>, number: u64) -> Result<Vec<Pr
     ensures { Gives (λ procs. procs.items) result (finish closed.items (drafts draft) number) }
 {
     if draft.is_some() || closed.is_empty() {
-        return fault(FaultKind::Syntax, number);
+        return fault(AsmFaultKind::Syntax, number);
     }
     Ok(closed)
 }
@@ -74,7 +74,7 @@ fn procedures(alloc: Global, text: &[u8]) -> Result<Vec<Proc>, AsmError>
             Some((line, after)) => {
                 if !line.is_empty() {
                     match parse_line(line) {
-                        None => return fault(FaultKind::Syntax, number),
+                        None => return fault(AsmFaultKind::Syntax, number),
                         Some(line) => add_line(alloc, &mut closed, &mut draft, line, number)?,
                     }
                 }

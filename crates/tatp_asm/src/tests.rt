@@ -24,7 +24,7 @@ fn texts_and_what_is_printed_of_their_modules(rt: HostRuntime) -> Result<(), Fai
             "proc A 0\nx:\nDONE\nend\nproc B 1\nDONE\nx:\nJMP @x\nend\n",
             "proc A 0\nDONE\nend\nproc B 1\nDONE\nL1:\nJMP @L1\nend\n",
         ),
-        // Two labels of one place, and empty lines.
+        // Two labels of one position, and empty lines.
         (
             "proc A_B 8\n\nJMP @last\n\nlast:\nother:\nend\n\n",
             "proc A_B 8\nJMP @L1\nL1:\nend\n",
@@ -41,15 +41,15 @@ fn texts_and_what_is_printed_of_their_modules(rt: HostRuntime) -> Result<(), Fai
 #[test]
 fn numbers_and_texts_of_faults(rt: HostRuntime) -> Result<(), Fail> {
     for (kind, number) in [
-        (FaultKind::Syntax, 9),
-        (FaultKind::NoSuchLabel, 10),
-        (FaultKind::LabelTwice, 11),
-        (FaultKind::TooLong, 12),
+        (AsmFaultKind::Syntax, 9),
+        (AsmFaultKind::NoSuchLabel, 10),
+        (AsmFaultKind::LabelTwice, 11),
+        (AsmFaultKind::TooLong, 12),
     ] {
         assert_eq!(rt; kind as u8, number);
     }
     let missing = AsmFault {
-        kind: FaultKind::NoSuchLabel,
+        kind: AsmFaultKind::NoSuchLabel,
         line: 2,
     };
     for (error, expected) in [

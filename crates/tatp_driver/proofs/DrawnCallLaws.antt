@@ -5,7 +5,7 @@ use Rattle.std.proofs.lemmas.Bool.Decides.{nat_tests}
 use Rattle.tatp_tables.specs.Domains.{is_between, is_in_domain}
 use Rattle.tatp_procs.specs.declared.call.Call.{Call}
 use Rattle.tatp_procs.specs.Arguments.{accepted, first_bad, arguments_accepted}
-use Rattle.tatp_procs.specs.Calls.{key_of}
+use Rattle.tatp_procs.specs.Calls.{key_of_call}
 use Rattle.tatp_driver.specs.DrawnCall.{place_in_mix, call_on, NamesOneOf}
 
 -- ---- what holds of each of two calls holds of the chosen one
@@ -78,11 +78,11 @@ call_on_accepted s words le =
     (either Accepts (is_between 96 97 place) _ _ (λ i. accepted (first_bad (n i ∷ t i ∷ b i ∷ e i ∷ f i ∷ [])))
     (λ i. accepted (first_bad (n i ∷ t i ∷ b i ∷ []))))))))
 
-pub call_on_names : (n s : ℕ) (words : List ℕ) → 1 ≤ s → s ≤ n → NamesOneOf n (key_of (call_on s words))
+pub call_on_names : (n s : ℕ) (words : List ℕ) → 1 ≤ s → s ≤ n → NamesOneOf n (key_of_call (call_on s words))
 unfolding call_on
 call_on_names n s words low high =
     let place = place_in_mix words in
-    let Names : Call → Type 0 = λ call. NamesOneOf n (key_of call) in
+    let Names : Call → Type 0 = λ call. NamesOneOf n (key_of_call call) in
     let is : (1 ≤ s) × (s ≤ n) = (low, high) in
     either Names (is_between 0 34 place) _ _ is
     (either Names (is_between 35 44 place) _ _ is

@@ -13,48 +13,48 @@ abbrev pub place_in_mix : List ℕ → ℕ
 place_in_mix words = slice_index words 0 % 100
 
 -- the s_id, 1 to n, which is the sub_nbr too
-abbrev pub subscriber : Distribution → ℕ → List ℕ → ℕ
-subscriber Skewed n words = 1 + bit_or (slice_index words 1 % 65536) (1 + slice_index words 2 % n) % n
-subscriber Uniform n words = 1 + slice_index words 1 % n
+abbrev pub drawn_subscriber : Distribution → ℕ → List ℕ → ℕ
+drawn_subscriber Skewed n words = 1 + bit_or (slice_index words 1 % 65536) (1 + slice_index words 2 % n) % n
+drawn_subscriber Uniform n words = 1 + slice_index words 1 % n
 
 -- of an Access_Info or a Special_Facility row
-abbrev pub row_type : List ℕ → ℕ
-row_type words = 1 + slice_index words 3 % 4
+abbrev pub drawn_row_type : List ℕ → ℕ
+drawn_row_type words = 1 + slice_index words 3 % 4
 
-abbrev pub start_time : List ℕ → ℕ
-start_time words = 8 * (slice_index words 4 % 3)
+abbrev pub drawn_start_time : List ℕ → ℕ
+drawn_start_time words = 8 * (slice_index words 4 % 3)
 
-abbrev pub end_time : List ℕ → ℕ
-end_time words = 1 + slice_index words 5 % 24
+abbrev pub drawn_end_time : List ℕ → ℕ
+drawn_end_time words = 1 + slice_index words 5 % 24
 
-abbrev pub bit_1 : List ℕ → ℕ
-bit_1 words = slice_index words 4 % 2
+abbrev pub drawn_bit_1 : List ℕ → ℕ
+drawn_bit_1 words = slice_index words 4 % 2
 
-abbrev pub data_a : List ℕ → ℕ
-data_a words = slice_index words 5 % 256
+abbrev pub drawn_data_a : List ℕ → ℕ
+drawn_data_a words = slice_index words 5 % 256
 
-abbrev pub vlr_location : List ℕ → ℕ
-vlr_location words = 1 + slice_index words 4 % 4294967295
+abbrev pub drawn_vlr_location : List ℕ → ℕ
+drawn_vlr_location words = 1 + slice_index words 4 % 4294967295
 
-abbrev pub numberx : List ℕ → ℕ
-numberx words = slice_index words 6 % 1000000000000000
+abbrev pub drawn_numberx : List ℕ → ℕ
+drawn_numberx words = slice_index words 6 % 1000000000000000
 
 -- the call on subscriber s, by its place in the mix
 unfoldable pub call_on : ℕ → List ℕ → Call
 call_on s words =
     let place = place_in_mix words in
     if is_between 0 34 place then GetSubscriberData s else
-    if is_between 35 44 place then GetNewDestination s (row_type words) (start_time words) (end_time words) else
-    if is_between 45 79 place then GetAccessData s (row_type words) else
-    if is_between 80 81 place then UpdateSubscriberData s (bit_1 words) (row_type words) (data_a words) else
-    if is_between 82 95 place then UpdateLocation s (vlr_location words) else
-    if is_between 96 97 place then InsertCallForwarding s (row_type words) (start_time words) (end_time words) (numberx words) else
+    if is_between 35 44 place then GetNewDestination s (drawn_row_type words) (drawn_start_time words) (drawn_end_time words) else
+    if is_between 45 79 place then GetAccessData s (drawn_row_type words) else
+    if is_between 80 81 place then UpdateSubscriberData s (drawn_bit_1 words) (drawn_row_type words) (drawn_data_a words) else
+    if is_between 82 95 place then UpdateLocation s (drawn_vlr_location words) else
+    if is_between 96 97 place then InsertCallForwarding s (drawn_row_type words) (drawn_start_time words) (drawn_end_time words) (drawn_numberx words) else
     -- 98 and 99
-    DeleteCallForwarding s (row_type words) (start_time words)
+    DeleteCallForwarding s (drawn_row_type words) (drawn_start_time words)
 
 -- the call of these words on one of n subscribers
 abbrev pub drawn_call : Distribution → ℕ → List ℕ → Call
-drawn_call distribution n words = call_on (subscriber distribution n words) words
+drawn_call distribution n words = call_on (drawn_subscriber distribution n words) words
 
 -- an s_id or a number from 1 to n
 abbrev pub NamesOneOf : ℕ → Key → Type 0

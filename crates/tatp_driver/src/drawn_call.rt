@@ -1,8 +1,8 @@
 //! A call from seven random words.
 ghost use Rattle.std.specs.Prelude.{◌≡◌, ◌≤◌, Ok};
 ghost use Rattle.tatp_procs.specs.Arguments.{arguments_accepted};
-ghost use Rattle.tatp_procs.specs.Calls.{key_of};
-ghost use Rattle.tatp_driver.specs.DrawnCall.{call_on, drawn_call, subscriber, NamesOneOf};
+ghost use Rattle.tatp_procs.specs.Calls.{key_of_call};
+ghost use Rattle.tatp_driver.specs.DrawnCall.{call_on, drawn_call, drawn_subscriber, NamesOneOf};
 
 use crate::Distribution;
 use tatp_procs::Call;
@@ -13,7 +13,7 @@ pub fn call_of(words: &[u64; 7], subscribers: u64, distribution: Distribution) -
     requires few { subscribers ≤ 100000 }
     ensures drawn { result ≡ drawn_call distribution subscribers words.now }
     ensures accepted { arguments_accepted result ≡ Ok tt }
-    ensures key { NamesOneOf subscribers (key_of result) }
+    ensures key { NamesOneOf subscribers (key_of_call result) }
 {
     call_on(words, choose_subscriber(words, subscribers, distribution))
 }
@@ -22,7 +22,7 @@ pub fn call_of(words: &[u64; 7], subscribers: u64, distribution: Distribution) -
 fn choose_subscriber(words: &[u64; 7], subscribers: u64, distribution: Distribution) -> u64
     requires some { 1 ≤ subscribers }
     requires few { subscribers ≤ 100000 }
-    ensures chosen { result ≡ subscriber distribution subscribers words.now }
+    ensures chosen { result ≡ drawn_subscriber distribution subscribers words.now }
     ensures low { 1 ≤ result }
     ensures high { result ≤ subscribers }
 {

@@ -1,7 +1,7 @@
 //! The calls of one client, one after another.
 ghost use Rattle.std.specs.Prelude.{◌≡◌, ◌≤◌, Ok};
 ghost use Rattle.tatp_procs.specs.Arguments.{arguments_accepted};
-ghost use Rattle.tatp_procs.specs.Calls.{key_of};
+ghost use Rattle.tatp_procs.specs.Calls.{key_of_call};
 ghost use Rattle.tatp_driver.specs.DrawnCall.{drawn_call, NamesOneOf};
 ghost use Rattle.tatp_driver.specs.DrawnWords.{next_words, words_of, client_generator};
 
@@ -51,7 +51,7 @@ impl Driver {
         ensures subscribers { self.new.subscribers ≡ self.old.subscribers }
         ensures distribution { self.new.distribution ≡ self.old.distribution }
         ensures accepted { arguments_accepted result ≡ Ok tt }
-        ensures key { NamesOneOf self.old.subscribers (key_of result) }
+        ensures key { NamesOneOf self.old.subscribers (key_of_call result) }
     {
         let words = draw_words(&mut self.generator);
         call_of(&words, self.subscribers, self.distribution)

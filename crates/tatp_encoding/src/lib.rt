@@ -9,7 +9,9 @@ mod module;
 pub use decoding::{Bad, decode, decode_encoded};
 pub use encoding::encode;
 pub use laws::instructions_are_read_as_spelled;
-pub use module::{Module, Proc};
+pub use module::{
+    MAX_ARGUMENTS, MAX_INSTRUCTIONS, MAX_NAME_BYTES, MAX_PROCEDURES, Module, Proc,
+};
 
 #[cfg(test)]
 mod tests;

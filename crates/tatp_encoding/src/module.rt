@@ -6,11 +6,23 @@ use arrayvec::ArrayString;
 use std::marker::Model;
 use tatp_instr::Instr;
 
+/// The most procedures that a module has.
+pub const MAX_PROCEDURES: usize = 16;
+
+/// The most bytes that a procedure's name has.
+pub const MAX_NAME_BYTES: usize = 24;
+
+/// The most arguments that a procedure takes.
+pub const MAX_ARGUMENTS: u8 = 8;
+
+/// The most instructions that a procedure has.
+pub const MAX_INSTRUCTIONS: usize = 256;
+
 /// A procedure: a name of 1 to 24 of the letters A..Z and underscore, 0 to 8 arguments, and 1 to 256
 /// instructions.
 #[derive(Debug, Drop)]
 pub struct Proc {
-    name: ArrayString<24>,
+    name: ArrayString<MAX_NAME_BYTES>,
     arity: u8,
     code: Vec<Instr>,
 }
@@ -56,7 +68,7 @@ impl Proc {
     /// How many arguments it takes.
     pub fn arity(&self) -> u8
         ensures value { result ≡ self.now.arity }
-        ensures most { self.now.arity ≤ 8 }
+        ensures most { self.now.arity ≤ MAX_ARGUMENTS }
     {
         self.arity
     }
@@ -65,7 +77,7 @@ impl Proc {
     pub fn code(&self) -> &[Instr]
         ensures value { result.now ≡ self.now.code }
         ensures least { 1 ≤ length self.now.code }
-        ensures most { length self.now.code ≤ 256 }
+        ensures most { length self.now.code ≤ MAX_INSTRUCTIONS }
     {
         self.code.as_slice()
     }

@@ -1,6 +1,6 @@
-//! Lines of texts, and of bytes.
+//! Lines of texts, and of bytes; numbers.
 
-use crate::{Lines, next_line};
+use crate::{Lines, next_line, read_number};
 
 // a text, and its first three lines
 const TEXTS: [(&str, [Option<&str>; 3]); 8] = [
@@ -46,4 +46,23 @@ fn lines_of_bytes(rt: HostRuntime) {
         next_line(&[255, 10, 10]),
         Some(([255].as_slice(), [10].as_slice()))
     );
+}
+
+#[test]
+fn numbers(rt: HostRuntime) {
+    for (text, number) in [
+        ("0", Some(0)),
+        ("10", Some(10)),
+        ("18446744073709551615", Some(u64::MAX)),
+        ("18446744073709551616", None),
+        ("", None),
+        ("00", None),
+        ("01", None),
+        ("+1", None),
+        ("-1", None),
+        ("1x", None),
+        (" 1", None),
+    ] {
+        assert_eq!(rt; read_number(text), number, "{text:?}");
+    }
 }

@@ -7,7 +7,7 @@ mod laws;
 mod machine;
 mod progress;
 
-pub use laws::calls_alone_have_one_outcome;
+pub use laws::{calls_alone_have_one_outcome, lines_then_an_end_are_a_run};
 pub use machine::Machine;
 pub use progress::{End, Progress, Trap};
 

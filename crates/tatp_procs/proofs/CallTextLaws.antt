@@ -16,8 +16,9 @@ use Rattle.tatp_tables.proofs.ValueLaws.{HasNoSpace, value_of-value_text, value_
 use Rattle.tatp_procs.specs.declared.call.Call.{Call}
 use Rattle.tatp_procs.specs.declared.call.Call.TheVariants.{GetSubscriberData, GetNewDestination, GetAccessData, UpdateSubscriberData, UpdateLocation, InsertCallForwarding, DeleteCallForwarding}
 use Rattle.tatp_procs.specs.Calls.{arguments_of}
+use Rattle.tatp_procs.specs.Arguments.{columns_of}
 use Rattle.tatp_procs.specs.ValuesText.{values_of, values_text, are_printable}
-use Rattle.tatp_procs.specs.CallText.{call_of_fields, call_of, name_of, columns_of, call_text, is_printable_call}
+use Rattle.tatp_procs.specs.CallText.{call_of_fields, call_of_line, name_of, call_text, is_printable_call}
 
 -- ---- values
 -- a value of each column, that prints in its form
@@ -72,27 +73,27 @@ word_no_space (b ∷ bs) h =
     All-cons (λ byte. is_space byte ≡ false) b bs (no_of_not (is_space b) p.0) (word_no_space bs p.1)
 
 call_read : (call : Call) (build : List ℕ → Call) → call_of_fields (name_of call ∷ texts_of (columns_of call) (arguments_of call)) ≡ option_map build (values_of (columns_of call) (texts_of (columns_of call) (arguments_of call)))
-    → build (arguments_of call) ≡ call → HasNoSpace (name_of call) → All (λ v. v < 2 ^ 64) (arguments_of call) → is_printable_call call ≡ true → call_of (call_text call) ≡ Some call
-unfolding call_of
+    → build (arguments_of call) ≡ call → HasNoSpace (name_of call) → All (λ v. v < 2 ^ 64) (arguments_of call) → is_printable_call call ≡ true → call_of_line (call_text call) ≡ Some call
+unfolding call_of_line
 call_read call build e b n f h =
     let p : ArePrintable (columns_of call) (arguments_of call) = record { printable = h; small = f } in
     ap call_of_fields (fields_of-values_text (columns_of call) (arguments_of call) (name_of call) n p) ∙ (e ∙ (ap (option_map build) (values_of-texts_of (columns_of call) (arguments_of call) p) ∙ ap Some b))
 
-pub call_of-call_text : (call : Call) → All (λ v. v < 2 ^ 64) (arguments_of call) → is_printable_call call ≡ true → call_of (call_text call) ≡ Some call
-call_of-call_text (GetSubscriberData s) f h = call_read (GetSubscriberData s) (λ a. GetSubscriberData (slice_index a 0)) refl refl (word_no_space (name_of (GetSubscriberData s)) refl) f h
-call_of-call_text (GetNewDestination s t b e) f h = call_read (GetNewDestination s t b e) (λ a. GetNewDestination (slice_index a 0) (slice_index a 1) (slice_index a 2) (slice_index a 3)) refl refl (word_no_space (name_of (GetNewDestination s t b e)) refl) f h
-call_of-call_text (GetAccessData s t) f h = call_read (GetAccessData s t) (λ a. GetAccessData (slice_index a 0) (slice_index a 1)) refl refl (word_no_space (name_of (GetAccessData s t)) refl) f h
-call_of-call_text (UpdateSubscriberData s x t y) f h = call_read (UpdateSubscriberData s x t y) (λ a. UpdateSubscriberData (slice_index a 0) (slice_index a 1) (slice_index a 2) (slice_index a 3)) refl refl (word_no_space (name_of (UpdateSubscriberData s x t y)) refl) f h
-call_of-call_text (UpdateLocation n v) f h = call_read (UpdateLocation n v) (λ a. UpdateLocation (slice_index a 0) (slice_index a 1)) refl refl (word_no_space (name_of (UpdateLocation n v)) refl) f h
-call_of-call_text (InsertCallForwarding n t b e x) f h = call_read (InsertCallForwarding n t b e x) (λ a. InsertCallForwarding (slice_index a 0) (slice_index a 1) (slice_index a 2) (slice_index a 3) (slice_index a 4)) refl refl (word_no_space (name_of (InsertCallForwarding n t b e x)) refl) f h
-call_of-call_text (DeleteCallForwarding n t b) f h = call_read (DeleteCallForwarding n t b) (λ a. DeleteCallForwarding (slice_index a 0) (slice_index a 1) (slice_index a 2)) refl refl (word_no_space (name_of (DeleteCallForwarding n t b)) refl) f h
+pub call_of_line-call_text : (call : Call) → All (λ v. v < 2 ^ 64) (arguments_of call) → is_printable_call call ≡ true → call_of_line (call_text call) ≡ Some call
+call_of_line-call_text (GetSubscriberData s) f h = call_read (GetSubscriberData s) (λ a. GetSubscriberData (slice_index a 0)) refl refl (word_no_space (name_of (GetSubscriberData s)) refl) f h
+call_of_line-call_text (GetNewDestination s t b e) f h = call_read (GetNewDestination s t b e) (λ a. GetNewDestination (slice_index a 0) (slice_index a 1) (slice_index a 2) (slice_index a 3)) refl refl (word_no_space (name_of (GetNewDestination s t b e)) refl) f h
+call_of_line-call_text (GetAccessData s t) f h = call_read (GetAccessData s t) (λ a. GetAccessData (slice_index a 0) (slice_index a 1)) refl refl (word_no_space (name_of (GetAccessData s t)) refl) f h
+call_of_line-call_text (UpdateSubscriberData s x t y) f h = call_read (UpdateSubscriberData s x t y) (λ a. UpdateSubscriberData (slice_index a 0) (slice_index a 1) (slice_index a 2) (slice_index a 3)) refl refl (word_no_space (name_of (UpdateSubscriberData s x t y)) refl) f h
+call_of_line-call_text (UpdateLocation n v) f h = call_read (UpdateLocation n v) (λ a. UpdateLocation (slice_index a 0) (slice_index a 1)) refl refl (word_no_space (name_of (UpdateLocation n v)) refl) f h
+call_of_line-call_text (InsertCallForwarding n t b e x) f h = call_read (InsertCallForwarding n t b e x) (λ a. InsertCallForwarding (slice_index a 0) (slice_index a 1) (slice_index a 2) (slice_index a 3) (slice_index a 4)) refl refl (word_no_space (name_of (InsertCallForwarding n t b e x)) refl) f h
+call_of_line-call_text (DeleteCallForwarding n t b) f h = call_read (DeleteCallForwarding n t b) (λ a. DeleteCallForwarding (slice_index a 0) (slice_index a 1) (slice_index a 2)) refl refl (word_no_space (name_of (DeleteCallForwarding n t b)) refl) f h
 
 -- as the function's clause says it
 pub printed_read_back : {E : Type 0} (r : Result (String Global) E) (call : Call) (name columns values : List ℕ) → name ≡ name_of call → columns ≡ columns_of call → values ≡ arguments_of call → All (λ v. v < 2 ^ 64) values
-    → IfOk r (λ text. string_bytes text ≡ name ++ values_text columns values) → IfOk r (λ text. is_printable_call call ≡ true → call_of (string_bytes text) ≡ Some call)
+    → IfOk r (λ text. string_bytes text ≡ name ++ values_text columns values) → IfOk r (λ text. is_printable_call call ≡ true → call_of_line (string_bytes text) ≡ Some call)
 printed_read_back (Err e) call name columns values n k a f h = tt
 printed_read_back (Ok text) call name columns values n k a f h = λ p.
-    ap call_of (h ∙ (λ j. n j ++ values_text (k j) (a j))) ∙ call_of-call_text call (subst (All (λ v. v < 2 ^ 64)) a f) p
+    ap call_of_line (h ∙ (λ j. n j ++ values_text (k j) (a j))) ∙ call_of_line-call_text call (subst (All (λ v. v < 2 ^ 64)) a f) p
 
 -- ---- what is read is printed so
 option_map_some : {T U : Type 0} (f : T → U) (o : Option T) (y : U) → option_map f o ≡ Some y → (x : T) × (o ≡ Some x) × (f x ≡ y)
@@ -184,13 +185,13 @@ fields_read (name ∷ fields) call h =
     by_name (PrintsAs (name ∷ fields)) _ (λ a. InsertCallForwarding (slice_index a 0) (slice_index a 1) (slice_index a 2) (slice_index a 3) (slice_index a 4)) (values_of (1 ∷ 41 ∷ 48 ∷ 49 ∷ 50 ∷ []) fields) _ call h₅ (λ t vs e. printed name fields (InsertCallForwarding (slice_index vs 0) (slice_index vs 1) (slice_index vs 2) (slice_index vs 3) (slice_index vs 4)) vs t e (five_of vs)) (λ h₆.
     by_name (PrintsAs (name ∷ fields)) _ (λ a. DeleteCallForwarding (slice_index a 0) (slice_index a 1) (slice_index a 2)) (values_of (1 ∷ 41 ∷ 48 ∷ []) fields) _ call h₆ (λ t vs e. printed name fields (DeleteCallForwarding (slice_index vs 0) (slice_index vs 1) (slice_index vs 2)) vs t e (three_of vs)) (λ h₇. absurd (none-some call h₇))))))))
 
-call_text-call_of : (line : List ℕ) (call : Call) → call_of line ≡ Some call → (call_text call ≡ line) × (is_printable_call call ≡ true)
-unfolding call_of
-call_text-call_of line call h =
+call_text-call_of_line : (line : List ℕ) (call : Call) → call_of_line line ≡ Some call → (call_text call ≡ line) × (is_printable_call call ≡ true)
+unfolding call_of_line
+call_text-call_of_line line call h =
     let read = fields_read (fields_of line) call h in
     (read.0 ∙ join_with_byte-slice_split 32 line, read.1)
 
 -- as the function's clauses say it
-pub call_text_of_read : (line : List ℕ) (result : Option Call) → result ≡ call_of line → IfSome result (λ call. call_text call ≡ line) × IfSome result (λ call. is_printable_call call ≡ true)
+pub call_text_of_read : (line : List ℕ) (result : Option Call) → result ≡ call_of_line line → IfSome result (λ call. call_text call ≡ line) × IfSome result (λ call. is_printable_call call ≡ true)
 call_text_of_read line None e = (tt, tt)
-call_text_of_read line (Some call) e = call_text-call_of line call (sym e)
+call_text_of_read line (Some call) e = call_text-call_of_line line call (sym e)

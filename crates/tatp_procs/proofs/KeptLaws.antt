@@ -108,7 +108,7 @@ keys_replaced u row new (Number n) is is_in front first second = found_alike (ha
     (λ a b ha hb pa pb. is.numbers a b ha hb (eqb-true (slice_index a 1) n pa ∙ sym (eqb-true (slice_index b 1) n pb)))
 
 -- ---- one change
--- a value of a subscriber, behind s_id and number
+-- a value of a subscriber, after s_id and number
 pub Kept-subscriber : (u : Database) (row : Tuple) (place v : ℕ) → IsConsistent u → has u.subscribers row ≡ true → 2 ≤ place → is_in_domain place v ≡ true
     → Kept u (record u { subscribers = replace_row u.subscribers row (slice_set row place v) })
 Kept-subscriber u row place v is is_in le fits =

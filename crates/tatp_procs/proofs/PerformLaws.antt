@@ -13,7 +13,7 @@ use Rattle.tatp_machine.specs.Runs.{Outcome, Alone, call_at_entry}
 use Rattle.tatp_machine.proofs.RunLaws.{one_outcome}
 use Rattle.tatp_numbers.specs.Homes.{home_of_key}
 use Rattle.tatp_procs.specs.declared.call.Call.{Call}
-use Rattle.tatp_procs.specs.Calls.{procedure_of, key_of, arguments_of}
+use Rattle.tatp_procs.specs.Calls.{procedure_of, key_of_call, arguments_of}
 use Rattle.tatp_procs.specs.Transactions.{fails, replies, transaction}
 use Rattle.tatp_procs.specs.Consistent.{IsConsistent}
 use Rattle.tatp_procs.specs.Performs.{answer_of, CallAlone, Performs}
@@ -24,7 +24,7 @@ use Rattle.tatp_procs.proofs.HomeRowLaws.{AreHome-of_subscriber}
 performs : (modul : List Procedure) (call : Call) (u : Database) (o : Outcome) → CallAlone modul call u o → answer_of o ≡ transaction call u → Performs modul call u
 performs modul call u o alone is = record {
   some = (o, alone);
-  each = λ p other. ap answer_of (one_outcome other.lines alone.lines (call_at_entry modul (procedure_of call) (arguments_of call) (home_of_key u.subscribers (key_of call)) u) u p o other.ends alone.ends) ∙ is;
+  each = λ p other. ap answer_of (one_outcome other.lines alone.lines (call_at_entry modul (procedure_of call) (arguments_of call) (home_of_key u.subscribers (key_of_call call)) u) u p o other.ends alone.ends) ∙ is;
 }
 
 -- of a subscriber that the key names
@@ -35,28 +35,28 @@ alone_at modul procedure arguments home u w s n end outputs is free named ran =
     subst (λ h. Alone modul procedure arguments h u (outcome end outputs (with_subscriber u s (rows_left end (of_subscriber u s) w)))) (sym named) (record { lines = leads.0; ends = leads.1 })
 
 pub performs_at : (modul : List Procedure) (call : Call) (u w : Database) (s n : ℕ) (end : End) (outputs : List ℕ) → IsConsistent u → list_all puts_free (code_of modul (procedure_of call)) ≡ true
-    → home_of_key u.subscribers (key_of call) ≡ Some s → run n (entered modul (procedure_of call) (arguments_of call) (Some s)) (of_subscriber u s) ≡ Over end outputs w
+    → home_of_key u.subscribers (key_of_call call) ≡ Some s → run n (entered modul (procedure_of call) (arguments_of call) (Some s)) (of_subscriber u s) ≡ Over end outputs w
     → answer_of (outcome end outputs (with_subscriber u s (rows_left end (of_subscriber u s) w))) ≡ transaction call u → Performs modul call u
 performs_at modul call u w s n end outputs is free named ran same =
-    performs modul call u (outcome end outputs (with_subscriber u s (rows_left end (of_subscriber u s) w))) (alone_at modul (procedure_of call) (arguments_of call) (home_of_key u.subscribers (key_of call)) u w s n end outputs is free named ran) same
+    performs modul call u (outcome end outputs (with_subscriber u s (rows_left end (of_subscriber u s) w))) (alone_at modul (procedure_of call) (arguments_of call) (home_of_key u.subscribers (key_of_call call)) u w s n end outputs is free named ran) same
 
 -- it fails
 pub performs_failing : (modul : List Procedure) (call : Call) (u w : Database) (s n k : ℕ) (outputs : List ℕ) → IsConsistent u → list_all puts_free (code_of modul (procedure_of call)) ≡ true
-    → home_of_key u.subscribers (key_of call) ≡ Some s → run n (entered modul (procedure_of call) (arguments_of call) (Some s)) (of_subscriber u s) ≡ Over (Failed k) outputs w
+    → home_of_key u.subscribers (key_of_call call) ≡ Some s → run n (entered modul (procedure_of call) (arguments_of call) (Some s)) (of_subscriber u s) ≡ Over (Failed k) outputs w
     → fails u k ≡ transaction call u → Performs modul call u
 performs_failing modul call u w s n k outputs is free named ran same =
     performs_at modul call u w s n (Failed k) outputs is free named ran (ap (λ v. fails v k) (with_subscriber-of_subscriber u s) ∙ same)
 
 -- it only reads
 pub performs_reading : (modul : List Procedure) (call : Call) (u : Database) (s n : ℕ) (outputs : List ℕ) → IsConsistent u → list_all puts_free (code_of modul (procedure_of call)) ≡ true
-    → home_of_key u.subscribers (key_of call) ≡ Some s → run n (entered modul (procedure_of call) (arguments_of call) (Some s)) (of_subscriber u s) ≡ Over Done outputs (of_subscriber u s)
+    → home_of_key u.subscribers (key_of_call call) ≡ Some s → run n (entered modul (procedure_of call) (arguments_of call) (Some s)) (of_subscriber u s) ≡ Over Done outputs (of_subscriber u s)
     → replies u outputs ≡ transaction call u → Performs modul call u
 performs_reading modul call u s n outputs is free named ran same =
     performs_at modul call u (of_subscriber u s) s n Done outputs is free named ran (ap (λ v. replies v outputs) (with_subscriber-of_subscriber u s) ∙ same)
 
 -- of a key that names no subscriber
 pub performs_without : (modul : List Procedure) (call : Call) (u w : Database) (n k : ℕ) (outputs : List ℕ) → list_all puts_free (code_of modul (procedure_of call)) ≡ true
-    → home_of_key u.subscribers (key_of call) ≡ None → run_homeless n (entered modul (procedure_of call) (arguments_of call) None) ≡ Over (Failed k) outputs w
+    → home_of_key u.subscribers (key_of_call call) ≡ None → run_homeless n (entered modul (procedure_of call) (arguments_of call) None) ≡ Over (Failed k) outputs w
     → fails u k ≡ transaction call u → Performs modul call u
 performs_without modul call u w n k outputs free nameless ran same =
     let leads = run_homeless_leads n (entered modul (procedure_of call) (arguments_of call) None) w u (Failed k) outputs free refl ran in

@@ -51,7 +51,7 @@ all_printed columns values all i text p l =
     let rest : values_text (drop i columns) (drop i values) ≡ [] = ap (values_text (drop i columns)) done ∙ nothing_printed (drop i columns) in
     sym (append-nil text) ∙ (ap (λ more. text ++ more) (sym rest) ∙ p.completed)
 
--- words, and values behind them
+-- words, and values after them
 pub words_and_values : (old words values between text : List ℕ) → between ≡ old ++ words → text ≡ between ++ values → text ≡ old ++ (words ++ values)
 words_and_values old words values between text w v = v ∙ (ap (λ front. front ++ values) w ∙ append_assoc old words values)
 

@@ -7,9 +7,9 @@ use Rattle.tatp_tables.proofs.SubscriberLaws.{of_subscriber-with_subscriber, wit
 use Rattle.tatp_tables.proofs.ChangeLaws.{IsHome-none}
 use Rattle.tatp_machine.specs.declared.progress.End.{End}
 use Rattle.tatp_machine.specs.declared.progress.End.TheVariants.{Done, Failed, Trapped}
-use Rattle.tatp_machine.specs.Calls.{Frame, Call}
+use Rattle.tatp_machine.specs.Calls.{Frame, CallState}
 use Rattle.tatp_machine.specs.Instructions.{Turn, Goes_on, Stops, Nothing_next, turn}
-use Rattle.tatp_machine.specs.Lines.{left_by, rows_of_home, with_home}
+use Rattle.tatp_machine.specs.Lines.{left_by, rows_of_home, with_home_rows}
 use Rattle.tatp_machine.specs.Machines.{rows_left}
 use Rattle.tatp_machine.specs.Runs.{Outcome, EndsAfter}
 use Rattle.tatp_procs.proofs.KeepLaws.{puts_free, AreHome, Keeps, turn_keeps}
@@ -50,17 +50,17 @@ abbrev pub outcome : End → List ℕ → Database → Outcome
 outcome end outputs u = record { end = end; outputs = outputs; database = u }
 
 -- the call leads to this outcome, after some lines
-abbrev pub LeadsTo : Call → Database → Outcome → Type 0
+abbrev pub LeadsTo : CallState → Database → Outcome → Type 0
 LeadsTo q u o = (lines : ℕ) × EndsAfter lines q u o
 
-abbrev pub call_in : Frame → Database → Call
+abbrev pub call_in : Frame → Database → CallState
 call_in q entry = record { frame = q; entry = entry }
 
 -- what an end leaves of the home's rows is what it leaves of the database
 left_is : (end : End) (q : Frame) (entry : Database) (s : ℕ) (v w u : Database) → q.home ≡ Some s → of_subscriber u s ≡ v → v ≡ w → with_subscriber u s (rows_left end entry w) ≡ left_by end (call_in q entry) u
 left_is Done q entry s v w u h o e = ap (with_subscriber u s) (sym e ∙ sym o) ∙ with_subscriber-of_subscriber u s
-left_is (Failed n) q entry s v w u h o e = sym (ap (λ k. with_home u k entry) h)
-left_is (Trapped trap) q entry s v w u h o e = sym (ap (λ k. with_home u k entry) h)
+left_is (Failed n) q entry s v w u h o e = sym (ap (λ k. with_home_rows u k entry) h)
+left_is (Trapped trap) q entry s v w u h o e = sym (ap (λ k. with_home_rows u k entry) h)
 
 pub run_leads : (n : ℕ) (q : Frame) (entry v w : Database) (s : ℕ) (u : Database) (end : End) (outputs : List ℕ) → list_all puts_free q.code ≡ true → q.home ≡ Some s → of_subscriber u s ≡ v → AreHome s v
     → run n q v ≡ Over end outputs w → LeadsTo (call_in q entry) u (outcome end outputs (with_subscriber u s (rows_left end entry w)))
@@ -74,7 +74,7 @@ run_leads (suc n) q entry v w s u end outputs free home o is h =
             (
               call_in next entry,
               with_subscriber u s x,
-              record { rows = x; acts = here ∙ e; entry = refl; whole = sym (ap (λ k. with_home u k x) home) },
+              record { rows = x; acts = here ∙ e; entry = refl; whole = sym (ap (λ k. with_home_rows u k x) home) },
               subst (λ d. EndsAfter more.0 (call_in next entry) (with_subscriber u s x) (outcome end outputs d)) (with_subscriber-with_subscriber u s x (rows_left end entry w) k.2.own) more.1,
             ),
           )
@@ -94,8 +94,8 @@ run_leads (suc n) q entry v w s u end outputs free home o is h =
 -- ---- without a home
 left_homeless : (end : End) (q : Frame) (u : Database) → q.home ≡ None → u ≡ left_by end (call_in q no_tables) u
 left_homeless Done q u h = refl
-left_homeless (Failed n) q u h = sym (ap (λ k. with_home u k no_tables) h)
-left_homeless (Trapped trap) q u h = sym (ap (λ k. with_home u k no_tables) h)
+left_homeless (Failed n) q u h = sym (ap (λ k. with_home_rows u k no_tables) h)
+left_homeless (Trapped trap) q u h = sym (ap (λ k. with_home_rows u k no_tables) h)
 
 pub run_homeless_leads : (n : ℕ) (q : Frame) (w u : Database) (end : End) (outputs : List ℕ) → list_all puts_free q.code ≡ true → q.home ≡ None
     → run_homeless n q ≡ Over end outputs w → LeadsTo (call_in q no_tables) u (outcome end outputs u)
@@ -106,7 +106,7 @@ run_homeless_leads (suc n) q w u end outputs free home h =
       | Goes_on next x ↦ λ e k h.
           let more = run_homeless_leads n next w u end outputs (ap (list_all puts_free) k.1 ∙ free) (k.0 ∙ home) h in (
             suc more.0,
-            (call_in next no_tables, u, record { rows = x; acts = here ∙ e; entry = refl; whole = sym (ap (λ k. with_home u k x) home) }, more.1),
+            (call_in next no_tables, u, record { rows = x; acts = here ∙ e; entry = refl; whole = sym (ap (λ k. with_home_rows u k x) home) }, more.1),
           )
       | Stops f ↦ λ e k h. (
         zero,

@@ -16,14 +16,14 @@ procedure_of (InsertCallForwarding n t b e x) = 5
 procedure_of (DeleteCallForwarding n t b) = 6
 
 -- an s_id, or the number of a subscriber
-abbrev pub key_of : Call → Key
-key_of (GetSubscriberData s) = Id s
-key_of (GetNewDestination s t b e) = Id s
-key_of (GetAccessData s t) = Id s
-key_of (UpdateSubscriberData s x t y) = Id s
-key_of (UpdateLocation n v) = Number n
-key_of (InsertCallForwarding n t b e x) = Number n
-key_of (DeleteCallForwarding n t b) = Number n
+abbrev pub key_of_call : Call → Key
+key_of_call (GetSubscriberData s) = Id s
+key_of_call (GetNewDestination s t b e) = Id s
+key_of_call (GetAccessData s t) = Id s
+key_of_call (UpdateSubscriberData s x t y) = Id s
+key_of_call (UpdateLocation n v) = Number n
+key_of_call (InsertCallForwarding n t b e x) = Number n
+key_of_call (DeleteCallForwarding n t b) = Number n
 
 abbrev pub arguments_of : Call → List ℕ
 arguments_of (GetSubscriberData s) = s ∷ []

@@ -1,5 +1,6 @@
 pub mod Calls
-pub mod Outputs
+pub mod Asks
+pub mod Padding
 pub mod Arguments
 pub mod Transactions
 pub mod Order
@@ -11,3 +12,4 @@ pub mod Extends
 pub mod ValuesText
 pub mod CallText
 pub mod ReplyText
+pub mod Locality

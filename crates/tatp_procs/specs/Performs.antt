@@ -6,7 +6,7 @@ use Rattle.tatp_machine.specs.Runs.{Outcome, Alone}
 use Rattle.tatp_numbers.specs.Homes.{home_of_key}
 use Rattle.tatp_procs.specs.declared.call.Call.{Call}
 use Rattle.tatp_procs.specs.Replies.{reply_to}
-use Rattle.tatp_procs.specs.Calls.{procedure_of, key_of, arguments_of}
+use Rattle.tatp_procs.specs.Calls.{procedure_of, key_of_call, arguments_of}
 use Rattle.tatp_procs.specs.Transactions.{Answer, transaction}
 
 abbrev pub answer_of : Outcome → Answer
@@ -14,7 +14,7 @@ answer_of o = record { reply = reply_to o.end o.outputs; database = o.database }
 
 -- the call, run alone by this module on the database, with the home that its key names there, has this outcome
 abbrev pub CallAlone : List Procedure → Call → Database → Outcome → Type 0
-CallAlone modul call u o = Alone modul (procedure_of call) (arguments_of call) (home_of_key u.subscribers (key_of call)) u o
+CallAlone modul call u o = Alone modul (procedure_of call) (arguments_of call) (home_of_key u.subscribers (key_of_call call)) u o
 
 -- run alone on the database, the call has an outcome, and it is what its transaction answers and leaves
 pub record Performs (modul : List Procedure) (call : Call) (u : Database) : Type 0 where

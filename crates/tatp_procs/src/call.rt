@@ -1,6 +1,6 @@
 //! Calls of the seven transactions.
 ghost use Rattle.std.specs.Prelude.{◌≡◌, ◌≤◌, length};
-ghost use Rattle.tatp_procs.specs.Calls.{procedure_of, key_of, arguments_of};
+ghost use Rattle.tatp_procs.specs.Calls.{procedure_of, key_of_call, arguments_of};
 
 use arrayvec::ArrayVec;
 use tatp_numbers::Key;
@@ -64,7 +64,7 @@ impl Call {
 
     /// The key of its subscriber, which is its first argument.
     pub fn key(&self) -> Key
-        ensures { result ≡ key_of self.now }
+        ensures { result ≡ key_of_call self.now }
     {
         match *self {
             Call::GetSubscriberData { s_id } => Key::Id(s_id),
@@ -121,6 +121,6 @@ fn kept(arguments: &[u64]) -> ArrayVec<u64, 8>
     ensures { result.items ≡ arguments.now }
 {
     let mut all: ArrayVec<u64, 8> = ArrayVec::new();
-    let _fits = all.try_extend_from_slice(arguments);
+    all.try_extend_from_slice(arguments).unwrap();
     all
 }

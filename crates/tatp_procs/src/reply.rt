@@ -11,13 +11,13 @@ use tatp_machine::{End, Trap};
 #[derive(Clone, Copy, Debug)]
 pub struct Outputs {
     count: usize,
-    /// With 0 behind the last.
+    /// With 0 after the last.
     values: [u64; 40],
 }
 
 impl Model for Outputs {
     ghost use Rattle.std.specs.Prelude.{ℕ, List, take, length};
-    ghost use Rattle.tatp_procs.specs.Outputs.{ArePadded, padded, padded_count, padded_values};
+    ghost use Rattle.tatp_procs.specs.Padding.{ArePadded, padded, padded_count, padded_values};
 
     ghost Value = { List ℕ };
 
@@ -27,7 +27,7 @@ impl Model for Outputs {
 
     ghost inverse = { λ xs. record { count = length xs; values = padded 40 xs } };
 
-    ghost inverse_ok = { λ a h. λ i. record { count = padded_count a.count a.values h i; values = padded_values a.count a.values h i } };
+    ghost inverse_ok = { λ a h. λ i. record { count = padded_count 40 a.count a.values h i; values = padded_values 40 a.count a.values h i } };
 }
 
 impl Outputs {

@@ -25,11 +25,11 @@ abbrev pub rise : List (List ℕ) → Bool
 rise [] = true
 rise (k ∷ keys) = list_all (before k) keys && rise keys
 
-first_of : (a b : Bool) → (a && b) ≡ true → a ≡ true
+pub first_of : (a b : Bool) → (a && b) ≡ true → a ≡ true
 first_of true b h = refl
 first_of false b h = cc
 
-second_of : (a b : Bool) → (a && b) ≡ true → b ≡ true
+pub second_of : (a b : Bool) → (a && b) ≡ true → b ≡ true
 second_of true b h = h
 second_of false b h = cc
 
@@ -108,7 +108,7 @@ unmoved : (p : Tuple → Bool) (x : Tuple) (xs : List Tuple) → p x ≡ false �
 unmoved p x xs h = ap (λ b. cond b (Some x) (find p xs)) h
 
 -- no later cell has an earlier key
-none_later : (s : ℕ) (k : List ℕ) (keys : List (List ℕ)) (cells : List (Option Tuple)) → list_all (before k) keys ≡ true → StandAt s keys cells → find (has_key (s ∷ k)) (present cells) ≡ None
+pub none_later : (s : ℕ) (k : List ℕ) (keys : List (List ℕ)) (cells : List (Option Tuple)) → list_all (before k) keys ≡ true → StandAt s keys cells → find (has_key (s ∷ k)) (present cells) ≡ None
 none_later s k [] [] b all = refl
 none_later s k [] (c ∷ cells) b all = absurd all
 none_later s k (m ∷ keys) [] b all = absurd all

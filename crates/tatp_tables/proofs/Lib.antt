@@ -20,3 +20,4 @@ pub mod NumberLaws
 pub mod RowTextLaws
 pub mod ValueLaws
 pub mod FixtureLaws
+pub mod EqualityLaws

@@ -64,6 +64,24 @@ untouched a false true k i j = cc (i refl)
 untouched true false false k i j = refl
 untouched false false false k i j = refl
 
+kept : (a h : Bool) → (a ≡ true → h ≡ true) → (a && h) ≡ a
+kept true true i = refl
+kept true false i = cc (i refl)
+kept false h i = refl
+
+all_replaced : (a h b : Bool) → (a ≡ true → h ≡ true) → ((a && not h) || b) ≡ b
+all_replaced true true b i = refl
+all_replaced true false b i = cc (i refl)
+all_replaced false h b i = refl
+
+-- rows that are all of one s_id are its rows
+pub rows_with_s_id-own : (s : ℕ) (v : Tuples) → AreOf s v → rows_with_s_id s v ≡ v
+rows_with_s_id-own s v own = same_tuples _ _ (λ q. has-rows_with_s_id s v q ∙ kept (has v q) (has_key (s ∷ []) q) (own q))
+
+-- and what replaces them is all there is
+pub replaced_rows-own : (s : ℕ) (v w : Tuples) → AreOf s v → replaced_rows s v w ≡ w
+replaced_rows-own s v w own = same_tuples _ _ (λ q. has-replaced_rows s v w q ∙ all_replaced (has v q) (has_key (s ∷ []) q) (has w q) (own q))
+
 -- what was put in is there
 pub rows_with_s_id-replaced : (s : ℕ) (u v : Tuples) → AreOf s v → rows_with_s_id s (replaced_rows s u v) ≡ v
 rows_with_s_id-replaced s u v own = same_tuples _ _ (λ q. has-rows_with_s_id s (replaced_rows s u v) q
@@ -142,4 +160,20 @@ of_subscriber-with_other u s other v n own = λ i. record {
   accesses = rows_with_s_id-other s other u.accesses v.accesses n (own AccessInfo) i;
   facilities = rows_with_s_id-other s other u.facilities v.facilities n (own SpecialFacility) i;
   forwardings = rows_with_s_id-other s other u.forwardings v.forwardings n (own CallForwarding) i;
+}
+
+pub of_subscriber-own : (v : Database) (s : ℕ) → HaveSId s v → of_subscriber v s ≡ v
+of_subscriber-own v s own = λ i. record {
+  subscribers = rows_with_s_id-own s v.subscribers (own Subscriber) i;
+  accesses = rows_with_s_id-own s v.accesses (own AccessInfo) i;
+  facilities = rows_with_s_id-own s v.facilities (own SpecialFacility) i;
+  forwardings = rows_with_s_id-own s v.forwardings (own CallForwarding) i;
+}
+
+pub with_subscriber-own : (v : Database) (s : ℕ) (w : Database) → HaveSId s v → with_subscriber v s w ≡ w
+with_subscriber-own v s w own = λ i. record {
+  subscribers = replaced_rows-own s v.subscribers w.subscribers (own Subscriber) i;
+  accesses = replaced_rows-own s v.accesses w.accesses (own AccessInfo) i;
+  facilities = replaced_rows-own s v.facilities w.facilities (own SpecialFacility) i;
+  forwardings = replaced_rows-own s v.forwardings w.forwardings (own CallForwarding) i;
 }

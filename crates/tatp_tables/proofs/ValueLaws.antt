@@ -14,7 +14,8 @@ use Rattle.tatp_tables.specs.declared.form.Form.TheVariants.{Decimal, FifteenDig
 use Rattle.tatp_tables.specs.Domains.{is_between, is_in_domain, are_letters}
 use Rattle.tatp_tables.specs.Text.{form_of, is_decimal, text_in, value_in, value_text, value_of, is_printable, last_digits, letters_text}
 use Rattle.tatp_tables.proofs.FieldLaws.{is_space}
-use Rattle.tatp_tables.proofs.NumberLaws.{number_of-decimal, decimal-number_of, digits_of-last_digits, last_digits-digits_of, digits-last_digits}
+use Rattle.tatp_lines.proofs.NumberLaws.{number_of-decimal, decimal-number_of}
+use Rattle.tatp_tables.proofs.NumberLaws.{digits_of-last_digits, last_digits-digits_of, digits-last_digits}
 use Rattle.tatp_tables.proofs.LetterLaws.{is_letter, letters_of-letters_text, letters_text-letters_of, letters-letters_text}
 
 -- ---- which columns have which form

@@ -1,19 +1,19 @@
 -- Reading one column, and the three changes of a database: a column set, a Call_Forwarding row inserted, one deleted.
 -- Each change has an answer, which refuses by the first test that fails, and a database after it; a refusal leaves the database.
-use Rattle.std.specs.Prelude.{ℕ, Bool, true, false, List, [], ◌∷◌, Option, Some, None, Result, Ok, Err, slice_index, slice_set}
+use Rattle.std.specs.Prelude.{ℕ, Bool, true, false, List, [], ◌∷◌, Option, Some, None, Result, Ok, Err, slice_index, slice_set, if◌then◌else◌}
 use Rattle.std.specs.Option.{option_map}
 use Rattle.tatp_tables.specs.Tuples.{Tuple, Tuples, insert_row, remove_row, replace_row}
 use Rattle.tatp_tables.specs.Keys.{row_at}
-use Rattle.tatp_tables.specs.Columns.{table_of, place_of}
+use Rattle.tatp_tables.specs.Columns.{is_column, table_of, place_of}
 use Rattle.tatp_tables.specs.Domains.{is_in_domain, are_in_domain}
 use Rattle.tatp_tables.specs.Database.{Database, in_table, with_table, current_row}
 use Rattle.tatp_tables.specs.declared.table.Table.TheVariants.{CallForwarding}
 use Rattle.tatp_tables.specs.declared.refusal.Refusal.{Refusal}
 use Rattle.tatp_tables.specs.declared.refusal.Refusal.TheVariants.{NoCurrent, Domain, KeyExists, NoParent}
 
--- the value of a column in the row with this key
+-- the value of a column in the row with this key, where there is such a column
 abbrev pub cell : Database → ℕ → List ℕ → Option ℕ
-cell u c key = option_map (λ row. slice_index row (place_of c)) (current_row (table_of c) u key)
+cell u c key = if is_column c then option_map (λ row. slice_index row (place_of c)) (current_row (table_of c) u key) else None
 
 -- ---- a column of the row with a key is set
 -- what it answers, by the row that was found and whether the value is in the domain: the value before

@@ -1,8 +1,12 @@
 -- The 51 columns: the table of each, its place in a row, the primary keys, the columns that are fixed.
 -- TATP Benchmark Description 1.0, schema. The columns are numbered over the four tables: 0 to 33, 34 to 39, 40 to 45, 46 to 50.
-use Rattle.std.specs.Prelude.{ℕ, ◌-◌, Bool, ◌||◌, ◌==◌, nat_lt, if◌then◌else◌}
+use Rattle.std.specs.Prelude.{ℕ, ◌-◌, Bool, ◌||◌, ◌==◌, nat_le, nat_lt, if◌then◌else◌}
 use Rattle.tatp_tables.specs.declared.table.Table.{Table}
 use Rattle.tatp_tables.specs.declared.table.Table.TheVariants.{Subscriber, AccessInfo, SpecialFacility, CallForwarding}
+
+-- whether there is such a column
+abbrev pub is_column : ℕ → Bool
+is_column c = nat_le c 50
 
 -- the table of a column
 abbrev pub table_of : ℕ → Table

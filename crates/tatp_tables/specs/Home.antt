@@ -1,7 +1,9 @@
 -- A home: the rows of one s_id, and what holds of every home.
-use Rattle.std.specs.Prelude.{◌≡◌, ℕ, true, is_some, List, [], ◌∷◌, take, refl}
+use Rattle.std.specs.Prelude.{◌≡◌, ℕ, nat_eq, Bool, true, is_some, List, [], ◌∷◌, take, refl}
+use Rattle.std.specs.Cmp.Lexicographic.{pointwise}
+use Rattle.std.specs.Ordering.{on, eq_of_both}
 use Rattle.std.specs.Coded.{Coded, code_by, coded×, coded_ℕ}
-use Rattle.tatp_tables.specs.Tuples.{Tuple, Tuples, tuples_code, has}
+use Rattle.tatp_tables.specs.Tuples.{Tuple, Tuples, tuples_code, rows_of, has}
 use Rattle.tatp_tables.specs.Keys.{has_key, row_at}
 use Rattle.tatp_tables.specs.Columns.{key_length}
 use Rattle.tatp_tables.specs.Domains.{is_row}
@@ -19,6 +21,21 @@ subscriber_rows_code = code_by (ℕ × (Tuples × (Tuples × (Tuples × Tuples))
     (λ h. (h.s_id, (h.tables.subscribers, (h.tables.accesses, (h.tables.facilities, h.tables.forwardings)))))
     (λ p. record { s_id = p.0; tables = record { subscribers = p.1.0; accesses = p.1.1.0; facilities = p.1.1.1.0; forwardings = p.1.1.1.1 } })
     (λ _. refl)
+
+-- whether two sets have the same rows
+abbrev pub same_rows : Tuples → Tuples → Bool
+same_rows = on rows_of (pointwise (pointwise nat_eq))
+
+-- whether two databases have the same rows in each table
+abbrev pub same_tables : Database → Database → Bool
+same_tables =
+    eq_of_both (on (λ u. u.subscribers) same_rows)
+    (eq_of_both (on (λ u. u.accesses) same_rows)
+    (eq_of_both (on (λ u. u.facilities) same_rows) (on (λ u. u.forwardings) same_rows)))
+
+-- whether two homes have the same s_id and the same rows
+abbrev pub same_home : SubscriberRows → SubscriberRows → Bool
+same_home = eq_of_both (on (λ h. h.s_id) nat_eq) (on (λ h. h.tables) same_tables)
 
 -- the home of an s_id in a database
 abbrev pub home_in : Database → ℕ → SubscriberRows

@@ -5,21 +5,17 @@ use Rattle.std.specs.Option.{option_map, option_and_then}
 use Rattle.std.specs.Str.{all_ascii_digits}
 use Rattle.std.specs.Str.Parse.{digits_value}
 use denote.Ref.{Bor}
+use Rattle.tatp_lines.specs.Numbers.{number_of}
 use Rattle.tatp_tables.specs.Tuples.{Tuple}
+use Rattle.tatp_tables.specs.Columns.{first_column, column_count}
 use Rattle.tatp_tables.specs.Domains.{is_between, is_in_domain}
+use Rattle.tatp_tables.specs.declared.table.Table.TheVariants.{Subscriber, AccessInfo, SpecialFacility, CallForwarding}
 use Rattle.tatp_tables.specs.declared.row.Row.{Row}
 use Rattle.tatp_tables.specs.declared.row.Row.TheVariants.{S, A, F, C}
 use Rattle.tatp_tables.specs.declared.form.Form.{Form}
 use Rattle.tatp_tables.specs.declared.form.Form.TheVariants.{Decimal, FifteenDigits, Letters}
 
 -- ---- one value
--- digits with no leading zero, of a number below 2 ^ 64
-unfoldable pub is_number : List ℕ → Bool
-is_number text = nat_lt 0 (length text) && (all_ascii_digits text && ((not (slice_index text 0 == 48) || (length text == 1)) && nat_lt (digits_value 10 text) (2 ^ 64)))
-
-unfoldable pub number_of : List ℕ → Option ℕ
-number_of text = if is_number text then Some (digits_value 10 text) else None
-
 -- the last k decimal digits of n
 unfoldable pub last_digits : ℕ → ℕ → List ℕ
 last_digits zero n = []
@@ -81,10 +77,10 @@ columns_text c (v ∷ more) = 32 ∷ value_text c v ++ columns_text (suc c) more
 
 -- the table's letter, and the columns
 abbrev pub text_of : Row → List ℕ
-text_of (S columns) = codes "S" ++ columns_text 0 columns
-text_of (A columns) = codes "A" ++ columns_text 34 columns
-text_of (F columns) = codes "F" ++ columns_text 40 columns
-text_of (C columns) = codes "C" ++ columns_text 46 columns
+text_of (S columns) = codes "S" ++ columns_text (first_column Subscriber) columns
+text_of (A columns) = codes "A" ++ columns_text (first_column AccessInfo) columns
+text_of (F columns) = codes "F" ++ columns_text (first_column SpecialFacility) columns
+text_of (C columns) = codes "C" ++ columns_text (first_column CallForwarding) columns
 
 -- the parts of a line between its spaces
 abbrev pub fields_of : List ℕ → List (List ℕ)
@@ -105,10 +101,10 @@ columns_of (suc k) c (field ∷ more) = option_and_then (λ v. option_map (λ re
 abbrev pub row_of_fields : List (List ℕ) → Option Row
 row_of_fields [] = None
 row_of_fields (letter ∷ fields) =
-    if bytes_eq letter (codes "S") then option_map S (columns_of 34 0 fields) else
-    if bytes_eq letter (codes "A") then option_map A (columns_of 6 34 fields) else
-    if bytes_eq letter (codes "F") then option_map F (columns_of 6 40 fields) else
-    if bytes_eq letter (codes "C") then option_map C (columns_of 5 46 fields) else
+    if bytes_eq letter (codes "S") then option_map S (columns_of (column_count Subscriber) (first_column Subscriber) fields) else
+    if bytes_eq letter (codes "A") then option_map A (columns_of (column_count AccessInfo) (first_column AccessInfo) fields) else
+    if bytes_eq letter (codes "F") then option_map F (columns_of (column_count SpecialFacility) (first_column SpecialFacility) fields) else
+    if bytes_eq letter (codes "C") then option_map C (columns_of (column_count CallForwarding) (first_column CallForwarding) fields) else
     None
 
 -- the row that a line is
@@ -121,7 +117,7 @@ are_printable c (v ∷ more) = is_printable c v && are_printable (suc c) more
 
 -- whether its letters and its 15-digit numbers are in their domains
 abbrev pub is_printable_row : Row → Bool
-is_printable_row (S columns) = are_printable 0 columns
-is_printable_row (A columns) = are_printable 34 columns
-is_printable_row (F columns) = are_printable 40 columns
-is_printable_row (C columns) = are_printable 46 columns
+is_printable_row (S columns) = are_printable (first_column Subscriber) columns
+is_printable_row (A columns) = are_printable (first_column AccessInfo) columns
+is_printable_row (F columns) = are_printable (first_column SpecialFacility) columns
+is_printable_row (C columns) = are_printable (first_column CallForwarding) columns

@@ -10,6 +10,7 @@ ghost use Rattle.tatp_tables.specs.Home.{IsHome};
 ghost use Rattle.tatp_tables.specs.Cells.{type_keys, forwarding_keys};
 
 mod changes;
+mod comparing;
 mod listing;
 mod loading;
 
@@ -63,8 +64,7 @@ impl Home {
 
     /// The s_id that all its rows have.
     pub fn s_id(&self) -> u64
-        ensures value { result ≡ self.now.s_id }
-        ensures home { IsHome self.now }
+        ensures { result ≡ self.now.s_id }
     {
         self.s_id
     }
@@ -184,18 +184,29 @@ impl Home {
         self.forwarding([s_id, sf_type, start_time]).is_some()
     }
 
-    /// The value of a column (0..=50) in the row of its table with this key, of which the table
-    /// takes the first parts; the parts that it lacks are 0 by custom and are not read.
+    /// The value of a column in the row of its table with this key, of which the table takes the
+    /// first parts; the parts that it lacks are 0 by custom and are not read. None where there is no
+    /// such column (above 50).
     pub fn get(&self, column: u8, key: [u64; 3]) -> Option<u64>
-        requires { column ≤ 50 }
         ensures { result ≡ cell self.now.tables column key }
     {
-        let place = column as usize;
-        match Table::of_column(column) {
+        if column > 50 {
+            return None;
+        }
+        let table = Table::of_column(column);
+        let place = usize::from(column - table.first_column());
+        match table {
             Table::Subscriber => Some(self.subscriber(key[0])?[place]),
-            Table::AccessInfo => Some(self.access(key[0], key[1])?[place - 34]),
-            Table::SpecialFacility => Some(self.facility(key[0], key[1])?[place - 40]),
-            Table::CallForwarding => Some(self.forwarding(key)?[place - 46]),
+            Table::AccessInfo => Some(self.access(key[0], key[1])?[place]),
+            Table::SpecialFacility => Some(self.facility(key[0], key[1])?[place]),
+            Table::CallForwarding => Some(self.forwarding(key)?[place]),
         }
     }
+}
+
+/// What holds of every home holds of this one.
+pub fn what_holds_of_every_home(home: &Home)
+    ensures { IsHome home.now }
+{
+    let _ = &home.s_id;
 }

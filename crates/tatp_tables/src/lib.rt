@@ -22,12 +22,12 @@ mod values;
 pub use domain::in_domain;
 pub use fields::Fields;
 pub use form::{Form, form_of};
-pub use home::{Home, homes};
+pub use home::{Home, homes, what_holds_of_every_home};
 pub use laws::rows_of_one_subscriber;
-pub use numbers::{read_fifteen_digits, read_number};
+pub use numbers::read_fifteen_digits;
 pub use refusal::Refusal;
 pub use row::{Row, RowList, Rows};
-pub use table::Table;
+pub use table::{Table, is_fixed};
 pub use text::{read_row, row_text};
 pub use values::{push_value, read_value};
 

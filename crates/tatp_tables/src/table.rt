@@ -1,6 +1,6 @@
-//! The four tables.
+//! The four tables and their columns.
 ghost use Rattle.std.specs.Prelude.{◌≡◌, ◌≤◌};
-ghost use Rattle.tatp_tables.specs.Columns.{table_of, first_column};
+ghost use Rattle.tatp_tables.specs.Columns.{table_of, first_column, is_fixed};
 
 /// The four tables (TATP Benchmark Description 1.0, schema).
 #[derive(Clone, Copy, Debug, PartialEq, Eq)]
@@ -40,4 +40,11 @@ impl Table {
             Table::CallForwarding => 46,
         }
     }
+}
+
+/// Whether a column never changes: one of a primary key, or a subscriber's number.
+pub fn is_fixed(column: u8) -> bool
+    ensures { result ≡ is_fixed column }
+{
+    matches!(column, 0 | 1 | 34 | 35 | 40 | 41 | 46 | 47 | 48)
 }

@@ -8,9 +8,10 @@ ghost use Rattle.tatp_tables.specs.Text.{value_of, value_text, text_in, letters_
 use crate::domain::in_domain;
 use crate::form::{Form, form_of};
 use crate::letters::{read_letters, write_letters};
-use crate::numbers::{read_fifteen_digits, read_number, write_digits};
+use crate::numbers::{read_fifteen_digits, write_digits};
 use itoa::Buffer;
 use std::alloc::AllocError;
+use tatp_lines::read_number;
 
 /// The value of a column that the text is.
 #[tactic(auto, unfolding(crate::specs::Text::value_of))]

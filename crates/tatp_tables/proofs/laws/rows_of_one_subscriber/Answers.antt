@@ -1,4 +1,4 @@
-use Rattle.tatp_tables.proofs.SubscriberLaws.{HaveSId-of_subscriber, of_subscriber-with_subscriber, with_subscriber-of_subscriber, with_subscriber-with_subscriber, of_subscriber-with_other}
+use Rattle.tatp_tables.proofs.SubscriberLaws.{HaveSId-of_subscriber, of_subscriber-with_subscriber, with_subscriber-of_subscriber, with_subscriber-with_subscriber, of_subscriber-with_other, of_subscriber-own, with_subscriber-own}
 use Rattle.tatp_tables.proofs.laws.rows_of_one_subscriber.Goals as goal
 
 pub returns : goal.returns
@@ -8,4 +8,6 @@ returns c = record {
   put_twice = λ u v w s. with_subscriber-with_subscriber u s v w;
   others = λ u v s other. of_subscriber-with_other u s other v;
   own = HaveSId-of_subscriber;
+  alone = of_subscriber-own;
+  put_alone = λ v w s. with_subscriber-own v s w;
 }

@@ -8,7 +8,6 @@ ghost use Rattle.tatp_encoding.specs.Spelling.{spelling, IsInstr};
 ghost use Rattle.tatp_encoding.specs.Decoding.{instr_with, decoded};
 ghost use Rattle.tatp_encoding.specs.Faults.{parts_in, has_bad_op, has_unused, has_unused_in, has_bad_register, is_not_zero, is_unused_word};
 
-use crate::encoding::encode;
 use tatp_instr::{Instr, KeyRegisters, Parts, Register, RowRegisters, Shape, Word, operands};
 use thiserror::Error;
 
@@ -130,11 +129,4 @@ pub fn decode(bytes: &[u8; 8]) -> Result<Instr, Bad>
     }
     let [first, second, third] = parts.registers;
     instr_of(parts.op, first, second, third, parts.word).ok_or(Bad::BadRegister)
-}
-
-/// An instruction's bytes are read as that instruction.
-pub fn decode_encoded(instr: &Instr) -> Result<Instr, Bad>
-    ensures { result ≡ Ok instr.now }
-{
-    decode(&encode(instr))
 }

@@ -100,10 +100,3 @@ fn texts_and_numbers_of_faults(rt: HostRuntime) -> Result<(), Fail> {
     }
     Ok(())
 }
-
-#[test]
-fn reads_what_it_wrote(rt: HostRuntime) -> Result<(), Fail> {
-    let put = Instr::Put(44, register(4)?);
-    assert_eq!(rt; decode_encoded(&put), Ok(put));
-    Ok(())
-}

@@ -7,7 +7,7 @@ use Rattle.tatp_instr.specs.declared.instr.Parts.{Parts}
 use Rattle.tatp_instr.specs.declared.instr.Instr.{Instr}
 use Rattle.tatp_instr.specs.Instrs.{parts_of, register_text, text_of}
 
--- the first register behind the lead, and each further one behind a comma
+-- the first register after the lead, and each further one after a comma
 abbrev pub registers_text : List ℕ → List ℕ → List ℕ
 registers_text lead [] = []
 registers_text lead (number ∷ numbers) = lead ++ register_text number ++ registers_text (codes ",") numbers
@@ -20,12 +20,12 @@ word_text lead Column n = lead ++ codes "#" ++ decimal n
 word_text lead Argument n = lead ++ codes "#" ++ decimal n
 word_text lead Target n = lead ++ codes "@L" ++ decimal n
 
--- what stands between the registers and a u32 behind them
+-- what stands between the registers and a u32 after them
 abbrev pub after_registers : List ℕ → List ℕ
 after_registers [] = codes " "
 after_registers (number ∷ numbers) = codes ","
 
--- the operands of a row, each behind a space or a comma
+-- the operands of a row, each after a space or a comma
 abbrev pub operands_text : OpRow → Parts → List ℕ
 operands_text row p =
     let numbers = take row.shape.registers p.registers in

@@ -28,7 +28,7 @@ pub struct Shape {
 }
 
 /// One row of the table. In the text, the u32 operand stands before the registers where
-/// `word_first`, and otherwise behind them.
+/// `word_first`, and otherwise after them.
 #[derive(Clone, Copy, Debug, PartialEq, Eq)]
 pub struct OpRow {
     pub op: u8,

@@ -21,7 +21,7 @@ fn push_number(line: &mut Line, number: u32)
     line.push_str(buffer.format(number));
 }
 
-// Appends each register, the first behind the lead and each further one behind a comma.
+// Appends each register, the first after the lead and each further one after a comma.
 fn push_registers(line: &mut Line, lead: &str, registers: &[u8])
     requires { length line.old.bytes + length (registers_text lead.now registers.now) ≤ 24 }
     ensures { line.new.bytes ≡ line.old.bytes ++ registers_text lead.now registers.now }
@@ -35,7 +35,7 @@ fn push_registers(line: &mut Line, lead: &str, registers: &[u8])
     }
 }
 
-// Appends the u32 behind the lead and its mark, where it holds something.
+// Appends the u32 after the lead and its mark, where it holds something.
 fn push_word(line: &mut Line, lead: &str, kind: Word, word: u32)
     requires { length line.old.bytes + length (word_text lead.now kind word) ≤ 24 }
     ensures { line.new.bytes ≡ line.old.bytes ++ word_text lead.now kind word }
@@ -50,7 +50,7 @@ fn push_word(line: &mut Line, lead: &str, kind: Word, word: u32)
     push_number(line, word);
 }
 
-// Appends the operands of the row, each behind a space or a comma.
+// Appends the operands of the row, each after a space or a comma.
 fn push_operands(line: &mut Line, row: &OpRow, parts: &Parts)
     requires fits { length line.old.bytes + length (operands_text row.now parts.now) ≤ 24 }
     requires registers { row.now.shape.registers ≤ 3 }

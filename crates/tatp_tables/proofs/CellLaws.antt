@@ -53,7 +53,7 @@ ordered (k ∷ ks) (m ∷ ms) (a ∷ x) (b ∷ y) l lt h g =
       | Greater ↦ λ lt. cc
     ] lt
 
--- the same behind one s_id
+-- the same after one s_id
 ordered_home : (s : ℕ) (k m : List ℕ) (x y : Tuple) → before k m ≡ true → has_key (s ∷ k) x ≡ true → has_key (s ∷ m) y ≡ true → is_lt (slice_cmp nat_cmp x y) ≡ true
 ordered_home s k m x y b h g =
     let l : length k ≡ length m = length_is (length k) (length m) _ b in

@@ -98,11 +98,16 @@ module _ (s t : ℕ) (o p : Option Tuple) (a b f g w x : List (Option Tuple)) (h
   from_views : home_of s o a f w ≡ home_of t p b g x → Same × (w ≡ x)
   from_views e =
       let own : s ≡ t = ap (λ (r : SubscriberRows). r.s_id) e in
-      let one = same_cells s t subscriber_keys (o ∷ []) (p ∷ []) refl h.subscriber_place k.subscriber_place own (ap (λ (r : SubscriberRows). r.tables.subscribers) e) in
-      ((((own, ap (λ cells. slice_index_or cells 0 None) one),
-      same_cells s t type_keys a b refl h.access_places k.access_places own (ap (λ (r : SubscriberRows). r.tables.accesses) e)),
-      same_cells s t type_keys f g refl h.facility_places k.facility_places own (ap (λ (r : SubscriberRows). r.tables.facilities) e)),
-      same_cells s t forwarding_keys w x refl h.forwarding_places k.forwarding_places own (ap (λ (r : SubscriberRows). r.tables.forwardings) e))
+      let one = same_cells s t subscriber_keys (o ∷ []) (p ∷ []) refl h.subscriber_place k.subscriber_place own (ap (λ (r : SubscriberRows). r.tables.subscribers) e) in (
+        (
+          (
+            (own, ap (λ cells. slice_index_or cells 0 None) one),
+            same_cells s t type_keys a b refl h.access_places k.access_places own (ap (λ (r : SubscriberRows). r.tables.accesses) e),
+          ),
+          same_cells s t type_keys f g refl h.facility_places k.facility_places own (ap (λ (r : SubscriberRows). r.tables.facilities) e),
+        ),
+        same_cells s t forwarding_keys w x refl h.forwarding_places k.forwarding_places own (ap (λ (r : SubscriberRows). r.tables.forwardings) e),
+      )
 
   pub compared : cells_compared s t o p a b f g w x ≡ same_home (home_of s o a f w) (home_of t p b g x)
   compared = same_from_decides _ _

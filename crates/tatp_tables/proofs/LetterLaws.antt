@@ -23,7 +23,7 @@ letter_step : (k n : ℕ) (ds all : List ℕ) → k < length ds → letters_text
 unfolding letters_text
 letter_step k n ds all h e = rw (drop_written k (n % 256) ds h) (sym (append_assoc (letters_text k (n / 256)) ((n % 256) ∷ []) (drop (suc k) ds)) ∙ e)
 
--- one letter goes from the value to the letters behind it
+-- one letter goes from the value to the letters after it
 pub letter_moved : (k n : ℕ) (ds all : List ℕ) → 0 < k → k ≤ length ds → letters_text k n ++ drop k ds ≡ all → letters_text (k - 1) (n / 256) ++ drop (k - 1) (set ds (k - 1) (n % 256)) ≡ all
 letter_moved zero n ds all p h e = absurd (omega arith)
 letter_moved (suc k) n ds all p h e = rw sub-one (letter_step k n ds all (omega arith) e)

@@ -1,11 +1,12 @@
 -- The text of a row, and the row of a text: docs/FORMATS.md.
 use Rattle.std.specs.Prelude.{ℕ, zero, suc, ◌+◌, ◌-◌, ◌*◌, ◌/◌, ◌%◌, ◌^◌, ◌==◌, nat_lt, Bool, true, false, not, ◌&&◌, ◌||◌, if◌then◌else◌, List, [], ◌∷◌, ◌++◌, length, replicate, slice_index, Option, Some, None, codes, bytes_eq, decimal}
-use Rattle.std.specs.List.{slice_split, list_all}
+use Rattle.std.specs.List.{list_all}
 use Rattle.std.specs.Option.{option_map, option_and_then}
 use Rattle.std.specs.Str.{all_ascii_digits}
 use Rattle.std.specs.Str.Parse.{digits_value}
 use denote.Ref.{Bor}
 use Rattle.tatp_lines.specs.Numbers.{number_of}
+use Rattle.tatp_lines.specs.Fields as separated
 use Rattle.tatp_tables.specs.Tuples.{Tuple}
 use Rattle.tatp_tables.specs.Columns.{first_column, column_count}
 use Rattle.tatp_tables.specs.Domains.{is_between, is_in_domain}
@@ -86,9 +87,9 @@ text_of (A columns) = codes "A" ++ columns_text (first_column AccessInfo) column
 text_of (F columns) = codes "F" ++ columns_text (first_column SpecialFacility) columns
 text_of (C columns) = codes "C" ++ columns_text (first_column CallForwarding) columns
 
--- the parts of a line between its spaces
+-- the fields of a line, which spaces separate
 abbrev pub fields_of : List ℕ → List (List ℕ)
-fields_of line = slice_split (λ byte. byte == 32) line
+fields_of line = separated.fields_of 32 line
 
 -- the fields of what is left of a line, if anything is
 abbrev pub fields_left : Option (Bor (List ℕ)) → List (List ℕ)

@@ -41,7 +41,12 @@ fn push_columns(text: &mut String, first: u8, columns: &[u64]) -> Result<(), All
 }
 
 /// A table's letter, and its columns.
-fn lettered(alloc: Global, letter: &str, table: Table, columns: &[u64]) -> Result<String, AllocError>
+fn lettered(
+    alloc: Global,
+    letter: &str,
+    table: Table,
+    columns: &[u64],
+) -> Result<String, AllocError>
     requires { length columns.now ≤ 34 }
     ensures text { IfOk result (λ text. string_bytes text ≡ letter.now ++ columns_text (first_column table) columns.now) }
 
@@ -88,6 +93,3 @@ pub fn read_row(line: &str) -> Option<Row>
 {
     row_of_line(line)
 }
-
-#[cfg(test)]
-mod tests;

@@ -1,175 +1,83 @@
-//! The domain of each of the 51 columns, at and around each bound.
+//! The domain of each of the 51 columns, at and around each bound; the columns that are fixed.
 //!
 //! Letters are packed as bytes, the first letter highest: AAA is 65 * 65536 + 65 * 256 + 65.
-use crate::in_domain;
+use crate::{in_domain, is_fixed};
 use std::process::Abort;
+use std::test::Fail;
+use tatp_lines::read_number;
 
-/// The s_ids and the locations.
-const NUMBER_ACCEPTED: &[u64] = &[1, 2, 4294967294, 4294967295];
+/// Columns, and values that each of them accepts: numbers of a subscriber and locations; numbers of
+/// fifteen digits; bits; hexadecimal digits; bytes; types; three letters (AAA, ZZZ, ABC, MNO, AZA);
+/// five letters (AAAAA, ZZZZZ, ABCDE, QRSTU); start times; end times.
+const ACCEPTED: &str = "\
+0 32 33 34 40 46: 1 2 4294967294 4294967295
+1 50: 0 1 999999999999998 999999999999999
+2 3 4 5 6 7 8 9 10 11 42: 0 1
+12 13 14 15 16 17 18 19 20 21: 0 1 2 14 15
+22 23 24 25 26 27 28 29 30 31 36 37 43 44: 0 1 2 254 255
+35 41 47: 1 2 3 4
+38: 4276545 5921370 4276803 5066319 4282945
+39 45: 280267669825 388062927450 280284578885 349273543765
+48: 0 8 16
+49: 1 2 12 23 24
+";
 
-const NUMBER_REFUSED: &[u64] = &[0, 4294967296, 4294967297, 18446744073709551615];
+/// The same columns, and values that each of them refuses.
+///
+/// Of three letters: 0, 1, the most; '@' for each letter of AAA and of ZZZ; '[' for each letter of
+/// AAA and of ZZZ; aaa; A, AA, ZZ, AA before and A A round a zero byte; AAAA, ZZZZ, AAA before and
+/// after a zero byte, AAA with a bit above it; AAAAA, ZZZZZ.
+///
+/// Of five letters: 0, 1, the most; '@' for each letter of AAAAA and of ZZZZZ; '[' for each letter of
+/// AAAAA and of ZZZZZ; A, AA, AAA, AAAA; six, seven and eight times A, ZZZZZZ, AAAAA before and after
+/// a zero byte, AAAAA with a bit above it.
+const REFUSED: &str = "\
+0 32 33 34 40 46: 0 4294967296 4294967297 18446744073709551615
+1 50: 1000000000000000 1000000000000001 18446744073709551615
+2 3 4 5 6 7 8 9 10 11 42: 2 3 256 18446744073709551615
+12 13 14 15 16 17 18 19 20 21: 16 17 256 18446744073709551615
+22 23 24 25 26 27 28 29 30 31 36 37 43 44: 256 257 65536 18446744073709551615
+35 41 47: 0 5 6 18446744073709551615
+38: 0 1 18446744073709551615 4211009 4276289 4276544 4217434 5914714 5921344 5980481 4283201 \
+    4276571 5986906 5921626 5921371 6381921 65 16705 23130 4276480 4259905 1094795585 1515870810 \
+    1094795520 21053761 4299243841 9223372036859052353 280267669825 388062927450
+39 45: 0 1 18446744073709551615 275972702529 280250892609 280267604289 280267669569 \
+    280267669824 276393777754 387626719834 388061223514 388062920794 388062927424 391936819521 \
+    280703877441 280269373761 280267676481 280267669851 392357894746 388079704666 388062992986 \
+    388062927706 388062927451 65 16705 4276545 1094795585 71748523475265 18367622009667905 \
+    4702111234474983745 99344109427290 71748523475200 1379779297601 281755244380481 \
+    9223372317122445633
+48: 1 2 4 7 9 15 17 24 32 18446744073709551615
+49: 0 25 26 256 18446744073709551615
+";
 
-/// The numbers of 15 digits.
-const DIGITS_ACCEPTED: &[u64] = &[0, 1, 999999999999998, 999999999999999];
-
-const DIGITS_REFUSED: &[u64] = &[1000000000000000, 1000000000000001, 18446744073709551615];
-
-/// The types of an Access_Info or Special_Facility row.
-const TYPE_ACCEPTED: &[u64] = &[1, 2, 3, 4];
-
-const TYPE_REFUSED: &[u64] = &[0, 5, 6, 18446744073709551615];
-
-const BIT_ACCEPTED: &[u64] = &[0, 1];
-
-const BIT_REFUSED: &[u64] = &[2, 3, 256, 18446744073709551615];
-
-const HEX_ACCEPTED: &[u64] = &[0, 1, 2, 14, 15];
-
-const HEX_REFUSED: &[u64] = &[16, 17, 256, 18446744073709551615];
-
-const BYTE_ACCEPTED: &[u64] = &[0, 1, 2, 254, 255];
-
-const BYTE_REFUSED: &[u64] = &[256, 257, 65536, 18446744073709551615];
-
-/// AAA, ZZZ, ABC, MNO, AZA.
-const THREE_ACCEPTED: &[u64] = &[4276545, 5921370, 4276803, 5066319, 4282945];
-/// 0, 1, the most; '@' for each letter of AAA and of ZZZ; '[' for each letter of AAA and of ZZZ; aaa;
-/// A, AA, ZZ, AA before and A A round a zero byte; AAAA, ZZZZ, AAA before and behind a zero byte,
-/// AAA with a bit above it; AAAAA.
-const THREE_REFUSED: &[u64] = &[
-    0,
-    1,
-    18446744073709551615,
-    4211009,
-    4276289,
-    4276544,
-    4217434,
-    5914714,
-    5921344,
-    5980481,
-    4283201,
-    4276571,
-    5986906,
-    5921626,
-    5921371,
-    6381921,
-    65,
-    16705,
-    23130,
-    4276480,
-    4259905,
-    1094795585,
-    1515870810,
-    1094795520,
-    21053761,
-    4299243841,
-    9223372036859052353,
-    280267669825,
-    388062927450,
-];
-
-/// AAAAA, ZZZZZ, ABCDE, QRSTU.
-const FIVE_ACCEPTED: &[u64] = &[280267669825, 388062927450, 280284578885, 349273543765];
-/// 0, 1, the most; '@' for each letter of AAAAA and of ZZZZZ; '[' for each letter of AAAAA and of ZZZZZ;
-/// A, AA, AAA, AAAA; six, seven and eight times A, ZZZZZZ, AAAAA before a zero byte, AAAAA with a bit above it.
-const FIVE_REFUSED: &[u64] = &[
-    0,
-    1,
-    18446744073709551615,
-    275972702529,
-    280250892609,
-    280267604289,
-    280267669569,
-    280267669824,
-    276393777754,
-    387626719834,
-    388061223514,
-    388062920794,
-    388062927424,
-    391936819521,
-    280703877441,
-    280269373761,
-    280267676481,
-    280267669851,
-    392357894746,
-    388079704666,
-    388062992986,
-    388062927706,
-    388062927451,
-    65,
-    16705,
-    4276545,
-    1094795585,
-    71748523475265,
-    18367622009667905,
-    4702111234474983745,
-    99344109427290,
-    71748523475200,
-    1379779297601,
-    281755244380481,
-    9223372317122445633,
-];
-
-/// No number is in the domain of a column that isn't there.
-const ANY_REFUSED: &[u64] = &[0, 1, 8, 255, 4276545, 280267669825, 18446744073709551615];
-
-/// Each of these columns accepts the first values and refuses the second.
-fn try_columns(rt: &impl Abort, first: u8, last: u8, accepted: &[u64], refused: &[u64]) {
-    for column in first..=last {
-        for value in accepted {
-            assert!(rt;
-                in_domain(column, *value),
-                "column {column} refuses {value}"
-            );
-        }
-        for value in refused {
-            assert!(rt;
-                !in_domain(column, *value),
-                "column {column} accepts {value}"
-            );
+/// Each column of a line accepts each value, or refuses it.
+fn try_lines(rt: &impl Abort, lines: &str, accepts: bool) -> Result<(), &'static str> {
+    for line in lines.lines() {
+        let (columns, values) = line.split_once(": ").ok_or("columns and values")?;
+        for column in columns.split_whitespace() {
+            let column = column.parse::<u8>().map_err(|_| "a column")?;
+            for value in values.split_whitespace() {
+                let value = read_number(value).ok_or("a value")?;
+                assert_eq!(rt; in_domain(column, value), accepts, "{column} {value}");
+            }
         }
     }
+    Ok(())
 }
 
 #[test]
-fn each_column_has_its_domain(rt: HostRuntime) {
-    // Subscriber
-    try_columns(&rt, 0, 0, NUMBER_ACCEPTED, NUMBER_REFUSED);
-    try_columns(&rt, 1, 1, DIGITS_ACCEPTED, DIGITS_REFUSED);
-    try_columns(&rt, 2, 11, BIT_ACCEPTED, BIT_REFUSED);
-    try_columns(&rt, 12, 21, HEX_ACCEPTED, HEX_REFUSED);
-    try_columns(&rt, 22, 31, BYTE_ACCEPTED, BYTE_REFUSED);
-    try_columns(&rt, 32, 33, NUMBER_ACCEPTED, NUMBER_REFUSED);
-    // Access_Info
-    try_columns(&rt, 34, 34, NUMBER_ACCEPTED, NUMBER_REFUSED);
-    try_columns(&rt, 35, 35, TYPE_ACCEPTED, TYPE_REFUSED);
-    try_columns(&rt, 36, 37, BYTE_ACCEPTED, BYTE_REFUSED);
-    try_columns(&rt, 38, 38, THREE_ACCEPTED, THREE_REFUSED);
-    try_columns(&rt, 39, 39, FIVE_ACCEPTED, FIVE_REFUSED);
-    // Special_Facility
-    try_columns(&rt, 40, 40, NUMBER_ACCEPTED, NUMBER_REFUSED);
-    try_columns(&rt, 41, 41, TYPE_ACCEPTED, TYPE_REFUSED);
-    try_columns(&rt, 42, 42, BIT_ACCEPTED, BIT_REFUSED);
-    try_columns(&rt, 43, 44, BYTE_ACCEPTED, BYTE_REFUSED);
-    try_columns(&rt, 45, 45, FIVE_ACCEPTED, FIVE_REFUSED);
-    // Call_Forwarding
-    try_columns(&rt, 46, 46, NUMBER_ACCEPTED, NUMBER_REFUSED);
-    try_columns(&rt, 47, 47, TYPE_ACCEPTED, TYPE_REFUSED);
-    try_columns(
-        &rt,
-        48,
-        48,
-        &[0, 8, 16],
-        &[1, 2, 4, 7, 9, 15, 17, 24, 32, 18446744073709551615],
-    );
-    try_columns(
-        &rt,
-        49,
-        49,
-        &[1, 2, 12, 23, 24],
-        &[0, 25, 26, 256, 18446744073709551615],
-    );
-    try_columns(&rt, 50, 50, DIGITS_ACCEPTED, DIGITS_REFUSED);
-    // no column
-    try_columns(&rt, 51, 255, &[], ANY_REFUSED);
+fn each_column_has_its_domain(rt: HostRuntime) -> Result<(), Fail> {
+    try_lines(&rt, ACCEPTED, true)?;
+    try_lines(&rt, REFUSED, false)?;
+    for column in 51..=255 {
+        for value in [0, 1, 8, 255, 4276545, 280267669825, u64::MAX] {
+            assert!(rt; !in_domain(column, value), "no column {column}");
+        }
+    }
+    for column in 0..=255 {
+        let fixed = [0, 1, 34, 35, 40, 41, 46, 47, 48].contains(&column);
+        assert_eq!(rt; is_fixed(column), fixed, "{column}");
+    }
+    Ok(())
 }

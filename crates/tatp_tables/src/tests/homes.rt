@@ -2,9 +2,11 @@
 ghost use Rattle.std.specs.Prelude.{IfOk};
 ghost use Rattle.tatp_tables.specs.Clean.{IsClean};
 
-use crate::{Home, Refusal, Row, Rows, homes};
+use super::numbers;
+use crate::{Home, Refusal, Row, Rows, homes, is_fixed};
 use std::alloc::{AllocError, Global};
 use std::mem::size_of;
+use std::process::Abort;
 use std::test::Fail;
 
 /// Subscriber 1 with one row in each table.
@@ -22,99 +24,154 @@ fn one_subscriber(alloc: Global) -> Result<Rows, AllocError>
     Ok(rows)
 }
 
+/// Calls of subscriber 1's home, one after another, and their answers: of a find 1 or 0, of a read and
+/// of a column that is set the value or the value before, of an insert 0, of a delete the end time, or
+/// the number of the refusal.
+const CALLS: &str = "\
+has_sub 0 = 0
+has_sub 1 = 1
+has_sub 2 = 0
+has_number 1 = 1
+has_number 2 = 0
+has_access 1 1 = 1
+has_access 1 2 = 0
+has_access 2 1 = 0
+has_facility 1 1 = 1
+has_facility 1 5 = 0
+has_facility 1 0 = 0
+has_forward 1 1 8 = 1
+has_forward 1 1 0 = 0
+has_forward 1 1 7 = 0
+has_forward 1 2 8 = 0
+get 33 1 0 0 = 1
+get 38 1 1 0 = 4276545
+get 42 1 1 0 = 1
+get 50 1 1 8 = 888
+get 50 1 1 16 = refused 1
+get 33 2 0 0 = refused 1
+get 51 1 1 8 = refused 1
+get 255 1 1 8 = refused 1
+put 33 1 0 0 4294967295 = 1
+get 33 1 0 0 = 4294967295
+put 33 1 0 0 0 = refused 2
+get 33 1 0 0 = 4294967295
+put 36 1 1 0 255 = 0
+put 44 1 1 0 9 = 0
+put 44 1 2 0 256 = refused 1
+put 49 1 1 8 24 = 20
+get 49 1 1 8 = 24
+insert_cf 1 1 8 1 7 = refused 3
+insert_cf 1 1 8 0 7 = refused 2
+insert_cf 1 2 8 1 7 = refused 4
+insert_cf 2 1 0 1 7 = refused 4
+insert_cf 1 1 16 24 999999999999999 = 0
+get 50 1 1 16 = 999999999999999
+delete_cf 1 1 0 = refused 1
+delete_cf 1 1 8 = 24
+delete_cf 1 1 8 = refused 1
+has_forward 1 1 16 = 1
+has_forward 1 1 8 = 0
+insert_cf 1 1 0 6 7 = 0
+";
+
+/// Calls of a home without rows, that of s_id 2.
+const CALLS_WITHOUT_ROWS: &str = "\
+has_sub 2 = 0
+has_number 1 = 0
+has_access 1 1 = 0
+put 33 2 0 0 0 = refused 1
+insert_cf 2 1 0 1 7 = refused 4
+delete_cf 2 1 0 = refused 1
+";
+
+/// What a home answers to a call.
+fn answer(home: &mut Home, call: &str, parts: [u64; 34]) -> Result<u64, Refusal> {
+    let [a, b, c, d, e, ..] = parts;
+    let column = (a % 256) as u8;
+    match call {
+        "has_sub" => Ok(u64::from(home.has_sub(a))),
+        "has_number" => Ok(u64::from(home.has_number(a))),
+        "has_access" => Ok(u64::from(home.has_access(a, b))),
+        "has_facility" => Ok(u64::from(home.has_facility(a, b))),
+        "has_forward" => Ok(u64::from(home.has_forward(a, b, c))),
+        "get" => home.get(column, [b, c, d]).ok_or(Refusal::NoCurrent),
+        "put" if column <= 50 && !is_fixed(column) => home.put(column, [b, c, d], e),
+        "insert_cf" => home.insert_cf([a, b, c, d, e]).map(|_| 0),
+        "delete_cf" => home.delete_cf([a, b, c]).map(|row| row[3]),
+        _ => Ok(u64::MAX),
+    }
+}
+
+/// Makes the calls, and compares their answers.
+fn try_calls(rt: &impl Abort, home: &mut Home, calls: &str) -> Result<(), &'static str> {
+    for line in calls.lines() {
+        let (call, wanted) = line.split_once(" = ").ok_or("a call and an answer")?;
+        let (call, parts) = call.split_once(' ').ok_or("a call")?;
+        let parts = numbers(parts).ok_or("the parts of a call")?;
+        let wanted = match wanted.strip_prefix("refused ") {
+            Some(number) => (0, numbers(number).ok_or("a number")?[0]),
+            None => (numbers(wanted).ok_or("a number")?[0], 0),
+        };
+        let given = match answer(home, call, parts) {
+            Ok(value) => (value, 0),
+            Err(refusal) => (0, refusal as u64),
+        };
+        assert_eq!(rt; given, wanted, "{line}");
+    }
+    Ok(())
+}
+
 #[test]
-fn homes_of_all_subscribers(rt: HostRuntime) -> Result<(), Fail> {
+fn homes_of_rows(rt: HostRuntime) -> Result<(), Fail> {
     let rows = one_subscriber(rt.alloc())?;
     let homes = homes(rt.alloc(), &rows)?;
     assert_eq!(rt; homes.len(), 1);
-    let home = &homes[0];
-    assert_eq!(rt; home.s_id(), 1);
-    assert!(rt; home.has_sub(1) && home.has_number(1));
+    assert_eq!(rt; homes[0].s_id(), 1);
+    let mut none = Home::of(&rows, 2);
+    assert_eq!(rt; none.s_id(), 2);
+    assert!(rt; homes[0] == Home::of(&rows, 1) && homes[0] != none);
+    try_calls(&rt, &mut none, CALLS_WITHOUT_ROWS)?;
     Ok(())
 }
 
 #[test]
-fn finds_and_reads(rt: HostRuntime) -> Result<(), Fail> {
-    let home = Home::of(&one_subscriber(rt.alloc())?, 1);
-    assert!(rt; home.has_sub(1) && !home.has_sub(2) && !home.has_sub(0));
-    assert!(rt; home.has_number(1) && !home.has_number(2));
-    assert!(rt; home.has_access(1, 1) && !home.has_access(1, 2) && !home.has_access(2, 1));
-    assert!(rt; home.has_facility(1, 1) && !home.has_facility(1, 5) && !home.has_facility(1, 0));
-    assert!(rt; home.has_forward(1, 1, 8) && !home.has_forward(1, 1, 0));
-    assert!(rt; !home.has_forward(1, 1, 7) && !home.has_forward(1, 2, 8));
-    assert_eq!(rt; home.get(33, [1, 0, 0]), Some(1));
-    assert_eq!(rt; home.get(38, [1, 1, 0]), Some(4276545));
-    assert_eq!(rt; home.get(42, [1, 1, 0]), Some(1));
-    assert_eq!(rt; home.get(50, [1, 1, 8]), Some(888));
-    assert_eq!(rt; home.get(50, [1, 1, 16]), None);
-    assert_eq!(rt; home.get(33, [2, 0, 0]), None);
-    Ok(())
-}
-
-#[test]
-fn a_home_of_no_subscriber_is_empty(rt: HostRuntime) -> Result<(), Fail> {
-    let mut home = Home::of(&one_subscriber(rt.alloc())?, 2);
-    assert_eq!(rt; home.s_id(), 2);
-    assert!(rt; !home.has_sub(2) && !home.has_number(1) && !home.has_access(1, 1));
-    assert_eq!(rt; home.put(33, [2, 0, 0], 0), Err(Refusal::NoCurrent));
-    assert_eq!(rt; home.insert_cf([2, 1, 0, 1, 7]), Err(Refusal::NoParent));
-    assert_eq!(rt; home.delete_cf([2, 1, 0]), Err(Refusal::NoCurrent));
-    Ok(())
-}
-
-#[test]
-fn sets_columns(rt: HostRuntime) -> Result<(), Fail> {
+fn calls_of_a_home(rt: HostRuntime) -> Result<(), Fail> {
     let mut home = Home::of(&one_subscriber(rt.alloc())?, 1);
-    assert_eq!(rt; home.put(33, [1, 0, 0], 4294967295), Ok(1));
-    assert_eq!(rt; home.get(33, [1, 0, 0]), Some(4294967295));
-    assert_eq!(rt; home.put(33, [1, 0, 0], 0), Err(Refusal::Domain));
-    assert_eq!(rt; home.get(33, [1, 0, 0]), Some(4294967295));
-    assert_eq!(rt; home.put(36, [1, 1, 0], 255), Ok(0));
-    assert_eq!(rt; home.put(44, [1, 1, 0], 9), Ok(0));
-    assert_eq!(rt; home.put(44, [1, 2, 0], 256), Err(Refusal::NoCurrent));
-    assert_eq!(rt; home.put(49, [1, 1, 8], 24), Ok(20));
-    assert_eq!(rt; home.get(49, [1, 1, 8]), Some(24));
-    Ok(())
-}
-
-#[test]
-fn inserts_and_deletes_forwardings(rt: HostRuntime) -> Result<(), Fail> {
-    let mut home = Home::of(&one_subscriber(rt.alloc())?, 1);
-    assert_eq!(rt; home.insert_cf([1, 1, 8, 1, 7]), Err(Refusal::KeyExists));
-    assert_eq!(rt; home.insert_cf([1, 1, 8, 0, 7]), Err(Refusal::Domain));
-    assert_eq!(rt; home.insert_cf([1, 2, 8, 1, 7]), Err(Refusal::NoParent));
-    assert_eq!(rt; home.insert_cf([2, 1, 0, 1, 7]), Err(Refusal::NoParent));
-    assert_eq!(rt; home.insert_cf([1, 1, 16, 24, 999999999999999]), Ok(()));
-    assert_eq!(rt; home.get(50, [1, 1, 16]), Some(999999999999999));
-    assert_eq!(rt; home.delete_cf([1, 1, 0]), Err(Refusal::NoCurrent));
-    assert_eq!(rt; home.delete_cf([1, 1, 8]), Ok([1, 1, 8, 20, 888]));
-    assert_eq!(rt; home.delete_cf([1, 1, 8]), Err(Refusal::NoCurrent));
-    assert!(rt; home.has_forward(1, 1, 16) && !home.has_forward(1, 1, 8));
-    Ok(())
-}
-
-#[test]
-fn rows_of_a_home_by_key(rt: HostRuntime) -> Result<(), Fail> {
-    let mut home = Home::of(&one_subscriber(rt.alloc())?, 1);
-    assert_eq!(rt; home.insert_cf([1, 1, 0, 6, 7]), Ok(()));
+    let before = home.copy();
+    try_calls(&rt, &mut home, CALLS)?;
+    assert!(rt; before != home);
     let mut rows = Rows::new(rt.alloc());
     rows.push(Row::C([9, 1, 0, 1, 1]))?;
-    home.copy().add_rows(&mut rows)?;
+    home.add_rows(&mut rows)?;
     assert_eq!(rt; rows.subscribers.len(), 1);
     assert_eq!(rt;
         rows.accesses.as_slice(),
-        [[1, 1, 0, 0, 4276545, 280267669825]].as_slice()
+        [[1, 1, 255, 0, 4276545, 280267669825]].as_slice()
     );
     assert_eq!(rt;
         rows.facilities.as_slice(),
-        [[1, 1, 1, 0, 0, 280267669825]].as_slice()
+        [[1, 1, 1, 0, 9, 280267669825]].as_slice()
     );
-    let forwardings = [[9, 1, 0, 1, 1], [1, 1, 0, 6, 7], [1, 1, 8, 20, 888]];
+    let forwardings = [
+        [9, 1, 0, 1, 1],
+        [1, 1, 0, 6, 7],
+        [1, 1, 16, 24, 999999999999999],
+    ];
     assert_eq!(rt; rows.forwardings.as_slice(), forwardings.as_slice());
     Ok(())
 }
 
 #[test]
-fn the_size_of_a_home(rt: HostRuntime) {
+fn refusals_and_sizes(rt: HostRuntime) -> Result<(), Fail> {
+    for (refusal, number, text) in [
+        (Refusal::NoCurrent, 1, "1 NoCurrent"),
+        (Refusal::Domain, 2, "2 Domain"),
+        (Refusal::KeyExists, 3, "3 KeyExists"),
+        (Refusal::NoParent, 4, "4 NoParent"),
+    ] {
+        assert_eq!(rt; refusal as u8, number);
+        assert_eq!(rt; format!(in rt.alloc(); "{refusal}")?.as_str(), text);
+    }
     assert!(rt; size_of::<Home>() <= 1536);
+    Ok(())
 }

@@ -9,6 +9,7 @@ pub mod LabelLaws
 pub mod Bodies
 pub mod Grammar
 pub mod Resolving
+pub mod EarlyLaws
 pub mod ModuleLaws
 pub mod Whole
 pub mod Printed

@@ -3,7 +3,7 @@ use Rattle.std.proofs.Common.{◌≡◌, ℕ, refl, Option, Some, None}
 use Rattle.tatp_instr.specs.declared.instr.Instr.{Instr}
 use Rattle.tatp_instr.specs.declared.instr.Instr.TheVariants.{Ldi}
 use Rattle.tatp_instr.specs.declared.book.Word.{Word}
-use Rattle.tatp_instr.specs.declared.book.Word.TheVariants.{Nothing, Count, Column, Argument, Target}
+use Rattle.tatp_instr.specs.declared.book.Word.TheVariants.{Target}
 use Rattle.tatp_instr.specs.declared.book.Shape.{Shape}
 use Rattle.tatp_instr.specs.Instrs.{parts_of}
 use Rattle.tatp_instr.specs.Shapes.{shape_at}

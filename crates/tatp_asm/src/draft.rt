@@ -1,8 +1,10 @@
 //! A procedure under way.
-ghost use Rattle.std.specs.Prelude.{◌≡◌, ◌≤◌, ◌++◌, ◌∷◌, [], List, Some, None, true, length, Err, IfOk, OnOk};
-ghost use Rattle.tatp_encoding.specs.Modules.{Procedure, is_name, is_procedure};
+ghost use Rattle.std.specs.Prelude.{◌≡◌, ◌++◌, ◌∷◌, [], List, Some, None, length, Err, IfOk};
+ghost use Rattle.tatp_encoding.specs.Modules.{Procedure};
 ghost use Rattle.tatp_asm.specs.Instrs.{has_target};
 ghost use Rattle.tatp_asm.specs.Lines.{Opens, Names, Does, Closes, IsLine};
+ghost use Rattle.std.specs.Result.{result_map_both};
+ghost use Rattle.tatp_asm.specs.BeforeCode.{IsBare};
 ghost use Rattle.tatp_asm.specs.Reading.{Gives, step, resolve, resolved, position_of};
 ghost use Rattle.tatp_asm.specs.Views.{Fits, draft_view, labels_view, pending, all_pending};
 
@@ -71,13 +73,14 @@ pub(crate) fn open_draft(
     name: Name,
     arity: u8,
     line: u64,
-) -> Result<Draft, AsmError>
+) -> Result<Draft, AsmFault>
     requires { IsLine (Opens name.bytes arity) }
-    ensures gives { (procs : List Procedure) → length procs ≡ closed → Gives (λ d. record { closed = procs; current = Some (draft_view d) }) result (step procs None line (Opens name.bytes arity)) }
+    ensures gives { (procs : List Procedure) → length procs ≡ closed → result_map_both (λ d. record { closed = procs; current = Some (draft_view d) }) (λ fault. fault) result ≡ step procs None line (Opens name.bytes arity) }
     ensures fits { IfOk result Fits }
 {
     if closed >= MAX_PROCEDURES {
-        return fault(AsmFaultKind::TooLong, line);
+        let kind = AsmFaultKind::TooLong;
+        return Err(AsmFault { kind, line });
     }
     Ok(Draft {
         name,
@@ -129,7 +132,8 @@ pub(crate) fn add_instruction(
 /// The procedure that ends.
 pub(crate) fn close_draft(alloc: Global, draft: Draft, line: u64) -> Result<Proc, AsmError>
     requires { Fits draft }
-    ensures { (closed : List Procedure) → Gives (λ p. record { closed = closed ++ (p ∷ []); current = None }) result (step closed (Some (draft_view draft)) line Closes) }
+    ensures gives { (closed : List Procedure) → Gives (λ p. record { closed = closed ++ (p ∷ []); current = None }) result (step closed (Some (draft_view draft)) line Closes) }
+    ensures early { IsBare (Some (draft_view draft)) → result ≡ Err (AsmError.Fault (record { kind = AsmFaultKind.Syntax; line = line })) }
 {
     if draft.code.is_empty() {
         return fault(AsmFaultKind::Syntax, line);

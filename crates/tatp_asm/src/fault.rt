@@ -41,6 +41,14 @@ pub enum AsmError {
     Fault(AsmFault),
 }
 
+impl From<AsmFault> for AsmError {
+    ghost from_gives = { λ fault e. e ≡ Fault fault };
+
+    fn from(fault: AsmFault) -> AsmError {
+        AsmError::Fault(fault)
+    }
+}
+
 impl From<AllocError> for AsmError {
     ghost from_gives = { λ _ e. e ≡ NoMemory };
 

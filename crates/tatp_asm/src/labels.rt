@@ -1,6 +1,5 @@
 //! The labels of a procedure, with their positions.
 ghost use Rattle.std.specs.Prelude.{◌≡◌, ◌++◌, ◌∷◌, [], None, OnOk, IfErr};
-ghost use Rattle.std.specs.String.{string_bytes};
 ghost use Rattle.tatp_asm.specs.Reading.{position_of};
 ghost use Rattle.tatp_asm.specs.Views.{labels_view};
 

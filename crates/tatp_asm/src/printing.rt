@@ -3,7 +3,6 @@ ghost use Rattle.std.specs.Prelude.{◌≡◌, ◌≤◌, ◌++◌, ◌∷◌, [
 ghost use Rattle.std.specs.String.{string_bytes};
 ghost use Rattle.tatp_encoding.specs.Modules.{Procedure, is_module};
 ghost use Rattle.tatp_encoding.specs.Spelling.{IsInstr};
-ghost use Rattle.tatp_asm.specs.Lines.{line_text};
 ghost use Rattle.tatp_asm.specs.Texts.{IsTextOf};
 ghost use Rattle.tatp_asm.specs.Printing.{is_target, is_named, instruction_line, body_lines, with_label, procedure_lines, lines_text, disassembled};
 

@@ -1,5 +1,5 @@
 //! Modules from bytes.
-ghost use Rattle.std.specs.Prelude.{◌≡◌, List, Ok, Err, true, All, IfOk, OnOk};
+ghost use Rattle.std.specs.Prelude.{◌≡◌, List, Ok, Err, true, All, IfOk};
 ghost use Rattle.tatp_encoding.specs.Modules.{Procedure, is_module};
 ghost use Rattle.tatp_loader.specs.Lawful.{IsLawful};
 ghost use Rattle.tatp_loader.specs.ModuleBytes.{IsModuleOf, HasInstrs};

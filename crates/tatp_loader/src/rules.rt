@@ -1,9 +1,9 @@
 //! The rules that a module keeps before a machine runs it.
-ghost use Rattle.std.specs.Prelude.{◌≡◌, ◌↔◌, ◌&&◌, not, length, IsOk, IfOk, IfErr, Some};
+ghost use Rattle.std.specs.Prelude.{◌≡◌, ◌↔◌, ◌&&◌, not, IsOk, IfOk, IfErr, Some};
 ghost use Rattle.std.specs.List.{list_any};
 ghost use Rattle.tatp_tables.specs.Columns.{is_column, is_fixed};
 ghost use Rattle.tatp_loader.specs.Lawful.{IsLawful, is_out, is_write, is_end};
-ghost use Rattle.tatp_loader.specs.Rules.{misfit, excess, first_broken, ends, missing_end, has_name, fault_after, first_fault};
+ghost use Rattle.tatp_loader.specs.Rules.{misfit, excess, first_broken, missing_end, has_name, fault_after, first_fault};
 
 use crate::fault::{LoadFault, LoadFaultKind};
 use crate::loaded::Loaded;

@@ -24,6 +24,7 @@ use Rattle.tatp_procs.specs.Locality.{with_answer, IsLocal}
 use Rattle.tatp_procs.proofs.HomeRowLaws.{row_at-own, no_child}
 use Rattle.tatp_procs.proofs.UpdateLaws.{own_of, number_at_home, subscriber_replaced, both_replaced, set_own}
 use Rattle.tatp_procs.proofs.ForwardingLaws.{row_inserted, row_removed}
+use Rattle.tatp_procs.proofs.DestinationLaws.{nothing_passes}
 
 -- ---- keys
 -- an s_id names itself
@@ -166,14 +167,6 @@ none_names v k e = elim (row_at v (k ∷ [])) as (λ o. option_map s_id_of o ≡
 
 no_number : (v : Tuples) (n : ℕ) → home_of_key v (Number n) ≡ None → row_with_number v n ≡ None
 no_number v n e = elim (row_with_number v n) as (λ o. option_map s_id_of o ≡ None → o ≡ None) [ None ↦ λ h. refl | Some row ↦ λ h. absurd cc ] e
-
-nothing_passes : (p : Tuple → Bool) (xs : List Tuple) → filter (λ x. p x && false) xs ≡ []
-nothing_passes p [] = refl
-nothing_passes p (x ∷ xs) =
-    elim (p x) as (λ c. cond (c && false) (x ∷ filter (λ y. p y && false) xs) (filter (λ y. p y && false) xs) ≡ []) [
-      | true ↦ nothing_passes p xs
-      | false ↦ nothing_passes p xs
-    ]
 
 -- it fails as where no row is found
 pub fails_without_home : (call : Call) (u : Database) → IsConsistent u → home_of_key u.subscribers (key_of_call call) ≡ None → transaction call u ≡ fails u 1

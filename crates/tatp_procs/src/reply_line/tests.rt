@@ -31,7 +31,7 @@ fn values(values: &[u64]) -> Reply
     Reply::Values(Outputs::from_slice(values))
 }
 
-/// The first of them with all least, all greatest and other values, in the forms of their columns and in decimal.
+/// Values in the forms of their columns, in decimal, and as many and as long as there can be; then the other kinds.
 #[test]
 fn prints_each_kind_of_reply(rt: HostRuntime) -> Result<(), Fail> {
     let raw = Ask::Raw(Raw::new(2, &[1, 1], Key::Id(1)));
@@ -94,5 +94,11 @@ fn prints_each_kind_of_reply(rt: HostRuntime) -> Result<(), Fail> {
         text.push_str("\n")?;
     }
     assert!(rt; text.ends_with("TRAPPED NoCurrent\nREFUSED 46 NoMemory\n"));
+    let mut longest = String::from_str(rt.alloc(), "OK")?;
+    for _ in 0..40 {
+        longest.push_str(" 18446744073709551615")?;
+    }
+    let greatest = reply_text(rt.alloc(), &raw, &values(&[u64::MAX; 40]))?;
+    assert_eq!(rt; greatest.as_str(), longest.as_str());
     Ok(())
 }

@@ -13,3 +13,4 @@ pub mod CompletionLaws
 pub mod CloseLaws
 pub mod OpenLaws
 pub mod RunnerLaws
+pub mod FixtureLaws

@@ -29,12 +29,12 @@ range_set f g (suc n) zero a k is within same =
     λ i. g (here i) ∷ range_same f g n (a + 1) k (omega (arith, is)) same i
 range_set f g (suc n) (suc j) a k is within same = λ i. same a (λ e. omega (arith, e, is)) i ∷ range_set f g n j (a + 1) k (omega (arith, is)) (omega (arith, within)) same i
 
-range_get : {A : Type 0} (f : ℕ → A) (n j a k : ℕ) → k ≡ a + j → j < n → slice_get (map f (range_with_len a n)) j ≡ Some (f k)
+pub range_get : {A : Type 0} (f : ℕ → A) (n j a k : ℕ) → k ≡ a + j → j < n → slice_get (map f (range_with_len a n)) j ≡ Some (f k)
 range_get f zero j a k is within = absurd (omega (arith, within))
 range_get f (suc n) zero a k is within = ap (λ e. Some (f e)) (let here : a ≡ k = omega (arith, is) in here)
 range_get f (suc n) (suc j) a k is within = range_get f n j (a + 1) k (omega (arith, is)) (omega (arith, within))
 
-range_past : {A : Type 0} (f : ℕ → A) (n j a : ℕ) (x : A) → slice_get (map f (range_with_len a n)) j ≡ Some x → j < n
+pub range_past : {A : Type 0} (f : ℕ → A) (n j a : ℕ) (x : A) → slice_get (map f (range_with_len a n)) j ≡ Some x → j < n
 range_past f zero j a x is = absurd cc
 range_past f (suc n) zero a x is = omega arith
 range_past f (suc n) (suc j) a x is = let more = range_past f n j (a + 1) x is in omega (arith, more)

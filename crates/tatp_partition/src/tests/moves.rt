@@ -1,0 +1,87 @@
+//! Extents that leave a site and land at one.
+
+use super::fixture::{close, opened, refused_take};
+use crate::{Site, SiteRefusal};
+use std::test::Fail;
+use tatp_procs::standard;
+
+/// Takes an extent and gives it back, so often; how often that was done.
+fn moved(site: &mut Site<'_>, e: u32, times: u32) -> u32 {
+    for i in 0..times {
+        match site.take(e) {
+            Err(_) => return i,
+            Ok(parcel) => match site.give(parcel) {
+                Ok(landed) => landed.discard(),
+                Err(parcel) => {
+                    let _ = parcel.unpack().close();
+                    return i;
+                }
+            },
+        }
+    }
+    times
+}
+
+/// The number and the moves of the parcel that comes back from a site; whether the other site has it again.
+fn given_back(from: &mut Site<'_>, to: &mut Site<'_>, e: u32) -> Option<(u32, u16, bool)> {
+    match from.take(e) {
+        Err(_) => None,
+        Ok(parcel) => match to.give(parcel) {
+            Ok(landed) => {
+                landed.discard();
+                None
+            }
+            Err(parcel) => {
+                let number = parcel.number();
+                let moves = parcel.moves();
+                match from.give(parcel) {
+                    Ok(landed) => {
+                        landed.discard();
+                        Some((number, moves, true))
+                    }
+                    Err(parcel) => {
+                        let _ = parcel.unpack().close();
+                        Some((number, moves, false))
+                    }
+                }
+            }
+        },
+    }
+}
+
+#[test]
+fn moves_are_counted(rt: HostRuntime) -> Result<(), Fail> {
+    let loaded = standard(rt.alloc())?;
+    let mut site = opened(rt.alloc(), &loaded)?;
+    let often = moved(&mut site, 3, 65535);
+    let full = refused_take(&mut site, 3);
+    let there = site.home(129).is_some();
+    let none = refused_take(&mut site, 4);
+    let places = site.slots();
+    close(site);
+    assert_eq!(rt; often, 65535);
+    assert_eq!(rt; full, Some(SiteRefusal::MoveCountFull));
+    assert!(rt; there);
+    assert_eq!(rt; none, Some(SiteRefusal::NotHere));
+    assert_eq!(rt; places, 3);
+    Ok(())
+}
+
+#[test]
+fn a_foreign_parcel_comes_back(rt: HostRuntime) -> Result<(), Fail> {
+    let loaded = standard(rt.alloc())?;
+    let mut site = opened(rt.alloc(), &loaded)?;
+    match opened(rt.alloc(), &loaded) {
+        Err(error) => {
+            close(site);
+            return Err(error.into());
+        }
+        Ok(mut other) => {
+            let back = given_back(&mut site, &mut other, 3);
+            close(site);
+            close(other);
+            assert_eq!(rt; back, Some((3, 1, true)));
+            Ok(())
+        }
+    }
+}

@@ -26,7 +26,12 @@ fn clean_rows(alloc: Global, count: u64) -> Result<Rows, AllocError> {
 fn last_shape(extents: &[Extent]) -> Option<(u32, u64, usize, usize)> {
     let last = extents.last()?;
     let first = last.homes().first()?;
-    Some((last.number(), first.s_id(), last.opening().len(), extents.len()))
+    Some((
+        last.number(),
+        first.s_id(),
+        last.opening().len(),
+        extents.len(),
+    ))
 }
 
 #[test]

@@ -1,5 +1,5 @@
 -- What a snapshot shows of a running call.
-use Rattle.std.specs.Prelude.{◌≡◌, ℕ, List, [], ◌∷◌, Option, None, IsSomeAnd, Result, Ok, Err, slice_get}
+use Rattle.std.specs.Prelude.{◌≡◌, ℕ, List, [], ◌∷◌, None, IsSomeAnd, Result, Ok, Err, slice_get}
 use Rattle.std.specs.Option.{option_map_or}
 use Rattle.tatp_instr.specs.declared.instr.Instr.{Instr}
 use Rattle.tatp_instr.specs.Instrs.{text_of}

@@ -2,6 +2,7 @@
 #![tactic(auto)]
 
 mod looking;
+mod printing;
 mod snapshot;
 
 pub use looking::{home_rows, look};

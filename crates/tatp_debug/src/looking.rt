@@ -1,9 +1,7 @@
 //! Looking at a site.
 ghost use Rattle.std.specs.Prelude.{◌≡◌, None, Some, IfErr, IfOk};
-ghost use Rattle.std.specs.Option.{option_map, option_copied};
-ghost use Rattle.tatp_machine.specs.Calls.{key_in};
 ghost use Rattle.tatp_partition.specs.Sites.{home_here};
-ghost use Rattle.tatp_partition.specs.declared.refusal.SiteRefusal.TheVariants.{NotRunning, NotHere};
+ghost use Rattle.tatp_partition.specs.declared.refusal.SiteRefusal.TheVariants.{NotHere};
 ghost use Rattle.tatp_debug.specs.Snapshots.{IsSnapshot, Looks, name_of, register_values};
 
 use crate::{CurrentKeys, Snapshot};

@@ -9,6 +9,7 @@ use super::Site;
 use crate::asks::{fits_module, is_named};
 use crate::runner::pinned_extent;
 use crate::{Item, SiteRefusal};
+use tatp_loader::Loaded;
 use tatp_machine::Machine;
 use tatp_tables::{Home, what_holds_of_every_home};
 
@@ -38,6 +39,13 @@ impl<'m> Site<'m> {
         ensures { result ≡ self.now.stops }
     {
         self.stops
+    }
+
+    /// The module whose procedures its calls run.
+    pub fn loaded(&self) -> &'m Loaded
+        ensures { result.now ≡ self.now.procedures }
+    {
+        self.loaded
     }
 
     /// The machine of the running call.

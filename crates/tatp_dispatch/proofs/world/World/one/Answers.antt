@@ -1,0 +1,68 @@
+use Rattle.std.proofs.Common.{◌≡◌, ◌<◌, Some, None, Ok, Err, length, slice_get, refl, sym, ◌∙◌, ap, subst, arith}
+use Rattle.std.proofs.lemmas.Option.{slice_get_within}
+use Rattle.tatp_partition.specs.declared.item.Stepped.{Stepped}
+use Rattle.tatp_partition.specs.declared.item.Stepped.TheVariants.{Moved as Did_move, Ended as Did_end}
+use Rattle.tatp_partition.specs.Obstacles.{one_obstacle}
+use Rattle.tatp_dispatch.specs.declared.event.Refusal.TheVariants.{Site}
+use Rattle.tatp_dispatch.specs.Worlds.{WorldState}
+use Rattle.tatp_dispatch.specs.Fields.{world_of}
+use Rattle.tatp_dispatch.specs.Stepping.{StepsAt}
+use Rattle.tatp_dispatch.proofs.EventLaws.{told_same, sound_refused, refused_at, line_at, end_at, line_told, ending_client, room_to_end, EndedFields, end_told, end_happens}
+use Rattle.tatp_dispatch.proofs.world.World.one.Goals as goal
+
+pub returns-in-Err-clause-happens : goal.returns-in-Err-clause-happens
+returns-in-Err-clause-happens c = rw (← c.self.view_is) (refused_at (world_of c.self.inside) c.args.p one_obstacle c.in-Err.refusal c.one_at.new.sites.items c.in-Err.ensures)
+
+pub returns-in-Err-clause-tells : goal.returns-in-Err-clause-tells
+returns-in-Err-clause-tells c = rw (← c.self.view_is) (told_same (world_of c.self.inside) (record (world_of c.self.inside) { sites = c.one_at.new.sites.items }) (Site c.in-Err.refusal) c.self.invariant.world (refused_at (world_of c.self.inside) c.args.p one_obstacle c.in-Err.refusal c.one_at.new.sites.items c.in-Err.ensures).1)
+
+pub invariant_of-self : goal.invariant_of-self
+invariant_of-self c = sound_refused c.self.inside c.one_at.new.sites c.self.invariant (refused_at (world_of c.self.inside) c.args.p one_obstacle c.in-Err.refusal c.one_at.new.sites.items c.in-Err.ensures).1
+
+-- ---- it goes on
+moved : (c : goal.In-Ok-Moved) → StepsAt one_obstacle c.self.inside.sites.items c.args.p (Ok Did_move) c.one_at.new.sites.items
+moved c = subst (λ (t : Stepped). StepsAt one_obstacle c.self.inside.sites.items c.args.p (Ok t) c.one_at.new.sites.items) c.in-Ok-Moved.field-0-is c.in-Ok-Moved.ensures
+
+pub invariant_of-self-in-Ok-Moved : goal.invariant_of-self-in-Ok-Moved
+invariant_of-self-in-Ok-Moved c = let x = moved c in (line_told c.self.inside c.one_at.new.sites c.args.p x.before x.after_it c.self.invariant x.after x.site x.whole x.steps.1).0
+
+pub returns-in-Ok-Moved-clause-happens : goal.returns-in-Ok-Moved-clause-happens
+returns-in-Ok-Moved-clause-happens c = rw (← c.self.view_is) (line_at (world_of c.self.inside) c.args.p one_obstacle c.one_at.new.sites.items (moved c))
+
+pub returns-in-Ok-Moved-clause-tells : goal.returns-in-Ok-Moved-clause-tells
+returns-in-Ok-Moved-clause-tells c = let x = moved c in rw (← c.self.view_is) (line_told c.self.inside c.one_at.new.sites c.args.p x.before x.after_it c.self.invariant x.after x.site x.whole x.steps.1).1
+
+-- ---- it ends
+pub complete-requires : goal.complete-requires
+complete-requires c =
+    let x = subst (λ (t : Stepped). StepsAt one_obstacle c.self.inside.sites.items c.args.p (Ok t) c.one_at.new.sites.items) c.in-Ok-Ended.field-0-is c.in-Ok-Ended.ensures in
+    room_to_end c.self.inside c.args.p x.before x.after_it c.in-Ok-Ended.completion c.self.invariant x.site x.steps.1
+
+pub end_call-requires : goal.end_call-requires
+end_call-requires c =
+    let x = subst (λ (t : Stepped). StepsAt one_obstacle c.self.inside.sites.items c.args.p (Ok t) c.one_at.new.sites.items) c.in-Ok-Ended.field-0-is c.in-Ok-Ended.ensures in
+    let k = ending_client (world_of c.self.inside) c.args.p x.before x.after_it c.in-Ok-Ended.completion c.self.invariant.world x.site x.steps.1 in
+    slice_get_within c.self.inside.clients.items c.in-Ok-Ended.completion.entry.client k.0 k.1
+
+ended : (c : goal.After-end_call) → StepsAt one_obstacle c.self.inside.sites.items c.args.p (Ok (Did_end c.in-Ok-Ended.completion)) c.one_at.new.sites.items
+ended c = subst (λ (t : Stepped). StepsAt one_obstacle c.self.inside.sites.items c.args.p (Ok t) c.one_at.new.sites.items) c.in-Ok-Ended.field-0-is c.in-Ok-Ended.ensures
+
+fields : (c : goal.After-end_call) → EndedFields c.self.inside c.one_at.new.sites c.complete.new.completions c.end_call.new.clients c.args.p (ended c).before (ended c).after_it c.in-Ok-Ended.completion
+fields c = record { sites = (ended c).after; pushed = c.complete.ensures.items; len = c.complete.ensures.len; capacity = c.complete.ensures.capacity; freed = c.end_call.ensures }
+
+pub invariant_of-self-in-Ok-Ended : goal.invariant_of-self-in-Ok-Ended
+invariant_of-self-in-Ok-Ended c = (end_told c.self.inside c.one_at.new.sites c.complete.new.completions c.end_call.new.clients c.args.p (ended c).before (ended c).after_it c.in-Ok-Ended.completion c.self.invariant (fields c) (ended c).site (ended c).whole (ended c).steps.1).0
+
+pub returns-in-Ok-Ended-clause-happens : goal.returns-in-Ok-Ended-clause-happens
+returns-in-Ok-Ended-clause-happens c = rw (← c.self.view_is) (
+  end_at (world_of c.self.inside) c.args.p one_obstacle c.in-Ok-Ended.completion c.one_at.new.sites.items (ended c),
+  (
+    c.in-Ok-Ended.completion,
+    refl,
+    refl,
+    end_happens c.self.inside c.one_at.new.sites c.complete.new.completions c.end_call.new.clients c.args.p (ended c).before (ended c).after_it c.in-Ok-Ended.completion c.self.invariant (fields c) (ended c).site (ended c).steps.1,
+  ),
+)
+
+pub returns-in-Ok-Ended-clause-tells : goal.returns-in-Ok-Ended-clause-tells
+returns-in-Ok-Ended-clause-tells c = rw (← c.self.view_is) (end_told c.self.inside c.one_at.new.sites c.complete.new.completions c.end_call.new.clients c.args.p (ended c).before (ended c).after_it c.in-Ok-Ended.completion c.self.invariant (fields c) (ended c).site (ended c).whole (ended c).steps.1).1

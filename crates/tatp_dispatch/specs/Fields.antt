@@ -1,0 +1,30 @@
+-- How the fields of the whole show it, and what holds of them.
+use Rattle.std.specs.Prelude.{ℕ, ◌+◌, ◌≤◌, vec_len}
+use Rattle.std.specs.Vec.{vec_capacity}
+use Rattle.tatp_partition.specs.Sites.{SiteState}
+use Rattle.tatp_dispatch.specs.declared.world.World.TheInside.{Inside}
+use Rattle.tatp_dispatch.specs.Worlds.{WorldState}
+use Rattle.tatp_dispatch.specs.Counts.{one, total}
+use Rattle.tatp_dispatch.specs.Serving.{IsWorld}
+
+abbrev pub world_of : Inside → WorldState
+world_of a = record {
+  procedures = a.loaded.now;
+  directory = a.directory;
+  sites = a.sites.items;
+  queues = a.queues.items;
+  routes = a.routes;
+  parcels = a.parcels;
+  landings = a.landings.items;
+  clients = a.clients.items;
+  completions = a.completions.items;
+}
+
+-- there is room for the completion of each running call, and for the landing of each parcel in hand
+pub record HasRoom (a : Inside) : Type 0 where
+  pub completions : vec_len a.completions + total (λ (s : SiteState). one s.running) a.sites.items ≤ vec_capacity a.completions
+  pub landings : vec_len a.landings + total (λ x. one x) a.parcels ≤ vec_capacity a.landings
+
+pub record IsSound (a : Inside) : Type 0 where
+  pub world : IsWorld (world_of a)
+  pub room : HasRoom a

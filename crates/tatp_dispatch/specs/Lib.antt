@@ -1,0 +1,13 @@
+pub mod Counts
+pub mod Worlds
+pub mod Placed
+pub mod Routed
+pub mod Plain
+pub mod Gathered
+pub mod Shown
+pub mod Obstacles
+pub mod Events
+pub mod Serving
+pub mod Fields
+pub mod Stepping
+pub mod Carrying

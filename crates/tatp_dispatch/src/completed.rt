@@ -1,0 +1,16 @@
+//! The completed calls, in the order of their ends.
+ghost use Rattle.std.specs.Prelude.{◌≡◌, ◌<◌, ◌+◌, ◌∷◌, ◌++◌, [], vec_len};
+ghost use Rattle.std.specs.Vec.{vec_capacity};
+
+use tatp_procs::{Entry, Reply};
+
+/// One more call is completed, where there is room for it.
+pub fn complete(completions: &mut Vec<Entry>, entry: Entry)
+    requires { vec_len completions.old < vec_capacity completions.old }
+    ensures items { completions.new.items ≡ completions.old.items ++ entry ∷ [] }
+    ensures len { vec_len completions.new ≡ vec_len completions.old + 1 }
+    ensures capacity { vec_capacity completions.new ≡ vec_capacity completions.old }
+{
+    let reply: Reply = entry.reply;
+    completions.push_reserved(Entry { reply, ..entry });
+}

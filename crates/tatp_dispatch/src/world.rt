@@ -1,0 +1,43 @@
+//! The whole: all sites, what is under way between them, and the clients.
+
+mod moving;
+mod reading;
+mod routing;
+mod stepping;
+mod stopping;
+
+use crate::client::Client;
+use crate::queue::Queue;
+use std::marker::Model;
+use tatp_loader::Loaded;
+use tatp_move::Routes;
+use tatp_numbers::Directory;
+use tatp_partition::{Landed, Parcel, Site, Slots};
+use tatp_procs::Entry;
+
+/// All sites, with what is under way between them. It can be neither copied nor dropped.
+pub struct World<'m> {
+    loaded: &'m Loaded,
+    directory: Directory,
+    sites: Vec<Site<'m>>,
+    queues: Vec<Queue>,
+    routes: Routes,
+    parcels: Slots<Parcel>,
+    landings: Vec<Landed>,
+    clients: Vec<Client>,
+    completions: Vec<Entry>,
+}
+
+impl<'m> Model for World<'m> {
+    ghost use Rattle.tatp_dispatch.specs.Worlds.{WorldState, world_state_code};
+
+    ghost Value = { WorldState };
+
+    ghost coded = { world_state_code };
+
+    ghost use Rattle.tatp_dispatch.specs.Fields.{world_of, IsSound};
+
+    ghost view = { world_of };
+
+    ghost invariant = { IsSound };
+}

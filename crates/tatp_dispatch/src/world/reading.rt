@@ -1,0 +1,26 @@
+//! What the whole tells of itself.
+ghost use Rattle.std.specs.Prelude.{◌≡◌, IfSome, Some, slice_get};
+
+use super::World;
+use tatp_partition::Site;
+use tatp_procs::Entry;
+
+impl<'m> World<'m> {
+    ghost use Rattle.tatp_dispatch.specs.Serving.{IsWorld};
+
+    /// The completed calls, in the order of their ends.
+    pub fn completions(&self) -> &[Entry]
+        ensures value { result.now ≡ self.now.completions }
+        ensures world { IsWorld self.now }
+    {
+        &self.completions
+    }
+
+    /// The site of a partition.
+    pub fn site(&self, p: u64) -> Option<&Site<'m>>
+        ensures found { IfSome result (λ site. slice_get self.now.sites p ≡ Some site.now) }
+        ensures world { IsWorld self.now }
+    {
+        self.sites.get(p as usize)
+    }
+}

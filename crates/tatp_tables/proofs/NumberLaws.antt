@@ -1,10 +1,10 @@
 -- Lemmas on fifteen digits: what is read, what is written, and that each gives the other back.
-use Rattle.std.proofs.Common.{◌≡◌, ◌≢◌, ℕ, zero, suc, ◌+◌, ◌-◌, ◌*◌, ◌/◌, ◌%◌, ◌<◌, ◌≤◌, ◌^◌, ◌∙◌, sym, ap, subst, Bool, true, false, not, List, [], ◌∷◌, ◌++◌, length, drop, set, get_or, refl, arith, eqb, ltb, Some, None, Result, Ok, Err, decimal, append_assoc, length-append, add-one, sub-one, ◌&&◌, ◌||◌}
+use Rattle.std.proofs.Common.{◌≡◌, ◌≢◌, ℕ, zero, suc, ◌+◌, ◌-◌, ◌*◌, ◌/◌, ◌%◌, ◌<◌, ◌≤◌, ◌^◌, ◌∙◌, sym, ap, subst, Bool, true, false, not, List, [], ◌∷◌, ◌++◌, length, drop, set, get_or, refl, arith, eqb, ltb, Some, None, Result, Ok, Err, decimal, append_assoc, length-append, replicate, add-one, sub-one, ◌&&◌, ◌||◌}
 use Rattle.std.proofs.lemmas.Bool.{and_parts}
 use Rattle.std.proofs.lemmas.Bool.Decides.{nat_tests}
-use Rattle.std.proofs.lemmas.Fmt.{digits_decimal, digits_value-decimal, decimal-digits_value, decimal_nonempty, first_decimal, decimal_digit}
+use Rattle.std.proofs.lemmas.Fmt.{digits_decimal, digits_value-decimal, length-decimal-le}
 use Rattle.std.proofs.lemmas.Int.Digits.{digits_value_push}
-use Rattle.std.proofs.lemmas.List.{append-nil}
+use Rattle.std.proofs.lemmas.List.{append-nil, length-replicate}
 use Rattle.std.proofs.lemmas.Nat.{div-mul-add, mod-mul-add}
 use Rattle.std.proofs.lemmas.Option.{cond_some}
 use Rattle.std.proofs.lemmas.Str.Parse.{IsNumeralModel, numerals_by_value, tells_all_ascii_digits, parse_plain, digits_value_short}
@@ -12,7 +12,7 @@ use Rattle.std.specs.Char.{digit_value, is_ascii_digit}
 use Rattle.std.specs.Result.{result_ok, OkIff}
 use Rattle.std.specs.Str.{all_ascii_digits}
 use Rattle.std.specs.Str.Parse.{ParsesUnsigned, digits_value, digits_value_after}
-use Rattle.tatp_tables.specs.Text.{digits_of, last_digits}
+use Rattle.tatp_tables.specs.Text.{digits_of, last_digits, fifteen_digits}
 
 own : IsNumeralModel (λ ds. all_ascii_digits ds ≡ true) (digits_value 10)
 own = numerals_by_value (λ ds. all_ascii_digits ds ≡ true) tells_all_ascii_digits
@@ -61,7 +61,7 @@ drop_written k x [] h = absurd (omega arith)
 drop_written zero x (d ∷ ds) h = refl
 drop_written (suc k) x (d ∷ ds) h = drop_written k x ds (omega arith)
 
--- one digit goes from the number to the digits behind it
+-- one digit goes from the number to the digits after it
 digit_step : (k n : ℕ) (ds all : List ℕ) → k < length ds → last_digits (suc k) n ++ drop (suc k) ds ≡ all → last_digits k (n / 10) ++ drop k (set ds k (48 + n % 10)) ≡ all
 unfolding last_digits
 digit_step k n ds all h e = rw (drop_written k (48 + n % 10) ds h) (sym (append_assoc (last_digits k (n / 10)) ((48 + n % 10) ∷ []) (drop (suc k) ds)) ∙ e)
@@ -128,3 +128,33 @@ last_digits-digits_of bs n h =
     let p = cond_some _ (digits_value 10 bs) n h in
     let parts = exact_test_parts 15 (length bs) (all_ascii_digits bs) p.0 in
     (ap (last_digits 15) (sym p.1) ∙ last_digits_after 0 15 0 bs parts.1 (omega (arith, parts.0)), subst (λ m. m < 10 ^ 15) p.1 (digits_value_small bs parts.0 parts.1), parts.1)
+
+-- ---- with leading zeros
+zeros_before : (k : ℕ) (ds : List ℕ) → digits_value 10 (replicate k 48 ++ ds) ≡ digits_value 10 ds
+zeros_before zero ds = refl
+zeros_before (suc k) ds = zeros_before k ds
+
+all_zeros_before : (k : ℕ) (ds : List ℕ) → all_ascii_digits ds ≡ true → all_ascii_digits (replicate k 48 ++ ds) ≡ true
+all_zeros_before zero ds h = h
+all_zeros_before (suc k) ds h = all_zeros_before k ds h
+
+-- the zeros before a number
+abbrev padding : ℕ → List ℕ
+padding n = replicate (15 - length (decimal n)) 48
+
+length-padding : (n : ℕ) → length (padding n) ≡ 15 - length (decimal n)
+length-padding n = length-replicate (15 - length (decimal n)) 48
+
+-- the text of a number of fifteen digits is read as it
+pub digits_of-fifteen_digits : (n : ℕ) → n < 10 ^ 15 → digits_of 15 (fifteen_digits n) ≡ Some n
+unfolding digits_of
+digits_of-fifteen_digits n h =
+    let small : n < 2 ^ 64 = omega arith in
+    let short : length (decimal n) ≤ 15 = length-decimal-le 15 n (omega arith) h small in
+    let long : length (fifteen_digits n) ≡ 15 = omega (arith, length-append (padding n) (decimal n), length-padding n) in
+    rw (exact_test 15 (length (fifteen_digits n)) (all_ascii_digits (fifteen_digits n)) long (all_zeros_before (15 - length (decimal n)) (decimal n) (digits_decimal own n small)))
+    (ap Some (zeros_before (15 - length (decimal n)) (decimal n) ∙ digits_value-decimal own n small))
+
+-- and is its last fifteen digits
+pub fifteen_digits_written : (n : ℕ) → n < 10 ^ 15 → last_digits 15 n ≡ fifteen_digits n
+fifteen_digits_written n h = (last_digits-digits_of (fifteen_digits n) n (digits_of-fifteen_digits n h)).0

@@ -15,7 +15,7 @@ use Rattle.tatp_tables.specs.Domains.{is_between, is_in_domain, are_letters}
 use Rattle.tatp_tables.specs.Text.{form_of, is_decimal, text_in, value_in, value_text, value_of, is_printable, last_digits, letters_text}
 use Rattle.tatp_tables.proofs.FieldLaws.{is_space}
 use Rattle.tatp_lines.proofs.NumberLaws.{number_of-decimal, decimal-number_of}
-use Rattle.tatp_tables.proofs.NumberLaws.{digits_of-last_digits, last_digits-digits_of, digits-last_digits}
+use Rattle.tatp_tables.proofs.NumberLaws.{last_digits-digits_of, digits-last_digits, digits_of-fifteen_digits, fifteen_digits_written}
 use Rattle.tatp_tables.proofs.LetterLaws.{is_letter, letters_of-letters_text, letters_text-letters_of, letters-letters_text}
 
 -- ---- which columns have which form
@@ -69,6 +69,15 @@ letters_in_domain c v k e h =
     let known = subst (IsColumnForm c) e (form_known c) in
     sym (known.domain v refl) ∙ h
 
+fifteen_digits_small : (v : ℕ) → is_between 0 999999999999999 v ≡ true → v < 10 ^ 15
+fifteen_digits_small v h = grind (arith, nat_tests)
+
+-- a value in the domain of a column of fifteen digits has at most so many
+pub fifteen_digits_in_domain : (c v : ℕ) → form_of c ≡ FifteenDigits → is_in_domain c v ≡ true → v < 10 ^ 15
+fifteen_digits_in_domain c v e h =
+    let known = subst (IsColumnForm c) e (form_known c) in
+    fifteen_digits_small v (sym (known.domain v refl) ∙ h)
+
 -- ---- bytes that are text
 pub ascii_is_text : (bs : List ℕ) → IsAscii bs → IsUtf8 bs
 ascii_is_text bs h = IsUtf8-from_ascii bs h
@@ -106,16 +115,13 @@ letter_no_space b h = grind (arith, nat_tests)
 digit_no_space : (b : ℕ) → is_ascii_digit b ≡ true → is_space b ≡ false
 digit_no_space b h = grind (arith, nat_tests)
 
-fifteen_digits_small : (v : ℕ) → is_between 0 999999999999999 v ≡ true → v < 10 ^ 15
-fifteen_digits_small v h = grind (arith, nat_tests)
-
 fifteen_digits_between : (v : ℕ) → v < 10 ^ 15 → is_between 0 999999999999999 v ≡ true
 fifteen_digits_between v h = grind (arith, nat_tests)
 
 -- the same by forms
 value_in-text_in : (form : Form) (v : ℕ) → fits_form form v ≡ true → v < 2 ^ 64 → value_in form (text_in form v) ≡ Some v
 value_in-text_in Decimal v f h = number_of-decimal v h
-value_in-text_in FifteenDigits v f h = digits_of-last_digits 15 v (fifteen_digits_small v f)
+value_in-text_in FifteenDigits v f h = digits_of-fifteen_digits v (fifteen_digits_small v f)
 value_in-text_in (Letters k) v f h = letters_of-letters_text k v f
 
 text_in-value_in : (form : Form) (text : List ℕ) (v : ℕ) → value_in form text ≡ Some v → (text_in form v ≡ text) × (fits_form form v ≡ true) × HasNoSpace text
@@ -124,7 +130,7 @@ text_in-value_in Decimal text v h =
     (p.0, refl, each_digit (λ b. is_space b ≡ false) digit_no_space text p.2)
 text_in-value_in FifteenDigits text v h =
     let p = last_digits-digits_of text v h in
-    (p.0, fifteen_digits_between v p.1, each_digit (λ b. is_space b ≡ false) digit_no_space text p.2)
+    (sym (fifteen_digits_written v p.1) ∙ p.0, fifteen_digits_between v p.1, each_digit (λ b. is_space b ≡ false) digit_no_space text p.2)
 text_in-value_in (Letters k) text v h =
     let p = letters_text-letters_of k text v h in
     (p.0, p.1, each_letter (λ b. is_space b ≡ false) letter_no_space text p.2)

@@ -1,5 +1,5 @@
 -- The text of a row, and the row of a text: docs/FORMATS.md.
-use Rattle.std.specs.Prelude.{ℕ, zero, suc, ◌+◌, ◌*◌, ◌/◌, ◌%◌, ◌^◌, ◌==◌, nat_lt, Bool, true, false, not, ◌&&◌, ◌||◌, if◌then◌else◌, List, [], ◌∷◌, ◌++◌, length, slice_index, Option, Some, None, codes, bytes_eq, decimal}
+use Rattle.std.specs.Prelude.{ℕ, zero, suc, ◌+◌, ◌-◌, ◌*◌, ◌/◌, ◌%◌, ◌^◌, ◌==◌, nat_lt, Bool, true, false, not, ◌&&◌, ◌||◌, if◌then◌else◌, List, [], ◌∷◌, ◌++◌, length, replicate, slice_index, Option, Some, None, codes, bytes_eq, decimal}
 use Rattle.std.specs.List.{slice_split, list_all}
 use Rattle.std.specs.Option.{option_map, option_and_then}
 use Rattle.std.specs.Str.{all_ascii_digits}
@@ -21,6 +21,10 @@ unfoldable pub last_digits : ℕ → ℕ → List ℕ
 last_digits zero n = []
 last_digits (suc k) n = last_digits k (n / 10) ++ (48 + n % 10) ∷ []
 
+-- a number of fifteen digits; with all its digits where it has more
+abbrev pub fifteen_digits : ℕ → List ℕ
+fifteen_digits n = replicate (15 - length (decimal n)) 48 ++ decimal n
+
 -- exactly k digits
 unfoldable pub digits_of : ℕ → List ℕ → Option ℕ
 digits_of k text = if (length text == k) && all_ascii_digits text then Some (digits_value 10 text) else None
@@ -30,7 +34,7 @@ unfoldable pub letters_text : ℕ → ℕ → List ℕ
 letters_text zero v = []
 letters_text (suc k) v = letters_text k (v / 256) ++ (v % 256) ∷ []
 
--- bytes behind a number, packed into it
+-- bytes after a number, packed into it
 abbrev pub packed : ℕ → List ℕ → ℕ
 packed before [] = before
 packed before (byte ∷ more) = packed (256 * before + byte) more
@@ -49,7 +53,7 @@ is_decimal form = false
 
 abbrev pub text_in : Form → ℕ → List ℕ
 text_in Decimal v = decimal v
-text_in FifteenDigits v = last_digits 15 v
+text_in FifteenDigits v = fifteen_digits v
 text_in (Letters k) v = letters_text k v
 
 -- the text of a column's value: in the column's form, and in decimal where it is outside its domain

@@ -21,10 +21,8 @@ mod values;
 
 pub use domain::in_domain;
 pub use fields::Fields;
-pub use form::{Form, form_of};
 pub use home::{Home, homes, what_holds_of_every_home};
 pub use laws::rows_of_one_subscriber;
-pub use numbers::read_fifteen_digits;
 pub use refusal::Refusal;
 pub use row::{Row, RowList, Rows};
 pub use table::{Table, is_fixed};

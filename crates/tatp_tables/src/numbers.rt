@@ -4,7 +4,7 @@ ghost use Rattle.tatp_tables.specs.Text.{digits_of, last_digits};
 
 /// The number of exactly fifteen digits.
 #[tactic(auto, using(crate::proofs::NumberLaws::fifteen_parsed, crate::proofs::NumberLaws::no_digits_length, crate::proofs::NumberLaws::no_digits_signed))]
-pub fn read_fifteen_digits(text: &str) -> Option<u64>
+pub(crate) fn read_fifteen_digits(text: &str) -> Option<u64>
     ensures { result ≡ digits_of 15 text.now }
 {
     if text.len() != 15 || text.as_bytes()[0] == b'+' {

@@ -1,9 +1,9 @@
 //! The text of one value, in its column's form.
-ghost use Rattle.std.specs.Prelude.{◌≡◌, ◌≤◌, ◌++◌, true, decimal, OnOk, OnErr};
+ghost use Rattle.std.specs.Prelude.{◌≡◌, ◌<◌, ◌≤◌, ◌^◌, ◌++◌, true, decimal, OnOk, OnErr};
 ghost use Rattle.std.specs.Str.{IsAscii};
 ghost use Rattle.std.specs.String.{string_bytes};
 ghost use Rattle.tatp_tables.specs.Domains.{are_letters, is_in_domain};
-ghost use Rattle.tatp_tables.specs.Text.{value_of, value_text, text_in, letters_text, last_digits, form_of};
+ghost use Rattle.tatp_tables.specs.Text.{value_of, value_text, text_in, letters_text, fifteen_digits, form_of};
 
 use crate::domain::in_domain;
 use crate::form::{Form, form_of};
@@ -46,9 +46,9 @@ fn push_decimal(text: &mut String, number: u64) -> Result<(), AllocError>
     text.push_str(buffer.format(number))
 }
 
-#[tactic(auto, using(crate::proofs::ValueLaws::ascii_digits))]
 fn push_fifteen_digits(text: &mut String, number: u64) -> Result<(), AllocError>
-    ensures ok { OnOk result (string_bytes text.new ≡ string_bytes text.old ++ last_digits 15 number) }
+    requires { number < 10 ^ 15 }
+    ensures ok { OnOk result (string_bytes text.new ≡ string_bytes text.old ++ fifteen_digits number) }
     ensures err { OnErr result (string_bytes text.new ≡ string_bytes text.old) }
 {
     let mut digits = [0; 15];
@@ -68,7 +68,7 @@ fn push_letters(text: &mut String, count: usize, value: u64) -> Result<(), Alloc
     push_ascii(text, letters)
 }
 
-#[tactic(auto, using(crate::proofs::ValueLaws::letters_in_domain))]
+#[tactic(auto, using(crate::proofs::ValueLaws::letters_in_domain, crate::proofs::ValueLaws::fifteen_digits_in_domain))]
 fn push_in_form(text: &mut String, column: u8, value: u64) -> Result<(), AllocError>
     requires { is_in_domain column value ≡ true }
     ensures ok { OnOk result (string_bytes text.new ≡ string_bytes text.old ++ text_in (form_of column) value) }

@@ -59,7 +59,7 @@ impl Home {
             return Err(Refusal::NoCurrent);
         };
         let fits = in_domain(column, value);
-        let column = column as usize - 34;
+        let column = (column - Table::AccessInfo.first_column()) as usize;
         put_at(&mut self.accesses, place, column, value, fits)
     }
 
@@ -76,7 +76,7 @@ impl Home {
             return Err(Refusal::NoCurrent);
         };
         let fits = in_domain(column, value);
-        let column = column as usize - 40;
+        let column = (column - Table::SpecialFacility.first_column()) as usize;
         put_at(&mut self.facilities, place, column, value, fits)
     }
 
@@ -93,7 +93,7 @@ impl Home {
             return Err(Refusal::NoCurrent);
         };
         let fits = in_domain(column, value);
-        let column = column as usize - 46;
+        let column = (column - Table::CallForwarding.first_column()) as usize;
         put_at(&mut self.forwardings, place, column, value, fits)
     }
 

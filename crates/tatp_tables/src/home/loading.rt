@@ -67,7 +67,9 @@ impl Home {
         requires parent { HasParent Table.CallForwarding self.old.tables row.now }
         ensures { self.new ≡ home_with self.old Table.CallForwarding (insert_row self.old.tables.forwardings row.now) }
     {
-        let _ = self.insert_cf(*row);
+        if self.insert_cf(*row).is_err() {
+            unreachable!();
+        }
     }
 }
 

@@ -1,12 +1,1 @@
-pub mod Faults
-pub mod Refusing
-pub mod RowLines
-pub mod Populations
-pub mod Served
-pub mod Serving
-pub mod Holding
-pub mod Writing
-pub mod ModuleCommands
-pub mod AuditCommand
 pub mod Tasks
-pub mod AnsweredCalls

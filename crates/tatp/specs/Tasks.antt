@@ -5,11 +5,11 @@ use Rattle.std.specs.Str.Parse.{IsNumeral, digits_value}
 use Rattle.clap.specs.Matches.{first_value}
 use Rattle.clap.specs.declared.parser.matches.Found.{Found}
 use Rattle.tatp_population.specs.Opening.{most_subscribers}
-use Rattle.tatp.specs.declared.population.Population.{Population}
-use Rattle.tatp.specs.declared.population.Population.TheVariants.{Read, Generated}
+use Rattle.tatp_commands.specs.declared.population.Population.{Population}
+use Rattle.tatp_commands.specs.declared.population.Population.TheVariants.{Read, Generated}
 use Rattle.tatp.specs.declared.command_line.Task.{Task}
 use Rattle.tatp.specs.declared.command_line.Task.TheVariants.{Call, Asm, Dis, Check, Audit}
-use Rattle.tatp.specs.Populations.{IsPopulation}
+use Rattle.tatp_commands.specs.Populations.{IsPopulation}
 
 -- the text is digits alone, and their number lies in the range
 abbrev pub IsNumberIn : ℕ → ℕ → List ℕ → Type 0

@@ -1,15 +1,15 @@
 //! What the words of the command line ask for.
 ghost use Rattle.std.specs.Prelude.{◌≡◌, ◌==◌, Some, IfOk, IfSome, SomeIff, slice_index};
 ghost use Rattle.std.specs.Str.Parse.{digits_value};
-ghost use Rattle.tatp.specs.Populations.{IsPopulation};
+ghost use Rattle.tatp_commands.specs.Populations.{IsPopulation};
 ghost use Rattle.clap.specs.Matches.{found_of, subcommand_name_of};
 ghost use Rattle.tatp.specs.Tasks.{IsTask, IsNumberIn, HasPlainNumbers, population_asked, name_of};
 
-use crate::population::Population;
 use clap::builder::ValueParser;
 use clap::error::ErrorKind;
 use clap::{Arg, ArgMatches, Command, Error};
 use std::alloc::{AllocError, Global};
+use tatp_commands::Population;
 
 /// The most subscribers that are drawn.
 const MOST_SUBSCRIBERS: u64 = 100_000;

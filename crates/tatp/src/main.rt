@@ -5,28 +5,15 @@
 ghost use Rattle.std.specs.Prelude.{IfOk};
 ghost use Rattle.tatp.specs.Tasks.{IsTask};
 
-mod audit;
 mod command_line;
-mod fault;
-mod laws;
-mod modules;
-mod population;
-mod rows;
-mod running;
-mod serve;
-mod streams;
-mod subscribers;
 
-use audit::run_audit;
 use clap::Error;
 use clap::error::ErrorKind;
 use command_line::{Task, not_text, task_of};
-use fault::Fault;
-use modules::{run_asm, run_check, run_dis};
-use serve::serve;
 use std::alloc::Global;
 use std::process::ExitCode;
 use std::{env, io};
+use tatp_commands::{Fault, run_asm, run_audit, run_check, run_dis, serve};
 
 /// The status where a command stops, or answers that something isn't right.
 const STOPPED: u8 = 1;
@@ -100,6 +87,3 @@ fn run(rt: &(impl Input + Print), alloc: Global, task: Task) -> Result<bool, Fau
     }
     Ok(true)
 }
-
-#[cfg(test)]
-mod tests;

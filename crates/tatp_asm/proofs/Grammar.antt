@@ -6,46 +6,46 @@ use Rattle.std.proofs.lemmas.Bool.{lt-ltb, ne_eqb}
 use Rattle.std.proofs.lemmas.Slice.Eq.{bytes_eq-Decides}
 use Rattle.std.proofs.lemmas.List.{append-nil}
 use Rattle.tatp_instr.specs.declared.instr.Instr.{Instr}
-use Rattle.tatp_asm.specs.declared.fault.FaultKind.TheVariants.{Syntax, LabelTwice, TooLong}
+use Rattle.tatp_asm.specs.declared.fault.AsmFaultKind.TheVariants.{Syntax, LabelTwice, TooLong}
 use Rattle.tatp_asm.specs.declared.fault.AsmFault.{AsmFault}
 use Rattle.tatp_asm.specs.Instrs.{has_target}
 use Rattle.tatp_lines.specs.Lines.{lines_of}
 use Rattle.tatp_asm.specs.Lines.{Line, Opens, Names, Does, Closes}
 use Rattle.tatp_asm.specs.Words.{line_of_bytes}
 use Rattle.tatp_encoding.specs.Modules.{Procedure}
-use Rattle.tatp_asm.specs.Texts.{Stands, NoneTwice, IsCode, AreProcedures, AreTexts, IsTextOf}
-use Rattle.tatp_asm.specs.Reading.{◌>>=◌, Pending, Open, State, place_of, settled, settle, step, step_of, finish, reads, start, assembled}
+use Rattle.tatp_asm.specs.Texts.{Stands, NoneTwice, IsCode, AreProcedureLines, AreTexts, IsTextOf}
+use Rattle.tatp_asm.specs.Reading.{◌>>=◌, Pending, Open, State, position_of, resolved, resolve, step, step_of, finish, reads, start, assembled}
 use Rattle.tatp_asm.proofs.Bodies.{labels_from, code_of, aimed_at, ◌>>>◌, targets, IsInner, code_from, code_to, stands_later, stands_first, stands_none, bind_some}
 use Rattle.tatp_asm.proofs.Tools.{same_bytes}
 use Rattle.tatp_asm.proofs.LineLaws.{line_takes, line_again}
 
 -- ---- labels that are added
 
-push_same : (ls : List (List ℕ × ℕ)) (l : List ℕ) (k : ℕ) → place_of ls l ≡ None → place_of (ls ++ ((l, k) ∷ [])) l ≡ Some k
+push_same : (ls : List (List ℕ × ℕ)) (l : List ℕ) (k : ℕ) → position_of ls l ≡ None → position_of (ls ++ ((l, k) ∷ [])) l ≡ Some k
 push_same [] l k e = rw (same_bytes l) refl
 push_same (x ∷ ls) l k e = by (bytes_eq l x.0) (push_same ls l k) e
   where
-    by : (t : Bool) → (place_of ls l ≡ None → place_of (ls ++ ((l, k) ∷ [])) l ≡ Some k) → cond t (Some x.1) (place_of ls l) ≡ None → cond t (Some x.1) (place_of (ls ++ ((l, k) ∷ [])) l) ≡ Some k
+    by : (t : Bool) → (position_of ls l ≡ None → position_of (ls ++ ((l, k) ∷ [])) l ≡ Some k) → cond t (Some x.1) (position_of ls l) ≡ None → cond t (Some x.1) (position_of (ls ++ ((l, k) ∷ [])) l) ≡ Some k
     by true r e = absurd cc
     by false r e = r e
 
-push_none : (ls : List (List ℕ × ℕ)) (m : List ℕ) (k : ℕ) (l : List ℕ) → place_of (ls ++ ((m, k) ∷ [])) l ≡ None → place_of ls l ≡ None
+push_none : (ls : List (List ℕ × ℕ)) (m : List ℕ) (k : ℕ) (l : List ℕ) → position_of (ls ++ ((m, k) ∷ [])) l ≡ None → position_of ls l ≡ None
 push_none [] m k l e = refl
 push_none (x ∷ ls) m k l e = by (bytes_eq l x.0) (push_none ls m k l) e
   where
-    by : (t : Bool) → (place_of (ls ++ ((m, k) ∷ [])) l ≡ None → place_of ls l ≡ None) → cond t (Some x.1) (place_of (ls ++ ((m, k) ∷ [])) l) ≡ None → cond t (Some x.1) (place_of ls l) ≡ None
+    by : (t : Bool) → (position_of (ls ++ ((m, k) ∷ [])) l ≡ None → position_of ls l ≡ None) → cond t (Some x.1) (position_of (ls ++ ((m, k) ∷ [])) l) ≡ None → cond t (Some x.1) (position_of ls l) ≡ None
     by true r e = absurd cc
     by false r e = r e
 
-push_other : (ls : List (List ℕ × ℕ)) (m : List ℕ) (k : ℕ) (l : List ℕ) → (l ≡ m → ⊥) → place_of ls l ≡ None → place_of (ls ++ ((m, k) ∷ [])) l ≡ None
+push_other : (ls : List (List ℕ × ℕ)) (m : List ℕ) (k : ℕ) (l : List ℕ) → (l ≡ m → ⊥) → position_of ls l ≡ None → position_of (ls ++ ((m, k) ∷ [])) l ≡ None
 push_other [] m k l d e = by (bytes_eq l m) refl
   where
-    by : (t : Bool) → bytes_eq l m ≡ t → cond t (Some k) (place_of [] l) ≡ None
+    by : (t : Bool) → bytes_eq l m ≡ t → cond t (Some k) (position_of [] l) ≡ None
     by true h = absurd (d ((bytes_eq-Decides l m).0 h))
     by false h = refl
 push_other (x ∷ ls) m k l d e = by (bytes_eq l x.0) (push_other ls m k l d) e
   where
-    by : (t : Bool) → (place_of ls l ≡ None → place_of (ls ++ ((m, k) ∷ [])) l ≡ None) → cond t (Some x.1) (place_of ls l) ≡ None → cond t (Some x.1) (place_of (ls ++ ((m, k) ∷ [])) l) ≡ None
+    by : (t : Bool) → (position_of ls l ≡ None → position_of (ls ++ ((m, k) ∷ [])) l ≡ None) → cond t (Some x.1) (position_of ls l) ≡ None → cond t (Some x.1) (position_of (ls ++ ((m, k) ∷ [])) l) ≡ None
     by true r e = absurd cc
     by false r e = r e
 
@@ -53,7 +53,7 @@ push_other (x ∷ ls) m k l d e = by (bytes_eq l x.0) (push_other ls m k l d) e
 
 abbrev pub Continues : List (List ℕ × ℕ) → List (Instr × List ℕ) → List Line → List Instr → Type 0
 Continues labels code [] c = targets labels code ≡ Some c
-Continues labels code (Names l ∷ body) c = (place_of labels l ≡ None) × Continues (labels ++ ((l, length code) ∷ [])) code body c
+Continues labels code (Names l ∷ body) c = (position_of labels l ≡ None) × Continues (labels ++ ((l, length code) ∷ [])) code body c
 Continues labels code (Does i l ∷ body) c = Continues labels (code ++ ((i, l) ∷ [])) body c
 Continues labels code (_ ∷ body) c = ⊥
 
@@ -61,8 +61,8 @@ Continues labels code (_ ∷ body) c = ⊥
 pub record Whole (labels : List (List ℕ × ℕ)) (code : List (Instr × List ℕ)) (body : List Line) (c : List Instr) : Type 0 where
   pub inner : IsInner body
   pub none_twice : NoneTwice body
-  pub fresh : (l : List ℕ) (k : ℕ) → Stands body l k → place_of labels l ≡ None
-  pub settled_code : targets (labels ++ labels_from (length code) body) (code ++ code_of body) ≡ Some c
+  pub fresh : (l : List ℕ) (k : ℕ) → Stands body l k → position_of labels l ≡ None
+  pub resolved_code : targets (labels ++ labels_from (length code) body) (code ++ code_of body) ≡ Some c
 
 here : (l : List ℕ) (body : List Line) → Stands (Names l ∷ body) l 0
 here l body = ([], body, refl, refl)
@@ -71,7 +71,7 @@ pushed : (code : List (Instr × List ℕ)) (x : Instr × List ℕ) → length (c
 pushed code x = length-append code (x ∷ []) ∙ add-one (length code)
 
 pub whole : (labels : List (List ℕ × ℕ)) (code : List (Instr × List ℕ)) (body : List Line) (c : List Instr) → Continues labels code body c → Whole labels code body c
-whole labels code [] c h = record { inner = tt; none_twice = tt; fresh = λ l k s. absurd (stands_none l k s); settled_code = rw (append-nil labels, append-nil code) h }
+whole labels code [] c h = record { inner = tt; none_twice = tt; fresh = λ l k s. absurd (stands_none l k s); resolved_code = rw (append-nil labels, append-nil code) h }
 whole labels code (Opens n a ∷ body) c h = absurd h
 whole labels code (Closes ∷ body) c h = absurd h
 whole labels code (Names l ∷ body) c (f, h) =
@@ -83,7 +83,7 @@ whole labels code (Names l ∷ body) c (f, h) =
         | inl (e, z) ↦ let q : l ≡ m = cc in rw (← q) f
         | inr (j, z, t) ↦ push_none labels l (length code) m (r.fresh m j t)
       ];
-      settled_code = rw (append_assoc labels ((l, length code) ∷ []) (labels_from (length code) body)) at r.settled_code;
+      resolved_code = rw (append_assoc labels ((l, length code) ∷ []) (labels_from (length code) body)) at r.resolved_code;
     }
 whole labels code (Does i l ∷ body) c h =
     let r = whole labels (code ++ ((i, l) ∷ [])) body c h in
@@ -94,11 +94,11 @@ whole labels code (Does i l ∷ body) c h =
         | inl (e, z) ↦ absurd cc
         | inr (j, z, t) ↦ r.fresh m j t
       ];
-      settled_code = rw (append_assoc code ((i, l) ∷ []) (code_of body), pushed code (i, l)) at r.settled_code;
+      resolved_code = rw (append_assoc code ((i, l) ∷ []) (code_of body), pushed code (i, l)) at r.resolved_code;
     }
 
 pub unwhole : (labels : List (List ℕ × ℕ)) (code : List (Instr × List ℕ)) (body : List Line) (c : List Instr) → Whole labels code body c → Continues labels code body c
-unwhole labels code [] c w = rw (append-nil labels, append-nil code) at w.settled_code
+unwhole labels code [] c w = rw (append-nil labels, append-nil code) at w.resolved_code
 unwhole labels code (Opens n a ∷ body) c w = absurd w.inner
 unwhole labels code (Closes ∷ body) c w = absurd w.inner
 unwhole labels code (Names l ∷ body) c w = (
@@ -107,7 +107,7 @@ unwhole labels code (Names l ∷ body) c w = (
     inner = w.inner;
     none_twice = w.none_twice.1;
     fresh = λ m k s. push_other labels l (length code) m (λ e. w.none_twice.0 k (subst (λ (q : List ℕ). Stands body q k) e s)) (w.fresh m (0 + k) (stands_later (Names l) body m k s));
-    settled_code = rw (append_assoc labels ((l, length code) ∷ []) (labels_from (length code) body)) w.settled_code;
+    resolved_code = rw (append_assoc labels ((l, length code) ∷ []) (labels_from (length code) body)) w.resolved_code;
   }),
 )
 unwhole labels code (Does i l ∷ body) c w =
@@ -115,16 +115,16 @@ unwhole labels code (Does i l ∷ body) c w =
       inner = w.inner;
       none_twice = w.none_twice;
       fresh = λ m k s. w.fresh m (1 + k) (stands_later (Does i l) body m k s);
-      settled_code = rw (append_assoc code ((i, l) ∷ []) (code_of body), pushed code (i, l)) w.settled_code;
+      resolved_code = rw (append_assoc code ((i, l) ∷ []) (code_of body), pushed code (i, l)) w.resolved_code;
     })
 
 pub body_from : (body : List Line) (c : List Instr) → Continues [] [] body c → NoneTwice body × IsCode body body c
-body_from body c h = let w = whole [] [] body c h in (w.none_twice, code_from body body c w.inner w.settled_code)
+body_from body c h = let w = whole [] [] body c h in (w.none_twice, code_from body body c w.inner w.resolved_code)
 
 pub body_to : (body : List Line) (c : List Instr) → NoneTwice body → IsCode body body c → Continues [] [] body c
-body_to body c u h = let r = code_to body body c u h in unwhole [] [] body c (record { inner = r.0; none_twice = u; fresh = λ l k s. refl; settled_code = r.1 })
+body_to body c u h = let r = code_to body body c u h in unwhole [] [] body c (record { inner = r.0; none_twice = u; fresh = λ l k s. refl; resolved_code = r.1 })
 
--- ---- the code is settled
+-- ---- the code is resolved
 
 abbrev pub bare : List Pending → List (Instr × List ℕ)
 bare [] = []
@@ -142,43 +142,43 @@ pub bind_ok : {A B : Type 0} (r : Result A AsmFault) (f : A → Result B AsmFaul
 bind_ok (Ok x) f y e = (x, refl, e)
 bind_ok (Err d) f y e = absurd cc
 
-settled_target : (b : Bool) (o : Option ℕ) (p : Pending) (i : Instr) → settled b o p ≡ Ok i → aimed_at b o p.instr ≡ Some i
-settled_target false o p i e = cc
-settled_target true (Some k) p i e = cc
-settled_target true None p i e = absurd cc
+resolved_target : (b : Bool) (o : Option ℕ) (p : Pending) (i : Instr) → resolved b o p ≡ Ok i → aimed_at b o p.instr ≡ Some i
+resolved_target false o p i e = cc
+resolved_target true (Some k) p i e = cc
+resolved_target true None p i e = absurd cc
 
-target_settled : (b : Bool) (o : Option ℕ) (p : Pending) (i : Instr) → aimed_at b o p.instr ≡ Some i → settled b o p ≡ Ok i
-target_settled false o p i e = cc
-target_settled true (Some k) p i e = cc
-target_settled true None p i e = absurd cc
+target_resolved : (b : Bool) (o : Option ℕ) (p : Pending) (i : Instr) → aimed_at b o p.instr ≡ Some i → resolved b o p ≡ Ok i
+target_resolved false o p i e = cc
+target_resolved true (Some k) p i e = cc
+target_resolved true None p i e = absurd cc
 
-settle_targets : (labels : List (List ℕ × ℕ)) (ps : List Pending) (c : List Instr) → settle labels ps ≡ Ok c → targets labels (bare ps) ≡ Some c
-settle_targets labels [] c e = cc
-settle_targets labels (p ∷ ps) c e =
-    let a = bind_ok (settled (has_target p.instr) (place_of labels p.label) p) (λ i. settle labels ps >>= λ code. Ok (i ∷ code)) c e in
-    let b = bind_ok (settle labels ps) (λ code. Ok (a.0 ∷ code)) c a.2 in
+resolve_targets : (labels : List (List ℕ × ℕ)) (ps : List Pending) (c : List Instr) → resolve labels ps ≡ Ok c → targets labels (bare ps) ≡ Some c
+resolve_targets labels [] c e = cc
+resolve_targets labels (p ∷ ps) c e =
+    let a = bind_ok (resolved (has_target p.instr) (position_of labels p.label) p) (λ i. resolve labels ps >>= λ code. Ok (i ∷ code)) c e in
+    let b = bind_ok (resolve labels ps) (λ code. Ok (a.0 ∷ code)) c a.2 in
     let r : a.0 ∷ b.0 ≡ c = cc in
-    rw (settled_target (has_target p.instr) (place_of labels p.label) p a.0 a.1, settle_targets labels ps b.0 b.1) (ap Some r)
+    rw (resolved_target (has_target p.instr) (position_of labels p.label) p a.0 a.1, resolve_targets labels ps b.0 b.1) (ap Some r)
 
-targets_settle : (labels : List (List ℕ × ℕ)) (ps : List Pending) (c : List Instr) → targets labels (bare ps) ≡ Some c → settle labels ps ≡ Ok c
-targets_settle labels [] c e = cc
-targets_settle labels (p ∷ ps) c e =
-    let a = bind_some (aimed_at (has_target p.instr) (place_of labels p.label) p.instr) (λ i. targets labels (bare ps) >>> λ code. Some (i ∷ code)) c e in
+targets_resolve : (labels : List (List ℕ × ℕ)) (ps : List Pending) (c : List Instr) → targets labels (bare ps) ≡ Some c → resolve labels ps ≡ Ok c
+targets_resolve labels [] c e = cc
+targets_resolve labels (p ∷ ps) c e =
+    let a = bind_some (aimed_at (has_target p.instr) (position_of labels p.label) p.instr) (λ i. targets labels (bare ps) >>> λ code. Some (i ∷ code)) c e in
     let b = bind_some (targets labels (bare ps)) (λ code. Some (a.0 ∷ code)) c a.2 in
     let r : a.0 ∷ b.0 ≡ c = cc in
-    rw (target_settled (has_target p.instr) (place_of labels p.label) p a.0 a.1, targets_settle labels ps b.0 b.1) (ap Ok r)
+    rw (target_resolved (has_target p.instr) (position_of labels p.label) p a.0 a.1, targets_resolve labels ps b.0 b.1) (ap Ok r)
 
 length-targets : (labels : List (List ℕ × ℕ)) (cs : List (Instr × List ℕ)) (c : List Instr) → targets labels cs ≡ Some c → length c ≡ length cs
 length-targets labels [] c e = let q : [] ≡ c = cc in sym (ap length q)
 length-targets labels (x ∷ cs) c e =
-    let a = bind_some (aimed_at (has_target x.0) (place_of labels x.1) x.0) (λ i. targets labels cs >>> λ code. Some (i ∷ code)) c e in
+    let a = bind_some (aimed_at (has_target x.0) (position_of labels x.1) x.0) (λ i. targets labels cs >>> λ code. Some (i ∷ code)) c e in
     let b = bind_some (targets labels cs) (λ code. Some (a.0 ∷ code)) c a.2 in
     let r : a.0 ∷ b.0 ≡ c = cc in
     sym (ap length r) ∙ ap suc (length-targets labels cs b.0 b.1)
 
 -- the code so far is no longer than all of it
 length-continues : (labels : List (List ℕ × ℕ)) (code : List (Instr × List ℕ)) (body : List Line) (c : List Instr) → Continues labels code body c → length code + length (code_of body) ≡ length c
-length-continues labels code body c h = let w = whole labels code body c h in sym (length-targets (labels ++ labels_from (length code) body) (code ++ code_of body) c w.settled_code ∙ length-append code (code_of body))
+length-continues labels code body c h = let w = whole labels code body c h in sym (length-targets (labels ++ labels_from (length code) body) (code ++ code_of body) c w.resolved_code ∙ length-append code (code_of body))
 
 -- ---- what is left to read
 
@@ -192,9 +192,9 @@ abbrev pub longer : Open → Instr → List ℕ → ℕ → Open
 longer o i l n = record o { code = o.code ++ (record { instr = i; label = l; line = n } ∷ []) }
 
 abbrev pub Tail : Option Open → List Line → List Procedure → Type 0
-Tail None lines ps = AreProcedures lines ps
+Tail None lines ps = AreProcedureLines lines ps
 Tail (Some o) lines [] = ⊥
-Tail (Some o) lines (p ∷ ps) = (body rest : List Line) × (lines ≡ body ++ (Closes ∷ rest)) × (p.name ≡ o.name) × (p.arity ≡ o.arity) × Continues o.labels (bare o.code) body p.code × AreProcedures rest ps
+Tail (Some o) lines (p ∷ ps) = (body rest : List Line) × (lines ≡ body ++ (Closes ∷ rest)) × (p.name ≡ o.name) × (p.arity ≡ o.arity) × Continues o.labels (bare o.code) body p.code × AreProcedureLines rest ps
 
 tail_opens : (name : List ℕ) (arity : ℕ) (lines : List Line) (ps : List Procedure) → Tail (Some (opened name arity)) lines ps → Tail None (Opens name arity ∷ lines) ps
 tail_opens name arity lines [] h = absurd h
@@ -207,11 +207,11 @@ opens_tail name arity lines [] h = absurd cc
 opens_tail name arity lines (p ∷ ps) (body, rest, e, u, c, r) =
     (body, rest, cc, cc, cc, body_to body p.code u c, r)
 
-tail_names : (o : Open) (l : List ℕ) (lines : List Line) (ps : List Procedure) → place_of o.labels l ≡ None → Tail (Some (labelled o l)) lines ps → Tail (Some o) (Names l ∷ lines) ps
+tail_names : (o : Open) (l : List ℕ) (lines : List Line) (ps : List Procedure) → position_of o.labels l ≡ None → Tail (Some (labelled o l)) lines ps → Tail (Some o) (Names l ∷ lines) ps
 tail_names o l lines [] f h = absurd h
 tail_names o l lines (p ∷ ps) f (body, rest, e, n, a, c, r) = (Names l ∷ body, rest, ap (λ (x : List Line). Names l ∷ x) e, n, a, (f, rw (length-bare o.code) c), r)
 
-names_tail : (o : Open) (l : List ℕ) (lines : List Line) (ps : List Procedure) → Tail (Some o) (Names l ∷ lines) ps → (place_of o.labels l ≡ None) × Tail (Some (labelled o l)) lines ps
+names_tail : (o : Open) (l : List ℕ) (lines : List Line) (ps : List Procedure) → Tail (Some o) (Names l ∷ lines) ps → (position_of o.labels l ≡ None) × Tail (Some (labelled o l)) lines ps
 names_tail o l lines [] h = absurd h
 names_tail o l lines (p ∷ ps) ([], rest, e, n, a, c, r) = absurd cc
 names_tail o l lines (p ∷ ps) (x ∷ body, rest, e, n, a, c, r) =
@@ -231,11 +231,11 @@ does_tail o i l m lines (p ∷ ps) (x ∷ body, rest, e, n, a, c, r) =
     let d : Continues o.labels (bare o.code) (Does i l ∷ body) p.code = subst (λ (y : Line). Continues o.labels (bare o.code) (y ∷ body) p.code) h c in
     (body, rest, cc, n, a, rw (bare-push o.code (record { instr = i; label = l; line = m })) d, r)
 
-tail_closes : (o : Open) (code : List Instr) (lines : List Line) (ps : List Procedure) → settle o.labels o.code ≡ Ok code → AreProcedures lines ps → Tail (Some o) (Closes ∷ lines) (record { name = o.name; arity = o.arity; code = code } ∷ ps)
-tail_closes o code lines ps e h = ([], lines, refl, refl, refl, settle_targets o.labels o.code code e, h)
+tail_closes : (o : Open) (code : List Instr) (lines : List Line) (ps : List Procedure) → resolve o.labels o.code ≡ Ok code → AreProcedureLines lines ps → Tail (Some o) (Closes ∷ lines) (record { name = o.name; arity = o.arity; code = code } ∷ ps)
+tail_closes o code lines ps e h = ([], lines, refl, refl, refl, resolve_targets o.labels o.code code e, h)
 
-closes_tail : (o : Open) (lines : List Line) (p : Procedure) (ps : List Procedure) → Tail (Some o) (Closes ∷ lines) (p ∷ ps) → (p.name ≡ o.name) × (p.arity ≡ o.arity) × (settle o.labels o.code ≡ Ok p.code) × AreProcedures lines ps
-closes_tail o lines p ps ([], rest, e, n, a, c, r) = (n, a, targets_settle o.labels o.code p.code c, let h : rest ≡ lines = cc in subst (λ (x : List Line). AreProcedures x ps) h r)
+closes_tail : (o : Open) (lines : List Line) (p : Procedure) (ps : List Procedure) → Tail (Some o) (Closes ∷ lines) (p ∷ ps) → (p.name ≡ o.name) × (p.arity ≡ o.arity) × (resolve o.labels o.code ≡ Ok p.code) × AreProcedureLines lines ps
+closes_tail o lines p ps ([], rest, e, n, a, c, r) = (n, a, targets_resolve o.labels o.code p.code c, let h : rest ≡ lines = cc in subst (λ (x : List Line). AreProcedureLines x ps) h r)
 closes_tail o lines p ps (x ∷ body, rest, e, n, a, c, r) =
     let h : x ≡ Closes = cc in
     absurd (subst (λ (y : Line). Continues o.labels (bare o.code) (y ∷ body) p.code) h c)
@@ -267,7 +267,7 @@ done x = Ok x
 pub ok_is : {X : Type 0} (x y : X) → done x ≡ done y → x ≡ y
 ok_is x y e = cc
 
--- what is left after a line, put behind it
+-- what is left after a line, put after it
 step_found : (closed : List Procedure) (current : Option Open) (n : ℕ) (line : Line) (t : State) (all ps : List Procedure) (lines : List Line)
     → step closed current n line ≡ Ok t → all ≡ t.closed ++ ps → Tail t.current lines ps
     → (qs : List Procedure) × (all ≡ closed ++ qs) × Tail current (line ∷ lines) qs
@@ -279,17 +279,17 @@ step_found closed None n (Does i l) t all ps lines e q h = absurd cc
 step_found closed None n Closes t all ps lines e q h = absurd cc
 step_found closed (Some o) n (Opens name arity) t all ps lines e q h = absurd cc
 step_found closed (Some o) n (Names l) t all ps lines e q h =
-    let g = guard_no (is_some (place_of o.labels l)) (record { closed = closed; current = Some (labelled o l) }) t (record { kind = LabelTwice; line = n }) e in
-    (ps, q ∙ ap (λ (s : State). s.closed ++ ps) (sym g.1), tail_names o l lines ps (none_of (place_of o.labels l) g.0) (subst (λ (s : State). Tail s.current lines ps) (sym g.1) h))
+    let g = guard_no (is_some (position_of o.labels l)) (record { closed = closed; current = Some (labelled o l) }) t (record { kind = LabelTwice; line = n }) e in
+    (ps, q ∙ ap (λ (s : State). s.closed ++ ps) (sym g.1), tail_names o l lines ps (none_of (position_of o.labels l) g.0) (subst (λ (s : State). Tail s.current lines ps) (sym g.1) h))
 step_found closed (Some o) n (Does i l) t all ps lines e q h =
     let g = guard_yes (ltb (length o.code) 256) (record { closed = closed; current = Some (longer o i l n) }) t (record { kind = TooLong; line = n }) e in
     (ps, q ∙ ap (λ (s : State). s.closed ++ ps) (sym g.1), tail_does o i l n lines ps (subst (λ (s : State). Tail s.current lines ps) (sym g.1) h))
 step_found closed (Some o) n Closes t all ps lines e q h = by (eqb (length o.code) 0) e
   where
-    by : (b : Bool) → cond b (Err (record { kind = Syntax; line = n })) (settle o.labels o.code >>= λ code. Ok (record { closed = closed ++ (record { name = o.name; arity = o.arity; code = code } ∷ []); current = None })) ≡ Ok t → (qs : List Procedure) × (all ≡ closed ++ qs) × Tail (Some o) (Closes ∷ lines) qs
+    by : (b : Bool) → cond b (Err (record { kind = Syntax; line = n })) (resolve o.labels o.code >>= λ code. Ok (record { closed = closed ++ (record { name = o.name; arity = o.arity; code = code } ∷ []); current = None })) ≡ Ok t → (qs : List Procedure) × (all ≡ closed ++ qs) × Tail (Some o) (Closes ∷ lines) qs
     by true e = absurd cc
     by false e =
-        let b = bind_ok (settle o.labels o.code) (λ code. done (record { closed = closed ++ (record { name = o.name; arity = o.arity; code = code } ∷ []); current = None })) t e in
+        let b = bind_ok (resolve o.labels o.code) (λ code. done (record { closed = closed ++ (record { name = o.name; arity = o.arity; code = code } ∷ []); current = None })) t e in
         let p : Procedure = record { name = o.name; arity = o.arity; code = b.0 } in
         let g = ok_is (record { closed = closed ++ (p ∷ []); current = None }) t b.2 in (
           p ∷ ps,
@@ -359,7 +359,7 @@ step_only closed (Some o) n Closes lines [] h b = absurd h
 step_only closed (Some o) n Closes lines (p ∷ ps) h b =
     let t = closes_tail o lines p ps h in
     let c = b.codes 0 p (omega arith) in
-    let k : length p.code ≡ length o.code = length-targets o.labels (bare o.code) p.code (settle_targets o.labels o.code p.code t.2) ∙ length-bare o.code in
+    let k : length p.code ≡ length o.code = length-targets o.labels (bare o.code) p.code (resolve_targets o.labels o.code p.code t.2) ∙ length-bare o.code in
     let z : eqb (length o.code) 0 ≡ false = ne_eqb _ _ (omega (arith, k, c.0)) in
     let q : Procedure = record { name = o.name; arity = o.arity; code = p.code } in
     let same : p ≡ q = same_procedure p o.name o.arity t.0 t.1 in (
@@ -398,7 +398,7 @@ unfolding assembled
 assembled_found text ps e =
     let r = reads_found 1 start (lines_of text) ps e in
     let q : ps ≡ r.0 = r.1 in
-    record { lines = r.2; texts = r.3; procedures = subst (λ (x : List Procedure). AreProcedures r.2 x) (sym q) r.4 }
+    record { lines = r.2; texts = r.3; procedures = subst (λ (x : List Procedure). AreProcedureLines r.2 x) (sym q) r.4 }
 
 pub assembled_only : (text : List ℕ) (ps : List Procedure) → Bounded [] ps → IsTextOf text ps → assembled text ≡ Ok ps
 unfolding assembled

@@ -57,7 +57,7 @@ operands (Out a) label = Register a ∷ []
 operands Done label = []
 operands (Fail n) label = Number n ∷ []
 
--- a mnemonic, and operands behind a space
+-- a mnemonic, and operands after a space
 abbrev pub with_operands : List ℕ → List Operand → List ℕ
 with_operands word [] = word
 with_operands word (o ∷ os) = word ++ (32 ∷ operands_text (o ∷ os))

@@ -1,5 +1,5 @@
-pub mod NumberLemmas
 pub mod RoundTrip
+pub mod TargetLaws
 pub mod Tools
 pub mod FieldLaws
 pub mod OperandLaws
@@ -8,7 +8,8 @@ pub mod LineLaws
 pub mod LabelLaws
 pub mod Bodies
 pub mod Grammar
-pub mod Settling
+pub mod Resolving
+pub mod EarlyLaws
 pub mod ModuleLaws
 pub mod Whole
 pub mod Printed

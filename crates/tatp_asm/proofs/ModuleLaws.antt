@@ -8,12 +8,12 @@ use Rattle.std.proofs.lemmas.List.Folds.{list_all-append}
 use Rattle.tatp_instr.specs.declared.instr.Instr.{Instr}
 use Rattle.tatp_instr.specs.declared.instr.Instr.TheVariants.{Jmp, Jz}
 use Rattle.tatp_encoding.specs.Modules.{Procedure, is_name, is_from_to, is_procedure, jumps_within, jumps_stay, is_module}
-use Rattle.tatp_asm.specs.declared.fault.FaultKind.TheVariants.{Syntax, LabelTwice, TooLong}
+use Rattle.tatp_asm.specs.declared.fault.AsmFaultKind.TheVariants.{Syntax, LabelTwice, TooLong}
 use Rattle.tatp_asm.specs.Instrs.{has_target, aimed}
 use Rattle.tatp_asm.specs.Lines.{Line, Opens, Names, Does, Closes, IsLine}
 use Rattle.tatp_asm.specs.Words.{line_of_bytes}
 use Rattle.tatp_lines.specs.Lines.{lines_of}
-use Rattle.tatp_asm.specs.Reading.{◌>>=◌, Pending, Open, State, place_of, settled, settle, step, step_of, finish, reads, start}
+use Rattle.tatp_asm.specs.Reading.{◌>>=◌, Pending, Open, State, position_of, resolved, resolve, step, step_of, finish, reads, start}
 use Rattle.tatp_asm.proofs.Tools.{both}
 use Rattle.tatp_asm.proofs.LineLaws.{line_takes}
 use Rattle.tatp_asm.proofs.Grammar.{Bounded, bind_ok, guard_yes, guard_no, done, ok_is, step_some}
@@ -31,11 +31,11 @@ within_push : (n : ℕ) (labels : List (List ℕ × ℕ)) (label : List ℕ) (k 
 within_push n [] label k h w = (h, tt)
 within_push n (l ∷ labels) label k h (p, w) = (p, within_push n labels label k h w)
 
-place_within : (n : ℕ) (labels : List (List ℕ × ℕ)) (label : List ℕ) (k : ℕ) → LabelsWithin n labels → place_of labels label ≡ Some k → k ≤ n
-place_within n [] label k w e = absurd cc
-place_within n (l ∷ labels) label k (p, w) e = by (bytes_eq label l.0) (place_within n labels label k w) e
+position_within : (n : ℕ) (labels : List (List ℕ × ℕ)) (label : List ℕ) (k : ℕ) → LabelsWithin n labels → position_of labels label ≡ Some k → k ≤ n
+position_within n [] label k w e = absurd cc
+position_within n (l ∷ labels) label k (p, w) e = by (bytes_eq label l.0) (position_within n labels label k w) e
   where
-    by : (t : Bool) → (place_of labels label ≡ Some k → k ≤ n) → cond t (Some l.1) (place_of labels label) ≡ Some k → k ≤ n
+    by : (t : Bool) → (position_of labels label ≡ Some k → k ≤ n) → cond t (Some l.1) (position_of labels label) ≡ Some k → k ≤ n
     by true r e = let q : l.1 ≡ k = cc in omega (arith, p)
     by false r e = r e
 
@@ -49,23 +49,23 @@ bare_within (Jmp t) n e = absurd cc
 bare_within (Jz a t) n e = absurd cc
 bare_within _ n e = refl
 
-settled_within : (n : ℕ) (p : Pending) (b : Bool) (o : Option ℕ) (j : Instr) → has_target p.instr ≡ b → ((k : ℕ) → o ≡ Some k → k ≤ n) → settled b o p ≡ Ok j → jumps_within n j ≡ true
-settled_within n p false o j h w e = subst (λ (i : Instr). jumps_within n i ≡ true) (ok_is p.instr j e) (bare_within p.instr n h)
-settled_within n p true (Some k) j h w e = subst (λ (i : Instr). jumps_within n i ≡ true) (ok_is (aimed p.instr k) j e) (aimed_within p.instr k n (w k refl))
-settled_within n p true None j h w e = absurd cc
+resolved_within : (n : ℕ) (p : Pending) (b : Bool) (o : Option ℕ) (j : Instr) → has_target p.instr ≡ b → ((k : ℕ) → o ≡ Some k → k ≤ n) → resolved b o p ≡ Ok j → jumps_within n j ≡ true
+resolved_within n p false o j h w e = subst (λ (i : Instr). jumps_within n i ≡ true) (ok_is p.instr j e) (bare_within p.instr n h)
+resolved_within n p true (Some k) j h w e = subst (λ (i : Instr). jumps_within n i ≡ true) (ok_is (aimed p.instr k) j e) (aimed_within p.instr k n (w k refl))
+resolved_within n p true None j h w e = absurd cc
 
 -- the code has as many instructions as were pending, and its jumps are within
-abbrev IsSettled : ℕ → List Pending → List Instr → Type 0
-IsSettled n ps code = (length code ≡ length ps) × (list_all (jumps_within n) code ≡ true)
+abbrev IsResolved : ℕ → List Pending → List Instr → Type 0
+IsResolved n ps code = (length code ≡ length ps) × (list_all (jumps_within n) code ≡ true)
 
-settle_within : (n : ℕ) (labels : List (List ℕ × ℕ)) (ps : List Pending) (code : List Instr) → LabelsWithin n labels → settle labels ps ≡ Ok code → IsSettled n ps code
-settle_within n labels [] code w e = subst (IsSettled n []) (ok_is [] code e) (refl, refl)
-settle_within n labels (p ∷ ps) code w e =
-    let a = bind_ok (settled (has_target p.instr) (place_of labels p.label) p) (λ i. settle labels ps >>= λ more. Ok (i ∷ more)) code e in
-    let b = bind_ok (settle labels ps) (λ more. done (a.0 ∷ more)) code a.2 in
-    let r = settle_within n labels ps b.0 w b.1 in
-    let j = settled_within n p (has_target p.instr) (place_of labels p.label) a.0 refl (λ k f. place_within n labels p.label k w f) a.1 in
-    subst (IsSettled n (p ∷ ps)) (ok_is (a.0 ∷ b.0) code b.2) (ap suc r.0, rw (j, r.1) refl)
+resolve_within : (n : ℕ) (labels : List (List ℕ × ℕ)) (ps : List Pending) (code : List Instr) → LabelsWithin n labels → resolve labels ps ≡ Ok code → IsResolved n ps code
+resolve_within n labels [] code w e = subst (IsResolved n []) (ok_is [] code e) (refl, refl)
+resolve_within n labels (p ∷ ps) code w e =
+    let a = bind_ok (resolved (has_target p.instr) (position_of labels p.label) p) (λ i. resolve labels ps >>= λ more. Ok (i ∷ more)) code e in
+    let b = bind_ok (resolve labels ps) (λ more. done (a.0 ∷ more)) code a.2 in
+    let r = resolve_within n labels ps b.0 w b.1 in
+    let j = resolved_within n p (has_target p.instr) (position_of labels p.label) a.0 refl (λ k f. position_within n labels p.label k w f) a.1 in
+    subst (IsResolved n (p ∷ ps)) (ok_is (a.0 ∷ b.0) code b.2) (ap suc r.0, rw (j, r.1) refl)
 
 -- ---- states
 abbrev AreFit : List Procedure → Type 0
@@ -91,7 +91,7 @@ positive (suc n) e = omega arith
 push_all : (p : Procedure → Bool) (closed : List Procedure) (x : Procedure) → list_all p closed ≡ true → p x ≡ true → list_all p (closed ++ (x ∷ [])) ≡ true
 push_all p closed x h k = list_all-append p closed (x ∷ []) ∙ rw (h, k) refl
 
-closed_fits : (closed : List Procedure) (o : Open) (code : List Instr) → AreFit closed → IsFitOpen o → 1 ≤ length o.code → IsSettled (length o.code) o.code code → AreFit (closed ++ (record { name = o.name; arity = o.arity; code = code } ∷ []))
+closed_fits : (closed : List Procedure) (o : Open) (code : List Instr) → AreFit closed → IsFitOpen o → 1 ≤ length o.code → IsResolved (length o.code) o.code code → AreFit (closed ++ (record { name = o.name; arity = o.arity; code = code } ∷ []))
 closed_fits closed o code f h some s =
     let p : Procedure = record { name = o.name; arity = o.arity; code = code } in
     let least : 1 ≤ length code = omega (arith, s.0) in
@@ -112,7 +112,7 @@ step_fits closed None n Closes t f h e = absurd cc
 step_fits closed (Some o) n (Opens name arity) t f h e = absurd cc
 step_fits closed (Some o) n (Names l) t (f, room, d) h e =
     let p : Open = record o { labels = o.labels ++ ((l, length o.code) ∷ []) } in
-    let g = guard_no (is_some (place_of o.labels l)) (record { closed = closed; current = Some p }) t (record { kind = LabelTwice; line = n }) e in
+    let g = guard_no (is_some (position_of o.labels l)) (record { closed = closed; current = Some p }) t (record { kind = LabelTwice; line = n }) e in
     subst IsFit g.1 (f, room, record { name = d.name; arity = d.arity; code = d.code; labels = within_push (length o.code) o.labels l (length o.code) (omega arith) d.labels })
 step_fits closed (Some o) n (Does i l) t (f, room, d) h e =
     let x : Pending = record { instr = i; label = l; line = n } in
@@ -123,25 +123,25 @@ step_fits closed (Some o) n (Does i l) t (f, room, d) h e =
     subst IsFit g.1 (f, room, record { name = d.name; arity = d.arity; code = omega (arith, long); labels = within_more (length o.code) (length (o.code ++ (x ∷ []))) o.labels (omega (arith, long)) d.labels })
 step_fits closed (Some o) n Closes t (f, room, d) h e = by (eqb (length o.code) 0) refl e
   where
-    by : (b : Bool) → eqb (length o.code) 0 ≡ b → cond b (Err (record { kind = Syntax; line = n })) (settle o.labels o.code >>= λ code. Ok (record { closed = closed ++ (record { name = o.name; arity = o.arity; code = code } ∷ []); current = None })) ≡ Ok t → IsFit t
+    by : (b : Bool) → eqb (length o.code) 0 ≡ b → cond b (Err (record { kind = Syntax; line = n })) (resolve o.labels o.code >>= λ code. Ok (record { closed = closed ++ (record { name = o.name; arity = o.arity; code = code } ∷ []); current = None })) ≡ Ok t → IsFit t
     by true z e = absurd cc
     by false z e =
-        let b = bind_ok (settle o.labels o.code) (λ code. done (record { closed = closed ++ (record { name = o.name; arity = o.arity; code = code } ∷ []); current = None })) t e in
+        let b = bind_ok (resolve o.labels o.code) (λ code. done (record { closed = closed ++ (record { name = o.name; arity = o.arity; code = code } ∷ []); current = None })) t e in
         let p : Procedure = record { name = o.name; arity = o.arity; code = b.0 } in
-        let s = settle_within (length o.code) o.labels o.code b.0 d.labels b.1 in
+        let s = resolve_within (length o.code) o.labels o.code b.0 d.labels b.1 in
         subst IsFit (ok_is (record { closed = closed ++ (p ∷ []); current = None }) t b.2)
         (closed_fits closed o b.0 f d (positive (length o.code) z) s, omega (arith, length-append closed (p ∷ [])))
 
-abbrev IsModule : List Procedure → Type 0
-IsModule ps = AreFit ps × (1 ≤ length ps) × (length ps ≤ 16)
+abbrev AreFitProcedures : List Procedure → Type 0
+AreFitProcedures ps = AreFit ps × (1 ≤ length ps) × (length ps ≤ 16)
 
-finish_fits : (closed : List Procedure) (current : Option Open) (n : ℕ) (all : List Procedure) → IsFitState closed current → finish closed current n ≡ Ok all → IsModule all
+finish_fits : (closed : List Procedure) (current : Option Open) (n : ℕ) (all : List Procedure) → IsFitState closed current → finish closed current n ≡ Ok all → AreFitProcedures all
 finish_fits [] None n all f e = absurd cc
-finish_fits (p ∷ ps) None n all f e = subst IsModule (ok_is (p ∷ ps) all e) (f.0, omega arith, f.1)
+finish_fits (p ∷ ps) None n all f e = subst AreFitProcedures (ok_is (p ∷ ps) all e) (f.0, omega arith, f.1)
 finish_fits [] (Some o) n all f e = absurd cc
 finish_fits (p ∷ ps) (Some o) n all f e = absurd cc
 
-reads_fits : (n : ℕ) (s : State) (texts : List (List ℕ)) (all : List Procedure) → IsFit s → reads n s texts ≡ Ok all → IsModule all
+reads_fits : (n : ℕ) (s : State) (texts : List (List ℕ)) (all : List Procedure) → IsFit s → reads n s texts ≡ Ok all → AreFitProcedures all
 reads_fits n s [] all f e = finish_fits s.closed s.current n all f e
 reads_fits n s ([] ∷ texts) all f e = reads_fits (n + 1) s texts all f e
 reads_fits n s ((b ∷ bs) ∷ texts) all f e =

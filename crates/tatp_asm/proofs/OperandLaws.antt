@@ -28,8 +28,8 @@ AreOperands (o ∷ os) = IsOperand o × AreOperands os
 abbrev pub operands_text : List Operand → List ℕ
 operands_text os = join_with_byte 44 (map operand_text os)
 
-behind : (b c : ℕ) (bs xs : List ℕ) → b ≡ c → bs ≡ xs → b ∷ bs ≡ c ∷ xs
-behind b c bs xs e f = rw (e, f) refl
+same_cons : (b c : ℕ) (bs xs : List ℕ) → b ≡ c → bs ≡ xs → b ∷ bs ≡ c ∷ xs
+same_cons b c bs xs e f = rw (e, f) refl
 
 -- ---- what is read is written so
 abbrev IsRead : List ℕ → Operand → Type 0
@@ -45,14 +45,14 @@ operand_takes (b ∷ bs) o e = by (eqb b 114) (eqb b 35) (eqb b 64) refl refl re
     by true q r h i j k =
         let m = mapped Register (below 16 bs) o k in
         let t = below_takes 16 bs m.0 m.1 in
-        subst (IsRead (b ∷ bs)) m.2 (behind b 114 bs (decimal m.0) (eqb-true b 114 h) t.0, t.1)
+        subst (IsRead (b ∷ bs)) m.2 (same_cons b 114 bs (decimal m.0) (eqb-true b 114 h) t.0, t.1)
     by false true r h i j k =
         let m = mapped Number (below (2 ^ 32) bs) o k in
         let t = below_takes (2 ^ 32) bs m.0 m.1 in
-        subst (IsRead (b ∷ bs)) m.2 (behind b 35 bs (decimal m.0) (eqb-true b 35 i) t.0, t.1)
+        subst (IsRead (b ∷ bs)) m.2 (same_cons b 35 bs (decimal m.0) (eqb-true b 35 i) t.0, t.1)
     by false false true h i j k =
         let g = guarded (is_label bs) (Some (Target bs)) o k in
-        subst (IsRead (b ∷ bs)) (some_is (Target bs) o g.1) (behind b 64 bs bs (eqb-true b 64 j) refl, g.0)
+        subst (IsRead (b ∷ bs)) (some_is (Target bs) o g.1) (same_cons b 64 bs bs (eqb-true b 64 j) refl, g.0)
     by false false false h i j k = absurd cc
 
 fields_1 : (a x : List ℕ) → a ≡ x → a ∷ [] ≡ x ∷ []

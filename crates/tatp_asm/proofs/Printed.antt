@@ -12,14 +12,13 @@ use Rattle.tatp_instr.specs.declared.instr.Instr.TheVariants.{Jmp, Jz}
 use Rattle.tatp_encoding.specs.Modules.{Procedure, jumps_within, jumps_stay}
 use Rattle.tatp_asm.specs.Instrs.{target_of, has_target, aimed}
 use Rattle.tatp_asm.specs.Lines.{Line}
-use Rattle.tatp_asm.specs.Texts.{Stands, NoneTwice, AreProcedures}
-use Rattle.tatp_asm.specs.Reading.{place_of}
+use Rattle.tatp_asm.specs.Texts.{Stands, NoneTwice, AreProcedureLines}
+use Rattle.tatp_asm.specs.Reading.{position_of}
 use Rattle.tatp_asm.specs.Printing.{label_at, is_target, is_named, with_label, label_of, instruction_line, body_lines, module_lines}
-use Rattle.tatp_asm.proofs.Tools.{both}
+use Rattle.tatp_asm.proofs.Tools.{both, own}
 use Rattle.tatp_asm.proofs.Bodies.{labels_from, code_of, aimed_at, targets, IsInner, code_from, stands_found}
-use Rattle.tatp_asm.proofs.NumberLemmas.{own}
 
--- ---- labels of places
+-- ---- labels of positions
 abbrev rest_of : List ℕ → List ℕ
 rest_of [] = []
 rest_of (b ∷ bs) = bs
@@ -36,7 +35,7 @@ other_label j k h l d = by (bytes_eq (label_at j) (label_at k)) refl
     by false e = refl
 
 -- ---- where the labels stand
-before_labels : (b : Bool) (k m : ℕ) (lines : List Line) (l : List ℕ) → place_of (labels_from m (with_label b k lines)) l ≡ cond b (cond (bytes_eq l (label_at k)) (Some m) (place_of (labels_from m lines) l)) (place_of (labels_from m lines) l)
+before_labels : (b : Bool) (k m : ℕ) (lines : List Line) (l : List ℕ) → position_of (labels_from m (with_label b k lines)) l ≡ cond b (cond (bytes_eq l (label_at k)) (Some m) (position_of (labels_from m lines) l)) (position_of (labels_from m lines) l)
 before_labels true k m lines l = refl
 before_labels false k m lines l = refl
 
@@ -44,16 +43,16 @@ pass : (b c : Bool) (m : ℕ) (o : Option ℕ) → c ≡ false → cond b (cond 
 pass true c m o e = rw e refl
 pass false c m o e = refl
 
--- a place before all of them has no label
-none_before : (all : List Instr) (k j : ℕ) (code : List Instr) → j < k → k + length code < 2 ^ 64 → place_of (labels_from k (body_lines all k code)) (label_at j) ≡ None
+-- a position before all of them has no label
+none_before : (all : List Instr) (k j : ℕ) (code : List Instr) → j < k → k + length code < 2 ^ 64 → position_of (labels_from k (body_lines all k code)) (label_at j) ≡ None
 none_before all k j [] h l = before_labels (is_named all k) k k [] (label_at j) ∙ pass (is_named all k) _ k None (other_label j k (omega arith) (omega arith) (omega arith))
 none_before all k j (i ∷ code) h l =
     before_labels (is_named all k) k k (instruction_line i ∷ body_lines all (suc k) code) (label_at j)
     ∙ (pass (is_named all k) _ k _ (other_label j k (omega arith) (omega arith) (omega arith))
     ∙ none_before all (suc k) j code (omega arith) (omega arith))
 
--- a named place has its own
-there : (all : List Instr) (k j : ℕ) (code : List Instr) → is_named all j ≡ true → k ≤ j → j ≤ k + length code → k + length code < 2 ^ 64 → place_of (labels_from k (body_lines all k code)) (label_at j) ≡ Some j
+-- a named position has its own
+there : (all : List Instr) (k j : ℕ) (code : List Instr) → is_named all j ≡ true → k ≤ j → j ≤ k + length code → k + length code < 2 ^ 64 → position_of (labels_from k (body_lines all k code)) (label_at j) ≡ Some j
 there all k j [] n h m l =
     let q : j ≡ k = omega arith in
     let t : bytes_eq (label_at j) (label_at k) ≡ true = (bytes_eq-Decides (label_at j) (label_at k)).1 (ap label_at q) in
@@ -61,7 +60,7 @@ there all k j [] n h m l =
     before_labels (is_named all k) k k [] (label_at j) ∙ rw (y, t) (ap Some (sym q))
 there all k j (i ∷ code) n h m l = by (eqb j k) refl (λ g. there all (suc k) j code n g (omega arith) (omega arith))
   where
-    by : (b : Bool) → eqb j k ≡ b → (suc k ≤ j → place_of (labels_from (suc k) (body_lines all (suc k) code)) (label_at j) ≡ Some j) → place_of (labels_from k (body_lines all k (i ∷ code))) (label_at j) ≡ Some j
+    by : (b : Bool) → eqb j k ≡ b → (suc k ≤ j → position_of (labels_from (suc k) (body_lines all (suc k) code)) (label_at j) ≡ Some j) → position_of (labels_from k (body_lines all k (i ∷ code))) (label_at j) ≡ Some j
     by true e r =
         let q : j ≡ k = eqb-true j k e in
         let t : bytes_eq (label_at j) (label_at k) ≡ true = (bytes_eq-Decides (label_at j) (label_at k)).1 (ap label_at q) in
@@ -73,11 +72,11 @@ there all k j (i ∷ code) n h m l = by (eqb j k) refl (λ g. there all (suc k) 
         ∙ (pass (is_named all k) _ k _ (other_label j k (omega arith) (omega arith) d) ∙ r (omega arith))
 
 -- ---- no label twice
-none_twice_before : (b : Bool) (k : ℕ) (lines : List Line) → NoneTwice lines → ((place : ℕ) → Stands lines (label_at k) place → ⊥) → NoneTwice (with_label b k lines)
+none_twice_before : (b : Bool) (k : ℕ) (lines : List Line) → NoneTwice lines → ((position : ℕ) → Stands lines (label_at k) position → ⊥) → NoneTwice (with_label b k lines)
 none_twice_before true k lines u h = (h, u)
 none_twice_before false k lines u h = u
 
-stands_not : (lines : List Line) (k m : ℕ) (l : List ℕ) → NoneTwice lines → place_of (labels_from k lines) l ≡ None → Stands lines l m → ⊥
+stands_not : (lines : List Line) (k m : ℕ) (l : List ℕ) → NoneTwice lines → position_of (labels_from k lines) l ≡ None → Stands lines l m → ⊥
 stands_not lines k m l u e s = let f = stands_found k lines l m u s in cc
 
 none_twice_body : (all : List Instr) (k : ℕ) (code : List Instr) → k + length code < 2 ^ 64 → NoneTwice (body_lines all k code)
@@ -108,7 +107,7 @@ code_body : (all : List Instr) (k : ℕ) (code : List Instr) → code_of (body_l
 code_body all k [] = code_before (is_named all k) k []
 code_body all k (i ∷ code) = code_before (is_named all k) k (instruction_line i ∷ body_lines all (suc k) code) ∙ ap (λ (cs : List (Instr × List ℕ)). (aimed i 0, label_of (target_of i)) ∷ cs) (code_body all (suc k) code)
 
-back : (labels : List (List ℕ × ℕ)) (i : Instr) → IfSome (target_of i) (λ t. place_of labels (label_at t) ≡ Some t) → aimed_at (has_target (aimed i 0)) (place_of labels (label_of (target_of i))) (aimed i 0) ≡ Some i
+back : (labels : List (List ℕ × ℕ)) (i : Instr) → IfSome (target_of i) (λ t. position_of labels (label_at t) ≡ Some t) → aimed_at (has_target (aimed i 0)) (position_of labels (label_of (target_of i))) (aimed i 0) ≡ Some i
 back labels (Jmp t) h = rw h refl
 back labels (Jz r t) h = rw h refl
 back labels _ h = refl
@@ -130,15 +129,15 @@ at_some : (o : Option ℕ) (P Q : ℕ → Type 0) → ((t : ℕ) → P t → Q t
 at_some None P Q f h = tt
 at_some (Some t) P Q f h = f t h
 
-all_back : (labels : List (List ℕ × ℕ)) (code : List Instr) → ((t : ℕ) → is_named code t ≡ true → place_of labels (label_at t) ≡ Some t) → targets labels (symbols code) ≡ Some code
+all_back : (labels : List (List ℕ × ℕ)) (code : List Instr) → ((t : ℕ) → is_named code t ≡ true → position_of labels (label_at t) ≡ Some t) → targets labels (symbols code) ≡ Some code
 all_back labels [] h = refl
 all_back labels (i ∷ code) h =
     rw (
-      back labels i (at_some (target_of i) (λ t. is_named (i ∷ code) t ≡ true) (λ t. place_of labels (label_at t) ≡ Some t) h (first_named i code)),
+      back labels i (at_some (target_of i) (λ t. is_named (i ∷ code) t ≡ true) (λ t. position_of labels (label_at t) ≡ Some t) h (first_named i code)),
       all_back labels code (λ t n. h t (or_right (is_target (target_of i) t) (is_named code t) n)),
     ) refl
 
--- ---- places that are named lie within
+-- ---- positions that are named lie within
 jump_within : (i : Instr) (n t : ℕ) → jumps_within n i ≡ true → is_target (target_of i) t ≡ true → t ≤ n
 jump_within (Jmp x) n t h e = let q = eqb-true x t e in let l = leb-true x n h in omega arith
 jump_within (Jz a x) n t h e = let q = eqb-true x t e in let l = leb-true x n h in omega arith
@@ -157,7 +156,7 @@ abbrev pub AreShort : List Procedure → Type 0
 AreShort [] = Unit {0}
 AreShort (p ∷ ps) = (length p.code < 2 ^ 64) × AreShort ps
 
-pub printed_are : (ps : List Procedure) → AreShort ps → list_all jumps_stay ps ≡ true → AreProcedures (module_lines ps) ps
+pub printed_are : (ps : List Procedure) → AreShort ps → list_all jumps_stay ps ≡ true → AreProcedureLines (module_lines ps) ps
 printed_are [] s h = refl
 printed_are (p ∷ ps) (l, s) h =
     let body = body_lines p.code 0 p.code in

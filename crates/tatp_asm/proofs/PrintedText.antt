@@ -2,7 +2,7 @@
 use Rattle.std.proofs.Common.{◌≡◌, ℕ, suc, ◌+◌, ◌<◌, ◌≤◌, ◌^◌, ◌∙◌, sym, subst, Bool, true, false, ◌&&◌, eqb, List, [], ◌∷◌, ◌++◌, length, refl, arith, decimal}
 use Rattle.std.specs.Prelude.{nat_le}
 use Rattle.std.specs.Str.{all_ascii_digits}
-use Rattle.std.specs.List.{list_all}
+use Rattle.std.specs.List.{All, list_all}
 use Rattle.std.specs.Char.{is_ascii_digit}
 use Rattle.std.proofs.lemmas.Bool.{lt-ltb, leb-true}
 use Rattle.std.proofs.lemmas.Bool.Decides.{nat_tests}
@@ -14,11 +14,9 @@ use Rattle.tatp_encoding.specs.Spelling.{IsInstr}
 use Rattle.tatp_lines.specs.Lines.{lines_of}
 use Rattle.tatp_asm.specs.Lines.{Line, Opens, Names, Does, Closes, line_text, IsLine, is_label, is_label_byte}
 use Rattle.tatp_asm.specs.Texts.{AreTexts, IsTextOf}
-use Rattle.tatp_asm.specs.Ranges.{AreInstrs, HaveInstrs}
 use Rattle.tatp_asm.specs.Printing.{label_at, is_named, with_label, instruction_line, body_lines, module_lines, lines_text, disassembled}
 use Rattle.tatp_lines.proofs.LineLaws.{lines_of-cons, lines_of-nil}
-use Rattle.tatp_asm.proofs.NumberLemmas.{own}
-use Rattle.tatp_asm.proofs.Tools.{both, not_true, free, plain_no_feed}
+use Rattle.tatp_asm.proofs.Tools.{both, not_true, free, plain_no_feed, own}
 use Rattle.tatp_asm.proofs.LineLaws.{line_all}
 use Rattle.tatp_asm.proofs.Printed.{AreShort, printed_are}
 
@@ -78,9 +76,11 @@ append_are : (lines after : List Line) → AreLines lines → AreLines after →
 append_are [] after a b = b
 append_are (line ∷ lines) after (h, a) b = (h, append_are lines after a b)
 
-body_are : (all : List Instr) (k : ℕ) (code : List Instr) → k + length code < 2 ^ 32 → AreInstrs code → AreLines (body_lines all k code)
+body_are : (all : List Instr) (k : ℕ) (code : List Instr) → k + length code < 2 ^ 32 → All IsInstr code → AreLines (body_lines all k code)
 body_are all k [] h w = before_are (is_named all k) k [] (omega arith) tt
-body_are all k (i ∷ code) h (w, ws) = before_are (is_named all k) k (instruction_line i ∷ body_lines all (suc k) code) (omega arith) (instruction_is i w, body_are all (suc k) code (omega arith) ws)
+body_are all k (i ∷ code) h w =
+    before_are (is_named all k) k (instruction_line i ∷ body_lines all (suc k) code) (omega arith)
+    (instruction_is i (w 0 i (omega arith)), body_are all (suc k) code (omega arith) (λ n d l. w (suc n) d (omega (arith, l))))
 
 record IsFit (p : Procedure) : Type 0 where
   name : is_name p.name ≡ true
@@ -94,18 +94,18 @@ fits p h =
     let x = both (nat_le 1 (length p.code)) (nat_le (length p.code) 256) c.1 in
     record { name = b.0; arity = leb-true p.arity 8 c.0; most = leb-true (length p.code) 256 x.1 }
 
-module_are : (ps : List Procedure) → list_all is_procedure ps ≡ true → HaveInstrs ps → AreLines (module_lines ps)
+module_are : (ps : List Procedure) → list_all is_procedure ps ≡ true → All (λ p. All IsInstr p.code) ps → AreLines (module_lines ps)
 module_are [] h w = tt
-module_are (p ∷ ps) h (w, ws) =
+module_are (p ∷ ps) h w =
     let a = both (is_procedure p) (list_all is_procedure ps) h in
     let f = fits p a.0 in
-    ((f.name, f.arity), append_are (body_lines p.code 0 p.code) (Closes ∷ module_lines ps) (body_are p.code 0 p.code (omega (arith, f.most)) w) (tt, module_are ps a.1 ws))
+    ((f.name, f.arity), append_are (body_lines p.code 0 p.code) (Closes ∷ module_lines ps) (body_are p.code 0 p.code (omega (arith, f.most)) (w 0 p (omega arith))) (tt, module_are ps a.1 (λ n d l. w (suc n) d (omega (arith, l)))))
 
 short : (ps : List Procedure) → list_all is_procedure ps ≡ true → AreShort ps
 short [] h = tt
 short (p ∷ ps) h = let a = both (is_procedure p) (list_all is_procedure ps) h in let f = fits p a.0 in (omega (arith, f.most), short ps a.1)
 
-pub disassembled_is : (ps : List Procedure) → is_module ps ≡ true → HaveInstrs ps → IsTextOf (disassembled ps) ps
+pub disassembled_is : (ps : List Procedure) → is_module ps ≡ true → All (λ p. All IsInstr p.code) ps → IsTextOf (disassembled ps) ps
 unfolding disassembled
 disassembled_is ps h w =
     let a = both (is_from_to 1 16 (length ps)) (list_all is_procedure ps && list_all jumps_stay ps) h in

@@ -7,10 +7,8 @@ use Rattle.tatp_instr.specs.declared.instr.Instr.{Instr}
 use Rattle.tatp_instr.specs.declared.instr.Instr.TheVariants.{Jmp, Jz}
 use Rattle.tatp_instr.specs.Instrs.{text_of}
 use Rattle.tatp_encoding.specs.Modules.{Procedure}
-use Rattle.tatp_encoding.specs.Spelling.{IsInstr}
 use Rattle.tatp_asm.specs.Instrs.{target_of}
 use Rattle.tatp_asm.specs.Lines.{Line, Opens, Closes, line_text}
-use Rattle.tatp_asm.specs.Ranges.{AreInstrs, HaveInstrs}
 use Rattle.tatp_asm.specs.Printing.{label_at, is_target, is_named, with_label, instruction_line, body_lines, module_lines, procedure_lines, lines_text}
 
 -- a jump's text names the label of its target
@@ -63,10 +61,6 @@ pub body_ends : (all code : List Instr) (k : ℕ) (out last whole : List ℕ) �
     → last ≡ out ++ lines_text (with_label (is_named all k) k []) → out ++ lines_text (body_lines all k (drop k code)) ≡ whole → last ≡ whole
 body_ends all code k out last whole h e w = e ∙ (ap (λ (x : List Instr). out ++ lines_text (body_lines all k x)) (sym (drop_all k code h)) ∙ w)
 
-pub AreInstrs-push : (code : List Instr) (i : Instr) → AreInstrs code → IsInstr i → AreInstrs (code ++ (i ∷ []))
-AreInstrs-push [] i a h = (h, tt)
-AreInstrs-push (x ∷ code) i (p, a) h = (p, AreInstrs-push code i a h)
-
 -- ---- a procedure
 opening_text : (out name arity body : List ℕ) → ((((((out ++ codes "proc ") ++ name) ++ codes " ") ++ arity) ++ (10 ∷ [])) ++ body) ++ (101 ∷ 110 ∷ 100 ∷ 10 ∷ []) ≡ out ++ (((codes "proc " ++ name) ++ codes " ") ++ arity) ++ (10 ∷ (body ++ (101 ∷ 110 ∷ 100 ∷ 10 ∷ [])))
 opening_text out name arity body = simp append_assoc
@@ -95,17 +89,13 @@ module_text-push (q ∷ ps) p =
     ∙ (sym (append_assoc (lines_text (procedure_lines q)) (lines_text (module_lines ps)) (lines_text (procedure_lines p)))
     ∙ ap (λ (t : List ℕ). t ++ lines_text (procedure_lines p)) (sym (ap lines_text (procedure_lines-more q ps) ∙ lines_text-append (procedure_lines q) (module_lines ps))))))
 
-pub HaveInstrs-push : (ps : List Procedure) (p : Procedure) → HaveInstrs ps → AreInstrs p.code → HaveInstrs (ps ++ (p ∷ []))
-HaveInstrs-push [] p a h = (h, tt)
-HaveInstrs-push (q ∷ ps) p (b, a) h = (b, HaveInstrs-push ps p a h)
-
 -- the same, one piece after another
 pub procedure_steps : (out a b c d e f g name arity : List ℕ) (code : List Instr) (p : Procedure) → name ≡ p.name → arity ≡ decimal p.arity → code ≡ p.code
     → a ≡ out ++ codes "proc " → b ≡ a ++ name → c ≡ b ++ codes " " → d ≡ c ++ arity → e ≡ d ++ (10 ∷ []) → f ≡ e ++ lines_text (body_lines code 0 code) → g ≡ f ++ (101 ∷ 110 ∷ 100 ∷ 10 ∷ [])
     → g ≡ out ++ lines_text (procedure_lines p)
 procedure_steps out a b c d e f g name arity code p n r o s t u v w x y = rw (y, x, w, v, u, t, s, n, o) (procedure_pushed out arity p r)
 
--- ---- places that are named
+-- ---- positions that are named
 pub marked : (xs : List Bool) (p k : ℕ) → p < length xs → get_or (set xs p true) k false ≡ (eqb p k || get_or xs k false)
 marked xs p k h = by (eqb p k) refl
   where
@@ -113,7 +103,7 @@ marked xs p k h = by (eqb p k) refl
     by true e = let q : p ≡ k = eqb-true p k e in rw (← q) (get_or-set_same xs p true false h)
     by false e = get_or-set_other xs p k true false (λ q. (let r = eq-eqb p k (sym q) in absurd cc))
 
-pub not_marked : (xs : List Bool) (p k : ℕ) → 257 ≤ p → k < 257 → get_or xs k false ≡ (eqb p k || get_or xs k false)
+pub not_marked : (xs : List Bool) (p k : ℕ) → 257 ≤ p → k ≤ 256 → get_or xs k false ≡ (eqb p k || get_or xs k false)
 not_marked xs p k h l = let n : eqb p k ≡ false = ne_eqb p k (λ e. omega arith) in rw n refl
 
 named_push : (front : List Instr) (i : Instr) (k : ℕ) → is_named (front ++ (i ∷ [])) k ≡ (is_target (target_of i) k || is_named front k)
@@ -126,8 +116,8 @@ named_push (x ∷ front) i k = rw (named_push front i k) (by (is_target (target_
     by false b c = refl
 
 pub one_more_named : (code : List Instr) (n : ℕ) (i : Instr) (xs ys : List Bool) → take (n + 1) code ≡ take n code ++ (i ∷ [])
-    → ((k : ℕ) → k < 257 → get_or xs k false ≡ is_named (take n code) k)
-    → ((k : ℕ) → k < 257 → get_or ys k false ≡ (is_target (target_of i) k || get_or xs k false))
-    → (k : ℕ) → k < 257 → get_or ys k false ≡ is_named (take (n + 1) code) k
+    → ((k : ℕ) → k ≤ 256 → get_or xs k false ≡ is_named (take n code) k)
+    → ((k : ℕ) → k ≤ 256 → get_or ys k false ≡ (is_target (target_of i) k || get_or xs k false))
+    → (k : ℕ) → k ≤ 256 → get_or ys k false ≡ is_named (take (n + 1) code) k
 one_more_named code n i xs ys e h m k l =
     m k l ∙ (ap (λ (b : Bool). is_target (target_of i) k || b) (h k l) ∙ (sym (named_push (take n code) i k) ∙ ap (λ (c : List Instr). is_named c k) (sym e)))

@@ -10,7 +10,8 @@ use Rattle.std.proofs.lemmas.Slice.Eq.{bytes_eq-Decides}
 use Rattle.std.proofs.lemmas.Fmt.{digits_decimal}
 use Rattle.tatp_encoding.specs.Modules.{is_from_to, is_name, is_name_byte}
 use Rattle.tatp_asm.specs.Lines.{is_label, is_letter, is_label_byte}
-use Rattle.tatp_asm.proofs.NumberLemmas.{own}
+use Rattle.std.proofs.lemmas.Str.Parse.{IsNumeralModel, numerals_by_value, tells_all_ascii_digits}
+use Rattle.std.specs.Str.Parse.{digits_value}
 
 -- ---- options and tests
 pub some_is : {X : Type 0} (x y : X) → Some x ≡ Some y → x ≡ y
@@ -83,6 +84,9 @@ digit_plain b h = grind (arith, nat_tests)
 digits_plain : (ds : List ℕ) → all_ascii_digits ds ≡ true → list_all plain ds ≡ true
 digits_plain [] h = refl
 digits_plain (d ∷ ds) h = let r = both (is_ascii_digit d) (all_ascii_digits ds) h in rw (digit_plain d r.0) (digits_plain ds r.1)
+
+pub own : IsNumeralModel (λ ds. all_ascii_digits ds ≡ true) (digits_value 10)
+own = numerals_by_value (λ ds. all_ascii_digits ds ≡ true) tells_all_ascii_digits
 
 pub decimal_plain : (n : ℕ) → n < 2 ^ 64 → list_all plain (decimal n) ≡ true
 decimal_plain n h = digits_plain (decimal n) (digits_decimal own n h)

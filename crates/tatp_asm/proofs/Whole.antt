@@ -7,7 +7,8 @@ use Rattle.tatp_asm.specs.declared.fault.AsmError.{AsmError}
 use Rattle.tatp_asm.specs.Texts.{IsTextOf}
 use Rattle.tatp_asm.specs.Reading.{Gives, assembled}
 use Rattle.tatp_asm.proofs.Grammar.{assembled_found, assembled_only, ok_is}
-use Rattle.tatp_asm.specs.Ranges.{HaveInstrs}
+use Rattle.std.specs.List.{All}
+use Rattle.tatp_encoding.specs.Spelling.{IsInstr}
 use Rattle.tatp_asm.specs.Printing.{disassembled}
 use Rattle.tatp_asm.proofs.ModuleLaws.{bounded}
 use Rattle.tatp_asm.proofs.PrintedText.{disassembled_is}
@@ -24,7 +25,7 @@ pub one_module : (text : List ℕ) (m other : List Procedure) → is_module m �
 one_module text m other h k t u = ok_is other m (sym (assembled_only text other (bounded other k) u) ∙ assembled_only text m (bounded m h) t)
 
 -- ---- what is printed
-pub printed_found : {X E : Type 0} (view : X → List ℕ) (r : Result X E) (m : List Procedure) → is_module m ≡ true → OnOk r (HaveInstrs m) → IfOk r (λ x. view x ≡ disassembled m) → IfOk r (λ x. IsTextOf (view x) m)
+pub printed_found : {X E : Type 0} (view : X → List ℕ) (r : Result X E) (m : List Procedure) → is_module m ≡ true → OnOk r (All (λ p. All IsInstr p.code) m) → IfOk r (λ x. view x ≡ disassembled m) → IfOk r (λ x. IsTextOf (view x) m)
 printed_found view (Ok x) m h w e = subst (λ (t : List ℕ). IsTextOf t m) (sym e) (disassembled_is m h w)
 printed_found view (Err e) m h w t = tt
 

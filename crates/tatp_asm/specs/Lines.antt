@@ -5,6 +5,7 @@ use Rattle.tatp_instr.specs.declared.instr.Instr.{Instr}
 use Rattle.tatp_instr.specs.declared.instr.Instr.TheVariants.{Jmp, Jz}
 use Rattle.tatp_instr.specs.Instrs.{text_of, register_text}
 use Rattle.tatp_encoding.specs.Modules.{is_from_to, is_name}
+use Rattle.tatp_encoding.specs.declared.module.TheConstants.{MAX_NAME_BYTES, MAX_ARGUMENTS}
 use Rattle.tatp_encoding.specs.Spelling.{IsInstr}
 use Rattle.tatp_asm.specs.Instrs.{has_target, aimed}
 
@@ -38,7 +39,7 @@ is_label_byte byte = is_letter byte || is_from_to 48 57 byte || byte == 95
 -- a letter, and then letters, digits or underscores, 1 to 24
 unfoldable pub is_label : List ℕ → Bool
 is_label [] = false
-is_label (first ∷ more) = is_letter first && (list_all is_label_byte more && nat_lt (length more) 24)
+is_label (first ∷ more) = is_letter first && (list_all is_label_byte more && nat_lt (length more) MAX_NAME_BYTES)
 
 -- a jump names a label, and no other instruction does
 abbrev pub NamesLabel : Bool → List ℕ → Type 0
@@ -47,7 +48,7 @@ NamesLabel false label = label ≡ []
 
 -- a line whose parts are in their ranges
 abbrev pub IsLine : Line → Type 0
-IsLine (Opens name arity) = (is_name name ≡ true) × (arity ≤ 8)
+IsLine (Opens name arity) = (is_name name ≡ true) × (arity ≤ MAX_ARGUMENTS)
 IsLine (Names label) = is_label label ≡ true
 IsLine (Does instr label) = IsInstr instr × (aimed instr 0 ≡ instr) × NamesLabel (has_target instr) label
 IsLine Closes = Unit {0}

@@ -5,23 +5,23 @@ use Rattle.tatp_encoding.specs.Modules.{Procedure}
 use Rattle.tatp_asm.specs.Instrs.{target_of, aimed}
 use Rattle.tatp_asm.specs.Lines.{Line, Opens, Names, Does, Closes, line_text}
 
--- the label of a place
+-- the label of a position
 unfoldable pub label_at : ℕ → List ℕ
-label_at place = codes "L" ++ decimal place
+label_at position = codes "L" ++ decimal position
 
 abbrev pub is_target : Option ℕ → ℕ → Bool
-is_target None place = false
-is_target (Some t) place = t == place
+is_target None position = false
+is_target (Some t) position = t == position
 
--- whether a jump of the code names the place
+-- whether a jump of the code names the position
 abbrev pub is_named : List Instr → ℕ → Bool
-is_named [] place = false
-is_named (instr ∷ code) place = is_target (target_of instr) place || is_named code place
+is_named [] position = false
+is_named (instr ∷ code) position = is_target (target_of instr) position || is_named code position
 
 -- ---- lines
--- the label of a place that is named, before these lines
+-- the label of a position that is named, before these lines
 abbrev pub with_label : Bool → ℕ → List Line → List Line
-with_label named place lines = if named then Names (label_at place) ∷ lines else lines
+with_label named position lines = if named then Names (label_at position) ∷ lines else lines
 
 abbrev pub label_of : Option ℕ → List ℕ
 label_of None = []
@@ -31,10 +31,10 @@ label_of (Some t) = label_at t
 abbrev pub instruction_line : Instr → Line
 instruction_line instr = Does (aimed instr 0) (label_of (target_of instr))
 
--- code from a place on, with the labels that all of the code names
+-- code from a position on, with the labels that all of the code names
 abbrev pub body_lines : List Instr → ℕ → List Instr → List Line
-body_lines all place [] = with_label (is_named all place) place []
-body_lines all place (instr ∷ code) = with_label (is_named all place) place (instruction_line instr ∷ body_lines all (suc place) code)
+body_lines all position [] = with_label (is_named all position) position []
+body_lines all position (instr ∷ code) = with_label (is_named all position) position (instruction_line instr ∷ body_lines all (suc position) code)
 
 abbrev pub module_lines : List Procedure → List Line
 module_lines [] = []

@@ -2,8 +2,9 @@
 use Rattle.std.specs.Prelude.{◌≡◌, ℕ, ◌+◌, ◌==◌, nat_lt, Bool, true, false, if◌then◌else◌, List, [], ◌∷◌, ◌++◌, length, bytes_eq, Option, Some, None, is_some, Result, Ok, Err}
 use Rattle.tatp_instr.specs.declared.instr.Instr.{Instr}
 use Rattle.tatp_encoding.specs.Modules.{Procedure}
-use Rattle.tatp_asm.specs.declared.fault.FaultKind.{FaultKind}
-use Rattle.tatp_asm.specs.declared.fault.FaultKind.TheVariants.{Syntax, NoSuchLabel, LabelTwice, TooLong}
+use Rattle.tatp_encoding.specs.declared.module.TheConstants.{MAX_PROCEDURES, MAX_INSTRUCTIONS}
+use Rattle.tatp_asm.specs.declared.fault.AsmFaultKind.{AsmFaultKind}
+use Rattle.tatp_asm.specs.declared.fault.AsmFaultKind.TheVariants.{Syntax, NoSuchLabel, LabelTwice, TooLong}
 use Rattle.tatp_asm.specs.declared.fault.AsmFault.{AsmFault}
 use Rattle.tatp_asm.specs.declared.fault.AsmError.{AsmError}
 use Rattle.tatp_asm.specs.declared.fault.AsmError.TheVariants as errors
@@ -13,7 +14,7 @@ use Rattle.tatp_asm.specs.Lines.{Line, Opens, Names, Does, Closes}
 use Rattle.tatp_asm.specs.Words.{line_of_bytes}
 
 -- a fault of this line
-abbrev pub fault : {A : Type 0} → FaultKind → ℕ → Result A AsmFault
+abbrev pub fault : {A : Type 0} → AsmFaultKind → ℕ → Result A AsmFault
 fault kind line = Err (record { kind = kind; line = line })
 
 infixl 10 ◌>>=◌
@@ -39,7 +40,7 @@ pub record Pending : Type 0 where
   pub label : List ℕ
   pub line : ℕ
 
--- its labels with their places, and its instructions
+-- its labels with their positions, and its instructions
 pub record Open : Type 0 where
   pub name : List ℕ
   pub arity : ℕ
@@ -52,38 +53,38 @@ pub record State : Type 0 where
   pub current : Option Open
 
 -- where a label stands
-abbrev pub place_of : List (List ℕ × ℕ) → List ℕ → Option ℕ
-place_of [] label = None
-place_of (l ∷ labels) label = if bytes_eq label l.0 then Some l.1 else place_of labels label
+abbrev pub position_of : List (List ℕ × ℕ) → List ℕ → Option ℕ
+position_of [] label = None
+position_of (l ∷ labels) label = if bytes_eq label l.0 then Some l.1 else position_of labels label
 
 -- an instruction with its target; the first value says whether it has one
-abbrev pub settled : Bool → Option ℕ → Pending → Result Instr AsmFault
-settled false place p = Ok p.instr
-settled true (Some place) p = Ok (aimed p.instr place)
-settled true None p = fault NoSuchLabel p.line
+abbrev pub resolved : Bool → Option ℕ → Pending → Result Instr AsmFault
+resolved false position p = Ok p.instr
+resolved true (Some position) p = Ok (aimed p.instr position)
+resolved true None p = fault NoSuchLabel p.line
 
-abbrev pub settle : List (List ℕ × ℕ) → List Pending → Result (List Instr) AsmFault
-settle labels [] = Ok []
-settle labels (p ∷ more) = settled (has_target p.instr) (place_of labels p.label) p >>= λ i. settle labels more >>= λ code. Ok (i ∷ code)
+abbrev pub resolve : List (List ℕ × ℕ) → List Pending → Result (List Instr) AsmFault
+resolve labels [] = Ok []
+resolve labels (p ∷ more) = resolved (has_target p.instr) (position_of labels p.label) p >>= λ i. resolve labels more >>= λ code. Ok (i ∷ code)
 
 -- the procedure ends
 abbrev pub close : List Procedure → Open → ℕ → Result State AsmFault
 close closed o n =
     if length o.code == 0 then fault Syntax n else
-    settle o.labels o.code >>= λ code. Ok (record { closed = closed ++ (record { name = o.name; arity = o.arity; code = code } ∷ []); current = None })
+    resolve o.labels o.code >>= λ code. Ok (record { closed = closed ++ (record { name = o.name; arity = o.arity; code = code } ∷ []); current = None })
 
 -- ---- one line more, the line n
 abbrev pub step : List Procedure → Option Open → ℕ → Line → Result State AsmFault
 step closed None n (Opens name arity) =
-    if nat_lt (length closed) 16 then Ok (record { closed = closed; current = Some (record { name = name; arity = arity; labels = []; code = [] }) }) else
+    if nat_lt (length closed) MAX_PROCEDURES then Ok (record { closed = closed; current = Some (record { name = name; arity = arity; labels = []; code = [] }) }) else
     fault TooLong n
 step closed None n line = fault Syntax n
 step closed (Some o) n (Opens name arity) = fault Syntax n
 step closed (Some o) n (Names label) =
-    if is_some (place_of o.labels label) then fault LabelTwice n else
+    if is_some (position_of o.labels label) then fault LabelTwice n else
     Ok (record { closed = closed; current = Some (record o { labels = o.labels ++ ((label, length o.code) ∷ []) }) })
 step closed (Some o) n (Does instr label) =
-    if nat_lt (length o.code) 256 then Ok (record { closed = closed; current = Some (record o { code = o.code ++ (record { instr = instr; label = label; line = n } ∷ []) }) }) else
+    if nat_lt (length o.code) MAX_INSTRUCTIONS then Ok (record { closed = closed; current = Some (record o { code = o.code ++ (record { instr = instr; label = label; line = n } ∷ []) }) }) else
     fault TooLong n
 step closed (Some o) n Closes = close closed o n
 

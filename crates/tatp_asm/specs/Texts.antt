@@ -12,19 +12,19 @@ count [] = 0
 count (Does instr label ∷ lines) = suc (count lines)
 count (_ ∷ lines) = count lines
 
--- the label stands among the lines behind so many instructions
+-- the label stands among the lines after so many instructions
 abbrev pub Stands : List Line → List ℕ → ℕ → Type 0
-Stands lines label place = (before after : List Line) × (lines ≡ before ++ (Names label ∷ after)) × (place ≡ count before)
+Stands lines label position = (before after : List Line) × (lines ≡ before ++ (Names label ∷ after)) × (position ≡ count before)
 
 -- no label stands twice
 abbrev pub NoneTwice : List Line → Type 0
 NoneTwice [] = Unit {0}
-NoneTwice (Names label ∷ lines) = ((place : ℕ) → Stands lines label place → ⊥) × NoneTwice lines
+NoneTwice (Names label ∷ lines) = ((position : ℕ) → Stands lines label position → ⊥) × NoneTwice lines
 NoneTwice (_ ∷ lines) = NoneTwice lines
 
 -- what the instruction of a line means among the lines of its procedure: a jump goes where its label stands
 abbrev pub Means : Bool → List Line → Instr → List ℕ → Instr → Type 0
-Means true body instr label meant = (place : ℕ) × Stands body label place × (meant ≡ aimed instr place)
+Means true body instr label meant = (position : ℕ) × Stands body label position × (meant ≡ aimed instr position)
 Means false body instr label meant = meant ≡ instr
 
 -- the instructions among these lines of a procedure are the code
@@ -35,12 +35,12 @@ IsCode body (Does instr label ∷ lines) (meant ∷ code) = Means (has_target in
 IsCode body (Names label ∷ lines) code = IsCode body lines code
 IsCode body (_ ∷ lines) code = ⊥
 
--- the lines are these procedures, one behind another
-abbrev pub AreProcedures : List Line → List Procedure → Type 0
-AreProcedures lines [] = lines ≡ []
-AreProcedures lines (p ∷ more) =
+-- the lines are those of these procedures, one after another
+abbrev pub AreProcedureLines : List Line → List Procedure → Type 0
+AreProcedureLines lines [] = lines ≡ []
+AreProcedureLines lines (p ∷ more) =
     (body rest : List Line) × (lines ≡ Opens p.name p.arity ∷ (body ++ (Closes ∷ rest)))
-    × NoneTwice body × IsCode body body p.code × AreProcedures rest more
+    × NoneTwice body × IsCode body body p.code × AreProcedureLines rest more
 
 -- the texts without the empty ones are the texts of these lines
 abbrev pub AreTexts : List (List ℕ) → List Line → Type 0
@@ -53,4 +53,4 @@ AreTexts ((byte ∷ bytes) ∷ texts) (line ∷ lines) = (byte ∷ bytes ≡ lin
 pub record IsTextOf (text : List ℕ) (m : List Procedure) : Type 0 where
   pub lines : List Line
   pub texts : AreTexts (lines_of text) lines
-  pub procedures : AreProcedures lines m
+  pub procedures : AreProcedureLines lines m

@@ -2,6 +2,7 @@
 use Rattle.std.specs.Prelude.{◌≡◌, ℕ, ◌≤◌, true, List, [], ◌∷◌, length, map, Option, option_map, IfSome, String}
 use Rattle.std.specs.String.{string_bytes}
 use Rattle.tatp_encoding.specs.Modules.{Procedure, is_name}
+use Rattle.tatp_encoding.specs.declared.module.TheConstants.{MAX_ARGUMENTS, MAX_INSTRUCTIONS}
 use Rattle.tatp_asm.specs.declared.fields.Split.{Split}
 use Rattle.tatp_asm.specs.declared.fields.Split.TheVariants.{One, Two, Three, More}
 use Rattle.tatp_asm.specs.declared.operands.Operand.{Operand}
@@ -9,7 +10,7 @@ use Rattle.tatp_asm.specs.declared.operands.Operand.TheVariants as operand
 use Rattle.tatp_asm.specs.declared.line.Line.{Line}
 use Rattle.tatp_asm.specs.declared.line.Line.TheVariants.{Opening, Label, Instruction, Ending}
 use Rattle.tatp_asm.specs.declared.draft.Draft.{Draft}
-use Rattle.tatp_asm.specs.declared.draft.Unsettled.{Unsettled}
+use Rattle.tatp_asm.specs.declared.draft.Unresolved.{Unresolved}
 use Rattle.tatp_asm.specs.Lines.{Opens, Names, Does, Closes}
 use Rattle.tatp_asm.specs.Lines as lines
 use Rattle.tatp_asm.specs.Words.{Register, Number, Target}
@@ -36,10 +37,10 @@ line_view (Instruction instr label) = Does instr label.bytes
 line_view Ending = Closes
 
 -- ---- a procedure under way
-abbrev pub pending : Unsettled → Pending
+abbrev pub pending : Unresolved → Pending
 pending u = record { instr = u.instr; label = u.label.bytes; line = u.line }
 
-abbrev pub all_pending : List Unsettled → List Pending
+abbrev pub all_pending : List Unresolved → List Pending
 all_pending code = map pending code
 
 abbrev pub label_view : {Y : Type 0} → String Y × ℕ → List ℕ × ℕ
@@ -59,7 +60,7 @@ state_of closed d = record { closed = closed; current = drafts d }
 
 -- its name, its arity and its length are those of a procedure, or none yet
 abbrev pub Fits : Draft → Type 0
-Fits d = (is_name d.name.bytes ≡ true) × (d.arity ≤ 8) × (length d.code.items ≤ 256)
+Fits d = (is_name d.name.bytes ≡ true) × (d.arity ≤ MAX_ARGUMENTS) × (length d.code.items ≤ MAX_INSTRUCTIONS)
 
 abbrev pub FitsAny : Option Draft → Type 0
 FitsAny d = IfSome d Fits

@@ -1,13 +1,14 @@
 -- The line that a text is, read field by field: docs/FORMATS.md, "Assembly text".
-use Rattle.std.specs.Prelude.{ℕ, ◌^◌, ◌==◌, ◌&&◌, nat_lt, if◌then◌else◌, List, [], ◌∷◌, codes, bytes_eq, Option, Some, None}
+use Rattle.std.specs.Prelude.{ℕ, ◌+◌, ◌^◌, ◌==◌, ◌&&◌, nat_lt, if◌then◌else◌, List, [], ◌∷◌, codes, bytes_eq, Option, Some, None}
 use Rattle.std.specs.List.{slice_split}
 use Rattle.std.specs.Option.{option_map, option_and_then}
 use Rattle.std.specs.Str.{is_utf8}
 use denote.Ref.{Bor}
-use Rattle.tatp_tables.specs.Text.{number_of}
+use Rattle.tatp_lines.specs.Numbers.{number_of}
 use Rattle.tatp_instr.specs.declared.instr.Instr.{Instr}
 use Rattle.tatp_instr.specs.declared.instr.Instr.TheVariants.{Ldi, Mov, Arg, Add, Sub, Eq, Lt, Jmp, Jz, Fsub, Fnum, Facc, Ffac, Fcfw, Get, Put, Ins, Del, Out, Done, Fail}
 use Rattle.tatp_encoding.specs.Modules.{is_name}
+use Rattle.tatp_encoding.specs.declared.module.TheConstants.{MAX_ARGUMENTS}
 use Rattle.tatp_asm.specs.Lines.{Line, Opens, Names, Does, Closes, is_label}
 
 -- ---- fields
@@ -32,9 +33,9 @@ pub data Operand : Type 0 where
 abbrev pub target_in : List ℕ → Option Operand
 target_in label = if is_label label then Some (Target label) else None
 
--- the operand behind its first character: r, # or @
-abbrev pub operand_behind : ℕ → List ℕ → Option Operand
-operand_behind mark text =
+-- the operand after its first character: r, # or @
+abbrev pub operand_after : ℕ → List ℕ → Option Operand
+operand_after mark text =
     if mark == 114 then option_map Register (below 16 text) else
     if mark == 35 then option_map Number (below (2 ^ 32) text) else
     if mark == 64 then target_in text else
@@ -42,7 +43,7 @@ operand_behind mark text =
 
 unfoldable pub operand_of : List ℕ → Option Operand
 operand_of [] = None
-operand_of (mark ∷ text) = operand_behind mark text
+operand_of (mark ∷ text) = operand_after mark text
 
 -- one to three operands
 unfoldable pub operands_of : List (List ℕ) → Option (List Operand)
@@ -129,7 +130,7 @@ word_of word =
 -- a line that begins a procedure
 unfoldable pub opening_of : List ℕ → List ℕ → List ℕ → Option Line
 opening_of word name arity =
-    if bytes_eq word (codes "proc") && is_name name then option_map (Opens name) (below 9 arity) else None
+    if bytes_eq word (codes "proc") && is_name name then option_map (Opens name) (below (MAX_ARGUMENTS + 1) arity) else None
 
 abbrev pub line_of_fields : List (List ℕ) → Option Line
 line_of_fields (word ∷ []) = word_of word

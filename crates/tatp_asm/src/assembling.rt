@@ -1,20 +1,22 @@
 //! The module of an assembly text, read once from front to back.
-ghost use Rattle.std.specs.Prelude.{◌≡◌, ◌≤◌, List, Ok, true, IfOk, OnOk};
+ghost use Rattle.std.specs.Prelude.{◌≡◌, ◌≢◌, List, Ok, Err, Some, true, false, IfOk, IfErr, OnOk};
+ghost use Rattle.std.specs.Result.{result_map_both};
 ghost use Rattle.tatp_encoding.specs.Modules.{Procedure, is_module};
 ghost use Rattle.tatp_lines.specs.Lines.{lines_of};
 ghost use Rattle.tatp_asm.specs.Lines.{IsLine};
 ghost use Rattle.tatp_asm.specs.Texts.{IsTextOf};
+ghost use Rattle.tatp_asm.specs.BeforeCode.{HasNoCodeUpTo, IsBare, is_code};
 ghost use Rattle.tatp_asm.specs.Reading.{Gives, step, finish, reads, start, assembled};
 ghost use Rattle.tatp_asm.specs.Views.{FitsAny, line_view, drafts, state_of};
 
 use crate::draft::{Draft, add_instruction, add_label, close_draft, fault, open_draft};
-use crate::fault::{AsmError, FaultKind};
+use crate::fault::{AsmError, AsmFault, AsmFaultKind};
 use crate::line::{Line, parse_line};
 use std::alloc::Global;
 use tatp_encoding::{Module, Proc};
 use tatp_lines::next_line;
 
-/// One line more, behind the procedures that have ended and the one that has not.
+/// One line more, after the procedures that have ended and the one that has not.
 fn add_line(
     alloc: Global,
     closed: &mut Vec<Proc>,
@@ -26,16 +28,17 @@ fn add_line(
     requires within { IsLine (line_view line) }
     ensures gives { Gives (λ _. state_of closed.new.items draft.new) result (step closed.old.items (drafts draft.old) number (line_view line)) }
     ensures fits { OnOk result (FitsAny draft.new) }
+    ensures early { IsBare (drafts draft.old) → is_code (Some (line_view line)) ≡ false → IfErr result (λ e. e ≢ AsmError.NoMemory) }
 {
     match draft.take() {
         None => match line {
             Line::Opening(name, arity) => {
                 *draft = Some(open_draft(alloc, closed.len(), name, arity, number)?);
             }
-            _ => return fault(FaultKind::Syntax, number),
+            _ => return fault(AsmFaultKind::Syntax, number),
         },
         Some(open) => match line {
-            Line::Opening(..) => return fault(FaultKind::Syntax, number),
+            Line::Opening(..) => return fault(AsmFaultKind::Syntax, number),
             Line::Label(label) => {
                 *draft = Some(add_label(alloc, open, label, number)?);
             }
@@ -51,18 +54,22 @@ fn add_line(
 }
 
 /// The procedures of a text that ends before this line.
-fn finish(closed: Vec<Proc>, draft: Option<Draft>, number: u64) -> Result<Vec<Proc>, AsmError>
-    ensures { Gives (λ procs. procs.items) result (finish closed.items (drafts draft) number) }
+fn finish(closed: Vec<Proc>, draft: Option<Draft>, number: u64) -> Result<Vec<Proc>, AsmFault>
+    ensures { result_map_both (λ procs. procs.items) (λ fault. fault) result ≡ finish closed.items (drafts draft) number }
 {
     if draft.is_some() || closed.is_empty() {
-        return fault(FaultKind::Syntax, number);
+        return Err(AsmFault {
+            kind: AsmFaultKind::Syntax,
+            line: number,
+        });
     }
     Ok(closed)
 }
 
 /// The procedures of a text.
 fn procedures(alloc: Global, text: &[u8]) -> Result<Vec<Proc>, AsmError>
-    ensures { Gives (λ procs. procs.items) result (reads 1 start (lines_of text.now)) }
+    ensures gives { Gives (λ procs. procs.items) result (reads 1 start (lines_of text.now)) }
+    ensures early { (fault : AsmFault) → reads 1 start (lines_of text.now) ≡ Err fault → HasNoCodeUpTo text.now fault.line → result ≡ Err (AsmError.Fault fault) }
 {
     let mut closed = Vec::new(alloc);
     let mut draft = None;
@@ -70,11 +77,11 @@ fn procedures(alloc: Global, text: &[u8]) -> Result<Vec<Proc>, AsmError>
     let mut number = 1;
     'lines: loop {
         match next_line(rest) {
-            None => return finish(closed, draft, number),
+            None => return Ok(finish(closed, draft, number)?),
             Some((line, after)) => {
                 if !line.is_empty() {
                     match parse_line(line) {
-                        None => return fault(FaultKind::Syntax, number),
+                        None => return fault(AsmFaultKind::Syntax, number),
                         Some(line) => add_line(alloc, &mut closed, &mut draft, line, number)?,
                     }
                 }
@@ -87,7 +94,8 @@ fn procedures(alloc: Global, text: &[u8]) -> Result<Vec<Proc>, AsmError>
 
 #[tactic(auto, unfolding(crate::specs::Reading::assembled))]
 fn read_module(alloc: Global, text: &[u8]) -> Result<Module, AsmError>
-    ensures { Gives (λ m. m) result (assembled text.now) }
+    ensures gives { Gives (λ m. m) result (assembled text.now) }
+    ensures early { (fault : AsmFault) → assembled text.now ≡ Err fault → HasNoCodeUpTo text.now fault.line → result ≡ Err (AsmError.Fault fault) }
 {
     let procs = procedures(alloc, text)?;
     Ok(Module::new(procs))
@@ -101,8 +109,9 @@ pub fn assemble_bytes(alloc: Global, text: &[u8]) -> Result<Module, AsmError>
     ensures found { IfOk result (λ m. IsTextOf text.now m) }
     ensures only { (m : List Procedure) → is_module m ≡ true → IsTextOf text.now m → Gives (λ found. found) result (Ok m) }
 
-    // Which fault it is.
+    // Which fault it is. Before the first label or instruction no memory is asked for.
     ensures exact { Gives (λ m. m) result (assembled text.now) }
+    ensures early { (fault : AsmFault) → assembled text.now ≡ Err fault → HasNoCodeUpTo text.now fault.line → result ≡ Err (AsmError.Fault fault) }
 {
     read_module(alloc, text)
 }
@@ -113,8 +122,9 @@ pub fn assemble(alloc: Global, text: &str) -> Result<Module, AsmError>
     ensures found { IfOk result (λ m. IsTextOf text.now m) }
     ensures only { (m : List Procedure) → is_module m ≡ true → IsTextOf text.now m → Gives (λ found. found) result (Ok m) }
 
-    // Which fault it is.
+    // Which fault it is. Before the first label or instruction no memory is asked for.
     ensures exact { Gives (λ m. m) result (assembled text.now) }
+    ensures early { (fault : AsmFault) → assembled text.now ≡ Err fault → HasNoCodeUpTo text.now fault.line → result ≡ Err (AsmError.Fault fault) }
 {
     assemble_bytes(alloc, text.as_bytes())
 }

@@ -1,23 +1,25 @@
 //! A procedure under way.
-ghost use Rattle.std.specs.Prelude.{◌≡◌, ◌≤◌, ◌++◌, ◌∷◌, [], List, Some, None, true, length, Err, IfOk, OnOk};
-ghost use Rattle.tatp_encoding.specs.Modules.{Procedure, is_name, is_procedure};
+ghost use Rattle.std.specs.Prelude.{◌≡◌, ◌++◌, ◌∷◌, [], List, Some, None, length, Err, IfOk};
+ghost use Rattle.tatp_encoding.specs.Modules.{Procedure};
 ghost use Rattle.tatp_asm.specs.Instrs.{has_target};
 ghost use Rattle.tatp_asm.specs.Lines.{Opens, Names, Does, Closes, IsLine};
-ghost use Rattle.tatp_asm.specs.Reading.{Gives, step, settle, settled, place_of};
+ghost use Rattle.std.specs.Result.{result_map_both};
+ghost use Rattle.tatp_asm.specs.BeforeCode.{IsBare};
+ghost use Rattle.tatp_asm.specs.Reading.{Gives, step, resolve, resolved, position_of};
 ghost use Rattle.tatp_asm.specs.Views.{Fits, draft_view, labels_view, pending, all_pending};
 
-use crate::fault::{AsmError, AsmFault, FaultKind};
-use crate::labels::{Labels, place_of, put_label};
+use crate::fault::{AsmError, AsmFault, AsmFaultKind};
+use crate::labels::{Labels, position_of, put_label};
 use crate::name::Name;
 use crate::target::{aimed, target_of};
 use indexmap::IndexMap;
 use std::alloc::Global;
-use tatp_encoding::Proc;
+use tatp_encoding::{MAX_INSTRUCTIONS, MAX_PROCEDURES, Proc};
 use tatp_instr::Instr;
 
 /// An instruction, with the label that it names, which is empty where it names none, and its line.
 #[derive(Drop)]
-pub(crate) struct Unsettled {
+pub(crate) struct Unresolved {
     pub instr: Instr,
     pub label: Name,
     pub line: u64,
@@ -29,55 +31,56 @@ pub(crate) struct Draft {
     pub name: Name,
     pub arity: u8,
     pub labels: Labels,
-    pub code: Vec<Unsettled>,
+    pub code: Vec<Unresolved>,
 }
 
 /// A fault of a line.
-pub(crate) fn fault<T>(kind: FaultKind, line: u64) -> Result<T, AsmError>
+pub(crate) fn fault<T>(kind: AsmFaultKind, line: u64) -> Result<T, AsmError>
     ensures { result ≡ Err (AsmError.Fault (record { kind = kind; line = line })) }
 {
     Err(AsmError::Fault(AsmFault { kind, line }))
 }
 
 /// An instruction with its target.
-fn settle_one(labels: &Labels, unsettled: &Unsettled) -> Result<Instr, AsmError>
-    ensures { Gives (λ i. i) result (settled (has_target unsettled.now.instr) (place_of (labels_view labels.now.entries) unsettled.now.label.bytes) (pending unsettled.now)) }
+fn resolve_one(labels: &Labels, unresolved: &Unresolved) -> Result<Instr, AsmError>
+    ensures { Gives (λ i. i) result (resolved (has_target unresolved.now.instr) (position_of (labels_view labels.now.entries) unresolved.now.label.bytes) (pending unresolved.now)) }
 {
-    match target_of(&unsettled.instr) {
-        None => Ok(unsettled.instr),
-        Some(_) => match place_of(labels, unsettled.label.as_str()) {
-            Some(place) => Ok(aimed(unsettled.instr, place)),
-            None => fault(FaultKind::NoSuchLabel, unsettled.line),
+    match target_of(&unresolved.instr) {
+        None => Ok(unresolved.instr),
+        Some(_) => match position_of(labels, unresolved.label.as_str()) {
+            Some(position) => Ok(aimed(unresolved.instr, position)),
+            None => fault(AsmFaultKind::NoSuchLabel, unresolved.line),
         },
     }
 }
 
 /// Instructions with their targets.
-fn settle_all(alloc: Global, labels: &Labels, code: &[Unsettled]) -> Result<Vec<Instr>, AsmError>
-    ensures gives { Gives (λ v. v.items) result (settle (labels_view labels.now.entries) (all_pending code.now)) }
+fn resolve_all(alloc: Global, labels: &Labels, code: &[Unresolved]) -> Result<Vec<Instr>, AsmError>
+    ensures gives { Gives (λ v. v.items) result (resolve (labels_view labels.now.entries) (all_pending code.now)) }
     ensures count { IfOk result (λ v. length v.items ≡ length code.now) }
 {
     let mut instrs = Vec::with_capacity(alloc, code.len())?;
     'code: for one in code {
-        instrs.push(settle_one(labels, one)?)?;
+        instrs.push(resolve_one(labels, one)?)?;
     }
     Ok(instrs)
 }
 
-/// A procedure that begins behind so many others.
+/// A procedure that begins after so many others.
 pub(crate) fn open_draft(
     alloc: Global,
     closed: usize,
     name: Name,
     arity: u8,
     line: u64,
-) -> Result<Draft, AsmError>
+) -> Result<Draft, AsmFault>
     requires { IsLine (Opens name.bytes arity) }
-    ensures gives { (procs : List Procedure) → length procs ≡ closed → Gives (λ d. record { closed = procs; current = Some (draft_view d) }) result (step procs None line (Opens name.bytes arity)) }
+    ensures gives { (procs : List Procedure) → length procs ≡ closed → result_map_both (λ d. record { closed = procs; current = Some (draft_view d) }) (λ fault. fault) result ≡ step procs None line (Opens name.bytes arity) }
     ensures fits { IfOk result Fits }
 {
-    if closed >= 16 {
-        return fault(FaultKind::TooLong, line);
+    if closed >= MAX_PROCEDURES {
+        let kind = AsmFaultKind::TooLong;
+        return Err(AsmFault { kind, line });
     }
     Ok(Draft {
         name,
@@ -99,11 +102,11 @@ pub(crate) fn add_label(
     ensures fits { IfOk result Fits }
 {
     let mut draft = draft;
-    if place_of(&draft.labels, label.as_str()).is_some() {
-        return fault(FaultKind::LabelTwice, line);
+    if position_of(&draft.labels, label.as_str()).is_some() {
+        return fault(AsmFaultKind::LabelTwice, line);
     }
-    let place = draft.code.len() as u32;
-    put_label(alloc, &mut draft.labels, label.as_str(), place)?;
+    let position = draft.code.len() as u32;
+    put_label(alloc, &mut draft.labels, label.as_str(), position)?;
     Ok(draft)
 }
 
@@ -119,21 +122,22 @@ pub(crate) fn add_instruction(
     ensures fits { IfOk result Fits }
 {
     let mut draft = draft;
-    if draft.code.len() >= 256 {
-        return fault(FaultKind::TooLong, line);
+    if draft.code.len() >= MAX_INSTRUCTIONS {
+        return fault(AsmFaultKind::TooLong, line);
     }
-    draft.code.push(Unsettled { instr, label, line })?;
+    draft.code.push(Unresolved { instr, label, line })?;
     Ok(draft)
 }
 
 /// The procedure that ends.
 pub(crate) fn close_draft(alloc: Global, draft: Draft, line: u64) -> Result<Proc, AsmError>
     requires { Fits draft }
-    ensures { (closed : List Procedure) → Gives (λ p. record { closed = closed ++ (p ∷ []); current = None }) result (step closed (Some (draft_view draft)) line Closes) }
+    ensures gives { (closed : List Procedure) → Gives (λ p. record { closed = closed ++ (p ∷ []); current = None }) result (step closed (Some (draft_view draft)) line Closes) }
+    ensures early { IsBare (Some (draft_view draft)) → result ≡ Err (AsmError.Fault (record { kind = AsmFaultKind.Syntax; line = line })) }
 {
     if draft.code.is_empty() {
-        return fault(FaultKind::Syntax, line);
+        return fault(AsmFaultKind::Syntax, line);
     }
-    let code = settle_all(alloc, &draft.labels, &draft.code)?;
+    let code = resolve_all(alloc, &draft.labels, &draft.code)?;
     Ok(Proc::new(draft.name.as_str(), draft.arity, code))
 }

@@ -7,7 +7,7 @@ use thiserror::Error;
 
 /// What is wrong with a line. Its text is its number and its name.
 #[derive(Clone, Copy, Debug, PartialEq, Eq, Error)]
-pub enum FaultKind {
+pub enum AsmFaultKind {
     /// The line is of no form, or stands where it may not.
     #[error("9 Syntax")]
     Syntax = 9,
@@ -26,7 +26,7 @@ pub enum FaultKind {
 #[derive(Clone, Copy, Debug, PartialEq, Eq, Error)]
 #[error("{kind} {line}")]
 pub struct AsmFault {
-    pub kind: FaultKind,
+    pub kind: AsmFaultKind,
     pub line: u64,
 }
 
@@ -39,6 +39,14 @@ pub enum AsmError {
     /// The text is no module's.
     #[error("{0}")]
     Fault(AsmFault),
+}
+
+impl From<AsmFault> for AsmError {
+    ghost from_gives = { λ fault e. e ≡ Fault fault };
+
+    fn from(fault: AsmFault) -> AsmError {
+        AsmError::Fault(fault)
+    }
 }
 
 impl From<AllocError> for AsmError {

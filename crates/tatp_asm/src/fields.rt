@@ -6,7 +6,8 @@ ghost use Rattle.tatp_asm.specs.Lines.{is_label, is_label_byte};
 ghost use Rattle.tatp_asm.specs.Words.{below, fields_of, fields_left};
 ghost use Rattle.tatp_asm.specs.Views.{AreFields};
 
-use tatp_tables::read_number;
+use tatp_encoding::MAX_NAME_BYTES;
+use tatp_lines::read_number;
 
 /// The fields of a text, where there are at most three.
 #[derive(Clone, Copy, Debug)]
@@ -18,7 +19,7 @@ pub(crate) enum Split<'a> {
     More,
 }
 
-/// The first field of a text, and what is behind the separator where there is one.
+/// The first field of a text, and what follows the separator where there is one.
 fn cut(separator: char, text: &str) -> (&str, Option<&str>)
     requires { separator < 128 }
     ensures { fields_of separator text.now ≡ result.0.now ∷ fields_left separator result.1 }
@@ -79,7 +80,7 @@ pub(crate) fn is_label(text: &[u8]) -> bool
     match text {
         [] => false,
         [first, rest @ ..] => {
-            first.is_ascii_alphabetic() && are_label_bytes(rest) && rest.len() < 24
+            first.is_ascii_alphabetic() && are_label_bytes(rest) && rest.len() < MAX_NAME_BYTES
         }
     }
 }
@@ -88,5 +89,5 @@ pub(crate) fn is_label(text: &[u8]) -> bool
 pub(crate) fn is_name(text: &[u8]) -> bool
     ensures { result ≡ is_name text.now }
 {
-    !text.is_empty() && text.len() <= 24 && are_name_bytes(text)
+    !text.is_empty() && text.len() <= MAX_NAME_BYTES && are_name_bytes(text)
 }

@@ -1,7 +1,6 @@
-//! The labels of a procedure, with their places.
+//! The labels of a procedure, with their positions.
 ghost use Rattle.std.specs.Prelude.{◌≡◌, ◌++◌, ◌∷◌, [], None, OnOk, IfErr};
-ghost use Rattle.std.specs.String.{string_bytes};
-ghost use Rattle.tatp_asm.specs.Reading.{place_of};
+ghost use Rattle.tatp_asm.specs.Reading.{position_of};
 ghost use Rattle.tatp_asm.specs.Views.{labels_view};
 
 use crate::fault::AsmError;
@@ -12,8 +11,8 @@ use std::alloc::Global;
 pub(crate) type Labels = IndexMap<String, u32>;
 
 /// Where a label stands.
-pub(crate) fn place_of(labels: &Labels, label: &str) -> Option<u32>
-    ensures { result ≡ place_of (labels_view labels.now.entries) label.now }
+pub(crate) fn position_of(labels: &Labels, label: &str) -> Option<u32>
+    ensures { result ≡ position_of (labels_view labels.now.entries) label.now }
 {
     labels.get(label).copied()
 }
@@ -24,13 +23,13 @@ pub(crate) fn put_label(
     alloc: Global,
     labels: &mut Labels,
     label: &str,
-    place: u32,
+    position: u32,
 ) -> Result<(), AsmError>
-    requires { place_of (labels_view labels.old.entries) label.now ≡ None }
-    ensures ok { OnOk result (labels_view labels.new.entries ≡ labels_view labels.old.entries ++ ((label.now, place) ∷ [])) }
+    requires { position_of (labels_view labels.old.entries) label.now ≡ None }
+    ensures ok { OnOk result (labels_view labels.new.entries ≡ labels_view labels.old.entries ++ ((label.now, position) ∷ [])) }
     ensures err { IfErr result (λ e. e ≡ AsmError.NoMemory) }
 {
     let label = String::from_str(alloc, label)?;
-    labels.insert(label, place)?;
+    labels.insert(label, position)?;
     Ok(())
 }

@@ -6,6 +6,7 @@ mod draft;
 mod fault;
 mod fields;
 mod labels;
+mod laws;
 mod line;
 mod name;
 mod operands;
@@ -13,8 +14,9 @@ mod printing;
 mod target;
 
 pub use assembling::{assemble, assemble_bytes};
-pub use fault::{AsmError, AsmFault, FaultKind};
-pub use printing::{assemble_disassembled, disassemble};
+pub use fault::{AsmError, AsmFault, AsmFaultKind};
+pub use laws::assemble_disassembled;
+pub use printing::disassemble;
 
 #[cfg(test)]
 mod tests;

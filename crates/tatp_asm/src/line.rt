@@ -8,6 +8,7 @@ ghost use Rattle.tatp_asm.specs.Views.{line_view};
 use crate::fields::{Split, below, is_label, is_name, split_fields};
 use crate::name::{Name, name_of};
 use crate::operands::instruction;
+use tatp_encoding::MAX_ARGUMENTS;
 use tatp_instr::Instr;
 
 /// A line that isn't empty.
@@ -57,7 +58,10 @@ fn opening(word: &str, name: &str, arity: &str) -> Option<Line>
     if word != "proc" || !is_name(name.as_bytes()) {
         return None;
     }
-    Some(Line::Opening(name_of(name), below(9, arity)? as u8))
+    Some(Line::Opening(
+        name_of(name),
+        below(u64::from(MAX_ARGUMENTS) + 1, arity)? as u8,
+    ))
 }
 
 /// The line that a text is.

@@ -2,13 +2,14 @@
 ghost use Rattle.std.specs.Prelude.{◌≡◌, ◌≤◌, length};
 
 use arrayvec::ArrayString;
+use tatp_encoding::MAX_NAME_BYTES;
 
 /// A procedure's name, or a label.
-pub(crate) type Name = ArrayString<24>;
+pub(crate) type Name = ArrayString<MAX_NAME_BYTES>;
 
-/// A text of at most 24 bytes, kept in place.
+/// A text that is as short as a name, kept in place.
 pub(crate) fn name_of(text: &str) -> Name
-    requires { length text.now ≤ 24 }
+    requires { length text.now ≤ MAX_NAME_BYTES }
     ensures { result.bytes ≡ text.now }
 {
     let mut name = ArrayString::new();

@@ -1,73 +1,62 @@
 //! The assembly text of a module.
-ghost use Rattle.std.specs.Prelude.{◌≡◌, ◌≤◌, ◌<◌, ◌++◌, ◌∷◌, [], ◌||◌, ℕ, List, Ok, true, false, slice_index_or, length, IfOk, OnOk};
+ghost use Rattle.std.specs.Prelude.{◌≡◌, ◌≤◌, ◌++◌, ◌∷◌, [], ◌||◌, ℕ, List, true, false, All, slice_index_or, length, IfOk, OnOk};
 ghost use Rattle.std.specs.String.{string_bytes};
-ghost use Rattle.tatp_instr.specs.declared.instr.Instr.{Instr};
-ghost use Rattle.tatp_encoding.specs.Modules.{Procedure, is_module, is_name};
+ghost use Rattle.tatp_encoding.specs.Modules.{Procedure, is_module};
 ghost use Rattle.tatp_encoding.specs.Spelling.{IsInstr};
-ghost use Rattle.tatp_asm.specs.Lines.{Opens, Names, Does, Closes, line_text};
 ghost use Rattle.tatp_asm.specs.Texts.{IsTextOf};
-ghost use Rattle.tatp_asm.specs.Reading.{Gives};
-ghost use Rattle.tatp_asm.specs.Printing.{is_target, is_named, instruction_line, body_lines, with_label, procedure_lines, module_lines, lines_text, disassembled};
-ghost use Rattle.tatp_asm.specs.Ranges.{AreInstrs, HaveInstrs};
+ghost use Rattle.tatp_asm.specs.Printing.{is_target, is_named, instruction_line, body_lines, with_label, procedure_lines, lines_text, disassembled};
 
-use crate::assembling::assemble;
-use crate::fault::AsmError;
 use crate::target::target_of;
 use itoa::Buffer;
 use std::alloc::{AllocError, Global};
-use tatp_encoding::{Module, Proc};
+use tatp_encoding::{MAX_INSTRUCTIONS, Module, Proc};
 use tatp_instr::{Instr, text};
 
-/// Marks the place of a target.
+/// How many positions a label can have: before each instruction, and after the last.
+const POSITIONS: usize = MAX_INSTRUCTIONS + 1;
+
+/// Marks the position of a target.
 #[tactic(auto, using(crate::proofs::PushLaws::marked, crate::proofs::PushLaws::not_marked))]
-fn mark(named: &mut [bool; 257], target: Option<u32>)
-    ensures { (k : ℕ) → k < 257 → slice_index_or named.new k false ≡ (is_target target k || slice_index_or named.old k false) }
+fn mark(named: &mut [bool; POSITIONS], target: Option<u32>)
+    ensures { (k : ℕ) → k ≤ MAX_INSTRUCTIONS → slice_index_or named.new k false ≡ (is_target target k || slice_index_or named.old k false) }
 {
-    if let Some(place) = target {
-        let place = place as usize;
-        if place < 257 {
-            named[place] = true;
+    if let Some(position) = target {
+        let position = position as usize;
+        if position < POSITIONS {
+            named[position] = true;
         }
     }
 }
 
-/// Whether a jump of the code names the place, for each place up to 256.
-fn named_places(code: &[Instr]) -> [bool; 257]
-    ensures { (k : ℕ) → k < 257 → slice_index_or result k false ≡ is_named code.now k }
+/// Whether a jump of the code names the position, for each that a label can have.
+fn named_positions(code: &[Instr]) -> [bool; POSITIONS]
+    ensures named { (k : ℕ) → k ≤ MAX_INSTRUCTIONS → slice_index_or result k false ≡ is_named code.now k }
+    ensures instrs { All IsInstr code.now }
 {
-    let mut named = [false; 257];
+    let mut named = [false; POSITIONS];
     for instr in code {
         mark(&mut named, target_of(instr));
     }
     named
 }
 
-/// Appends the label of a place that is named.
+/// Appends the label of a position that is named.
 #[tactic(auto, unfolding(crate::specs::Printing::label_at))]
-fn push_label(out: &mut String, named: bool, place: usize) -> Result<(), AllocError>
-    ensures { OnOk result (string_bytes out.new ≡ string_bytes out.old ++ lines_text (with_label named place [])) }
+fn push_label(out: &mut String, named: bool, position: usize) -> Result<(), AllocError>
+    ensures { OnOk result (string_bytes out.new ≡ string_bytes out.old ++ lines_text (with_label named position [])) }
 {
     if named {
         out.push_str("L")?;
-        out.push_str(Buffer::new().format(place))?;
+        out.push_str(Buffer::new().format(position))?;
         out.push_str(":\n")?;
     }
     Ok(())
 }
 
-/// Tells a proof that the registers and the number of an instruction are in their ranges.
-fn in_range(instr: &Instr)
-    ensures { IsInstr instr.now }
-{
-    let _parts = instr.parts();
-}
-
 /// Appends the line of an instruction.
 fn push_instruction(out: &mut String, instr: &Instr) -> Result<(), AllocError>
-    ensures line { OnOk result (string_bytes out.new ≡ string_bytes out.old ++ lines_text (instruction_line instr.now ∷ [])) }
-    ensures instr { IsInstr instr.now }
+    ensures { OnOk result (string_bytes out.new ≡ string_bytes out.old ++ lines_text (instruction_line instr.now ∷ [])) }
 {
-    in_range(instr);
     out.push_str(text(instr).as_str())?;
     out.push_str("\n")?;
     Ok(())
@@ -75,13 +64,13 @@ fn push_instruction(out: &mut String, instr: &Instr) -> Result<(), AllocError>
 
 /// Appends the lines between those that begin and end a procedure.
 fn push_body(out: &mut String, code: &[Instr]) -> Result<(), AllocError>
-    requires { length code.now ≤ 256 }
+    requires { length code.now ≤ MAX_INSTRUCTIONS }
     ensures lines { OnOk result (string_bytes out.new ≡ string_bytes out.old ++ lines_text (body_lines code.now 0 code.now)) }
-    ensures instrs { OnOk result (AreInstrs code.now) }
+    ensures instrs { All IsInstr code.now }
 {
-    let named = named_places(code);
-    for (place, instr) in code.iter().enumerate() {
-        push_label(out, named[place], place)?;
+    let named = named_positions(code);
+    for (position, instr) in code.iter().enumerate() {
+        push_label(out, named[position], position)?;
         push_instruction(out, instr)?;
     }
     push_label(out, named[code.len()], code.len())
@@ -90,7 +79,7 @@ fn push_body(out: &mut String, code: &[Instr]) -> Result<(), AllocError>
 /// Appends the lines of a procedure.
 fn push_procedure(out: &mut String, procedure: &Proc) -> Result<(), AllocError>
     ensures lines { OnOk result (string_bytes out.new ≡ string_bytes out.old ++ lines_text (procedure_lines procedure.now)) }
-    ensures instrs { OnOk result (AreInstrs procedure.now.code) }
+    ensures instrs { OnOk result (All IsInstr procedure.now.code) }
 {
     out.push_str("proc ")?;
     out.push_str(procedure.name())?;
@@ -106,8 +95,8 @@ fn push_procedure(out: &mut String, procedure: &Proc) -> Result<(), AllocError>
 #[tactic(auto, unfolding(crate::specs::Printing::disassembled))]
 fn module_text(alloc: Global, m: &Module) -> Result<String, AllocError>
     ensures text { IfOk result (λ text. string_bytes text ≡ disassembled m.now) }
-    ensures instrs { OnOk result (HaveInstrs m.now) }
-    ensures procedures { is_module m.now ≡ true }
+    ensures instrs { OnOk result (All (λ p. All IsInstr p.code) m.now) }
+    ensures module { is_module m.now ≡ true }
 {
     let procs = m.procs();
     let mut out = String::new(alloc);
@@ -126,15 +115,6 @@ pub fn disassemble(alloc: Global, m: &Module) -> Result<String, AllocError>
 
     // Which text it is.
     ensures exact { IfOk result (λ text. string_bytes text ≡ disassembled m.now) }
-    ensures within { is_module m.now ≡ true }
 {
     module_text(alloc, m)
-}
-
-/// The text of a module is assembled to that module, unless memory runs out.
-pub fn assemble_disassembled(alloc: Global, m: &Module) -> Result<Module, AsmError>
-    ensures { Gives (λ m. m) result (Ok m.now) }
-{
-    let text = disassemble(alloc, m)?;
-    assemble(alloc, text.as_str())
 }

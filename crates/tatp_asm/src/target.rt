@@ -1,26 +1,30 @@
 //! The targets of jumps.
 ghost use Rattle.std.specs.Prelude.{◌≡◌};
+ghost use Rattle.tatp_encoding.specs.Spelling.{IsInstr};
 ghost use Rattle.tatp_asm.specs.Instrs.{target_of, aimed};
 
-use tatp_instr::Instr;
+use tatp_instr::{Instr, Word, operands};
 
-/// The place that a jump names.
+/// The position that a jump names, by the table of the instructions.
+#[tactic(auto, using(crate::proofs::TargetLaws::target_by_table))]
 pub(crate) fn target_of(instr: &Instr) -> Option<u32>
-    ensures { result ≡ target_of instr.now }
+    ensures value { result ≡ target_of instr.now }
+    ensures within { IsInstr instr.now }
 {
-    match *instr {
-        Instr::Jmp(place) | Instr::Jz(_, place) => Some(place),
-        _ => None,
+    let parts = instr.parts();
+    match operands(parts.op)?.word {
+        Word::Target => Some(parts.word),
+        Word::Nothing | Word::Count | Word::Column | Word::Argument => None,
     }
 }
 
-/// The same instruction; a jump goes to this place.
-pub(crate) fn aimed(instr: Instr, place: u32) -> Instr
-    ensures { result ≡ aimed instr place }
+/// The same instruction; a jump goes to this position.
+pub(crate) fn aimed(instr: Instr, position: u32) -> Instr
+    ensures { result ≡ aimed instr position }
 {
     match instr {
-        Instr::Jmp(_) => Instr::Jmp(place),
-        Instr::Jz(a, _) => Instr::Jz(a, place),
+        Instr::Jmp(_) => Instr::Jmp(position),
+        Instr::Jz(a, _) => Instr::Jz(a, position),
         other => other,
     }
 }

@@ -1,18 +1,18 @@
 -- What a module's bytes are read as: the module.
 use Rattle.std.proofs.Common.{◌≡◌, ℕ, suc, Bool, true, false, List, [], ◌∷◌, ◌++◌, length, Ok, refl, sym, ap, ◌∙◌, append_assoc, arith, length-append}
-use Rattle.std.specs.Prelude.{nat_le, ◌&&◌}
+use Rattle.std.specs.Prelude.{nat_le, ◌&&◌, All}
 use Rattle.std.specs.Int.{w16, to_be_bytes}
 use Rattle.std.specs.List.{list_all}
 use Rattle.std.proofs.lemmas.Bool.{le-leb, le-ltb, leb-true}
 use Rattle.std.proofs.lemmas.Nat.{from_be_bytes-to_be_bytes_2}
 use Rattle.std.proofs.lemmas.List.{append-nil, take_at, drop_at}
 use Rattle.tatp_instr.specs.declared.instr.Instr.{Instr}
-use Rattle.tatp_encoding.specs.Modules.{Procedure, is_name, is_name_byte, is_from_to, is_procedure}
+use Rattle.tatp_encoding.specs.Modules.{Procedure, is_name, is_name_byte, is_from_to, is_procedure, jumps_stay, is_module}
 use Rattle.tatp_encoding.specs.Spelling.{spelling, IsInstr}
 use Rattle.tatp_encoding.specs.Decoding.{decoded}
 use Rattle.tatp_loader.specs.declared.fault.LoadFault.{LoadFault}
 use Rattle.tatp_loader.specs.Lawful.{IsLawful}
-use Rattle.tatp_loader.specs.ModuleBytes.{magic, code_bytes, procedure_bytes, procedures_bytes, module_bytes, AreInstrs, AreProcedures, IsModule}
+use Rattle.tatp_loader.specs.ModuleBytes.{magic, code_bytes, procedure_bytes, procedures_bytes, module_bytes, HasInstrs}
 use Rattle.tatp_loader.specs.Reading.{cut, bytes_at, name_at, arity_at, length_at, instr_at, code_at, procedure_at, procedures_at, count_at, module_at, lawful_module_at}
 use Rattle.tatp_loader.proofs.ReadingLaws.{length-spelling}
 use Rattle.tatp_loader.proofs.RuleLaws.{none_of_lawful}
@@ -49,14 +49,14 @@ instr_again : ReadsInstrs → (n i : ℕ) (instr : Instr) (rest : List ℕ) → 
 unfolding instr_at
 instr_again reads n i instr rest is = rw (bytes_again _ 8 (spelling instr) rest (length-spelling instr), reads instr is) refl
 
-code_again : ReadsInstrs → (n i : ℕ) (code : List Instr) (rest : List ℕ) → AreInstrs code → code_at n i (length code) (code_bytes code ++ rest) ≡ Ok (code, rest)
+code_again : ReadsInstrs → (n i : ℕ) (code : List Instr) (rest : List ℕ) → All IsInstr code → code_at n i (length code) (code_bytes code ++ rest) ≡ Ok (code, rest)
 unfolding code_at code_bytes
 code_again reads n i [] rest are = refl
 code_again reads n i (x ∷ code) rest are =
     ap (code_at n i (suc (length code))) (append_assoc (spelling x) (code_bytes code) rest)
-    ∙ rw (instr_again reads n i x (code_bytes code ++ rest) are.0, code_again reads n (suc i) code rest are.1) refl
+    ∙ rw (instr_again reads n i x (code_bytes code ++ rest) (are 0 x (omega arith)), code_again reads n (suc i) code rest (λ k d h. are (suc k) d (omega (arith, h)))) refl
 
-procedure_again : ReadsInstrs → (n : ℕ) (p : Procedure) (rest : List ℕ) → is_procedure p ≡ true → AreInstrs p.code → procedure_at n (procedure_bytes p ++ rest) ≡ Ok (p, rest)
+procedure_again : ReadsInstrs → (n : ℕ) (p : Procedure) (rest : List ℕ) → is_procedure p ≡ true → HasInstrs p → procedure_at n (procedure_bytes p ++ rest) ≡ Ok (p, rest)
 unfolding procedure_at procedure_bytes
 procedure_again reads n p rest h are =
     let named = both (is_name p.name) (nat_le p.arity 8 && is_from_to 1 256 (length p.code)) h in
@@ -69,25 +69,27 @@ procedure_again reads n p rest h are =
     ap (procedure_at n) regrouped
     ∙ rw (name_again n p.name (p.arity ∷ tail) named.0, arity_again n p.arity tail sized.0, length_again n (length p.code) code sized.1, code_again reads n 0 p.code rest are) refl
 
-procedures_again : ReadsInstrs → (n : ℕ) (m : List Procedure) (rest : List ℕ) → AreProcedures m → procedures_at n (length m) (procedures_bytes m ++ rest) ≡ Ok (m, rest)
+procedures_again : ReadsInstrs → (n : ℕ) (m : List Procedure) (rest : List ℕ) → list_all is_procedure m ≡ true → All HasInstrs m → procedures_at n (length m) (procedures_bytes m ++ rest) ≡ Ok (m, rest)
 unfolding procedures_at procedures_bytes
-procedures_again reads n [] rest are = refl
-procedures_again reads n (p ∷ m) rest are =
+procedures_again reads n [] rest fit are = refl
+procedures_again reads n (p ∷ m) rest fit are =
+    let parts = both (is_procedure p) (list_all is_procedure m) fit in
     ap (procedures_at n (suc (length m))) (append_assoc (procedure_bytes p) (procedures_bytes m) rest)
-    ∙ rw (procedure_again reads n p (procedures_bytes m ++ rest) are.0 are.1, procedures_again reads (suc n) m rest are.2) refl
+    ∙ rw (procedure_again reads n p (procedures_bytes m ++ rest) parts.0 (are 0 p (omega arith)), procedures_again reads (suc n) m rest parts.1 (λ k d h. are (suc k) d (omega (arith, h)))) refl
 
 count_again : (count : ℕ) (rest : List ℕ) → is_from_to 1 16 count ≡ true → count_at (magic ++ (count ∷ rest)) ≡ Ok (count, rest)
 unfolding count_at
 count_again count rest h = rw (bytes_again (cut 0) 4 magic (count ∷ rest) refl, h) refl
 
-module_again : ReadsInstrs → (m : List Procedure) → IsModule m → module_at (module_bytes m) ≡ Ok m
+module_again : ReadsInstrs → (m : List Procedure) → is_module m ≡ true → All HasInstrs m → module_at (module_bytes m) ≡ Ok m
 unfolding module_at module_bytes
-module_again reads m h =
-    let count : is_from_to 1 16 (length m) ≡ true = rw (le-leb 1 (length m) h.least, le-leb (length m) 16 h.most) refl in
-    let procs : procedures_at 0 (length m) (procedures_bytes m) ≡ Ok (m, []) = ap (procedures_at 0 (length m)) (sym (append-nil (procedures_bytes m))) ∙ procedures_again reads 0 m [] h.procedures in
-    rw (count_again (length m) (procedures_bytes m) count, procs) refl
+module_again reads m is are =
+    let counted = both (is_from_to 1 16 (length m)) (list_all is_procedure m && list_all jumps_stay m) is in
+    let fit = both (list_all is_procedure m) (list_all jumps_stay m) counted.1 in
+    let procs : procedures_at 0 (length m) (procedures_bytes m) ≡ Ok (m, []) = ap (procedures_at 0 (length m)) (sym (append-nil (procedures_bytes m))) ∙ procedures_again reads 0 m [] fit.0 are in
+    rw (count_again (length m) (procedures_bytes m) counted.0, procs) refl
 
 -- a lawful module's bytes are read as it
-pub lawful_again : ReadsInstrs → (m : List Procedure) → IsModule m → IsLawful m → lawful_module_at (module_bytes m) ≡ Ok m
+pub lawful_again : ReadsInstrs → (m : List Procedure) → is_module m ≡ true → All HasInstrs m → IsLawful m → lawful_module_at (module_bytes m) ≡ Ok m
 unfolding lawful_module_at
-lawful_again reads m h lawful = rw (module_again reads m h, none_of_lawful m lawful) refl
+lawful_again reads m is are lawful = rw (module_again reads m is are, none_of_lawful m lawful) refl

@@ -45,7 +45,7 @@ some_at [] i lt = absurd (omega arith)
 some_at (y ∷ xs) zero lt = (y, refl)
 some_at (y ∷ xs) (suc i) lt = some_at xs i (omega arith)
 
--- where each that passes stands behind fewer than so many, there are no more
+-- where each that passes stands after fewer than so many, there are no more
 pub count_within : {A : Type 0} (f : A → Bool) (most : ℕ) (xs : List A) → ((i : ℕ) (x : A) → slice_get xs i ≡ Some x → f x ≡ true → count_by f (take i xs) < most) → (n : ℕ) → n ≤ length xs → count_by f (take n xs) ≤ most
 count_within f most xs each zero le = omega arith
 count_within f most xs each (suc n) le =
@@ -55,7 +55,7 @@ count_within f most xs each (suc n) le =
       | false ↦ λ is. omega (arith, count_more f xs n here.0 here.1, ap (λ b. cond {A = ℕ} b 1 0) is, count_within f most xs each n (omega arith))
     ] refl
 
--- where there are no more than so many, each that passes stands behind fewer
+-- where there are no more than so many, each that passes stands after fewer
 pub count_before : {A : Type 0} (f : A → Bool) (most : ℕ) (xs : List A) → count_by f xs ≤ most → (i : ℕ) (x : A) → slice_get xs i ≡ Some x → f x ≡ true → count_by f (take i xs) < most
 count_before f most xs few i x e is =
     omega (arith, count_more f xs i x e, ap (λ b. cond {A = ℕ} b 1 0) is, sum_by-take-le (λ y. cond (f y) 1 0) xs (suc i), few)

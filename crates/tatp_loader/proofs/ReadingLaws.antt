@@ -42,9 +42,9 @@ pub code_goes_on : (bytes rest after : List ℕ) (code : List Instr) (instr : In
 code_goes_on bytes rest after code instr e h =
     e ∙ ap (λ more. code_bytes code ++ more) h ∙ sym (append_assoc (code_bytes code) (spelling instr) after) ∙ ap (λ front. front ++ after) (sym (code_bytes-push code instr))
 
--- the bytes behind the code
-pub behind_code : (bytes rest : List ℕ) (code : List Instr) (len : ℕ) → bytes ≡ code_bytes code ++ rest → length code ≡ len → drop (8 * len) bytes ≡ rest
-behind_code bytes rest code len e h =
+-- the bytes after the code
+pub rest_after_code : (bytes rest : List ℕ) (code : List Instr) (len : ℕ) → bytes ≡ code_bytes code ++ rest → length code ≡ len → drop (8 * len) bytes ≡ rest
+rest_after_code bytes rest code len e h =
     ap (drop (8 * len)) e ∙ drop_at (code_bytes code) rest (8 * len) (length-code_bytes code ∙ ap (λ k. 8 * k) h)
 
 pub procedures_bytes-push : (procs : List Procedure) (p : Procedure) → procedures_bytes (procs ++ p ∷ []) ≡ procedures_bytes procs ++ procedure_bytes p
@@ -85,10 +85,10 @@ unfolding procedure_bytes
 length-procedure_bytes name arity code =
     omega (arith, length-append name (arity ∷ (to_be_bytes w16 (length code) ++ code_bytes code)), length-append (to_be_bytes w16 (length code)) (code_bytes code), length-code_bytes code)
 
--- the bytes behind a procedure
-pub behind_procedure : (bytes name : List ℕ) (arity : ℕ) (code : List Instr) (rest : List ℕ) (len : ℕ) → bytes ≡ procedure_bytes (record { name = name; arity = arity; code = code }) ++ rest → length code ≡ len
+-- the bytes after a procedure
+pub rest_after_procedure : (bytes name : List ℕ) (arity : ℕ) (code : List Instr) (rest : List ℕ) (len : ℕ) → bytes ≡ procedure_bytes (record { name = name; arity = arity; code = code }) ++ rest → length code ≡ len
     → (drop (1 + length name + 1 + 2 + 8 * len) bytes ≡ rest) × (1 + length name + 1 + 2 + 8 * len ≤ length bytes)
-behind_procedure bytes name arity code rest len e same =
+rest_after_procedure bytes name arity code rest len e same =
     let p : Procedure = record { name = name; arity = arity; code = code } in
     let size : length (procedure_bytes p) ≡ 1 + length name + 1 + 2 + 8 * len = length-procedure_bytes name arity code ∙ ap (λ k. 1 + length name + 1 + 2 + 8 * k) same in
     (ap (drop (1 + length name + 1 + 2 + 8 * len)) e ∙ drop_at (procedure_bytes p) rest _ size, omega (arith, size, ap length e, length-append (procedure_bytes p) rest))

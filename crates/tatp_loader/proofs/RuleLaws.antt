@@ -7,10 +7,10 @@ use Rattle.std.proofs.lemmas.List.{take_all, append_assoc, append-nil}
 use Rattle.std.proofs.lemmas.Slice.Eq.{bytes_eq-Decides}
 use Rattle.tatp_instr.specs.declared.instr.Instr.{Instr}
 use Rattle.tatp_encoding.specs.Modules.{Procedure}
-use Rattle.tatp_loader.specs.declared.fault.FaultKind.{FaultKind}
-use Rattle.tatp_loader.specs.declared.fault.FaultKind.TheVariants.{NameTwice, NoSuchArgument, FixedColumn, BackwardJump, BadTarget, TooManyOut, TooManyWrites, NoEnd}
-use Rattle.tatp_loader.specs.Lawful.{reads_argument_below, has_fit_column, jumps_behind, jumps_below, is_out, is_write, is_end, IsFit, IsLawfulProcedure, IsLawful}
-use Rattle.tatp_loader.specs.Rules.{fault, first_of, misfit, excess, broken_at, fault_at, first_broken, is_end_at, ends, missing_end, has_name, fault_behind, first_fault_behind, first_fault}
+use Rattle.tatp_loader.specs.declared.fault.LoadFaultKind.{LoadFaultKind}
+use Rattle.tatp_loader.specs.declared.fault.LoadFaultKind.TheVariants.{NameTwice, NoSuchArgument, FixedColumn, BackwardJump, BadTarget, TooManyOut, TooManyWrites, NoEnd}
+use Rattle.tatp_loader.specs.Lawful.{reads_argument_below, has_fit_column, jumps_ahead, jumps_below, is_out, is_write, is_end, IsFit, IsLawfulProcedure, IsLawful}
+use Rattle.tatp_loader.specs.Rules.{fault, first_of, misfit, excess, broken_at, fault_at, first_broken, is_end_at, ends, missing_end, has_name, fault_after, first_fault_after, first_fault}
 use Rattle.tatp_loader.proofs.ListLaws.{front_has, in_front, none_passes, no_pass, count_within, count_before}
 
 -- ---- tests that fail none
@@ -38,7 +38,7 @@ fit_of_none : (p : Procedure) (i : ℕ) (x : Instr) → misfit p i x ≡ None �
 fit_of_none p i x h =
     let one = none_found (not (reads_argument_below p.arity x)) NoSuchArgument _ h in
     let two = none_found (not (has_fit_column x)) FixedColumn _ one.1 in
-    let three = none_found (not (jumps_behind i x)) BackwardJump _ two.1 in
+    let three = none_found (not (jumps_ahead i x)) BackwardJump _ two.1 in
     let four = none_found (not (jumps_below (length p.code) x)) BadTarget None three.1 in
     record {
       argument = not_true _ one.0;
@@ -78,7 +78,7 @@ none_broken p i x fit outs writes =
     found_none _ TooManyWrites None (few_back 64 _ (is_write x) writes) refl))
 
 -- ---- the instructions of a procedure
-no_fault : (n i : ℕ) (kind : Option FaultKind) → fault_at n i kind ≡ None → kind ≡ None
+no_fault : (n i : ℕ) (kind : Option LoadFaultKind) → fault_at n i kind ≡ None → kind ≡ None
 no_fault n i None h = refl
 no_fault n i (Some kind) h = cc
 
@@ -140,26 +140,26 @@ other_name p q other =
       | false ↦ λ is. is
     ] refl
 
-none_behind : (before more : List Procedure) → first_fault_behind before more ≡ None → (i : ℕ) (p : Procedure) → slice_get more i ≡ Some p → fault_behind (before ++ take i more) p ≡ None
-none_behind before [] h i p e = cc
-none_behind before (q ∷ more) h zero p e =
+none_after : (before more : List Procedure) → first_fault_after before more ≡ None → (i : ℕ) (p : Procedure) → slice_get more i ≡ Some p → fault_after (before ++ take i more) p ≡ None
+none_after before [] h i p e = cc
+none_after before (q ∷ more) h zero p e =
     let same : q ≡ p = cc in
-    ap (λ front. fault_behind front p) (append-nil before) ∙ ap (fault_behind before) (sym same) ∙ (neither (fault_behind before q) (first_fault_behind (before ++ q ∷ []) more) h).0
-none_behind before (q ∷ more) h (suc i) p e =
-    ap (λ front. fault_behind front p) (sym (append_assoc before (q ∷ []) (take i more)))
-    ∙ none_behind (before ++ q ∷ []) more (neither (fault_behind before q) (first_fault_behind (before ++ q ∷ []) more) h).1 i p e
+    ap (λ front. fault_after front p) (append-nil before) ∙ ap (fault_after before) (sym same) ∙ (neither (fault_after before q) (first_fault_after (before ++ q ∷ []) more) h).0
+none_after before (q ∷ more) h (suc i) p e =
+    ap (λ front. fault_after front p) (sym (append_assoc before (q ∷ []) (take i more)))
+    ∙ none_after (before ++ q ∷ []) more (neither (fault_after before q) (first_fault_after (before ++ q ∷ []) more) h).1 i p e
 
-all_behind : (before more : List Procedure) → ((i : ℕ) (p : Procedure) → slice_get more i ≡ Some p → fault_behind (before ++ take i more) p ≡ None) → first_fault_behind before more ≡ None
-all_behind before [] each = refl
-all_behind before (q ∷ more) each =
-    both_none (fault_behind before q) (first_fault_behind (before ++ q ∷ []) more)
-    (ap (λ front. fault_behind front q) (sym (append-nil before)) ∙ each 0 q refl)
-    (all_behind (before ++ q ∷ []) more (λ i p e. ap (λ front. fault_behind front p) (append_assoc before (q ∷ []) (take i more)) ∙ each (suc i) p e))
+all_after : (before more : List Procedure) → ((i : ℕ) (p : Procedure) → slice_get more i ≡ Some p → fault_after (before ++ take i more) p ≡ None) → first_fault_after before more ≡ None
+all_after before [] each = refl
+all_after before (q ∷ more) each =
+    both_none (fault_after before q) (first_fault_after (before ++ q ∷ []) more)
+    (ap (λ front. fault_after front q) (sym (append-nil before)) ∙ each 0 q refl)
+    (all_after (before ++ q ∷ []) more (λ i p e. ap (λ front. fault_after front p) (append_assoc before (q ∷ []) (take i more)) ∙ each (suc i) p e))
 
 pub lawful_of_none : (m : List Procedure) → first_fault m ≡ None → IsLawful m
 lawful_of_none m h =
     let each : (i : ℕ) (p : Procedure) → slice_get m i ≡ Some p → (list_any (has_name p.name) (take i m) ≡ false) × (first_of (first_broken (length (take i m)) p 0 p.code) (missing_end (length (take i m)) p) ≡ None)
-    = λ i p e. none_found _ (fault NameTwice (length (take i m)) 0) _ (none_behind [] m h i p e) in
+    = λ i p e. none_found _ (fault NameTwice (length (take i m)) 0) _ (none_after [] m h i p e) in
     record {
       names = λ i j p q lt ep eq e. let found : false ≡ true = sym (none_passes (has_name q.name) (take j m) i p (each j q eq).0 (front_has m j i p lt ep)) ∙ same_name p q e in cc;
       procedures = λ i p e. let parts = neither (first_broken (length (take i m)) p 0 p.code) (missing_end (length (take i m)) p) (each i p e).1 in lawful_procedure (length (take i m)) p parts.0 parts.1;
@@ -167,6 +167,6 @@ lawful_of_none m h =
 
 pub none_of_lawful : (m : List Procedure) → IsLawful m → first_fault m ≡ None
 none_of_lawful m h =
-    all_behind [] m (λ i p e. found_none (list_any (has_name p.name) (take i m)) (fault NameTwice (length (take i m)) 0) _
+    all_after [] m (λ i p e. found_none (list_any (has_name p.name) (take i m)) (fault NameTwice (length (take i m)) 0) _
     (no_pass (has_name p.name) (take i m) (λ j q at. let there = in_front m i j q at in other_name q p (h.names j i q p there.0 there.1 e)))
     (faultless_procedure (length (take i m)) p (h.procedures i p e)))

@@ -1,20 +1,12 @@
 -- The bytes of code and of procedures, one after another.
-use Rattle.std.proofs.Common.{◌≡◌, ℕ, true, List, [], ◌∷◌, ◌++◌, length, sym, ap, ◌∙◌, append_assoc}
+use Rattle.std.proofs.Common.{◌≡◌, ℕ, List, [], ◌∷◌, ◌++◌, length, sym, ap, ◌∙◌, append_assoc}
 use Rattle.std.specs.Int.{w16, to_be_bytes}
 use Rattle.std.proofs.lemmas.List.{append-nil}
 use Rattle.tatp_instr.specs.declared.instr.Instr.{Instr}
-use Rattle.tatp_encoding.specs.Modules.{Procedure, is_procedure}
-use Rattle.tatp_encoding.specs.Spelling.{spelling, IsInstr}
-use Rattle.tatp_loader.specs.ModuleBytes.{magic, code_bytes, procedure_bytes, procedures_bytes, module_bytes, AreInstrs, AreProcedures}
+use Rattle.tatp_encoding.specs.Modules.{Procedure}
+use Rattle.tatp_encoding.specs.Spelling.{spelling}
+use Rattle.tatp_loader.specs.ModuleBytes.{magic, code_bytes, procedure_bytes, procedures_bytes, module_bytes}
 use Rattle.tatp_loader.proofs.ReadingLaws.{code_bytes-nil, code_bytes-push, procedures_bytes-nil, procedures_bytes-push}
-
-pub AreInstrs-push : (code : List Instr) (instr : Instr) → AreInstrs code → IsInstr instr → AreInstrs (code ++ instr ∷ [])
-AreInstrs-push [] instr all one = (one, tt)
-AreInstrs-push (x ∷ code) instr all one = (all.0, AreInstrs-push code instr all.1 one)
-
-pub AreProcedures-push : (procs : List Procedure) (p : Procedure) → AreProcedures procs → (is_procedure p ≡ true) × AreInstrs p.code → AreProcedures (procs ++ p ∷ [])
-AreProcedures-push [] p all one = (one.0, one.1, tt)
-AreProcedures-push (x ∷ procs) p all one = (all.0, all.1, AreProcedures-push procs p all.2 one)
 
 pub no_code : (before : List ℕ) → before ≡ before ++ code_bytes []
 no_code before = sym (ap (λ more. before ++ more) code_bytes-nil ∙ append-nil before)

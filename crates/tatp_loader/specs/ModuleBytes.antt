@@ -1,8 +1,8 @@
 -- The bytes of a module: docs/FORMATS.md, "Modules as bytes".
-use Rattle.std.specs.Prelude.{◌≡◌, ℕ, ◌≤◌, List, [], ◌∷◌, ◌++◌, length, true}
+use Rattle.std.specs.Prelude.{◌≡◌, ℕ, List, [], ◌∷◌, ◌++◌, length, All}
 use Rattle.std.specs.Int.{w16, to_be_bytes}
 use Rattle.tatp_instr.specs.declared.instr.Instr.{Instr}
-use Rattle.tatp_encoding.specs.Modules.{Procedure, is_procedure}
+use Rattle.tatp_encoding.specs.Modules.{Procedure}
 use Rattle.tatp_encoding.specs.Spelling.{spelling, IsInstr}
 
 -- what each module begins with
@@ -14,7 +14,7 @@ unfoldable pub code_bytes : List Instr → List ℕ
 code_bytes [] = []
 code_bytes (instr ∷ more) = spelling instr ++ code_bytes more
 
--- the name behind its length, the arity, how many instructions there are, and those
+-- the length of the name, the name, the arity, how many instructions there are, and those
 unfoldable pub procedure_bytes : Procedure → List ℕ
 procedure_bytes p = length p.name ∷ (p.name ++ (p.arity ∷ (to_be_bytes w16 (length p.code) ++ code_bytes p.code)))
 
@@ -30,17 +30,6 @@ module_bytes m = magic ++ (length m ∷ procedures_bytes m)
 abbrev pub IsModuleOf : List ℕ → List Procedure → Type 0
 IsModuleOf bytes m = bytes ≡ module_bytes m
 
--- ---- what a program can have
-abbrev pub AreInstrs : List Instr → Type 0
-AreInstrs [] = Unit {0}
-AreInstrs (instr ∷ more) = IsInstr instr × AreInstrs more
-
-abbrev pub AreProcedures : List Procedure → Type 0
-AreProcedures [] = Unit {0}
-AreProcedures (p ∷ more) = (is_procedure p ≡ true) × AreInstrs p.code × AreProcedures more
-
--- 1 to 16 procedures
-pub record IsModule (m : List Procedure) : Type 0 where
-  pub least : 1 ≤ length m
-  pub most : length m ≤ 16
-  pub procedures : AreProcedures m
+-- the registers and numbers of its instructions are those that a program can have
+abbrev pub HasInstrs : Procedure → Type 0
+HasInstrs p = All IsInstr p.code

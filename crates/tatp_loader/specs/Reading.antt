@@ -7,8 +7,9 @@ use Rattle.tatp_encoding.specs.declared.decoding.Bad.{Bad}
 use Rattle.tatp_encoding.specs.declared.decoding.Bad.TheVariants as bad
 use Rattle.tatp_encoding.specs.Decoding.{decoded}
 use Rattle.tatp_encoding.specs.Modules.{Procedure, is_from_to, is_name_byte}
-use Rattle.tatp_loader.specs.declared.fault.FaultKind.{FaultKind}
-use Rattle.tatp_loader.specs.declared.fault.FaultKind.TheVariants.{BadOp, UnusedNotZero, BadRegister, Truncated, BadMagic, Extra, BadHeader}
+use Rattle.tatp_encoding.specs.declared.module.TheConstants.{MAX_PROCEDURES, MAX_NAME_BYTES, MAX_ARGUMENTS, MAX_INSTRUCTIONS}
+use Rattle.tatp_loader.specs.declared.fault.LoadFaultKind.{LoadFaultKind}
+use Rattle.tatp_loader.specs.declared.fault.LoadFaultKind.TheVariants.{BadOp, UnusedNotZero, BadRegister, Truncated, BadMagic, Extra, BadHeader}
 use Rattle.tatp_loader.specs.declared.fault.LoadFault.{LoadFault}
 use Rattle.tatp_loader.specs.declared.fault.LoadError.{LoadError}
 use Rattle.tatp_loader.specs.declared.fault.LoadError.TheVariants as errors
@@ -21,6 +22,11 @@ abbrev pub ◌>>=◌ : {A B : Type 0} → Result A LoadFault → (A → Result B
 (Err e) >>= f = Err e
 
 -- ---- what a function of the program gives
+-- its result, seen so, is what is read
+abbrev pub Reads : {A B : Type 0} → (A → B) → Result A LoadFault → Result B LoadFault → Type 0
+Reads view (Ok a) read = read ≡ Ok (view a)
+Reads view (Err f) read = read ≡ Err f
+
 -- an error is the fault, or memory ran out
 abbrev pub IsErrorOf : {B : Type 0} → LoadError → Result B LoadFault → Type 0
 IsErrorOf errors.NoMemory read = Unit {0}
@@ -31,7 +37,7 @@ abbrev pub Gives : {A B : Type 0} → (A → B) → Result A LoadError → Resul
 Gives view (Ok a) read = read ≡ Ok (view a)
 Gives view (Err e) read = IsErrorOf e read
 
--- ---- fields: a value, and the bytes behind it
+-- ---- fields: a value, and the bytes after it
 abbrev pub cut : ℕ → LoadFault
 cut n = fault Truncated n 0
 
@@ -55,22 +61,22 @@ bytes_at ends k bytes = if nat_lt (length bytes) k then Err ends else Ok (take k
 unfoldable pub name_at : ℕ → List ℕ → Result (List ℕ × List ℕ) LoadFault
 name_at n bytes = do
   size ← byte_at (cut n) bytes
-  sized ← passing (bad_header n) (is_from_to 1 24 size.0) size
+  sized ← passing (bad_header n) (is_from_to 1 MAX_NAME_BYTES size.0) size
   name ← bytes_at (cut n) sized.0 sized.1
   passing (bad_header n) (list_all is_name_byte name.0) name
 
 unfoldable pub arity_at : ℕ → List ℕ → Result (ℕ × List ℕ) LoadFault
 arity_at n bytes = do
   arity ← byte_at (cut n) bytes
-  passing (bad_header n) (nat_le arity.0 8) arity
+  passing (bad_header n) (nat_le arity.0 MAX_ARGUMENTS) arity
 
 -- how many instructions there are
 unfoldable pub length_at : ℕ → List ℕ → Result (ℕ × List ℕ) LoadFault
 length_at n bytes = do
   field ← bytes_at (cut n) 2 bytes
-  passing (bad_header n) (is_from_to 1 256 (from_be_bytes w16 field.0)) (from_be_bytes w16 field.0, field.1)
+  passing (bad_header n) (is_from_to 1 MAX_INSTRUCTIONS (from_be_bytes w16 field.0)) (from_be_bytes w16 field.0, field.1)
 
-abbrev pub kind_of : Bad → FaultKind
+abbrev pub kind_of : Bad → LoadFaultKind
 kind_of bad.BadOp = BadOp
 kind_of bad.UnusedNotZero = UnusedNotZero
 kind_of bad.BadRegister = BadRegister
@@ -111,13 +117,13 @@ procedures_at n (suc k) bytes = do
   others ← procedures_at (suc n) k first.1
   Ok (first.0 ∷ others.0, others.1)
 
--- how many procedures there are, behind the magic
+-- how many procedures there are, after the magic
 unfoldable pub count_at : List ℕ → Result (ℕ × List ℕ) LoadFault
 count_at bytes = do
   front ← bytes_at (cut 0) 4 bytes
   rest ← passing (fault BadMagic 0 0) (bytes_eq front.0 magic) front.1
   count ← byte_at (cut 0) rest
-  passing (bad_header 0) (is_from_to 1 16 count.0) count
+  passing (bad_header 0) (is_from_to 1 MAX_PROCEDURES count.0) count
 
 -- all of the bytes
 unfoldable pub module_at : List ℕ → Result (List Procedure) LoadFault
@@ -126,7 +132,7 @@ module_at bytes = do
   procs ← procedures_at 0 count.0 count.1
   passing (fault Extra 0 0) (length procs.1 == 0) procs.0
 
--- ---- the rules, behind them
+-- ---- the rules, after them
 abbrev pub unless : Option LoadFault → List Procedure → Result (List Procedure) LoadFault
 unless None m = Ok m
 unless (Some f) m = Err f

@@ -3,13 +3,14 @@ use Rattle.std.specs.Prelude.{ℕ, suc, ◌-◌, Bool, false, not, ◌&&◌, nat
 use Rattle.std.specs.List.{list_any}
 use Rattle.tatp_instr.specs.declared.instr.Instr.{Instr}
 use Rattle.tatp_encoding.specs.Modules.{Procedure}
-use Rattle.tatp_loader.specs.Lawful.{reads_argument_below, has_fit_column, jumps_behind, jumps_below, is_out, is_write, is_end}
-use Rattle.tatp_loader.specs.declared.fault.FaultKind.{FaultKind}
-use Rattle.tatp_loader.specs.declared.fault.FaultKind.TheVariants.{NameTwice, NoSuchArgument, FixedColumn, BackwardJump, BadTarget, TooManyOut, TooManyWrites, NoEnd}
+use Rattle.tatp_loader.specs.Lawful.{reads_argument_below, has_fit_column, jumps_ahead, jumps_below, is_out, is_write, is_end}
+use Rattle.tatp_loader.specs.declared.fault.LoadFaultKind.{LoadFaultKind}
+use Rattle.tatp_loader.specs.declared.rules.TheConstants.{MAX_OUTS, MAX_WRITES}
+use Rattle.tatp_loader.specs.declared.fault.LoadFaultKind.TheVariants.{NameTwice, NoSuchArgument, FixedColumn, BackwardJump, BadTarget, TooManyOut, TooManyWrites, NoEnd}
 use Rattle.tatp_loader.specs.declared.fault.LoadFault.{LoadFault}
 
 -- a fault of this kind in the procedure p, at the instruction i
-abbrev pub fault : FaultKind → ℕ → ℕ → LoadFault
+abbrev pub fault : LoadFaultKind → ℕ → ℕ → LoadFault
 fault kind p i = record { kind = kind; procedure = p; instruction = i }
 
 -- the first of these two that is there
@@ -19,28 +20,28 @@ first_of (Some a) other = Some a
 
 -- ---- one instruction, at a position of a procedure
 -- the first rule that it breaks by itself
-abbrev pub misfit : Procedure → ℕ → Instr → Option FaultKind
+abbrev pub misfit : Procedure → ℕ → Instr → Option LoadFaultKind
 misfit p i x =
     if not (reads_argument_below p.arity x) then Some NoSuchArgument else
     if not (has_fit_column x) then Some FixedColumn else
-    if not (jumps_behind i x) then Some BackwardJump else
+    if not (jumps_ahead i x) then Some BackwardJump else
     if not (jumps_below (length p.code) x) then Some BadTarget else
     None
 
 -- whether it is the 41st OUT or the 65th PUT, INS or DEL
-abbrev pub excess : ℕ → ℕ → Instr → Option FaultKind
+abbrev pub excess : ℕ → ℕ → Instr → Option LoadFaultKind
 excess outs writes x =
-    if is_out x && nat_le 40 outs then Some TooManyOut else
-    if is_write x && nat_le 64 writes then Some TooManyWrites else
+    if is_out x && nat_le MAX_OUTS outs then Some TooManyOut else
+    if is_write x && nat_le MAX_WRITES writes then Some TooManyWrites else
     None
 
 -- the first rule that it breaks
-abbrev pub broken_at : Procedure → ℕ → Instr → Option FaultKind
+abbrev pub broken_at : Procedure → ℕ → Instr → Option LoadFaultKind
 broken_at p i x = first_of (misfit p i x) (excess (count_by is_out (take i p.code)) (count_by is_write (take i p.code)) x)
 
 -- ---- a procedure
 -- the fault of the procedure n, at the instruction i, where a rule is broken
-abbrev pub fault_at : ℕ → ℕ → Option FaultKind → Option LoadFault
+abbrev pub fault_at : ℕ → ℕ → Option LoadFaultKind → Option LoadFault
 fault_at n i None = None
 fault_at n i (Some kind) = Some (fault kind n i)
 
@@ -63,17 +64,17 @@ missing_end n p = if ends p then None else Some (fault NoEnd n (length p.code - 
 abbrev pub has_name : List ℕ → Procedure → Bool
 has_name name p = bytes_eq p.name name
 
--- the first fault of the procedure behind these: its name, its instructions in order, its end
-abbrev pub fault_behind : List Procedure → Procedure → Option LoadFault
-fault_behind before p =
+-- the first fault of the procedure after these: its name, its instructions in order, its end
+abbrev pub fault_after : List Procedure → Procedure → Option LoadFault
+fault_after before p =
     if list_any (has_name p.name) before then Some (fault NameTwice (length before) 0) else
     first_of (first_broken (length before) p 0 p.code) (missing_end (length before) p)
 
 -- ---- a module
--- the first fault of the procedures, in order, behind these
-abbrev pub first_fault_behind : List Procedure → List Procedure → Option LoadFault
-first_fault_behind before [] = None
-first_fault_behind before (p ∷ more) = first_of (fault_behind before p) (first_fault_behind (before ++ p ∷ []) more)
+-- the first fault of the procedures, in order, after these
+abbrev pub first_fault_after : List Procedure → List Procedure → Option LoadFault
+first_fault_after before [] = None
+first_fault_after before (p ∷ more) = first_of (fault_after before p) (first_fault_after (before ++ p ∷ []) more)
 
 abbrev pub first_fault : List Procedure → Option LoadFault
-first_fault m = first_fault_behind [] m
+first_fault m = first_fault_after [] m

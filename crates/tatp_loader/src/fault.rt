@@ -7,7 +7,7 @@ use thiserror::Error;
 
 /// Which test a module, or the bytes of one, failed. Its text is its number and its name.
 #[derive(Clone, Copy, Debug, PartialEq, Eq, Error)]
-pub enum FaultKind {
+pub enum LoadFaultKind {
     /// There is no such op.
     #[error("6 BadOp")]
     BadOp = 6,
@@ -59,7 +59,7 @@ pub enum FaultKind {
 #[derive(Clone, Copy, Debug, PartialEq, Eq, Error)]
 #[error("{kind} {procedure} {instruction}")]
 pub struct LoadFault {
-    pub kind: FaultKind,
+    pub kind: LoadFaultKind,
     pub procedure: usize,
     pub instruction: usize,
 }

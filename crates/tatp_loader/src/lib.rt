@@ -2,16 +2,18 @@
 #![tactic(auto)]
 
 mod fault;
+mod laws;
 mod loaded;
 mod loading;
 mod reading;
 mod rules;
 mod saving;
 
-pub use fault::{FaultKind, LoadError, LoadFault};
+pub use fault::{LoadError, LoadFault, LoadFaultKind};
+pub use laws::load_saved;
 pub use loaded::Loaded;
-pub use loading::{load, load_saved};
-pub use rules::check;
+pub use loading::load;
+pub use rules::{MAX_OUTS, MAX_WRITES, check};
 pub use saving::save;
 
 #[cfg(test)]

@@ -1,15 +1,14 @@
-//! Modules from bytes, and back.
-ghost use Rattle.std.specs.Prelude.{◌≡◌, List, Ok, IfOk, OnOk};
-ghost use Rattle.tatp_encoding.specs.Modules.{Procedure};
+//! Modules from bytes.
+ghost use Rattle.std.specs.Prelude.{◌≡◌, List, Ok, Err, true, All, IfOk};
+ghost use Rattle.tatp_encoding.specs.Modules.{Procedure, is_module};
 ghost use Rattle.tatp_loader.specs.Lawful.{IsLawful};
-ghost use Rattle.tatp_loader.specs.ModuleBytes.{IsModuleOf, IsModule};
-ghost use Rattle.tatp_loader.specs.Reading.{Gives, lawful_module_at};
+ghost use Rattle.tatp_loader.specs.ModuleBytes.{IsModuleOf, HasInstrs};
+ghost use Rattle.tatp_loader.specs.Reading.{Gives, count_at, lawful_module_at};
 
-use crate::fault::LoadError;
+use crate::fault::{LoadError, LoadFault};
 use crate::loaded::Loaded;
 use crate::reading::module_at;
 use crate::rules::first_fault;
-use crate::saving::save;
 use std::alloc::Global;
 use tatp_encoding::{Module, instructions_are_read_as_spelled};
 
@@ -18,6 +17,7 @@ use tatp_encoding::{Module, instructions_are_read_as_spelled};
 fn lawful_module(alloc: Global, bytes: &[u8]) -> Result<Loaded, LoadError>
     ensures found { IfOk result (λ loaded. IsModuleOf bytes.now loaded × IsLawful loaded) }
     ensures exact { Gives (λ loaded. loaded) result (lawful_module_at bytes.now) }
+    ensures early { (fault : LoadFault) → count_at bytes.now ≡ Err fault → result ≡ Err (LoadError.Fault fault) }
 {
     let procs = module_at(alloc, bytes)?;
     match first_fault(&procs) {
@@ -27,25 +27,18 @@ fn lawful_module(alloc: Global, bytes: &[u8]) -> Result<Loaded, LoadError>
 }
 
 /// The module that the bytes spell, where it keeps the rules. Otherwise the first fault from front
-/// to back, and behind those of the bytes the first rule that the module breaks.
+/// to back, and after those of the bytes the first rule that the module breaks.
 pub fn load(alloc: Global, bytes: &[u8]) -> Result<Loaded, LoadError>
     // What is loaded is spelled so and keeps the rules, and what is spelled so and keeps them is
     // loaded, unless memory runs out.
     ensures found { IfOk result (λ loaded. IsModuleOf bytes.now loaded × IsLawful loaded) }
-    ensures only { (m : List Procedure) → IsModule m → IsLawful m → IsModuleOf bytes.now m → Gives (λ loaded. loaded) result (Ok m) }
+    ensures only { (m : List Procedure) → is_module m ≡ true → All HasInstrs m → IsLawful m → IsModuleOf bytes.now m → Gives (λ loaded. loaded) result (Ok m) }
 
-    // Which fault it is.
+    // Which fault it is. One of the magic or of the count comes before any memory is asked for.
     ensures exact { Gives (λ loaded. loaded) result (lawful_module_at bytes.now) }
+    ensures early { (fault : LoadFault) → count_at bytes.now ≡ Err fault → result ≡ Err (LoadError.Fault fault) }
 {
     // A law, for the proof alone.
     instructions_are_read_as_spelled();
     lawful_module(alloc, bytes)
-}
-
-/// A module that was saved is loaded again as it was, unless memory runs out.
-pub fn load_saved(alloc: Global, loaded: &Loaded) -> Result<Loaded, LoadError>
-    ensures { Gives (λ again. again) result (Ok loaded.now) }
-{
-    let bytes = save(alloc, loaded)?;
-    load(alloc, &bytes)
 }

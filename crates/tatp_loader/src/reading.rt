@@ -1,5 +1,5 @@
 //! A module out of its bytes, read once from front to back.
-ghost use Rattle.std.specs.Prelude.{◌≡◌, ◌∷◌, ◌++◌, ◌*◌, true, ◌≤◌, length, drop, IfOk, OnOk, IfSome, is_some};
+ghost use Rattle.std.specs.Prelude.{◌≡◌, ◌∷◌, ◌++◌, ◌*◌, true, ◌≤◌, length, drop, Err, IfOk, OnOk, IfSome, is_some};
 ghost use Rattle.std.specs.List.{list_all};
 ghost use Rattle.std.specs.Int.{w16, to_be_bytes};
 ghost use Rattle.tatp_encoding.specs.Decoding.{decoded};
@@ -7,18 +7,20 @@ ghost use Rattle.tatp_encoding.specs.Modules.{is_name, is_name_byte, is_procedur
 ghost use Rattle.tatp_encoding.specs.Spelling.{spelling};
 ghost use Rattle.tatp_loader.specs.Rules.{fault};
 ghost use Rattle.tatp_loader.specs.ModuleBytes.{code_bytes, procedure_bytes, procedures_bytes, IsModuleOf, magic};
-ghost use Rattle.tatp_loader.specs.Reading.{Gives, byte_at, bytes_at, name_at, arity_at, length_at, instr_at, code_at, procedure_at, procedures_at, count_at, module_at, kind_of};
+ghost use Rattle.tatp_loader.specs.Reading.{Reads, Gives, byte_at, bytes_at, name_at, arity_at, length_at, instr_at, code_at, procedure_at, procedures_at, count_at, module_at, kind_of};
 
-use crate::fault::{FaultKind, LoadError, LoadFault};
+use crate::fault::{LoadError, LoadFault, LoadFaultKind};
 use std::alloc::Global;
-use tatp_encoding::{Bad, Proc, decode};
+use tatp_encoding::{
+    Bad, MAX_ARGUMENTS, MAX_INSTRUCTIONS, MAX_NAME_BYTES, MAX_PROCEDURES, Proc, decode,
+};
 use tatp_instr::Instr;
 
 /// What each module begins with.
 pub(crate) const MAGIC: [u8; 4] = [0x54, 0x50, 0x4D, 0x01];
 
 /// A fault of the procedure n, at the instruction i.
-fn fault(kind: FaultKind, n: usize, i: usize) -> LoadFault
+fn fault(kind: LoadFaultKind, n: usize, i: usize) -> LoadFault
     ensures { result ≡ fault kind n i }
 {
     LoadFault {
@@ -28,24 +30,24 @@ fn fault(kind: FaultKind, n: usize, i: usize) -> LoadFault
     }
 }
 
-/// The first byte, and those behind it.
-fn byte_at(bytes: &[u8], ends: LoadFault) -> Result<(u8, &[u8]), LoadError>
-    ensures read { Gives (λ x. (x.0, x.1.now)) result (byte_at ends bytes.now) }
+/// The first byte, and those after it.
+fn byte_at(bytes: &[u8], ends: LoadFault) -> Result<(u8, &[u8]), LoadFault>
+    ensures read { Reads (λ x. (x.0, x.1.now)) result (byte_at ends bytes.now) }
     ensures spelled { IfOk result (λ x. bytes.now ≡ x.0 ∷ x.1.now) }
 {
     match bytes {
         [byte, rest @ ..] => Ok((*byte, rest)),
-        [] => Err(LoadError::Fault(ends)),
+        [] => Err(ends),
     }
 }
 
-/// The first `len` bytes, and those behind them.
-fn bytes_at(bytes: &[u8], len: usize, ends: LoadFault) -> Result<(&[u8], &[u8]), LoadError>
-    ensures read { Gives (λ x. (x.0.now, x.1.now)) result (bytes_at ends len bytes.now) }
+/// The first `len` bytes, and those after them.
+fn bytes_at(bytes: &[u8], len: usize, ends: LoadFault) -> Result<(&[u8], &[u8]), LoadFault>
+    ensures read { Reads (λ x. (x.0.now, x.1.now)) result (bytes_at ends len bytes.now) }
     ensures spelled { IfOk result (λ x. (bytes.now ≡ x.0.now ++ x.1.now) × (length x.0.now ≡ len)) }
 {
     if bytes.len() < len {
-        return Err(LoadError::Fault(ends));
+        return Err(ends);
     }
     Ok(bytes.split_at(len))
 }
@@ -71,63 +73,64 @@ fn name_of(bytes: &[u8]) -> Option<&str>
     }
 }
 
-/// The name of the procedure n, behind its length.
+/// The name of the procedure n, after its length.
 #[tactic(auto, unfolding(crate::specs::Reading::name_at))]
-fn name_at(bytes: &[u8], n: usize) -> Result<(&str, &[u8]), LoadError>
-    ensures read { Gives (λ x. (x.0.now, x.1.now)) result (name_at n bytes.now) }
+fn name_at(bytes: &[u8], n: usize) -> Result<(&str, &[u8]), LoadFault>
+    ensures read { Reads (λ x. (x.0.now, x.1.now)) result (name_at n bytes.now) }
     ensures spelled { IfOk result (λ x. bytes.now ≡ (length x.0.now ∷ x.0.now) ++ x.1.now) }
     ensures name { IfOk result (λ x. is_name x.0.now ≡ true) }
 {
-    let cut = fault(FaultKind::Truncated, n, 0);
-    let bad = fault(FaultKind::BadHeader, n, 0);
+    let cut = fault(LoadFaultKind::Truncated, n, 0);
+    let bad = fault(LoadFaultKind::BadHeader, n, 0);
     let (size, rest) = byte_at(bytes, cut)?;
-    if size < 1 || size > 24 {
-        return Err(LoadError::Fault(bad));
+    let size = usize::from(size);
+    if size < 1 || size > MAX_NAME_BYTES {
+        return Err(bad);
     }
-    let (name, rest) = bytes_at(rest, usize::from(size), cut)?;
+    let (name, rest) = bytes_at(rest, size, cut)?;
     match name_of(name) {
         Some(name) => Ok((name, rest)),
-        None => Err(LoadError::Fault(bad)),
+        None => Err(bad),
     }
 }
 
 /// How many arguments the procedure n takes.
 #[tactic(auto, unfolding(crate::specs::Reading::arity_at))]
-fn arity_at(bytes: &[u8], n: usize) -> Result<(u8, &[u8]), LoadError>
-    ensures read { Gives (λ x. (x.0, x.1.now)) result (arity_at n bytes.now) }
+fn arity_at(bytes: &[u8], n: usize) -> Result<(u8, &[u8]), LoadFault>
+    ensures read { Reads (λ x. (x.0, x.1.now)) result (arity_at n bytes.now) }
     ensures spelled { IfOk result (λ x. bytes.now ≡ x.0 ∷ x.1.now) }
-    ensures most { IfOk result (λ x. x.0 ≤ 8) }
+    ensures most { IfOk result (λ x. x.0 ≤ MAX_ARGUMENTS) }
 {
-    let (arity, rest) = byte_at(bytes, fault(FaultKind::Truncated, n, 0))?;
-    if arity > 8 {
-        return Err(LoadError::Fault(fault(FaultKind::BadHeader, n, 0)));
+    let (arity, rest) = byte_at(bytes, fault(LoadFaultKind::Truncated, n, 0))?;
+    if arity > MAX_ARGUMENTS {
+        return Err(fault(LoadFaultKind::BadHeader, n, 0));
     }
     Ok((arity, rest))
 }
 
 /// How many instructions the procedure n has.
 #[tactic(auto, unfolding(crate::specs::Reading::length_at))]
-fn length_at(bytes: &[u8], n: usize) -> Result<(usize, &[u8]), LoadError>
-    ensures read { Gives (λ x. (x.0, x.1.now)) result (length_at n bytes.now) }
+fn length_at(bytes: &[u8], n: usize) -> Result<(usize, &[u8]), LoadFault>
+    ensures read { Reads (λ x. (x.0, x.1.now)) result (length_at n bytes.now) }
     ensures spelled { IfOk result (λ x. bytes.now ≡ to_be_bytes w16 x.0 ++ x.1.now) }
-    ensures range { IfOk result (λ x. (1 ≤ x.0) × (x.0 ≤ 256)) }
+    ensures range { IfOk result (λ x. (1 ≤ x.0) × (x.0 ≤ MAX_INSTRUCTIONS)) }
 {
-    let (field, rest) = bytes_at(bytes, 2, fault(FaultKind::Truncated, n, 0))?;
+    let (field, rest) = bytes_at(bytes, 2, fault(LoadFaultKind::Truncated, n, 0))?;
     let len = usize::from(u16::from_be_bytes([field[0], field[1]]));
-    if len < 1 || len > 256 {
-        return Err(LoadError::Fault(fault(FaultKind::BadHeader, n, 0)));
+    if len < 1 || len > MAX_INSTRUCTIONS {
+        return Err(fault(LoadFaultKind::BadHeader, n, 0));
     }
     Ok((len, rest))
 }
 
 /// The kind of what is wrong with eight bytes.
-fn kind_of(bad: Bad) -> FaultKind
+fn kind_of(bad: Bad) -> LoadFaultKind
     ensures { result ≡ kind_of bad }
 {
     match bad {
-        Bad::BadOp => FaultKind::BadOp,
-        Bad::UnusedNotZero => FaultKind::UnusedNotZero,
-        Bad::BadRegister => FaultKind::BadRegister,
+        Bad::BadOp => LoadFaultKind::BadOp,
+        Bad::UnusedNotZero => LoadFaultKind::UnusedNotZero,
+        Bad::BadRegister => LoadFaultKind::BadRegister,
     }
 }
 
@@ -144,15 +147,15 @@ fn decoded(field: &[u8]) -> Result<Instr, Bad>
 
 /// The instruction i of the procedure n, in the first eight bytes.
 #[tactic(auto, unfolding(crate::specs::Reading::instr_at))]
-fn instr_at(bytes: &[u8], n: usize, i: usize) -> Result<Instr, LoadError>
-    ensures read { Gives (λ instr. (instr, drop 8 bytes.now)) result (instr_at n i bytes.now) }
+fn instr_at(bytes: &[u8], n: usize, i: usize) -> Result<Instr, LoadFault>
+    ensures read { Reads (λ instr. (instr, drop 8 bytes.now)) result (instr_at n i bytes.now) }
     ensures spelled { IfOk result (λ instr. bytes.now ≡ spelling instr ++ drop 8 bytes.now) }
     ensures within { OnOk result (8 ≤ length bytes.now) }
 {
-    let (field, _) = bytes_at(bytes, 8, fault(FaultKind::Truncated, n, i))?;
+    let (field, _) = bytes_at(bytes, 8, fault(LoadFaultKind::Truncated, n, i))?;
     match decoded(field) {
         Ok(instr) => Ok(instr),
-        Err(bad) => Err(LoadError::Fault(fault(kind_of(bad), n, i))),
+        Err(bad) => Err(fault(kind_of(bad), n, i)),
     }
 }
 
@@ -211,37 +214,39 @@ fn procedures_at(alloc: Global, bytes: &[u8], count: usize) -> Result<(Vec<Proc>
     Ok((procs, size))
 }
 
-/// How many procedures there are, behind the magic.
+/// How many procedures there are, after the magic.
 #[tactic(auto, unfolding(crate::specs::Reading::count_at))]
-fn count_at(bytes: &[u8]) -> Result<(usize, &[u8]), LoadError>
-    ensures read { Gives (λ x. (x.0, x.1.now)) result (count_at bytes.now) }
+fn count_at(bytes: &[u8]) -> Result<(usize, &[u8]), LoadFault>
+    ensures read { Reads (λ x. (x.0, x.1.now)) result (count_at bytes.now) }
     ensures spelled { IfOk result (λ x. bytes.now ≡ magic ++ (x.0 ∷ x.1.now)) }
-    ensures range { IfOk result (λ x. (1 ≤ x.0) × (x.0 ≤ 16)) }
+    ensures range { IfOk result (λ x. (1 ≤ x.0) × (x.0 ≤ MAX_PROCEDURES)) }
 {
-    let cut = fault(FaultKind::Truncated, 0, 0);
+    let cut = fault(LoadFaultKind::Truncated, 0, 0);
     let (front, rest) = bytes_at(bytes, 4, cut)?;
     if front != MAGIC.as_slice() {
-        return Err(LoadError::Fault(fault(FaultKind::BadMagic, 0, 0)));
+        return Err(fault(LoadFaultKind::BadMagic, 0, 0));
     }
     let (count, rest) = byte_at(rest, cut)?;
-    if count < 1 || count > 16 {
-        return Err(LoadError::Fault(fault(FaultKind::BadHeader, 0, 0)));
+    let count = usize::from(count);
+    if count < 1 || count > MAX_PROCEDURES {
+        return Err(fault(LoadFaultKind::BadHeader, 0, 0));
     }
-    Ok((usize::from(count), rest))
+    Ok((count, rest))
 }
 
 /// The procedures of a module, out of all of its bytes.
 #[tactic(auto, unfolding(crate::specs::Reading::module_at))]
 pub(crate) fn module_at(alloc: Global, bytes: &[u8]) -> Result<Vec<Proc>, LoadError>
     ensures read { Gives (λ procs. procs.items) result (module_at bytes.now) }
+    ensures early { (fault : LoadFault) → count_at bytes.now ≡ Err fault → result ≡ Err (LoadError.Fault fault) }
     ensures spelled { IfOk result (λ procs. IsModuleOf bytes.now procs.items) }
-    ensures count { IfOk result (λ procs. (1 ≤ length procs.items) × (length procs.items ≤ 16)) }
+    ensures count { IfOk result (λ procs. (1 ≤ length procs.items) × (length procs.items ≤ MAX_PROCEDURES)) }
     ensures fit { IfOk result (λ procs. list_all is_procedure procs.items ≡ true) }
 {
     let (count, rest) = count_at(bytes)?;
     let (procs, size) = procedures_at(alloc, rest, count)?;
     if size < rest.len() {
-        return Err(LoadError::Fault(fault(FaultKind::Extra, 0, 0)));
+        return Err(LoadError::Fault(fault(LoadFaultKind::Extra, 0, 0)));
     }
     Ok(procs)
 }

@@ -1,19 +1,21 @@
 //! The rules that a module keeps before a machine runs it.
-ghost use Rattle.std.specs.Prelude.{◌≡◌, ◌↔◌, length, IsOk, IfOk, IfErr, Some};
+ghost use Rattle.std.specs.Prelude.{◌≡◌, ◌↔◌, ◌&&◌, not, IsOk, IfOk, IfErr, Some};
 ghost use Rattle.std.specs.List.{list_any};
-ghost use Rattle.tatp_tables.specs.Columns.{is_fixed};
+ghost use Rattle.tatp_tables.specs.Columns.{is_column, is_fixed};
 ghost use Rattle.tatp_loader.specs.Lawful.{IsLawful, is_out, is_write, is_end};
-ghost use Rattle.tatp_loader.specs.Rules.{misfit, excess, first_broken, ends, missing_end, has_name, fault_behind, first_fault};
+ghost use Rattle.tatp_loader.specs.Rules.{misfit, excess, first_broken, missing_end, has_name, fault_after, first_fault};
 
-use crate::fault::{FaultKind, LoadFault};
+use crate::fault::{LoadFault, LoadFaultKind};
 use crate::loaded::Loaded;
 use tatp_encoding::{Module, Proc};
 use tatp_instr::Instr;
+use tatp_tables::is_fixed;
 
-/// The most OUT instructions, and the most PUT, INS and DEL, of one procedure.
-const MOST_OUTS: usize = 40;
+/// The most OUT that a procedure has.
+pub const MAX_OUTS: usize = 40;
 
-const MOST_WRITES: usize = 64;
+/// The most of PUT, INS and DEL that a procedure has.
+pub const MAX_WRITES: usize = 64;
 
 fn is_out(instr: &Instr) -> bool
     ensures { result ≡ is_out instr.now }
@@ -33,30 +35,28 @@ fn is_end(instr: &Instr) -> bool
     matches!(instr, Instr::Done | Instr::Fail(_))
 }
 
-/// Whether a column never changes: one of a primary key, or a subscriber's number.
-fn is_fixed_column(column: u32) -> bool
-    ensures { result ≡ is_fixed column }
+/// Whether there is such a column, and whether it may be set: it isn't fixed.
+fn is_settable(column: u32) -> bool
+    ensures { result ≡ (is_column column && not (is_fixed column)) }
 {
-    matches!(column, 0 | 1 | 34 | 35 | 40 | 41 | 46 | 47 | 48)
+    column <= 50 && !is_fixed(column as u8)
 }
 
 /// The first rule that the instruction at a position breaks by itself.
-fn instr_misfit(procedure: &Proc, position: usize, instr: &Instr) -> Option<FaultKind>
+fn instr_misfit(procedure: &Proc, position: usize, instr: &Instr) -> Option<LoadFaultKind>
     ensures { result ≡ misfit procedure.now position instr.now }
 {
     match *instr {
         Instr::Arg(_, argument) if argument >= u32::from(procedure.arity()) => {
-            Some(FaultKind::NoSuchArgument)
+            Some(LoadFaultKind::NoSuchArgument)
         }
-        Instr::Get(_, column) if column > 50 => Some(FaultKind::FixedColumn),
-        Instr::Put(column, _) if column > 50 || is_fixed_column(column) => {
-            Some(FaultKind::FixedColumn)
-        }
+        Instr::Get(_, column) if column > 50 => Some(LoadFaultKind::FixedColumn),
+        Instr::Put(column, _) if !is_settable(column) => Some(LoadFaultKind::FixedColumn),
         Instr::Jmp(target) | Instr::Jz(_, target) => {
             if target as usize <= position {
-                Some(FaultKind::BackwardJump)
+                Some(LoadFaultKind::BackwardJump)
             } else if target as usize >= procedure.code().len() {
-                Some(FaultKind::BadTarget)
+                Some(LoadFaultKind::BadTarget)
             } else {
                 None
             }
@@ -65,14 +65,14 @@ fn instr_misfit(procedure: &Proc, position: usize, instr: &Instr) -> Option<Faul
     }
 }
 
-/// Whether the instruction is one OUT, or one PUT, INS or DEL, too many behind so many.
-fn instr_excess(outs: usize, writes: usize, instr: &Instr) -> Option<FaultKind>
+/// Whether the instruction is one OUT, or one PUT, INS or DEL, too many after so many.
+fn instr_excess(outs: usize, writes: usize, instr: &Instr) -> Option<LoadFaultKind>
     ensures { result ≡ excess outs writes instr.now }
 {
-    if is_out(instr) && outs >= MOST_OUTS {
-        Some(FaultKind::TooManyOut)
-    } else if is_write(instr) && writes >= MOST_WRITES {
-        Some(FaultKind::TooManyWrites)
+    if is_out(instr) && outs >= MAX_OUTS {
+        Some(LoadFaultKind::TooManyOut)
+    } else if is_write(instr) && writes >= MAX_WRITES {
+        Some(LoadFaultKind::TooManyWrites)
     } else {
         None
     }
@@ -108,7 +108,7 @@ fn missing_end(number: usize, procedure: &Proc) -> Option<LoadFault>
         return None;
     }
     Some(LoadFault {
-        kind: FaultKind::NoEnd,
+        kind: LoadFaultKind::NoEnd,
         procedure: number,
         instruction: last,
     })
@@ -121,14 +121,14 @@ fn any_has_name(procs: &[Proc], name: &str) -> bool
     procs.iter().any(|procedure| procedure.name() == name)
 }
 
-/// The first fault of the procedure behind these.
-fn fault_behind(before: &[Proc], procedure: &Proc) -> Option<LoadFault>
-    ensures { result ≡ fault_behind before.now procedure.now }
+/// The first fault of the procedure after these.
+fn fault_after(before: &[Proc], procedure: &Proc) -> Option<LoadFault>
+    ensures { result ≡ fault_after before.now procedure.now }
 {
     let number = before.len();
     if any_has_name(before, procedure.name()) {
         return Some(LoadFault {
-            kind: FaultKind::NameTwice,
+            kind: LoadFaultKind::NameTwice,
             procedure: number,
             instruction: 0,
         });
@@ -141,7 +141,7 @@ pub(crate) fn first_fault(procs: &[Proc]) -> Option<LoadFault>
     ensures { result ≡ first_fault procs.now }
 {
     for number in 0..procs.len() {
-        let fault = fault_behind(&procs[..number], &procs[number]);
+        let fault = fault_after(&procs[..number], &procs[number]);
         if fault.is_some() {
             return fault;
         }

@@ -1,8 +1,6 @@
 //! The bytes of a module.
-ghost use Rattle.std.specs.Prelude.{◌≡◌, ◌++◌, true, IfOk, OnOk};
-ghost use Rattle.tatp_encoding.specs.Modules.{is_procedure};
-ghost use Rattle.tatp_loader.specs.Lawful.{IsLawful};
-ghost use Rattle.tatp_loader.specs.ModuleBytes.{AreInstrs, code_bytes, procedure_bytes, IsModuleOf, IsModule};
+ghost use Rattle.std.specs.Prelude.{◌≡◌, ◌++◌, IfOk, OnOk};
+ghost use Rattle.tatp_loader.specs.ModuleBytes.{code_bytes, procedure_bytes, IsModuleOf};
 
 use crate::loaded::Loaded;
 use crate::reading::MAGIC;
@@ -12,8 +10,7 @@ use tatp_instr::Instr;
 
 /// Appends the bytes of instructions.
 fn push_code(bytes: &mut Vec<u8>, code: &[Instr]) -> Result<(), AllocError>
-    ensures bytes { OnOk result (bytes.new.items ≡ bytes.old.items ++ code_bytes code.now) }
-    ensures instrs { OnOk result (AreInstrs code.now) }
+    ensures { OnOk result (bytes.new.items ≡ bytes.old.items ++ code_bytes code.now) }
 {
     for instr in code {
         bytes.extend_from_slice(&encode(instr))?;
@@ -23,8 +20,7 @@ fn push_code(bytes: &mut Vec<u8>, code: &[Instr]) -> Result<(), AllocError>
 
 /// Appends the bytes of a procedure.
 fn push_procedure(bytes: &mut Vec<u8>, procedure: &Proc) -> Result<(), AllocError>
-    ensures bytes { OnOk result (bytes.new.items ≡ bytes.old.items ++ procedure_bytes procedure.now) }
-    ensures procedure { OnOk result ((is_procedure procedure.now ≡ true) × AreInstrs procedure.now.code) }
+    ensures { OnOk result (bytes.new.items ≡ bytes.old.items ++ procedure_bytes procedure.now) }
 {
     let name = procedure.name().as_bytes();
     let code = procedure.code();
@@ -38,9 +34,7 @@ fn push_procedure(bytes: &mut Vec<u8>, procedure: &Proc) -> Result<(), AllocErro
 
 /// The one spelling of a module.
 pub fn save(alloc: Global, loaded: &Loaded) -> Result<Vec<u8>, AllocError>
-    ensures bytes { IfOk result (λ bytes. IsModuleOf bytes.items loaded.now) }
-    ensures within { OnOk result (IsModule loaded.now) }
-    ensures lawful { IsLawful loaded.now }
+    ensures { IfOk result (λ bytes. IsModuleOf bytes.items loaded.now) }
 {
     let procs = loaded.module().procs();
     let mut bytes = Vec::new(alloc);

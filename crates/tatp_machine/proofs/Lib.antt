@@ -1,5 +1,6 @@
 pub mod SoundLaws
 pub mod UndoLaws
+pub mod KeptLaws
 pub mod FindLaws
 pub mod LaterLaws
 pub mod LineLaws

@@ -13,7 +13,7 @@ use Rattle.tatp_tables.specs.Clean.{count_of_key}
 use Rattle.tatp_tables.proofs.FindLaws.{find-set_of}
 use Rattle.tatp_numbers.specs.Homes.{s_id_of, home_of_key}
 use Rattle.tatp_numbers.specs.Listing.{Listing, answer}
-use Rattle.tatp_numbers.specs.Lists.{s_id_at, IdsRunToLength, NumbersDiffer}
+use Rattle.tatp_numbers.specs.Lists.{s_id_at, IdsRunToLength, NumbersStandOnce}
 use Rattle.tatp_numbers.specs.declared.key.Key.{Key}
 use Rattle.tatp_numbers.specs.declared.key.Key.TheVariants.{Id, Number}
 use Rattle.tatp_numbers.proofs.IdLaws.{no_other_id}
@@ -53,7 +53,7 @@ answer-of_id xs s_ids s ids = let l : Listing = record { count = length xs; s_id
   ]
 ]
 
-pub answer-home : (xs : List Tuple) (es : List (ℕ × ℕ)) → IdsRunToLength xs → NumbersDiffer xs → ((n : ℕ) → lookup (nat_eq n) es ≡ s_id_at xs n)
+pub answer-home : (xs : List Tuple) (es : List (ℕ × ℕ)) → IdsRunToLength xs → NumbersStandOnce xs → ((n : ℕ) → lookup (nat_eq n) es ≡ s_id_at xs n)
     → (key : Key) → answer (record { count = length xs; s_ids = map.from_entries es }) key ≡ home_of_key (set_of xs) key
 answer-home xs es ids differ found (Id s) = answer-of_id xs (map.from_entries es) s ids
 answer-home xs es ids differ found (Number n) = get-from_entries es n ∙ found n ∙ sym (home-counted xs (has_number n) (differ n))

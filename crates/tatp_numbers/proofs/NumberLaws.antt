@@ -9,7 +9,7 @@ use Rattle.tatp_tables.specs.Tuples.{Tuple}
 use Rattle.tatp_tables.specs.Keys.{has_number}
 use Rattle.tatp_tables.proofs.CleanLaws.{count_by-append, count_by-cons}
 use Rattle.tatp_numbers.specs.Homes.{s_id_of}
-use Rattle.tatp_numbers.specs.Lists.{s_id_at, NumbersDiffer, NumberRepeats}
+use Rattle.tatp_numbers.specs.Lists.{s_id_at, NumbersStandOnce, NumberRepeats}
 use Rattle.tatp_numbers.proofs.FindLaws.{none_passes, one_passes}
 
 late : (row : Tuple) (o : Option Tuple) (b : Bool) → (b ≡ true → option_map s_id_of o ≡ None) → option_map s_id_of (option_or o (cond b (Some row) None)) ≡ cond b (Some (s_id_of row)) (option_map s_id_of o)
@@ -42,7 +42,7 @@ no_s_id None e = refl
 no_s_id (Some row) e = cc
 
 pub differ_more : (rows : List Tuple) (i : ℕ) (row : Tuple) → i < length rows → row ≡ slice_index_or rows i row → s_id_at (take i rows) (slice_index row 1) ≡ None
-    → NumbersDiffer (take i rows) → NumbersDiffer (take (i + 1) rows)
+    → NumbersStandOnce (take i rows) → NumbersStandOnce (take (i + 1) rows)
 differ_more rows i row lt is none differ n =
     subst (λ k. k ≤ 1) (sym (count-more rows i row n lt is))
     (elim (slice_index row 1 == n) as (λ b. (slice_index row 1 == n) ≡ b → count_by (has_number n) (take i rows) + cond b 1 0 ≤ 1) [

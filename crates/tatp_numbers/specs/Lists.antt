@@ -11,8 +11,8 @@ abbrev pub IdsRunToLength : List Tuple → Type 0
 IdsRunToLength rows = (s : ℕ) → 1 ≤ s → s ≤ length rows → count_of_key (s ∷ []) rows ≡ 1
 
 -- no number stands twice
-abbrev pub NumbersDiffer : List Tuple → Type 0
-NumbersDiffer rows = (n : ℕ) → count_by (has_number n) rows ≤ 1
+abbrev pub NumbersStandOnce : List Tuple → Type 0
+NumbersStandOnce rows = (n : ℕ) → count_by (has_number n) rows ≤ 1
 
 -- some number stands twice
 abbrev pub NumberRepeats : List Tuple → Type 0

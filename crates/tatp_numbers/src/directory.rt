@@ -4,7 +4,7 @@ ghost use Rattle.indexmap.specs.IndexMap.{get};
 ghost use Rattle.tatp_tables.specs.Tuples.{set_of};
 ghost use Rattle.tatp_numbers.specs.Homes.{home_of_key};
 ghost use Rattle.tatp_numbers.specs.Listing.{answer};
-ghost use Rattle.tatp_numbers.specs.Lists.{s_id_at, IdsRunToLength, NumbersDiffer, NumberRepeats};
+ghost use Rattle.tatp_numbers.specs.Lists.{s_id_at, IdsRunToLength, NumbersStandOnce, NumberRepeats};
 ghost use Rattle.tatp_numbers.specs.declared.key.Key.{Key};
 
 use crate::{BuildError, Key};
@@ -39,7 +39,7 @@ impl Directory {
         requires { IdsRunToLength rows.now }
         ensures count { IfOk result (λ directory. directory.count ≡ length rows.now) }
         ensures homes { IfOk result (λ directory. (key : Key) → answer directory key ≡ home_of_key (set_of rows.now) key) }
-        ensures differ { OnOk result (NumbersDiffer rows.now) }
+        ensures once { OnOk result (NumbersStandOnce rows.now) }
         ensures twice { result ≡ Err BuildError.NumberTwice → NumberRepeats rows.now }
     {
         let s_ids = s_ids_by_number(alloc, rows)?;
@@ -69,7 +69,7 @@ impl Directory {
 /// The s_id at each number.
 fn s_ids_by_number(alloc: Global, rows: &[[u64; 34]]) -> Result<IndexMap<u64, u64>, BuildError>
     ensures found { IfOk result (λ s_ids. (number : ℕ) → get nat_eq s_ids number ≡ s_id_at rows.now number) }
-    ensures differ { OnOk result (NumbersDiffer rows.now) }
+    ensures once { OnOk result (NumbersStandOnce rows.now) }
     ensures twice { result ≡ Err BuildError.NumberTwice → NumberRepeats rows.now }
 {
     let mut s_ids = IndexMap::new(alloc);

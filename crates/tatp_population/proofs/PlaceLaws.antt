@@ -1,10 +1,11 @@
 -- Homes in the places of an extent.
-use Rattle.std.specs.Prelude.{◌≡◌, ◌≢◌, ◌↔◌, ℕ, ◌≤◌, ◌<◌, ◌+◌, true, false, Some, None, IsSome, is_some, slice_get, nat_lt, if◌then◌else◌, length}
+use Rattle.std.specs.Prelude.{◌≡◌, ◌≢◌, ◌↔◌, ℕ, ◌≤◌, ◌<◌, ◌+◌, true, false, Option, Some, None, IsSome, IsSomeAnd, is_some, slice_get, nat_lt, if◌then◌else◌, length}
 use Rattle.std.proofs.Common.{refl, sym, ◌∙◌, ap, subst, arith}
 use Rattle.std.proofs.Math.ListN.{set, length-set}
 use Rattle.std.proofs.lemmas.Bool.Decides.{nat_tests}
 use Rattle.tatp_tables.specs.Home.{SubscriberRows}
 use Rattle.tatp_population.specs.Extents.{ExtentState, IsExtent, LiesIn, home_at, first_subscriber, place_in, extent_of, with_home_at}
+use Rattle.tatp_population.specs.Pinning.{PinnedState, HasItsHome}
 use Rattle.tatp_population.proofs.ListLaws.{get_set_same, get_set_other, set_set, set_same, get_within, within_got}
 use Rattle.tatp_population.proofs.HistoryLaws.{at_place, in_order_at}
 
@@ -63,3 +64,11 @@ same_subscribers x s other home =
       λ lies. (lies.0, subst (λ n. other < first_subscriber x.number + n) long lies.1),
       λ lies. (lies.0, subst (λ n. other < first_subscriber x.number + n) (sym long) lies.1),
     )
+
+-- the home of the subscriber on which an extent is pinned is that subscriber's
+pub has_its_home : (p : PinnedState) → IsExtent p.extent → LiesIn p.s_id p.extent → HasItsHome p
+has_its_home p h lies =
+    let x : ExtentState = p.extent in
+    let home = get_within x.homes (place_in x.number p.s_id) (omega (arith, lies.0, lies.1)) in
+    let at : home_at x p.s_id ≡ Some home.0 = at_place x p.s_id lies.0 ∙ home.1 in
+    subst (λ (o : Option SubscriberRows). IsSomeAnd o (λ home. home.s_id ≡ p.s_id)) (sym at) (its_own x p.s_id home.0 h at)

@@ -16,8 +16,9 @@ use Rattle.tatp_tables.proofs.ValueLaws.{HasNoSpace, value_of-value_text, value_
 use Rattle.tatp_procs.specs.declared.call.Call.{Call}
 use Rattle.tatp_procs.specs.declared.call.Call.TheVariants.{GetSubscriberData, GetNewDestination, GetAccessData, UpdateSubscriberData, UpdateLocation, InsertCallForwarding, DeleteCallForwarding}
 use Rattle.tatp_procs.specs.Calls.{arguments_of}
+use Rattle.tatp_procs.specs.Arguments.{columns_of}
 use Rattle.tatp_procs.specs.ValuesText.{values_of, values_text, are_printable}
-use Rattle.tatp_procs.specs.CallText.{call_of_fields, call_of_line, name_of, columns_of, call_text, is_printable_call}
+use Rattle.tatp_procs.specs.CallText.{call_of_fields, call_of_line, name_of, call_text, is_printable_call}
 
 -- ---- values
 -- a value of each column, that prints in its form

@@ -72,7 +72,7 @@ filter-and p q (x ∷ xs) =
       | false ↦ filter-and p q xs
     ]
 
-nothing_passes : (p : Tuple → Bool) (xs : List Tuple) → filter (λ x. p x && false) xs ≡ []
+pub nothing_passes : (p : Tuple → Bool) (xs : List Tuple) → filter (λ x. p x && false) xs ≡ []
 nothing_passes p [] = refl
 nothing_passes p (x ∷ xs) =
     elim (p x) as (λ c. cond (c && false) (x ∷ filter (λ y. p y && false) xs) (filter (λ y. p y && false) xs) ≡ []) [

@@ -1,17 +1,16 @@
 -- A transaction on a database is the transaction on the rows of its subscriber.
-use Rattle.std.specs.Prelude.{◌≡◌, ℕ, Bool, true, false, cond, ◌&&◌, ◌||◌, not, nat_lt, nat_le, List, [], ◌∷◌, map, filter, drop, Option, Some, None, slice_index, slice_set}
+use Rattle.std.specs.Prelude.{◌≡◌, ℕ, Bool, true, false, cond, ◌&&◌, ◌||◌, not, nat_lt, nat_le, List, [], ◌∷◌, map, filter, drop, Option, Some, None, slice_index}
 use Rattle.std.specs.Option.{option_map}
 use Rattle.std.proofs.Common.{refl, sym, ap, subst, ◌∙◌, arith}
 use Rattle.std.proofs.lemmas.Bool.{and_parts, eqb-true, eq-eqb}
 use Rattle.tatp_tables.specs.Tuples.{Tuple, Tuples, has, same, rows_of, insert_row, remove_row, replace_row}
 use Rattle.tatp_tables.specs.Keys.{has_key, has_number, row_at, row_with_number}
-use Rattle.tatp_tables.specs.Database.{Database, rows_with_s_id, of_subscriber, with_subscriber}
+use Rattle.tatp_tables.specs.Database.{Database, rows_with_s_id, of_subscriber}
 use Rattle.tatp_tables.proofs.TupleLaws.{same_is, rows_of-retain_rows, has-insert_row, has-remove_row}
 use Rattle.tatp_tables.proofs.FindLaws.{found_in, found_passes}
 use Rattle.tatp_tables.proofs.KeyLaws.{first_is, has-found, has_key-head, row_at-key}
 use Rattle.tatp_tables.proofs.SubscriberLaws.{AreOf, AreOf-rows_with_s_id, HaveSId-of_subscriber, has-rows_with_s_id, with_subscriber-of_subscriber}
 use Rattle.tatp_tables.specs.Home.{HaveSId}
-use Rattle.tatp_tables.specs.declared.table.Table.{Table}
 use Rattle.tatp_tables.specs.declared.table.Table.TheVariants.{Subscriber, AccessInfo, SpecialFacility, CallForwarding}
 use Rattle.tatp_numbers.specs.declared.key.Key.{Key}
 use Rattle.tatp_numbers.specs.declared.key.Key.TheVariants.{Id, Number}
@@ -19,12 +18,13 @@ use Rattle.tatp_numbers.specs.Homes.{s_id_of, home_of_key}
 use Rattle.tatp_procs.specs.declared.call.Call.{Call}
 use Rattle.tatp_procs.specs.declared.call.Call.TheVariants.{GetSubscriberData, GetNewDestination, GetAccessData, UpdateSubscriberData, UpdateLocation, InsertCallForwarding, DeleteCallForwarding}
 use Rattle.tatp_procs.specs.Calls.{key_of_call}
-use Rattle.tatp_procs.specs.Transactions.{Answer, transaction, replies, fails, reads, numberx_of, start_time_of, end_time_of, is_active, is_destination, destinations, some_of, updates_both, moves, inserts_under, inserts_for, deletes, deletes_for, with_bit_1, with_data_a, with_vlr_location}
+use Rattle.tatp_procs.specs.Transactions.{transaction, replies, fails, reads, numberx_of, start_time_of, end_time_of, is_active, is_destination, destinations, some_of, updates_both, moves, inserts_under, inserts_for, deletes, deletes_for, with_bit_1, with_data_a, with_vlr_location}
 use Rattle.tatp_procs.specs.Consistent.{IsConsistent}
 use Rattle.tatp_procs.specs.Locality.{with_answer, IsLocal}
 use Rattle.tatp_procs.proofs.HomeRowLaws.{row_at-own, no_child}
 use Rattle.tatp_procs.proofs.UpdateLaws.{own_of, number_at_home, subscriber_replaced, both_replaced, set_own}
 use Rattle.tatp_procs.proofs.ForwardingLaws.{row_inserted, row_removed}
+use Rattle.tatp_procs.proofs.DestinationLaws.{nothing_passes}
 
 -- ---- keys
 -- an s_id names itself
@@ -167,14 +167,6 @@ none_names v k e = elim (row_at v (k ∷ [])) as (λ o. option_map s_id_of o ≡
 
 no_number : (v : Tuples) (n : ℕ) → home_of_key v (Number n) ≡ None → row_with_number v n ≡ None
 no_number v n e = elim (row_with_number v n) as (λ o. option_map s_id_of o ≡ None → o ≡ None) [ None ↦ λ h. refl | Some row ↦ λ h. absurd cc ] e
-
-nothing_passes : (p : Tuple → Bool) (xs : List Tuple) → filter (λ x. p x && false) xs ≡ []
-nothing_passes p [] = refl
-nothing_passes p (x ∷ xs) =
-    elim (p x) as (λ c. cond (c && false) (x ∷ filter (λ y. p y && false) xs) (filter (λ y. p y && false) xs) ≡ []) [
-      | true ↦ nothing_passes p xs
-      | false ↦ nothing_passes p xs
-    ]
 
 -- it fails as where no row is found
 pub fails_without_home : (call : Call) (u : Database) → IsConsistent u → home_of_key u.subscribers (key_of_call call) ≡ None → transaction call u ≡ fails u 1

@@ -5,61 +5,31 @@ use Rattle.tatp_tables.specs.Text.{fields_of}
 use Rattle.tatp_procs.specs.declared.call.Call.{Call}
 use Rattle.tatp_procs.specs.declared.call.Call.TheVariants.{GetSubscriberData, GetNewDestination, GetAccessData, UpdateSubscriberData, UpdateLocation, InsertCallForwarding, DeleteCallForwarding}
 use Rattle.tatp_procs.specs.Calls.{arguments_of}
+use Rattle.tatp_procs.specs.Arguments.{columns_of, get_subscriber_data_columns, get_new_destination_columns, get_access_data_columns, update_subscriber_data_columns, update_location_columns, insert_call_forwarding_columns, delete_call_forwarding_columns}
 use Rattle.tatp_procs.specs.ValuesText.{values_of, values_text, are_printable}
-
--- ---- the columns that arguments name
-abbrev pub s_id : ℕ
-s_id = 0
-
-abbrev pub sub_nbr : ℕ
-sub_nbr = 1
-
-abbrev pub bit_1 : ℕ
-bit_1 = 2
-
-abbrev pub vlr_location : ℕ
-vlr_location = 33
-
-abbrev pub ai_type : ℕ
-ai_type = 35
-
-abbrev pub sf_type : ℕ
-sf_type = 41
-
-abbrev pub data_a : ℕ
-data_a = 44
-
-abbrev pub start_time : ℕ
-start_time = 48
-
-abbrev pub end_time : ℕ
-end_time = 49
-
-abbrev pub numberx : ℕ
-numberx = 50
 
 -- ---- the call of a line
 -- the call whose arguments the fields are: one of each column that they name
 abbrev pub get_subscriber_data_of : List (List ℕ) → Option Call
-get_subscriber_data_of fields = option_map (λ a. GetSubscriberData (slice_index a 0)) (values_of (s_id ∷ []) fields)
+get_subscriber_data_of fields = option_map (λ a. GetSubscriberData (slice_index a 0)) (values_of get_subscriber_data_columns fields)
 
 abbrev pub get_new_destination_of : List (List ℕ) → Option Call
-get_new_destination_of fields = option_map (λ a. GetNewDestination (slice_index a 0) (slice_index a 1) (slice_index a 2) (slice_index a 3)) (values_of (s_id ∷ sf_type ∷ start_time ∷ end_time ∷ []) fields)
+get_new_destination_of fields = option_map (λ a. GetNewDestination (slice_index a 0) (slice_index a 1) (slice_index a 2) (slice_index a 3)) (values_of get_new_destination_columns fields)
 
 abbrev pub get_access_data_of : List (List ℕ) → Option Call
-get_access_data_of fields = option_map (λ a. GetAccessData (slice_index a 0) (slice_index a 1)) (values_of (s_id ∷ ai_type ∷ []) fields)
+get_access_data_of fields = option_map (λ a. GetAccessData (slice_index a 0) (slice_index a 1)) (values_of get_access_data_columns fields)
 
 abbrev pub update_subscriber_data_of : List (List ℕ) → Option Call
-update_subscriber_data_of fields = option_map (λ a. UpdateSubscriberData (slice_index a 0) (slice_index a 1) (slice_index a 2) (slice_index a 3)) (values_of (s_id ∷ bit_1 ∷ sf_type ∷ data_a ∷ []) fields)
+update_subscriber_data_of fields = option_map (λ a. UpdateSubscriberData (slice_index a 0) (slice_index a 1) (slice_index a 2) (slice_index a 3)) (values_of update_subscriber_data_columns fields)
 
 abbrev pub update_location_of : List (List ℕ) → Option Call
-update_location_of fields = option_map (λ a. UpdateLocation (slice_index a 0) (slice_index a 1)) (values_of (sub_nbr ∷ vlr_location ∷ []) fields)
+update_location_of fields = option_map (λ a. UpdateLocation (slice_index a 0) (slice_index a 1)) (values_of update_location_columns fields)
 
 abbrev pub insert_call_forwarding_of : List (List ℕ) → Option Call
-insert_call_forwarding_of fields = option_map (λ a. InsertCallForwarding (slice_index a 0) (slice_index a 1) (slice_index a 2) (slice_index a 3) (slice_index a 4)) (values_of (sub_nbr ∷ sf_type ∷ start_time ∷ end_time ∷ numberx ∷ []) fields)
+insert_call_forwarding_of fields = option_map (λ a. InsertCallForwarding (slice_index a 0) (slice_index a 1) (slice_index a 2) (slice_index a 3) (slice_index a 4)) (values_of insert_call_forwarding_columns fields)
 
 abbrev pub delete_call_forwarding_of : List (List ℕ) → Option Call
-delete_call_forwarding_of fields = option_map (λ a. DeleteCallForwarding (slice_index a 0) (slice_index a 1) (slice_index a 2)) (values_of (sub_nbr ∷ sf_type ∷ start_time ∷ []) fields)
+delete_call_forwarding_of fields = option_map (λ a. DeleteCallForwarding (slice_index a 0) (slice_index a 1) (slice_index a 2)) (values_of delete_call_forwarding_columns fields)
 
 -- by its name
 abbrev pub call_of_fields : List (List ℕ) → Option Call
@@ -88,16 +58,6 @@ name_of (UpdateSubscriberData s x t y) = codes "UPDATE_SUBSCRIBER_DATA"
 name_of (UpdateLocation n v) = codes "UPDATE_LOCATION"
 name_of (InsertCallForwarding n t b e x) = codes "INSERT_CALL_FORWARDING"
 name_of (DeleteCallForwarding n t b) = codes "DELETE_CALL_FORWARDING"
-
--- the columns that its arguments name
-abbrev pub columns_of : Call → List ℕ
-columns_of (GetSubscriberData s) = s_id ∷ []
-columns_of (GetNewDestination s t b e) = s_id ∷ sf_type ∷ start_time ∷ end_time ∷ []
-columns_of (GetAccessData s t) = s_id ∷ ai_type ∷ []
-columns_of (UpdateSubscriberData s x t y) = s_id ∷ bit_1 ∷ sf_type ∷ data_a ∷ []
-columns_of (UpdateLocation n v) = sub_nbr ∷ vlr_location ∷ []
-columns_of (InsertCallForwarding n t b e x) = sub_nbr ∷ sf_type ∷ start_time ∷ end_time ∷ numberx ∷ []
-columns_of (DeleteCallForwarding n t b) = sub_nbr ∷ sf_type ∷ start_time ∷ []
 
 -- its name and its arguments
 abbrev pub call_text : Call → List ℕ

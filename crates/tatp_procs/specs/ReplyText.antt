@@ -8,7 +8,7 @@ use Rattle.tatp_procs.specs.declared.ask.Ask.{Ask}
 use Rattle.tatp_procs.specs.declared.ask.Ask.TheVariants.{Txn, Raw}
 use Rattle.tatp_procs.specs.declared.reply.Reply.{Reply}
 use Rattle.tatp_procs.specs.declared.reply.Reply.TheVariants.{Values, Failed, Trapped, Refused}
-use Rattle.tatp_procs.specs.CallText.{numberx}
+use Rattle.tatp_procs.specs.Arguments.{numberx}
 use Rattle.tatp_procs.specs.ValuesText.{values_text}
 
 -- the columns that a transaction answers: those of a Subscriber row; as many numbers as a reply may have; data1 to data4

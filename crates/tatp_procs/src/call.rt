@@ -121,6 +121,6 @@ fn kept(arguments: &[u64]) -> ArrayVec<u64, 8>
     ensures { result.items ≡ arguments.now }
 {
     let mut all: ArrayVec<u64, 8> = ArrayVec::new();
-    let _fits = all.try_extend_from_slice(arguments);
+    all.try_extend_from_slice(arguments).unwrap();
     all
 }

@@ -1,14 +1,12 @@
 //! The call of a line, and the line of a call.
 ghost use Rattle.std.specs.Prelude.{◌≡◌, true, Some, IfOk, IfSome};
 ghost use Rattle.std.specs.String.{string_bytes};
-ghost use Rattle.tatp_procs.specs.CallText.{call_of_line, call_text, is_printable_call, name_of, columns_of};
+ghost use Rattle.tatp_procs.specs.CallText.{call_of_line, call_text, is_printable_call, name_of};
 
 mod arguments;
 
 use crate::Call;
-use crate::domains::{
-    AI_TYPE, BIT_1, DATA_A, END_TIME, NUMBERX, S_ID, SF_TYPE, START_TIME, SUB_NBR, VLR_LOCATION,
-};
+use crate::columns::columns;
 use crate::values::with_values;
 use std::alloc::{AllocError, Global};
 use tatp_tables::Fields;
@@ -58,21 +56,6 @@ fn name(call: &Call) -> &'static str
         Call::UpdateLocation { .. } => "UPDATE_LOCATION",
         Call::InsertCallForwarding { .. } => "INSERT_CALL_FORWARDING",
         Call::DeleteCallForwarding { .. } => "DELETE_CALL_FORWARDING",
-    }
-}
-
-/// The columns that its arguments name.
-fn columns(call: &Call) -> &'static [u8]
-    ensures { result.now ≡ columns_of call.now }
-{
-    match call {
-        Call::GetSubscriberData { .. } => &[S_ID],
-        Call::GetNewDestination { .. } => &[S_ID, SF_TYPE, START_TIME, END_TIME],
-        Call::GetAccessData { .. } => &[S_ID, AI_TYPE],
-        Call::UpdateSubscriberData { .. } => &[S_ID, BIT_1, SF_TYPE, DATA_A],
-        Call::UpdateLocation { .. } => &[SUB_NBR, VLR_LOCATION],
-        Call::InsertCallForwarding { .. } => &[SUB_NBR, SF_TYPE, START_TIME, END_TIME, NUMBERX],
-        Call::DeleteCallForwarding { .. } => &[SUB_NBR, SF_TYPE, START_TIME],
     }
 }
 

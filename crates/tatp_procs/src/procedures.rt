@@ -23,8 +23,8 @@ use writes::{
     delete_call_forwarding, insert_call_forwarding, update_location, update_subscriber_data,
 };
 
-/// The standard module. Run alone on a database that passes the audits A2 to A6, each of its procedures
-/// is its transaction, for all arguments in their domains.
+/// The standard module. Run alone on a consistent database, each of its procedures is its transaction, for
+/// all arguments in their domains.
 pub fn standard(alloc: Global) -> Result<Loaded, AllocError>
     ensures value { IfOk result (λ loaded. loaded ≡ standard_module) }
     ensures transactions { IfOk result (λ loaded. (call : Call) (u : Database) → IsConsistent u → arguments_accepted call ≡ Ok tt → Performs loaded call u) }

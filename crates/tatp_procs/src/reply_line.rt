@@ -5,7 +5,7 @@ ghost use Rattle.tatp_machine.specs.Traps.{trap_name};
 ghost use Rattle.tatp_procs.specs.Extends.{Extends};
 ghost use Rattle.tatp_procs.specs.ReplyText.{answer_columns, reply_columns, reply_text};
 
-use crate::domains::NUMBERX;
+use crate::columns::NUMBERX;
 use crate::values::{NO_COLUMN, push_values};
 use crate::{Ask, Call, Reply};
 use std::alloc::{AllocError, Global};

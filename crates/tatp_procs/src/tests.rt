@@ -1,5 +1,3 @@
-//! The standard module and its seven procedures, the parts of calls, and replies.
+//! The standard module, the parts of calls and replies.
 mod calls;
-mod fixture;
 mod module;
-mod runs;

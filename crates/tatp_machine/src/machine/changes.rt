@@ -6,14 +6,15 @@ ghost use Rattle.tatp_machine.specs.Machines.{Turns};
 ghost use Rattle.tatp_machine.specs.Sound.{Fits};
 
 use super::Machine;
-use crate::change::Change;
+use crate::change::{Change, byte};
 use crate::{End, Progress, Trap};
 use tatp_instr::{Instr, Register, RowRegisters};
-use tatp_tables::{Home, Refusal, Table};
+use tatp_tables::{Home, Refusal, Table, what_holds_of_every_home};
 
 impl<'m> Machine<'m> {
     /// Ends the call with a failure or a trap.
     pub(super) fn fail(&mut self, home: &mut Home, n: u32) -> Progress
+        requires { self.old.frame.home ≡ Some home.old.s_id }
         ensures turns { Turns (Stops (End.Failed n)) self.old home.old.tables result self.new home.new.tables }
         ensures same { home.new.s_id ≡ home.old.s_id }
     {
@@ -21,6 +22,7 @@ impl<'m> Machine<'m> {
     }
 
     fn trap(&mut self, home: &mut Home, trap: Trap) -> Progress
+        requires { self.old.frame.home ≡ Some home.old.s_id }
         ensures turns { Turns (Stops (End.Trapped trap)) self.old home.old.tables result self.new home.new.tables }
         ensures same { home.new.s_id ≡ home.old.s_id }
     {
@@ -28,7 +30,8 @@ impl<'m> Machine<'m> {
     }
 
     pub(super) fn get(&mut self, home: &mut Home, d: Register, column: u32) -> Progress
-        requires { Fits (length self.old.frame.arguments) (length self.old.frame.code) self.old.frame.pc (Instr.Get d column) }
+        requires home { self.old.frame.home ≡ Some home.old.s_id }
+        requires fits { Fits (length self.old.frame.arguments) (length self.old.frame.code) self.old.frame.pc (Instr.Get d column) }
         ensures turns { Turns (act (Instr.Get d column) self.old.frame home.old.tables) self.old home.old.tables result self.new home.new.tables }
         ensures same { home.new.s_id ≡ home.old.s_id }
     {
@@ -42,6 +45,7 @@ impl<'m> Machine<'m> {
     }
 
     pub(super) fn put(&mut self, home: &mut Home, column: u32, a: Register) -> Progress
+        requires home { self.old.frame.home ≡ Some home.old.s_id }
         requires here { slice_get self.old.frame.code self.old.frame.pc ≡ Some (Instr.Put column a) }
         requires fits { Fits (length self.old.frame.arguments) (length self.old.frame.code) self.old.frame.pc (Instr.Put column a) }
         ensures turns { Turns (act (Instr.Put column a) self.old.frame home.old.tables) self.old home.old.tables result self.new home.new.tables }
@@ -50,10 +54,12 @@ impl<'m> Machine<'m> {
         let Some(key) = self.key_of_column(column) else {
             return self.trap(home, Trap::NoCurrent);
         };
+        what_holds_of_every_home(home);
         match home.put(column as u8, key, self.value(a)) {
             Ok(before) => self.note(Change::Put {
-                column,
-                key,
+                column: column as u8,
+                row_type: byte(key[1]),
+                start_time: byte(key[2]),
                 before,
             }),
             Err(Refusal::Domain) => self.trap(home, Trap::Domain),
@@ -62,17 +68,20 @@ impl<'m> Machine<'m> {
     }
 
     pub(super) fn ins(&mut self, home: &mut Home, d: Register, a: RowRegisters) -> Progress
+        requires home { self.old.frame.home ≡ Some home.old.s_id }
         requires here { slice_get self.old.frame.code self.old.frame.pc ≡ Some (Instr.Ins d a) }
         requires fits { Fits (length self.old.frame.arguments) (length self.old.frame.code) self.old.frame.pc (Instr.Ins d a) }
         ensures turns { Turns (act (Instr.Ins d a) self.old.frame home.old.tables) self.old home.old.tables result self.new home.new.tables }
         ensures same { home.new.s_id ≡ home.old.s_id }
     {
         let row = self.five_values(a);
+        what_holds_of_every_home(home);
         match home.insert_cf(row) {
             Ok(()) => {
                 self.write(d, 1);
                 self.note(Change::Inserted {
-                    key: [row[0], row[1], row[2]],
+                    sf_type: byte(row[1]),
+                    start_time: byte(row[2]),
                 })
             }
             Err(Refusal::Domain) => self.trap(home, Trap::Domain),
@@ -82,6 +91,7 @@ impl<'m> Machine<'m> {
     }
 
     pub(super) fn del(&mut self, home: &mut Home) -> Progress
+        requires home { self.old.frame.home ≡ Some home.old.s_id }
         requires here { slice_get self.old.frame.code self.old.frame.pc ≡ Some Instr.Del }
         requires fits { Fits (length self.old.frame.arguments) (length self.old.frame.code) self.old.frame.pc Instr.Del }
         ensures turns { Turns (act Instr.Del self.old.frame home.old.tables) self.old home.old.tables result self.new home.new.tables }
@@ -90,10 +100,16 @@ impl<'m> Machine<'m> {
         let Some(key) = self.current(Table::CallForwarding) else {
             return self.trap(home, Trap::NoCurrent);
         };
+        what_holds_of_every_home(home);
         match home.delete_cf(key) {
             Ok(row) => {
                 self.make_current(Table::CallForwarding, None);
-                self.note(Change::Deleted { row })
+                self.note(Change::Deleted {
+                    sf_type: byte(row[1]),
+                    start_time: byte(row[2]),
+                    end_time: byte(row[3]),
+                    numberx: row[4],
+                })
             }
             Err(_) => self.trap(home, Trap::NoCurrent),
         }

@@ -3,8 +3,9 @@ ghost use Rattle.std.specs.Prelude.{◌≡◌};
 ghost use Rattle.tatp_procs.specs.CallText.{get_subscriber_data_of, get_new_destination_of, get_access_data_of, update_subscriber_data_of, update_location_of, insert_call_forwarding_of, delete_call_forwarding_of};
 
 use crate::Call;
-use crate::domains::{
-    AI_TYPE, BIT_1, DATA_A, END_TIME, NUMBERX, S_ID, SF_TYPE, START_TIME, SUB_NBR, VLR_LOCATION,
+use crate::columns::{
+    DELETE_CALL_FORWARDING, GET_ACCESS_DATA, GET_NEW_DESTINATION, GET_SUBSCRIBER_DATA,
+    INSERT_CALL_FORWARDING, UPDATE_LOCATION, UPDATE_SUBSCRIBER_DATA,
 };
 use crate::values::read_values;
 use tatp_tables::Fields;
@@ -12,17 +13,14 @@ use tatp_tables::Fields;
 pub(super) fn get_subscriber_data(fields: &mut Fields) -> Option<Call>
     ensures { result ≡ get_subscriber_data_of fields.old }
 {
-    let [s_id] = read_values(fields, &[S_ID])?;
+    let [s_id] = read_values(fields, &GET_SUBSCRIBER_DATA)?;
     Some(Call::GetSubscriberData { s_id })
 }
 
 pub(super) fn get_new_destination(fields: &mut Fields) -> Option<Call>
     ensures { result ≡ get_new_destination_of fields.old }
 {
-    let [s_id, sf_type, start_time, end_time] = read_values(
-        fields,
-        &[S_ID, SF_TYPE, START_TIME, END_TIME],
-    )?;
+    let [s_id, sf_type, start_time, end_time] = read_values(fields, &GET_NEW_DESTINATION)?;
     Some(Call::GetNewDestination {
         s_id,
         sf_type,
@@ -34,14 +32,14 @@ pub(super) fn get_new_destination(fields: &mut Fields) -> Option<Call>
 pub(super) fn get_access_data(fields: &mut Fields) -> Option<Call>
     ensures { result ≡ get_access_data_of fields.old }
 {
-    let [s_id, ai_type] = read_values(fields, &[S_ID, AI_TYPE])?;
+    let [s_id, ai_type] = read_values(fields, &GET_ACCESS_DATA)?;
     Some(Call::GetAccessData { s_id, ai_type })
 }
 
 pub(super) fn update_subscriber_data(fields: &mut Fields) -> Option<Call>
     ensures { result ≡ update_subscriber_data_of fields.old }
 {
-    let [s_id, bit_1, sf_type, data_a] = read_values(fields, &[S_ID, BIT_1, SF_TYPE, DATA_A])?;
+    let [s_id, bit_1, sf_type, data_a] = read_values(fields, &UPDATE_SUBSCRIBER_DATA)?;
     Some(Call::UpdateSubscriberData {
         s_id,
         bit_1,
@@ -53,7 +51,7 @@ pub(super) fn update_subscriber_data(fields: &mut Fields) -> Option<Call>
 pub(super) fn update_location(fields: &mut Fields) -> Option<Call>
     ensures { result ≡ update_location_of fields.old }
 {
-    let [sub_nbr, vlr_location] = read_values(fields, &[SUB_NBR, VLR_LOCATION])?;
+    let [sub_nbr, vlr_location] = read_values(fields, &UPDATE_LOCATION)?;
     Some(Call::UpdateLocation {
         sub_nbr,
         vlr_location,
@@ -65,7 +63,7 @@ pub(super) fn insert_call_forwarding(fields: &mut Fields) -> Option<Call>
 {
     let [sub_nbr, sf_type, start_time, end_time, numberx] = read_values(
         fields,
-        &[SUB_NBR, SF_TYPE, START_TIME, END_TIME, NUMBERX],
+        &INSERT_CALL_FORWARDING,
     )?;
     Some(Call::InsertCallForwarding {
         sub_nbr,
@@ -79,7 +77,7 @@ pub(super) fn insert_call_forwarding(fields: &mut Fields) -> Option<Call>
 pub(super) fn delete_call_forwarding(fields: &mut Fields) -> Option<Call>
     ensures { result ≡ delete_call_forwarding_of fields.old }
 {
-    let [sub_nbr, sf_type, start_time] = read_values(fields, &[SUB_NBR, SF_TYPE, START_TIME])?;
+    let [sub_nbr, sf_type, start_time] = read_values(fields, &DELETE_CALL_FORWARDING)?;
     Some(Call::DeleteCallForwarding {
         sub_nbr,
         sf_type,

@@ -1,7 +1,10 @@
 use Rattle.std.proofs.Common.{◌≡◌, ◌++◌, ◌∷◌, [], ◌+◌, take, sym, ap, ◌∙◌, List, ℕ}
 use Rattle.std.proofs.lemmas.Grind.{take_at_read}
 use Rattle.tatp_asm.specs.Printing.{procedure_lines, lines_text}
-use Rattle.tatp_asm.proofs.PushLaws.{module_text-push, HaveInstrs-push}
+use Rattle.tatp_asm.proofs.PushLaws.{module_text-push}
+use Rattle.std.specs.Prelude.{All}
+use Rattle.std.proofs.lemmas.List.Elements.{All-push}
+use Rattle.tatp_encoding.specs.Spelling.{IsInstr}
 use Rattle.tatp_asm.proofs.printing.module_text.Goals as goal
 
 pub loop-procedure-preserved : goal.loop-procedure-preserved
@@ -13,5 +16,5 @@ loop-procedure-preserved c =
     (take_at_read procs n p c.loop-procedure-test.true).1 ∙ ap (λ x. take n procs ++ x ∷ []) (sym c.procedure-item.is) in
     rw more (record {
       lines = c.in_ok-push_procedure.ensures.lines ∙ (ap (λ (t : List ℕ). t ++ lines_text (procedure_lines p)) c.loop-procedure.invariant.lines ∙ sym (module_text-push (take n procs) p));
-      instrs = HaveInstrs-push (take n procs) p c.loop-procedure.invariant.instrs c.in_ok-push_procedure.ensures.instrs;
+      instrs = All-push (λ p. All IsInstr p.code) (take n procs) p c.loop-procedure.invariant.instrs c.in_ok-push_procedure.ensures.instrs;
     })

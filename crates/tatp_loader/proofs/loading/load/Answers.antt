@@ -4,5 +4,5 @@ use Rattle.tatp_loader.proofs.AgainLaws.{lawful_again}
 use Rattle.tatp_loader.proofs.loading.load.Goals as goal
 
 pub returns-clause-only : goal.returns-clause-only
-returns-clause-only c = λ m is lawful e.
-    subst (Gives (λ loaded. loaded) c.lawful_module.result) (ap lawful_module_at e ∙ lawful_again c.instructions_are_read_as_spelled.ensures m is lawful) c.lawful_module.ensures.exact
+returns-clause-only c = λ m is instrs lawful e.
+    subst (Gives (λ loaded. loaded) c.lawful_module.result) (ap lawful_module_at e ∙ lawful_again c.instructions_are_read_as_spelled.ensures m is instrs lawful) c.lawful_module.ensures.exact

@@ -3,7 +3,7 @@ use Rattle.std.proofs.lemmas.List.{drop-drop, length-drop}
 use Rattle.std.proofs.lemmas.Result.{err_from_is_err_and}
 use Rattle.tatp_loader.specs.ModuleBytes.{procedures_bytes}
 use Rattle.tatp_loader.specs.Reading.{procedures_at}
-use Rattle.tatp_loader.proofs.LoopLaws.{behind, one_more, ends_so, all_read, behind_nothing}
+use Rattle.tatp_loader.proofs.LoopLaws.{joined, one_more, ends_so, all_read, joined_to_nothing}
 use Rattle.tatp_loader.proofs.ReadingLaws.{one_more_fits, procedures_repeat, procedures_go_on, procedures_bytes-nil}
 use Rattle.tatp_loader.proofs.reading.procedures_at.Goals as goal
 
@@ -11,7 +11,7 @@ pub loop-n-init : goal.loop-n-init
 loop-n-init c =
     let all : c.args.count - 0 ≡ c.args.count = omega arith in
     rw c.in_ok-procs.ensures.items (record {
-      read = ap (λ k. behind [] (procedures_at 0 k c.args.bytes.now)) all ∙ behind_nothing _;
+      read = ap (λ k. joined [] (procedures_at 0 k c.args.bytes.now)) all ∙ joined_to_nothing _;
       spelled = ap (λ front. front ++ c.args.bytes.now) (sym procedures_bytes-nil);
       place = refl;
       within = omega arith;

@@ -1,6 +1,6 @@
 use Rattle.std.proofs.Common.{sym, ◌∙◌, ap, subst, ◌≡◌, ◌==◌, [], slice_index, slice_index_or, take, cond, Option, Some, None, ℕ}
 use Rattle.std.proofs.lemmas.List.{get_or_default, take_all}
-use Rattle.tatp_numbers.specs.Lists.{s_id_at, NumbersDiffer}
+use Rattle.tatp_numbers.specs.Lists.{s_id_at, NumbersStandOnce}
 use Rattle.tatp_numbers.proofs.NumberLaws.{one_more, differ_more, repeats}
 use Rattle.tatp_numbers.proofs.directory.s_ids_by_number.Goals as goal
 
@@ -26,5 +26,5 @@ loop-row-preserved c =
       differ = differ_more rows i row lt is none c.loop-row.invariant.differ;
     }
 
-pub returns-clause-differ : goal.returns-clause-differ
-returns-clause-differ c = subst NumbersDiffer (take_all c.loop-row.row-index c.args.rows.now c.loop-row-test.false) c.loop-row.invariant.differ
+pub returns-clause-once : goal.returns-clause-once
+returns-clause-once c = subst NumbersStandOnce (take_all c.loop-row.row-index c.args.rows.now c.loop-row-test.false) c.loop-row.invariant.differ

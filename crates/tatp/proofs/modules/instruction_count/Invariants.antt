@@ -1,9 +1,0 @@
-use Rattle.std.proofs.Common.{◌≡◌, ◌*◌, ◌≤◌, take}
-use Rattle.tatp.specs.ModuleCommands.{instruction_count}
-use Rattle.tatp.proofs.modules.instruction_count.Given as goal
-
-abbrev pub invariant-loop-procedure : goal.invariant-loop-procedure
-invariant-loop-procedure l = record {
-  total : l.count ≡ instruction_count (take l.procedure-index l.procs);
-  within : l.count ≤ 256 * l.procedure-index;
-}

@@ -1,0 +1,21 @@
+-- The lines of a text before its first label or instruction: until there, reading keeps nothing.
+use Rattle.std.specs.Prelude.{◌≡◌, ℕ, ◌<◌, Bool, true, false, List, length, Option, Some, None, IfSome, slice_get}
+use Rattle.tatp_lines.specs.Lines.{lines_of}
+use Rattle.tatp_asm.specs.Lines.{Line, Names, Does}
+use Rattle.tatp_asm.specs.Words.{line_of_bytes}
+use Rattle.tatp_asm.specs.Reading.{Open}
+
+-- a label or an instruction
+abbrev pub is_code : Option Line → Bool
+is_code None = false
+is_code (Some (Names label)) = true
+is_code (Some (Does instr label)) = true
+is_code (Some line) = false
+
+-- none of the first n lines of the text is one
+abbrev pub HasNoCodeUpTo : List ℕ → ℕ → Type 0
+HasNoCodeUpTo text n = (k : ℕ) (line : List ℕ) → k < n → slice_get (lines_of text) k ≡ Some line → is_code (line_of_bytes line) ≡ false
+
+-- the procedure under way, if there is one, has no instruction yet
+abbrev pub IsBare : Option Open → Type 0
+IsBare current = IfSome current (λ o. length o.code ≡ 0)

@@ -1,0 +1,23 @@
+//! The commands of the program `tatp`: what each reads, writes and refuses, over any reader and writer.
+#![tactic(auto)]
+
+mod audit;
+mod fault;
+mod laws;
+mod modules;
+mod population;
+mod rows;
+mod running;
+mod serving;
+mod streams;
+mod subscribers;
+
+pub use audit::run_audit;
+pub use fault::Fault;
+pub use laws::served_calls_are_in_order;
+pub use modules::{run_asm, run_check, run_dis};
+pub use population::Population;
+pub use serving::serve;
+
+#[cfg(test)]
+mod tests;

@@ -6,8 +6,7 @@ use Rattle.tatp_tables.specs.Database.{Database, no_tables}
 use Rattle.tatp_tables.specs.Home.{SubscriberRows, IsHome}
 use Rattle.tatp_numbers.specs.Homes.{home_of_key}
 use Rattle.tatp_machine.specs.Calls.{Frame, entered}
-use Rattle.tatp_machine.specs.Machines.{MachineState, machine_at_entry}
-use Rattle.tatp_machine.specs.Undo.{undone}
+use Rattle.tatp_machine.specs.Machines.{MachineState, machine_at_entry, call_state}
 use Rattle.tatp_population.specs.Extents.{ExtentState, extent_of, home_at}
 use Rattle.tatp_population.specs.HomelessLog.{HomelessState}
 use Rattle.tatp_population.specs.Pinning.{PinnedState}
@@ -113,8 +112,8 @@ begun_pinned_by a item h x m laws sound may fits at has entering =
     let slots : with_pinned (set a.slots e None) (Some p) ≡ s.slots =
     ap (λ (n : ℕ). set (set a.slots e None) n (Some x)) number ∙ set_set a.slots e None (Some x) ∙ set_same a.slots e (Some x) has ∙ same_slots in
     let frame : m.frame ≡ entered s.procedures (procedure_asked item.ask) (arguments_asked item.ask) item.home = ap (λ (k : MachineState). k.frame) entering in
-    let rows : undone m.changes (rows_shown (Some p)) ≡ rows_here s item.home =
-    ap (λ (k : MachineState). undone k.changes (rows_shown (Some p))) entering
+    let rows : (call_state m (rows_shown (Some p))).entry ≡ rows_here s item.home =
+    ap (λ (k : MachineState). (call_state k (rows_shown (Some p))).entry) entering
     ∙ sym (ap (rows_here s) at ∙ ap (λ v. option_map_or (λ (k : SubscriberRows). k.tables) (option_and_then (λ (z : ExtentState). home_at z h) (option_flatten v)) no_tables) here) in
     let r : Runner = record { item = item; machine = m; pinned = Some p } in
     let shows : site_of (record a { slots = set a.slots e None; running = Some r }) ≡ begun s item = λ i. record s {

@@ -16,6 +16,3 @@ mod verdict;
 pub use audits::audit;
 pub use laws::each_audit_is_its_statement;
 pub use verdict::{FailedKey, Verdict};
-
-#[cfg(test)]
-mod tests;

@@ -59,7 +59,10 @@ impl fmt::Display for FailedKey {
             FailedKey::S([s_id]) => write!(f, "S {s_id}"),
             FailedKey::A([s_id, ai_type]) => write!(f, "A {s_id} {ai_type}"),
             FailedKey::F([s_id, sf_type]) => write!(f, "F {s_id} {sf_type}"),
-            FailedKey::C([s_id, sf_type, start_time]) => write!(f, "C {s_id} {sf_type} {start_time}"),
+            FailedKey::C([s_id, sf_type, start_time]) => write!(
+                f,
+                "C {s_id} {sf_type} {start_time}"
+            ),
         }
     }
 }

@@ -107,18 +107,3 @@ IsClean-two_subscribers = record {
     forwardings = both (λ row. IsCountWithin 0 3 (count_of_key (take 2 row) two_subscribers.forwardings)) (facility 1) (facility 2) (lit≤ tt, lit≤ tt) (lit≤ tt, lit≤ tt);
   };
 }
-
--- ---- a module of one procedure
-abbrev pub procedure_with : ℕ → List Instr → Procedure
-procedure_with arity code = record { name = codes "TEST"; arity = arity; code = code }
-
-within : (least most n : ℕ) → least ≤ n → n ≤ most → is_from_to least most n ≡ true
-within least most n h k = grind (arith, nat_tests)
-
-at_most : (n most : ℕ) → n ≤ most → nat_le n most ≡ true
-at_most n most h = grind (arith, nat_tests)
-
-pub module_of : (arity : ℕ) (code : List Instr) → arity ≤ 8 → 1 ≤ length code → length code ≤ 256 → jumps_stay (procedure_with arity code) ≡ true → is_module (procedure_with arity code ∷ []) ≡ true
-module_of arity code few some most jumps =
-    let procedure : is_procedure (procedure_with arity code) ≡ true = λ i. at_most arity 8 few i && within 1 256 (length code) some most i in
-    λ i. (procedure i && true) && (jumps i && true)

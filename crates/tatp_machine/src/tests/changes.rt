@@ -1,173 +1,291 @@
 //! GET, PUT, INS and DEL, with their traps.
-use super::fixture::{call, key, r, row, second_home};
+use super::{Case, RUN, Run};
 use crate::{End, Trap};
-use std::test::Fail;
-use tatp_instr::Instr;
 
-#[test]
-fn reads_current_rows(rt: HostRuntime) -> Result<(), Fail> {
-    let mut home = second_home(rt.alloc())?;
-    let code = [
-        Instr::Arg(r(0), 0),
-        Instr::Ldi(r(1), 1),
-        Instr::Fsub(r(2), r(0)),
-        Instr::Facc(r(2), r(0), r(1)),
-        Instr::Ffac(r(2), r(0), r(1)),
-        Instr::Get(r(3), 0),
-        Instr::Get(r(4), 33),
-        Instr::Get(r(5), 38),
-        Instr::Get(r(6), 45),
-        Instr::Get(r(7), 50),
-        Instr::Done,
-    ];
-    let ran = call(rt.alloc(), &mut home, &code, &[2])?;
-    assert_eq!(rt; ran.running, 9);
-    assert_eq!(rt; ran.end, End::Trapped(Trap::NoCurrent));
-    assert_eq!(rt; ran.registers[3], 2);
-    assert_eq!(rt; ran.registers[4], 1);
-    assert_eq!(rt; ran.registers[5], 4276545);
-    assert_eq!(rt; ran.registers[6], 280267669825);
-    assert_eq!(rt; ran.registers[7], 0);
-    Ok(())
-}
-
-#[test]
-fn sets_columns_and_reads_what_it_set(rt: HostRuntime) -> Result<(), Fail> {
-    let mut home = second_home(rt.alloc())?;
-    let code = [
-        Instr::Arg(r(0), 0),
-        Instr::Fsub(r(1), r(0)),
-        Instr::Ldi(r(2), 4294967295),
-        Instr::Put(33, r(2)),
-        Instr::Get(r(3), 33),
-        Instr::Done,
-    ];
-    let ran = call(rt.alloc(), &mut home, &code, &[2])?;
-    assert_eq!(rt; ran.running, 5);
-    assert_eq!(rt; ran.end, End::Done);
-    assert_eq!(rt; ran.registers[3], 4294967295);
-    assert_eq!(rt; home.get(33, [2, 0, 0]), Some(4294967295));
-    Ok(())
-}
-
-#[test]
-fn a_put_asks_for_a_current_row_before_the_domain(rt: HostRuntime) -> Result<(), Fail> {
-    let mut home = second_home(rt.alloc())?;
-    let none = [Instr::Put(33, r(0)), Instr::Done];
-    let ran = call(rt.alloc(), &mut home, &none, &[])?;
-    assert_eq!(rt; ran.running, 0);
-    assert_eq!(rt; ran.end, End::Trapped(Trap::NoCurrent));
-    let outside = [
-        Instr::Arg(r(0), 0),
-        Instr::Fsub(r(1), r(0)),
-        Instr::Put(2, r(1)),
-        Instr::Put(32, r(0)),
-        Instr::Put(33, r(5)),
-        Instr::Done,
-    ];
-    let ran = call(rt.alloc(), &mut home, &outside, &[2])?;
-    assert_eq!(rt; ran.running, 4);
-    assert_eq!(rt; ran.end, End::Trapped(Trap::Domain));
-    assert_eq!(rt; home.get(2, [2, 0, 0]), Some(0));
-    assert_eq!(rt; home.get(32, [2, 0, 0]), Some(1));
-    assert_eq!(rt; home.get(33, [2, 0, 0]), Some(1));
-    Ok(())
-}
-
-#[test]
-fn inserts(rt: HostRuntime) -> Result<(), Fail> {
-    let mut home = second_home(rt.alloc())?;
-    let code = [
-        Instr::Arg(r(11), 0),
-        Instr::Arg(r(12), 1),
-        Instr::Arg(r(13), 2),
-        Instr::Arg(r(14), 3),
-        Instr::Arg(r(15), 4),
-        Instr::Ins(r(15), row(11)),
-        Instr::Done,
-    ];
-    // The row, and what INS answers: there is a facility of type 1 and no other.
-    for (row, answer) in [
-        ([2, 1, 8, 20, 888], 1),
-        ([2, 1, 8, 24, 7], 2),
-        ([2, 1, 16, 1, 0], 1),
-        ([2, 4, 8, 20, 888], 3),
-        ([1, 1, 8, 20, 888], 3),
-    ] {
-        let ran = call(rt.alloc(), &mut home, &code, &row)?;
-        assert_eq!(rt; ran.running, 6);
-        assert_eq!(rt; ran.end, End::Done);
-        assert_eq!(rt; ran.registers[15], answer, "at {row:?}");
-        assert_eq!(rt; ran.current, [None, None, None, None]);
-    }
-    // The domains are asked first: there is no parent either.
-    for row in [
-        [2, 4, 7, 20, 888],
-        [2, 5, 8, 20, 888],
-        [0, 1, 8, 20, 888],
-        [2, 1, 8, 0, 888],
-    ] {
-        let ran = call(rt.alloc(), &mut home, &code, &row)?;
-        assert_eq!(rt; ran.running, 5);
-        assert_eq!(rt; ran.end, End::Trapped(Trap::Domain), "at {row:?}");
-    }
-    assert_eq!(rt; home.get(50, [2, 1, 8]), Some(888));
-    assert_eq!(rt; home.get(49, [2, 1, 16]), Some(1));
-    assert!(rt; !home.has_forward(2, 1, 0));
-    Ok(())
-}
-
-#[test]
-fn an_insert_leaves_the_current_row(rt: HostRuntime) -> Result<(), Fail> {
-    let mut home = second_home(rt.alloc())?;
-    assert_eq!(rt; home.insert_cf([2, 1, 8, 20, 888]), Ok(()));
-    let code = [
-        Instr::Arg(r(0), 0),
-        Instr::Ldi(r(1), 1),
-        Instr::Ldi(r(2), 8),
-        Instr::Fcfw(r(5), key(0)),
-        Instr::Ldi(r(2), 16),
-        Instr::Ldi(r(3), 24),
-        Instr::Ins(r(5), row(0)),
-        Instr::Get(r(6), 48),
-        Instr::Done,
-    ];
-    let ran = call(rt.alloc(), &mut home, &code, &[2])?;
-    assert_eq!(rt; ran.end, End::Done);
-    assert_eq!(rt; ran.registers[5], 1);
-    assert_eq!(rt; ran.registers[6], 8);
-    assert_eq!(rt; ran.current, [None, None, None, Some([2, 1, 8])]);
-    Ok(())
-}
-
-#[test]
-fn deletes_the_current_forwarding(rt: HostRuntime) -> Result<(), Fail> {
-    let mut home = second_home(rt.alloc())?;
-    assert_eq!(rt; home.insert_cf([2, 1, 8, 20, 888]), Ok(()));
-    let twice = [
-        Instr::Arg(r(0), 0),
-        Instr::Ldi(r(1), 1),
-        Instr::Ldi(r(2), 8),
-        Instr::Fcfw(r(3), key(0)),
-        Instr::Del,
-        Instr::Del,
-        Instr::Done,
-    ];
-    let ran = call(rt.alloc(), &mut home, &twice, &[2])?;
-    assert_eq!(rt; ran.running, 5);
-    assert_eq!(rt; ran.end, End::Trapped(Trap::NoCurrent));
-    assert_eq!(rt; ran.current, [None, None, None, None]);
-    assert_eq!(rt; home.get(50, [2, 1, 8]), Some(888));
-    let once = [
-        Instr::Arg(r(0), 0),
-        Instr::Ldi(r(1), 1),
-        Instr::Ldi(r(2), 8),
-        Instr::Fcfw(r(3), key(0)),
-        Instr::Del,
-        Instr::Done,
-    ];
-    let ran = call(rt.alloc(), &mut home, &once, &[2])?;
-    assert_eq!(rt; ran.end, End::Done);
-    assert!(rt; !home.has_forward(2, 1, 8));
-    Ok(())
-}
+pub const CASES: &[Case] = &[
+    Case {
+        name: "reads current rows",
+        forwarding: false,
+        code: &[
+            [0x03, 0, 0, 0, 0, 0, 0, 0], // ARG r0,#0
+            [0x01, 1, 0, 0, 0, 0, 0, 1], // LDI r1,#1
+            [0x0A, 2, 0, 0, 0, 0, 0, 0], // FSUB r2,r0
+            [0x0C, 2, 0, 1, 0, 0, 0, 0], // FACC r2,r0,r1
+            [0x0D, 2, 0, 1, 0, 0, 0, 0], // FFAC r2,r0,r1
+            [0x0F, 3, 0, 0, 0, 0, 0, 0], // GET r3,#0
+            [0x0F, 4, 0, 0, 0, 0, 0, 33], // GET r4,#33
+            [0x0F, 5, 0, 0, 0, 0, 0, 38], // GET r5,#38
+            [0x0F, 6, 0, 0, 0, 0, 0, 45], // GET r6,#45
+            [0x0F, 7, 0, 0, 0, 0, 0, 50], // GET r7,#50
+            [0x14, 0, 0, 0, 0, 0, 0, 0], // DONE
+        ],
+        runs: &[Run {
+            arguments: &[2],
+            running: 9,
+            pc: 9,
+            end: End::Trapped(Trap::NoCurrent),
+            registers: [
+                2,
+                1,
+                1,
+                2,
+                1,
+                4276545,
+                280267669825,
+                0,
+                0,
+                0,
+                0,
+                0,
+                0,
+                0,
+                0,
+                0,
+            ],
+            current: [Some([2, 0, 0]), Some([2, 1, 0]), Some([2, 1, 0]), None],
+            ..RUN
+        }],
+    },
+    Case {
+        name: "sets a column and reads what it set",
+        forwarding: false,
+        code: &[
+            [0x03, 0, 0, 0, 0, 0, 0, 0], // ARG r0,#0
+            [0x0A, 1, 0, 0, 0, 0, 0, 0], // FSUB r1,r0
+            [0x01, 2, 0, 0, 255, 255, 255, 255], // LDI r2,#4294967295
+            [0x10, 2, 0, 0, 0, 0, 0, 33], // PUT #33,r2
+            [0x0F, 3, 0, 0, 0, 0, 0, 33], // GET r3,#33
+            [0x14, 0, 0, 0, 0, 0, 0, 0], // DONE
+        ],
+        runs: &[Run {
+            arguments: &[2],
+            running: 5,
+            pc: 5,
+            end: End::Done,
+            registers: [
+                2, 1, 4294967295, 4294967295, 0, 0, 0, 0, 0, 0, 0, 0, 0, 0, 0, 0,
+            ],
+            current: [Some([2, 0, 0]), None, None, None],
+            values: &[(33, [2, 0, 0], Some(4294967295))],
+            ..RUN
+        }],
+    },
+    Case {
+        name: "a put asks for a current row before the domain",
+        forwarding: false,
+        code: &[
+            [0x10, 0, 0, 0, 0, 0, 0, 33], // PUT #33,r0
+            [0x14, 0, 0, 0, 0, 0, 0, 0], // DONE
+        ],
+        runs: &[Run {
+            running: 0,
+            pc: 0,
+            end: End::Trapped(Trap::NoCurrent),
+            values: &[(33, [2, 0, 0], Some(1))],
+            ..RUN
+        }],
+    },
+    Case {
+        name: "a trap undoes two puts",
+        forwarding: false,
+        code: &[
+            [0x03, 0, 0, 0, 0, 0, 0, 0], // ARG r0,#0
+            [0x0A, 1, 0, 0, 0, 0, 0, 0], // FSUB r1,r0
+            [0x10, 1, 0, 0, 0, 0, 0, 2], // PUT #2,r1
+            [0x10, 0, 0, 0, 0, 0, 0, 32], // PUT #32,r0
+            [0x10, 5, 0, 0, 0, 0, 0, 33], // PUT #33,r5
+            [0x14, 0, 0, 0, 0, 0, 0, 0], // DONE
+        ],
+        runs: &[Run {
+            arguments: &[2],
+            running: 4,
+            pc: 4,
+            end: End::Trapped(Trap::Domain),
+            registers: [2, 1, 0, 0, 0, 0, 0, 0, 0, 0, 0, 0, 0, 0, 0, 0],
+            current: [Some([2, 0, 0]), None, None, None],
+            values: &[
+                (2, [2, 0, 0], Some(0)),
+                (32, [2, 0, 0], Some(1)),
+                (33, [2, 0, 0], Some(1)),
+            ],
+            ..RUN
+        }],
+    },
+    Case {
+        name: "inserts; domains before the parent",
+        forwarding: false,
+        code: &[
+            [0x03, 11, 0, 0, 0, 0, 0, 0], // ARG r11,#0
+            [0x03, 12, 0, 0, 0, 0, 0, 1], // ARG r12,#1
+            [0x03, 13, 0, 0, 0, 0, 0, 2], // ARG r13,#2
+            [0x03, 14, 0, 0, 0, 0, 0, 3], // ARG r14,#3
+            [0x03, 15, 0, 0, 0, 0, 0, 4], // ARG r15,#4
+            [0x11, 15, 11, 0, 0, 0, 0, 0], // INS r15,r11
+            [0x14, 0, 0, 0, 0, 0, 0, 0], // DONE
+        ],
+        runs: &[
+            Run {
+                arguments: &[2, 1, 8, 20, 888],
+                running: 6,
+                pc: 6,
+                end: End::Done,
+                registers: [0, 0, 0, 0, 0, 0, 0, 0, 0, 0, 0, 2, 1, 8, 20, 1],
+                values: &[(50, [2, 1, 8], Some(888)), (49, [2, 1, 16], None)],
+                ..RUN
+            },
+            Run {
+                arguments: &[2, 1, 16, 1, 0],
+                running: 6,
+                pc: 6,
+                end: End::Done,
+                registers: [0, 0, 0, 0, 0, 0, 0, 0, 0, 0, 0, 2, 1, 16, 1, 1],
+                values: &[(50, [2, 1, 8], None), (49, [2, 1, 16], Some(1))],
+                ..RUN
+            },
+            Run {
+                arguments: &[2, 4, 8, 20, 888],
+                running: 6,
+                pc: 6,
+                end: End::Done,
+                registers: [0, 0, 0, 0, 0, 0, 0, 0, 0, 0, 0, 2, 4, 8, 20, 3],
+                values: &[(50, [2, 1, 8], None), (49, [2, 1, 16], None)],
+                ..RUN
+            },
+            Run {
+                arguments: &[1, 1, 8, 20, 888],
+                running: 6,
+                pc: 6,
+                end: End::Done,
+                registers: [0, 0, 0, 0, 0, 0, 0, 0, 0, 0, 0, 1, 1, 8, 20, 3],
+                values: &[(50, [2, 1, 8], None), (49, [2, 1, 16], None)],
+                ..RUN
+            },
+            Run {
+                arguments: &[2, 4, 7, 20, 888],
+                running: 5,
+                pc: 5,
+                end: End::Trapped(Trap::Domain),
+                registers: [0, 0, 0, 0, 0, 0, 0, 0, 0, 0, 0, 2, 4, 7, 20, 888],
+                values: &[(50, [2, 1, 8], None), (49, [2, 1, 16], None)],
+                ..RUN
+            },
+            Run {
+                arguments: &[2, 5, 8, 20, 888],
+                running: 5,
+                pc: 5,
+                end: End::Trapped(Trap::Domain),
+                registers: [0, 0, 0, 0, 0, 0, 0, 0, 0, 0, 0, 2, 5, 8, 20, 888],
+                values: &[(50, [2, 1, 8], None), (49, [2, 1, 16], None)],
+                ..RUN
+            },
+            Run {
+                arguments: &[0, 1, 8, 20, 888],
+                running: 5,
+                pc: 5,
+                end: End::Trapped(Trap::Domain),
+                registers: [0, 0, 0, 0, 0, 0, 0, 0, 0, 0, 0, 0, 1, 8, 20, 888],
+                values: &[(50, [2, 1, 8], None), (49, [2, 1, 16], None)],
+                ..RUN
+            },
+            Run {
+                arguments: &[2, 1, 8, 0, 888],
+                running: 5,
+                pc: 5,
+                end: End::Trapped(Trap::Domain),
+                registers: [0, 0, 0, 0, 0, 0, 0, 0, 0, 0, 0, 2, 1, 8, 0, 888],
+                values: &[(50, [2, 1, 8], None), (49, [2, 1, 16], None)],
+                ..RUN
+            },
+        ],
+    },
+    Case {
+        name: "inserts where a row has the key",
+        forwarding: true,
+        code: &[
+            [0x03, 11, 0, 0, 0, 0, 0, 0], // ARG r11,#0
+            [0x03, 12, 0, 0, 0, 0, 0, 1], // ARG r12,#1
+            [0x03, 13, 0, 0, 0, 0, 0, 2], // ARG r13,#2
+            [0x03, 14, 0, 0, 0, 0, 0, 3], // ARG r14,#3
+            [0x03, 15, 0, 0, 0, 0, 0, 4], // ARG r15,#4
+            [0x11, 15, 11, 0, 0, 0, 0, 0], // INS r15,r11
+            [0x14, 0, 0, 0, 0, 0, 0, 0], // DONE
+        ],
+        runs: &[Run {
+            arguments: &[2, 1, 8, 24, 7],
+            running: 6,
+            pc: 6,
+            end: End::Done,
+            registers: [0, 0, 0, 0, 0, 0, 0, 0, 0, 0, 0, 2, 1, 8, 24, 2],
+            values: &[(49, [2, 1, 8], Some(20)), (50, [2, 1, 8], Some(888))],
+            ..RUN
+        }],
+    },
+    Case {
+        name: "an insert leaves the current row",
+        forwarding: true,
+        code: &[
+            [0x03, 0, 0, 0, 0, 0, 0, 0], // ARG r0,#0
+            [0x01, 1, 0, 0, 0, 0, 0, 1], // LDI r1,#1
+            [0x01, 2, 0, 0, 0, 0, 0, 8], // LDI r2,#8
+            [0x0E, 5, 0, 0, 0, 0, 0, 0], // FCFW r5,r0
+            [0x01, 2, 0, 0, 0, 0, 0, 16], // LDI r2,#16
+            [0x01, 3, 0, 0, 0, 0, 0, 24], // LDI r3,#24
+            [0x11, 5, 0, 0, 0, 0, 0, 0], // INS r5,r0
+            [0x0F, 6, 0, 0, 0, 0, 0, 48], // GET r6,#48
+            [0x14, 0, 0, 0, 0, 0, 0, 0], // DONE
+        ],
+        runs: &[Run {
+            arguments: &[2],
+            running: 8,
+            pc: 8,
+            end: End::Done,
+            registers: [2, 1, 16, 24, 0, 1, 8, 0, 0, 0, 0, 0, 0, 0, 0, 0],
+            current: [None, None, None, Some([2, 1, 8])],
+            values: &[(49, [2, 1, 16], Some(24))],
+            ..RUN
+        }],
+    },
+    Case {
+        name: "after a delete no forwarding is current",
+        forwarding: true,
+        code: &[
+            [0x03, 0, 0, 0, 0, 0, 0, 0], // ARG r0,#0
+            [0x01, 1, 0, 0, 0, 0, 0, 1], // LDI r1,#1
+            [0x01, 2, 0, 0, 0, 0, 0, 8], // LDI r2,#8
+            [0x0E, 3, 0, 0, 0, 0, 0, 0], // FCFW r3,r0
+            [0x12, 0, 0, 0, 0, 0, 0, 0], // DEL
+            [0x12, 0, 0, 0, 0, 0, 0, 0], // DEL
+            [0x14, 0, 0, 0, 0, 0, 0, 0], // DONE
+        ],
+        runs: &[Run {
+            arguments: &[2],
+            running: 5,
+            pc: 5,
+            end: End::Trapped(Trap::NoCurrent),
+            registers: [2, 1, 8, 1, 0, 0, 0, 0, 0, 0, 0, 0, 0, 0, 0, 0],
+            values: &[(50, [2, 1, 8], Some(888))],
+            ..RUN
+        }],
+    },
+    Case {
+        name: "deletes",
+        forwarding: true,
+        code: &[
+            [0x03, 0, 0, 0, 0, 0, 0, 0], // ARG r0,#0
+            [0x01, 1, 0, 0, 0, 0, 0, 1], // LDI r1,#1
+            [0x01, 2, 0, 0, 0, 0, 0, 8], // LDI r2,#8
+            [0x0E, 3, 0, 0, 0, 0, 0, 0], // FCFW r3,r0
+            [0x12, 0, 0, 0, 0, 0, 0, 0], // DEL
+            [0x14, 0, 0, 0, 0, 0, 0, 0], // DONE
+        ],
+        runs: &[Run {
+            arguments: &[2],
+            running: 5,
+            pc: 5,
+            end: End::Done,
+            registers: [2, 1, 8, 1, 0, 0, 0, 0, 0, 0, 0, 0, 0, 0, 0, 0],
+            values: &[(50, [2, 1, 8], None)],
+            ..RUN
+        }],
+    },
+];

@@ -1,126 +1,256 @@
 //! FSUB to FCFW.
-use super::fixture::{call, key, r, second_home};
+use super::{Case, RUN, Run};
 use crate::{End, Trap};
-use std::test::Fail;
-use tatp_instr::Instr;
 
-#[test]
-fn subscribers_by_s_id(rt: HostRuntime) -> Result<(), Fail> {
-    let mut home = second_home(rt.alloc())?;
-    let code = [Instr::Arg(r(0), 0), Instr::Fsub(r(0), r(0)), Instr::Done];
-    let found = call(rt.alloc(), &mut home, &code, &[2])?;
-    assert_eq!(rt; found.running, 2);
-    assert_eq!(rt; found.registers[0], 1);
-    assert_eq!(rt; found.current, [Some([2, 0, 0]), None, None, None]);
-    for s_id in [0, 1, 3] {
-        let lacking = call(rt.alloc(), &mut home, &code, &[s_id])?;
-        assert_eq!(rt; lacking.registers[0], 0, "at {s_id}");
-        assert_eq!(rt; lacking.current, [None, None, None, None], "at {s_id}");
-    }
-    Ok(())
-}
-
-#[test]
-fn subscribers_by_number(rt: HostRuntime) -> Result<(), Fail> {
-    let mut home = second_home(rt.alloc())?;
-    let code = [Instr::Arg(r(1), 0), Instr::Fnum(r(0), r(1)), Instr::Done];
-    let found = call(rt.alloc(), &mut home, &code, &[2])?;
-    assert_eq!(rt; found.registers[0], 1);
-    assert_eq!(rt; found.current, [Some([2, 0, 0]), None, None, None]);
-    for number in [0, 1, 3] {
-        let lacking = call(rt.alloc(), &mut home, &code, &[number])?;
-        assert_eq!(rt; lacking.registers[0], 0, "at {number}");
-        assert_eq!(rt; lacking.current, [None, None, None, None], "at {number}");
-    }
-    Ok(())
-}
-
-#[test]
-fn accesses(rt: HostRuntime) -> Result<(), Fail> {
-    let mut home = second_home(rt.alloc())?;
-    let code = [
-        Instr::Arg(r(0), 0),
-        Instr::Arg(r(1), 1),
-        Instr::Facc(r(1), r(0), r(1)),
-        Instr::Done,
-    ];
-    let found = call(rt.alloc(), &mut home, &code, &[2, 1])?;
-    assert_eq!(rt; found.registers[1], 1);
-    assert_eq!(rt; found.current, [None, Some([2, 1, 0]), None, None]);
-    for (s_id, ai_type) in [(2, 2), (1, 1), (2, 0)] {
-        let lacking = call(rt.alloc(), &mut home, &code, &[s_id, ai_type])?;
-        assert_eq!(rt; lacking.registers[1], 0, "at {s_id}, {ai_type}");
-        assert_eq!(rt;
-            lacking.current,
-            [None, None, None, None],
-            "at {s_id}, {ai_type}"
-        );
-    }
-    Ok(())
-}
-
-#[test]
-fn facilities(rt: HostRuntime) -> Result<(), Fail> {
-    let mut home = second_home(rt.alloc())?;
-    let code = [
-        Instr::Arg(r(0), 0),
-        Instr::Arg(r(1), 1),
-        Instr::Ffac(r(2), r(0), r(1)),
-        Instr::Done,
-    ];
-    let found = call(rt.alloc(), &mut home, &code, &[2, 1])?;
-    assert_eq!(rt; found.registers[2], 1);
-    assert_eq!(rt; found.current, [None, None, Some([2, 1, 0]), None]);
-    for (s_id, sf_type) in [(2, 3), (1, 1), (2, 5)] {
-        let lacking = call(rt.alloc(), &mut home, &code, &[s_id, sf_type])?;
-        assert_eq!(rt; lacking.registers[2], 0, "at {s_id}, {sf_type}");
-        assert_eq!(rt;
-            lacking.current,
-            [None, None, None, None],
-            "at {s_id}, {sf_type}"
-        );
-    }
-    Ok(())
-}
-
-#[test]
-fn forwardings(rt: HostRuntime) -> Result<(), Fail> {
-    let mut home = second_home(rt.alloc())?;
-    assert_eq!(rt; home.insert_cf([2, 1, 8, 20, 888]), Ok(()));
-    let code = [
-        Instr::Arg(r(13), 0),
-        Instr::Arg(r(14), 1),
-        Instr::Arg(r(15), 2),
-        Instr::Fcfw(r(14), key(13)),
-        Instr::Done,
-    ];
-    let found = call(rt.alloc(), &mut home, &code, &[2, 1, 8])?;
-    assert_eq!(rt; found.running, 4);
-    assert_eq!(rt; found.registers[14], 1);
-    assert_eq!(rt; found.current, [None, None, None, Some([2, 1, 8])]);
-    for (s_id, sf_type, start) in [(2, 1, 0), (2, 3, 8), (1, 1, 8), (2, 1, 7)] {
-        let lacking = call(rt.alloc(), &mut home, &code, &[s_id, sf_type, start])?;
-        assert_eq!(rt; lacking.registers[14], 0, "at {s_id}, {sf_type}, {start}");
-        assert_eq!(rt; lacking.current, [None, None, None, None]);
-    }
-    Ok(())
-}
-
-#[test]
-fn what_is_not_found_is_not_current(rt: HostRuntime) -> Result<(), Fail> {
-    let mut home = second_home(rt.alloc())?;
-    let code = [
-        Instr::Arg(r(0), 0),
-        Instr::Fsub(r(1), r(0)),
-        Instr::Facc(r(1), r(0), r(1)),
-        Instr::Fsub(r(1), r(2)),
-        Instr::Get(r(3), 36),
-        Instr::Get(r(3), 33),
-        Instr::Done,
-    ];
-    let ran = call(rt.alloc(), &mut home, &code, &[2])?;
-    assert_eq!(rt; ran.running, 5);
-    assert_eq!(rt; ran.end, End::Trapped(Trap::NoCurrent));
-    assert_eq!(rt; ran.current, [None, Some([2, 1, 0]), None, None]);
-    Ok(())
-}
+pub const CASES: &[Case] = &[
+    Case {
+        name: "finds subscribers by s_id",
+        forwarding: false,
+        code: &[
+            [0x03, 0, 0, 0, 0, 0, 0, 0], // ARG r0,#0
+            [0x0A, 0, 0, 0, 0, 0, 0, 0], // FSUB r0,r0
+            [0x14, 0, 0, 0, 0, 0, 0, 0], // DONE
+        ],
+        runs: &[
+            Run {
+                arguments: &[2],
+                running: 2,
+                pc: 2,
+                end: End::Done,
+                registers: [1, 0, 0, 0, 0, 0, 0, 0, 0, 0, 0, 0, 0, 0, 0, 0],
+                current: [Some([2, 0, 0]), None, None, None],
+                ..RUN
+            },
+            Run {
+                arguments: &[0],
+                running: 2,
+                pc: 2,
+                end: End::Done,
+                ..RUN
+            },
+            Run {
+                arguments: &[1],
+                running: 2,
+                pc: 2,
+                end: End::Done,
+                ..RUN
+            },
+            Run {
+                arguments: &[3],
+                running: 2,
+                pc: 2,
+                end: End::Done,
+                ..RUN
+            },
+        ],
+    },
+    Case {
+        name: "finds subscribers by number",
+        forwarding: false,
+        code: &[
+            [0x03, 1, 0, 0, 0, 0, 0, 0], // ARG r1,#0
+            [0x0B, 0, 1, 0, 0, 0, 0, 0], // FNUM r0,r1
+            [0x14, 0, 0, 0, 0, 0, 0, 0], // DONE
+        ],
+        runs: &[
+            Run {
+                arguments: &[2],
+                running: 2,
+                pc: 2,
+                end: End::Done,
+                registers: [1, 2, 0, 0, 0, 0, 0, 0, 0, 0, 0, 0, 0, 0, 0, 0],
+                current: [Some([2, 0, 0]), None, None, None],
+                ..RUN
+            },
+            Run {
+                arguments: &[0],
+                running: 2,
+                pc: 2,
+                end: End::Done,
+                ..RUN
+            },
+            Run {
+                arguments: &[1],
+                running: 2,
+                pc: 2,
+                end: End::Done,
+                registers: [0, 1, 0, 0, 0, 0, 0, 0, 0, 0, 0, 0, 0, 0, 0, 0],
+                ..RUN
+            },
+            Run {
+                arguments: &[3],
+                running: 2,
+                pc: 2,
+                end: End::Done,
+                registers: [0, 3, 0, 0, 0, 0, 0, 0, 0, 0, 0, 0, 0, 0, 0, 0],
+                ..RUN
+            },
+        ],
+    },
+    Case {
+        name: "finds accesses",
+        forwarding: false,
+        code: &[
+            [0x03, 0, 0, 0, 0, 0, 0, 0], // ARG r0,#0
+            [0x03, 1, 0, 0, 0, 0, 0, 1], // ARG r1,#1
+            [0x0C, 1, 0, 1, 0, 0, 0, 0], // FACC r1,r0,r1
+            [0x14, 0, 0, 0, 0, 0, 0, 0], // DONE
+        ],
+        runs: &[
+            Run {
+                arguments: &[2, 1],
+                running: 3,
+                pc: 3,
+                end: End::Done,
+                registers: [2, 1, 0, 0, 0, 0, 0, 0, 0, 0, 0, 0, 0, 0, 0, 0],
+                current: [None, Some([2, 1, 0]), None, None],
+                ..RUN
+            },
+            Run {
+                arguments: &[2, 2],
+                running: 3,
+                pc: 3,
+                end: End::Done,
+                registers: [2, 0, 0, 0, 0, 0, 0, 0, 0, 0, 0, 0, 0, 0, 0, 0],
+                ..RUN
+            },
+            Run {
+                arguments: &[1, 1],
+                running: 3,
+                pc: 3,
+                end: End::Done,
+                registers: [1, 0, 0, 0, 0, 0, 0, 0, 0, 0, 0, 0, 0, 0, 0, 0],
+                ..RUN
+            },
+            Run {
+                arguments: &[2, 0],
+                running: 3,
+                pc: 3,
+                end: End::Done,
+                registers: [2, 0, 0, 0, 0, 0, 0, 0, 0, 0, 0, 0, 0, 0, 0, 0],
+                ..RUN
+            },
+        ],
+    },
+    Case {
+        name: "finds facilities",
+        forwarding: false,
+        code: &[
+            [0x03, 0, 0, 0, 0, 0, 0, 0], // ARG r0,#0
+            [0x03, 1, 0, 0, 0, 0, 0, 1], // ARG r1,#1
+            [0x0D, 2, 0, 1, 0, 0, 0, 0], // FFAC r2,r0,r1
+            [0x14, 0, 0, 0, 0, 0, 0, 0], // DONE
+        ],
+        runs: &[
+            Run {
+                arguments: &[2, 1],
+                running: 3,
+                pc: 3,
+                end: End::Done,
+                registers: [2, 1, 1, 0, 0, 0, 0, 0, 0, 0, 0, 0, 0, 0, 0, 0],
+                current: [None, None, Some([2, 1, 0]), None],
+                ..RUN
+            },
+            Run {
+                arguments: &[2, 3],
+                running: 3,
+                pc: 3,
+                end: End::Done,
+                registers: [2, 3, 0, 0, 0, 0, 0, 0, 0, 0, 0, 0, 0, 0, 0, 0],
+                ..RUN
+            },
+            Run {
+                arguments: &[1, 1],
+                running: 3,
+                pc: 3,
+                end: End::Done,
+                registers: [1, 1, 0, 0, 0, 0, 0, 0, 0, 0, 0, 0, 0, 0, 0, 0],
+                ..RUN
+            },
+            Run {
+                arguments: &[2, 5],
+                running: 3,
+                pc: 3,
+                end: End::Done,
+                registers: [2, 5, 0, 0, 0, 0, 0, 0, 0, 0, 0, 0, 0, 0, 0, 0],
+                ..RUN
+            },
+        ],
+    },
+    Case {
+        name: "finds forwardings",
+        forwarding: true,
+        code: &[
+            [0x03, 13, 0, 0, 0, 0, 0, 0], // ARG r13,#0
+            [0x03, 14, 0, 0, 0, 0, 0, 1], // ARG r14,#1
+            [0x03, 15, 0, 0, 0, 0, 0, 2], // ARG r15,#2
+            [0x0E, 14, 13, 0, 0, 0, 0, 0], // FCFW r14,r13
+            [0x14, 0, 0, 0, 0, 0, 0, 0], // DONE
+        ],
+        runs: &[
+            Run {
+                arguments: &[2, 1, 8],
+                running: 4,
+                pc: 4,
+                end: End::Done,
+                registers: [0, 0, 0, 0, 0, 0, 0, 0, 0, 0, 0, 0, 0, 2, 1, 8],
+                current: [None, None, None, Some([2, 1, 8])],
+                ..RUN
+            },
+            Run {
+                arguments: &[2, 1, 0],
+                running: 4,
+                pc: 4,
+                end: End::Done,
+                registers: [0, 0, 0, 0, 0, 0, 0, 0, 0, 0, 0, 0, 0, 2, 0, 0],
+                ..RUN
+            },
+            Run {
+                arguments: &[2, 3, 8],
+                running: 4,
+                pc: 4,
+                end: End::Done,
+                registers: [0, 0, 0, 0, 0, 0, 0, 0, 0, 0, 0, 0, 0, 2, 0, 8],
+                ..RUN
+            },
+            Run {
+                arguments: &[1, 1, 8],
+                running: 4,
+                pc: 4,
+                end: End::Done,
+                registers: [0, 0, 0, 0, 0, 0, 0, 0, 0, 0, 0, 0, 0, 1, 0, 8],
+                ..RUN
+            },
+            Run {
+                arguments: &[2, 1, 7],
+                running: 4,
+                pc: 4,
+                end: End::Done,
+                registers: [0, 0, 0, 0, 0, 0, 0, 0, 0, 0, 0, 0, 0, 2, 0, 7],
+                ..RUN
+            },
+        ],
+    },
+    Case {
+        name: "what isn't found isn't current",
+        forwarding: false,
+        code: &[
+            [0x03, 0, 0, 0, 0, 0, 0, 0], // ARG r0,#0
+            [0x0A, 1, 0, 0, 0, 0, 0, 0], // FSUB r1,r0
+            [0x0C, 1, 0, 1, 0, 0, 0, 0], // FACC r1,r0,r1
+            [0x0A, 1, 2, 0, 0, 0, 0, 0], // FSUB r1,r2
+            [0x0F, 3, 0, 0, 0, 0, 0, 36], // GET r3,#36
+            [0x0F, 3, 0, 0, 0, 0, 0, 33], // GET r3,#33
+            [0x14, 0, 0, 0, 0, 0, 0, 0], // DONE
+        ],
+        runs: &[Run {
+            arguments: &[2],
+            running: 5,
+            pc: 5,
+            end: End::Trapped(Trap::NoCurrent),
+            registers: [2, 0, 0, 0, 0, 0, 0, 0, 0, 0, 0, 0, 0, 0, 0, 0],
+            current: [None, Some([2, 1, 0]), None, None],
+            ..RUN
+        }],
+    },
+];

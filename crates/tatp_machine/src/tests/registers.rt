@@ -1,112 +1,162 @@
 //! LDI to JZ, and OUT.
-use super::fixture::{call, r, second_home};
+use super::{Case, RUN, Run};
 use crate::End;
-use std::test::Fail;
-use tatp_instr::Instr;
 
-#[test]
-fn loads_and_moves(rt: HostRuntime) -> Result<(), Fail> {
-    let mut home = second_home(rt.alloc())?;
-    let code = [
-        Instr::Ldi(r(15), 4294967295),
-        Instr::Mov(r(0), r(15)),
-        Instr::Arg(r(1), 1),
-        Instr::Arg(r(2), 0),
-        Instr::Done,
-    ];
-    let ran = call(rt.alloc(), &mut home, &code, &[7, 18446744073709551615])?;
-    assert_eq!(rt; ran.running, 4);
-    assert_eq!(rt; ran.end, End::Done);
-    assert_eq!(rt; ran.registers[15], 4294967295);
-    assert_eq!(rt; ran.registers[0], 4294967295);
-    assert_eq!(rt; ran.registers[1], 18446744073709551615);
-    assert_eq!(rt; ran.registers[2], 7);
-    assert_eq!(rt; ran.registers[3], 0);
-    Ok(())
-}
-
-#[test]
-fn adds_and_subtracts_modulo_2_64(rt: HostRuntime) -> Result<(), Fail> {
-    let mut home = second_home(rt.alloc())?;
-    let code = [
-        Instr::Arg(r(0), 0),
-        Instr::Arg(r(1), 1),
-        Instr::Add(r(2), r(0), r(1)),
-        Instr::Sub(r(3), r(1), r(0)),
-        Instr::Sub(r(4), r(0), r(1)),
-        Instr::Add(r(0), r(0), r(0)),
-        Instr::Sub(r(1), r(5), r(1)),
-        Instr::Done,
-    ];
-    let ran = call(rt.alloc(), &mut home, &code, &[18446744073709551615, 1])?;
-    assert_eq!(rt; ran.end, End::Done);
-    assert_eq!(rt; ran.registers[2], 0);
-    assert_eq!(rt; ran.registers[3], 2);
-    assert_eq!(rt; ran.registers[4], 18446744073709551614);
-    assert_eq!(rt; ran.registers[0], 18446744073709551614);
-    assert_eq!(rt; ran.registers[1], 18446744073709551615);
-    Ok(())
-}
-
-#[test]
-fn compares(rt: HostRuntime) -> Result<(), Fail> {
-    let mut home = second_home(rt.alloc())?;
-    let code = [
-        Instr::Arg(r(0), 0),
-        Instr::Arg(r(1), 1),
-        Instr::Arg(r(2), 2),
-        Instr::Eq(r(3), r(0), r(1)),
-        Instr::Eq(r(4), r(0), r(2)),
-        Instr::Lt(r(5), r(0), r(2)),
-        Instr::Lt(r(6), r(0), r(1)),
-        Instr::Lt(r(7), r(2), r(0)),
-        Instr::Done,
-    ];
-    let ran = call(rt.alloc(), &mut home, &code, &[5, 5, 18446744073709551615])?;
-    assert_eq!(rt; ran.end, End::Done);
-    assert_eq!(rt; ran.registers[3], 1);
-    assert_eq!(rt; ran.registers[4], 0);
-    assert_eq!(rt; ran.registers[5], 1);
-    assert_eq!(rt; ran.registers[6], 0);
-    assert_eq!(rt; ran.registers[7], 0);
-    Ok(())
-}
-
-#[test]
-fn jumps(rt: HostRuntime) -> Result<(), Fail> {
-    let mut home = second_home(rt.alloc())?;
-    let code = [
-        Instr::Jmp(2),
-        Instr::Ldi(r(0), 9),
-        Instr::Jz(r(1), 4),
-        Instr::Ldi(r(0), 9),
-        Instr::Ldi(r(1), 1),
-        Instr::Jz(r(1), 7),
-        Instr::Ldi(r(2), 5),
-        Instr::Done,
-    ];
-    let ran = call(rt.alloc(), &mut home, &code, &[])?;
-    assert_eq!(rt; ran.running, 5);
-    assert_eq!(rt; ran.end, End::Done);
-    assert_eq!(rt; ran.registers[0], 0);
-    assert_eq!(rt; ran.registers[2], 5);
-    Ok(())
-}
-
-#[test]
-fn puts_out_in_order(rt: HostRuntime) -> Result<(), Fail> {
-    let mut home = second_home(rt.alloc())?;
-    let code = [
-        Instr::Ldi(r(0), 7),
-        Instr::Out(r(0)),
-        Instr::Ldi(r(0), 8),
-        Instr::Out(r(0)),
-        Instr::Out(r(1)),
-        Instr::Done,
-    ];
-    let ran = call(rt.alloc(), &mut home, &code, &[])?;
-    assert_eq!(rt; ran.running, 5);
-    assert_eq!(rt; ran.end, End::Done);
-    assert_eq!(rt; ran.outputs.as_slice(), [7, 8, 0].as_slice());
-    Ok(())
-}
+pub const CASES: &[Case] = &[
+    Case {
+        name: "loads and moves",
+        forwarding: false,
+        code: &[
+            [0x01, 15, 0, 0, 255, 255, 255, 255], // LDI r15,#4294967295
+            [0x02, 0, 15, 0, 0, 0, 0, 0], // MOV r0,r15
+            [0x03, 1, 0, 0, 0, 0, 0, 1], // ARG r1,#1
+            [0x03, 2, 0, 0, 0, 0, 0, 0], // ARG r2,#0
+            [0x14, 0, 0, 0, 0, 0, 0, 0], // DONE
+        ],
+        runs: &[Run {
+            arguments: &[7, 18446744073709551615],
+            running: 4,
+            pc: 4,
+            end: End::Done,
+            registers: [
+                4294967295,
+                18446744073709551615,
+                7,
+                0,
+                0,
+                0,
+                0,
+                0,
+                0,
+                0,
+                0,
+                0,
+                0,
+                0,
+                0,
+                4294967295,
+            ],
+            ..RUN
+        }],
+    },
+    Case {
+        name: "adds and subtracts modulo 2^64",
+        forwarding: false,
+        code: &[
+            [0x03, 0, 0, 0, 0, 0, 0, 0], // ARG r0,#0
+            [0x03, 1, 0, 0, 0, 0, 0, 1], // ARG r1,#1
+            [0x04, 2, 0, 1, 0, 0, 0, 0], // ADD r2,r0,r1
+            [0x05, 3, 1, 0, 0, 0, 0, 0], // SUB r3,r1,r0
+            [0x05, 4, 0, 1, 0, 0, 0, 0], // SUB r4,r0,r1
+            [0x04, 0, 0, 0, 0, 0, 0, 0], // ADD r0,r0,r0
+            [0x05, 1, 5, 1, 0, 0, 0, 0], // SUB r1,r5,r1
+            [0x14, 0, 0, 0, 0, 0, 0, 0], // DONE
+        ],
+        runs: &[Run {
+            arguments: &[18446744073709551615, 1],
+            running: 7,
+            pc: 7,
+            end: End::Done,
+            registers: [
+                18446744073709551614,
+                18446744073709551615,
+                0,
+                2,
+                18446744073709551614,
+                0,
+                0,
+                0,
+                0,
+                0,
+                0,
+                0,
+                0,
+                0,
+                0,
+                0,
+            ],
+            ..RUN
+        }],
+    },
+    Case {
+        name: "compares",
+        forwarding: false,
+        code: &[
+            [0x03, 0, 0, 0, 0, 0, 0, 0], // ARG r0,#0
+            [0x03, 1, 0, 0, 0, 0, 0, 1], // ARG r1,#1
+            [0x03, 2, 0, 0, 0, 0, 0, 2], // ARG r2,#2
+            [0x06, 3, 0, 1, 0, 0, 0, 0], // EQ r3,r0,r1
+            [0x06, 4, 0, 2, 0, 0, 0, 0], // EQ r4,r0,r2
+            [0x07, 5, 0, 2, 0, 0, 0, 0], // LT r5,r0,r2
+            [0x07, 6, 0, 1, 0, 0, 0, 0], // LT r6,r0,r1
+            [0x07, 7, 2, 0, 0, 0, 0, 0], // LT r7,r2,r0
+            [0x14, 0, 0, 0, 0, 0, 0, 0], // DONE
+        ],
+        runs: &[Run {
+            arguments: &[5, 5, 18446744073709551615],
+            running: 8,
+            pc: 8,
+            end: End::Done,
+            registers: [
+                5,
+                5,
+                18446744073709551615,
+                1,
+                0,
+                1,
+                0,
+                0,
+                0,
+                0,
+                0,
+                0,
+                0,
+                0,
+                0,
+                0,
+            ],
+            ..RUN
+        }],
+    },
+    Case {
+        name: "jumps",
+        forwarding: false,
+        code: &[
+            [0x08, 0, 0, 0, 0, 0, 0, 2], // JMP #2
+            [0x01, 0, 0, 0, 0, 0, 0, 9], // LDI r0,#9
+            [0x09, 1, 0, 0, 0, 0, 0, 4], // JZ r1,#4
+            [0x01, 0, 0, 0, 0, 0, 0, 9], // LDI r0,#9
+            [0x01, 1, 0, 0, 0, 0, 0, 1], // LDI r1,#1
+            [0x09, 1, 0, 0, 0, 0, 0, 7], // JZ r1,#7
+            [0x01, 2, 0, 0, 0, 0, 0, 5], // LDI r2,#5
+            [0x14, 0, 0, 0, 0, 0, 0, 0], // DONE
+        ],
+        runs: &[Run {
+            running: 5,
+            pc: 7,
+            end: End::Done,
+            registers: [0, 1, 5, 0, 0, 0, 0, 0, 0, 0, 0, 0, 0, 0, 0, 0],
+            ..RUN
+        }],
+    },
+    Case {
+        name: "puts out in order",
+        forwarding: false,
+        code: &[
+            [0x01, 0, 0, 0, 0, 0, 0, 7], // LDI r0,#7
+            [0x13, 0, 0, 0, 0, 0, 0, 0], // OUT r0
+            [0x01, 0, 0, 0, 0, 0, 0, 8], // LDI r0,#8
+            [0x13, 0, 0, 0, 0, 0, 0, 0], // OUT r0
+            [0x13, 1, 0, 0, 0, 0, 0, 0], // OUT r1
+            [0x14, 0, 0, 0, 0, 0, 0, 0], // DONE
+        ],
+        runs: &[Run {
+            running: 5,
+            pc: 5,
+            end: End::Done,
+            registers: [8, 0, 0, 0, 0, 0, 0, 0, 0, 0, 0, 0, 0, 0, 0, 0],
+            outputs: &[7, 8, 0],
+            ..RUN
+        }],
+    },
+];

@@ -1,35 +1,25 @@
 -- The gathered rows are those of the home of each subscriber, wherever its extent stands.
 use Rattle.std.proofs.Common.{◌≡◌, ◌≢◌, ◌⊎◌, inl, inr, ℕ, zero, suc, ◌+◌, Bool, true, false, ◌||◌, List, [], ◌∷◌, ◌++◌, Option, Some, None, slice_get, slice_index, refl, sym, ◌∙◌, ap, subst}
-use Rattle.std.specs.List.{list_any, fold, flat_map}
+use Rattle.std.specs.List.{list_any, flat_map}
 use Rattle.std.specs.Option.{option_and_then, option_map_or}
 use Rattle.std.proofs.lemmas.Bool.{or_cases}
-use Rattle.tatp_tables.specs.Tuples.{Tuple, Tuples, has, same, rows_of, set_of}
+use Rattle.std.proofs.lemmas.List.Folds.{list_any-append}
+use Rattle.tatp_tables.specs.Tuples.{Tuple, has}
 use Rattle.tatp_tables.specs.Keys.{has_key}
-use Rattle.tatp_tables.specs.Database.{Database, database_of, in_table}
+use Rattle.tatp_tables.specs.Database.{in_table}
 use Rattle.tatp_tables.specs.Home.{SubscriberRows}
-use Rattle.tatp_tables.specs.Rows.{with_home}
-use Rattle.tatp_tables.specs.declared.row.Rows.{Rows}
 use Rattle.tatp_tables.specs.declared.table.Table.{Table}
-use Rattle.tatp_tables.specs.declared.table.Table.TheVariants.{Subscriber, AccessInfo, SpecialFacility, CallForwarding}
-use Rattle.tatp_tables.proofs.TupleLaws.{has-set_of, has-rows_of}
 use Rattle.tatp_population.specs.Extents.{ExtentState, first_subscriber, extent_of, home_at}
+use Rattle.tatp_population.proofs.HomeRowsLaws.{has_homes}
 use Rattle.tatp_partition.specs.Sites.{SiteState}
 use Rattle.tatp_dispatch.specs.Worlds.{WorldState}
-use Rattle.tatp_dispatch.specs.Gathered.{homes_in_slots, homes_at, no_lists, rows_of_homes, gathered}
+use Rattle.tatp_dispatch.specs.Gathered.{homes_in_slots, homes_at, gathered}
 use Rattle.tatp_dispatch.specs.Placed.{IsHomeOf, IsWhole, AreExtentsPlaced}
 use Rattle.tatp_dispatch.specs.Routed.{extent_in}
 use Rattle.tatp_dispatch.proofs.PlaceLaws.{IsAtSite, extent_found, whole, extent_at_site, extent_in_hand, home_in, home_at_place, home_at_of, own_home, extent_of_place}
 use Rattle.tatp_dispatch.proofs.CollectLaws.{Collects, has_row, both_ways, own_row, first_is}
 
 -- ---- lists that have something
-or_assoc : (a b c : Bool) → (a || (b || c)) ≡ ((a || b) || c)
-or_assoc true b c = refl
-or_assoc false b c = refl
-
-or_false : (a : Bool) → a ≡ (a || false)
-or_false true = refl
-or_false false = refl
-
 pub or_right : (a b : Bool) → b ≡ true → (a || b) ≡ true
 or_right true b h = refl
 or_right false b h = h
@@ -37,13 +27,9 @@ or_right false b h = h
 pub or_left : (a b : Bool) → a ≡ true → (a || b) ≡ true
 or_left a b h = rw (h) refl
 
-pub any_append : {A : Type 0} (p : A → Bool) (xs ys : List A) → list_any p (xs ++ ys) ≡ (list_any p xs || list_any p ys)
-any_append p [] ys = refl
-any_append p (x ∷ xs) ys = ap (λ b. p x || b) (any_append p xs ys) ∙ or_assoc (p x) (list_any p xs) (list_any p ys)
-
 pub any_flat : {A B : Type 0} (p : B → Bool) (f : A → List B) (xs : List A) → list_any p (flat_map f xs) ≡ list_any (λ x. list_any p (f x)) xs
 any_flat p f [] = refl
-any_flat p f (x ∷ xs) = any_append p (f x) (flat_map f xs) ∙ ap (λ b. list_any p (f x) || b) (any_flat p f xs)
+any_flat p f (x ∷ xs) = list_any-append p (f x) (flat_map f xs) ∙ ap (λ b. list_any p (f x) || b) (any_flat p f xs)
 
 pub record IsSome_at {A : Type 0} (p : A → Bool) (xs : List A) : Type 0 where
   pub i : ℕ
@@ -63,36 +49,9 @@ any_in p [] i x h k = absurd cc
 any_in p (a ∷ xs) zero x h k = let s : a ≡ x = cc in or_left (p a) (list_any p xs) (ap p s ∙ k)
 any_in p (a ∷ xs) (suc i) x h k = or_right (p a) (list_any p xs) (any_in p xs i x h k)
 
--- ---- the rows of a list of homes
-has_appended : (xs : List Tuple) (v : Tuples) (q : Tuple) → has (set_of (xs ++ rows_of v)) q ≡ (has (set_of xs) q || has v q)
-has_appended xs v q = has-set_of (xs ++ rows_of v) q ∙ any_append (same q) xs (rows_of v) ∙ (λ i. sym (has-set_of xs q) i || sym (has-rows_of v q) i)
-
-has_with_home : (t : Table) (r : Rows) (v : Database) (q : Tuple) → has (in_table t (database_of (with_home r v))) q ≡ (has (in_table t (database_of r)) q || has (in_table t v) q)
-has_with_home Subscriber r v q = has_appended r.subscribers v.subscribers q
-has_with_home AccessInfo r v q = has_appended r.accesses v.accesses q
-has_with_home SpecialFacility r v q = has_appended r.facilities v.facilities q
-has_with_home CallForwarding r v q = has_appended r.forwardings v.forwardings q
-
 -- a row of some home
 abbrev pub has_home : Table → Tuple → SubscriberRows → Bool
 has_home t q home = has (in_table t home.tables) q
-
-has_homes : (t : Table) (homes : List SubscriberRows) (r : Rows) (q : Tuple)
-    → has (in_table t (database_of (fold (λ rows (home : SubscriberRows). with_home rows home.tables) r homes))) q ≡ (has (in_table t (database_of r)) q || list_any (has_home t q) homes)
-has_homes t [] r q = or_false _
-has_homes t (home ∷ homes) r q =
-    has_homes t homes (with_home r home.tables) q
-    ∙ ap (λ b. b || list_any (has_home t q) homes) (has_with_home t r home.tables q)
-    ∙ sym (or_assoc (has (in_table t (database_of r)) q) (has_home t q home) (list_any (has_home t q) homes))
-
-nothing_first : (t : Table) (q : Tuple) → has (in_table t (database_of no_lists)) q ≡ false
-nothing_first Subscriber q = has-set_of [] q
-nothing_first AccessInfo q = has-set_of [] q
-nothing_first SpecialFacility q = has-set_of [] q
-nothing_first CallForwarding q = has-set_of [] q
-
-pub rows_has : (t : Table) (homes : List SubscriberRows) (q : Tuple) → has (in_table t (database_of (rows_of_homes homes))) q ≡ list_any (has_home t q) homes
-rows_has t homes q = has_homes t homes no_lists q ∙ ap (λ b. b || list_any (has_home t q) homes) (nothing_first t q)
 
 -- ---- the rows of all homes, wherever they stand
 abbrev slot_homes : Option ExtentState → List SubscriberRows
@@ -106,7 +65,7 @@ slots_any t q slots = list_any (slot_any t q) slots
 
 homes_any : (t : Table) (q : Tuple) (sites : List SiteState) (parcels : List (Option ExtentState)) → list_any (has_home t q) (homes_at sites parcels) ≡ (list_any (λ (s : SiteState). slots_any t q s.slots) sites || slots_any t q parcels)
 homes_any t q sites parcels =
-    any_append (has_home t q) (flat_map (λ (s : SiteState). homes_in_slots s.slots) sites) (homes_in_slots parcels)
+    list_any-append (has_home t q) (flat_map (λ (s : SiteState). homes_in_slots s.slots) sites) (homes_in_slots parcels)
     ∙ (λ i. (any_flat (has_home t q) (λ (s : SiteState). homes_in_slots s.slots) sites ∙ each sites) i || any_flat (has_home t q) slot_homes parcels i)
   where
     each : (xs : List SiteState) → list_any (λ (s : SiteState). list_any (has_home t q) (homes_in_slots s.slots)) xs ≡ list_any (λ (s : SiteState). slots_any t q s.slots) xs
@@ -165,7 +124,7 @@ pub gathered_is : (n : ℕ) (w : WorldState) → AreExtentsPlaced n w.sites w.pa
 gathered_is n w h = record {
   own = λ s home at. home_own n w.sites w.parcels s home (extent_in w.sites w.parcels (extent_of s)) h refl at;
   rows = λ t q.
-      rows_has t (homes_at w.sites w.parcels) q ∙ (homes_any t q w.sites w.parcels
+      has_homes (homes_at w.sites w.parcels) t q ∙ (homes_any t q w.sites w.parcels
       ∙ both_ways (list_any (λ (s : SiteState). slots_any t q s.slots) w.sites || slots_any t q w.parcels) (has_row (home_in w.sites w.parcels (slice_index q 0)) t q)
       (λ a. elim (or_cases (list_any (λ (s : SiteState). slots_any t q s.slots) w.sites) (slots_any t q w.parcels) a) as (λ _. has_row (home_in w.sites w.parcels (slice_index q 0)) t q ≡ true) [
         | inl b ↦ let p = any_at (λ (s : SiteState). slots_any t q s.slots) w.sites b in

@@ -1,5 +1,5 @@
 //! What the whole keeps of a client.
-ghost use Rattle.std.specs.Prelude.{◌≡◌, ◌<◌, false, length, Some, slice_get, slice_set};
+ghost use Rattle.std.specs.Prelude.{◌≡◌, ◌<◌, ◌+◌, ◌^◌, true, false, length, Some, slice_get, slice_set};
 ghost use Rattle.tatp_dispatch.specs.declared.client.Client.{Client};
 
 /// A client.
@@ -13,6 +13,28 @@ pub struct Client {
     pub busy: bool,
     /// The last stamp that it has received.
     pub seen: u64,
+}
+
+/// One more call of the client is accepted, and is under way.
+pub fn accept_call(clients: &mut Vec<Client>, client: u64)
+    requires place { client < length clients.old.items }
+    requires number { (c : Client) → slice_get clients.old.items client ≡ Some c → c.accepted + 1 < 2 ^ 64 }
+    ensures { (c : Client) → slice_get clients.old.items client ≡ Some c → clients.new.items ≡ slice_set clients.old.items client (record c { accepted = c.accepted + 1; busy = true }) }
+{
+    let c = &mut clients[client as usize];
+    c.accepted += 1;
+    c.busy = true;
+}
+
+/// The client was answered that memory ran out.
+pub fn refuse_call(clients: &mut Vec<Client>, client: u64)
+    requires place { client < length clients.old.items }
+    requires number { (c : Client) → slice_get clients.old.items client ≡ Some c → c.refused + 1 < 2 ^ 64 }
+    ensures { (c : Client) → slice_get clients.old.items client ≡ Some c → clients.new.items ≡ slice_set clients.old.items client (record c { refused = c.refused + 1; busy = false }) }
+{
+    let c = &mut clients[client as usize];
+    c.refused += 1;
+    c.busy = false;
 }
 
 /// The client's call has ended, and it has received this stamp.

@@ -14,6 +14,8 @@ pub mod CallLaws
 pub mod WorldLaws
 pub mod RowLaws
 pub mod RunLaws
+pub mod QueueLaws
+pub mod BeginLaws
 pub mod StepLaws
 pub mod EndLaws
 pub mod MoveLaws
@@ -21,5 +23,6 @@ pub mod ServeLaws
 pub mod CleanLaws
 pub mod OnceLaws
 pub mod EventLaws
+pub mod OfferLaws
 pub mod CarryLaws
 pub mod LandingLaws

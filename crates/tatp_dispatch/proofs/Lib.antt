@@ -24,5 +24,7 @@ pub mod CleanLaws
 pub mod OnceLaws
 pub mod EventLaws
 pub mod OfferLaws
+pub mod FrontLaws
+pub mod SubmitLaws
 pub mod CarryLaws
 pub mod LandingLaws

@@ -9,9 +9,9 @@ use Rattle.tatp_partition.specs.Sites.{SiteState}
 use Rattle.tatp_dispatch.specs.Offering.{OffersTo, ChecksAt}
 use Rattle.tatp_dispatch.proofs.EventLaws.{set_as_it_is}
 
-pub unless_ok : (o : Option SiteRefusal) → Ok tt ≡ unless o → o ≡ None
-unless_ok None h = refl
-unless_ok (Some r) h = absurd cc
+pub unless_ok : (done : Unit {0}) (o : Option SiteRefusal) → Ok done ≡ unless o → o ≡ None
+unless_ok done None h = refl
+unless_ok done (Some r) h = absurd cc
 
 pub unless_err : (o : Option SiteRefusal) (refusal : SiteRefusal) → Err refusal ≡ unless o → o ≡ Some refusal
 unless_err None refusal h = absurd cc
@@ -24,4 +24,4 @@ pub offered_refused : (sites : List SiteState) (p : ℕ) (item : Item) (refusal 
 offered_refused sites p item refusal c other = record { before = c.before; after_it = c.before; site = c.site; begins = (unless_err (begin_obstacle c.before item) refusal c.checks, other, refl); whole = c.whole; after = sym (set_as_it_is sites p c.before c.site) }
 
 pub offered_denied : (sites : List SiteState) (p : ℕ) (item : Item) → ChecksAt sites p item (Ok tt) → OffersTo sites p item (Ok (Denied item)) sites
-offered_denied sites p item c = record { before = c.before; after_it = c.before; site = c.site; begins = (unless_ok (begin_obstacle c.before item) c.checks, refl, refl); whole = c.whole; after = sym (set_as_it_is sites p c.before c.site) }
+offered_denied sites p item c = record { before = c.before; after_it = c.before; site = c.site; begins = (unless_ok tt (begin_obstacle c.before item) c.checks, refl, refl); whole = c.whole; after = sym (set_as_it_is sites p c.before c.site) }

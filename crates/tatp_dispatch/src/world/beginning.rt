@@ -68,21 +68,23 @@ impl<'m> World<'m> {
         match front_at(&self.queues, p as usize) {
             None => return Err(Refusal::NothingQueued),
             Some(item) => {
+                let client = item.client;
+                let home = item.home;
                 match offer_at(&mut self.sites, &mut self.completions, p as usize, item) {
                     Err(refusal) => return Err(Refusal::Site(refusal)),
                     Ok(Offer::Began) => {
                         pop_at(&mut self.queues, p as usize);
-                        return Ok(Answer::Began(item.client));
+                        return Ok(Answer::Began(client));
                     }
-                    Ok(Offer::Denied(_item)) => {
+                    Ok(Offer::Denied(_back)) => {
                         pop_at(&mut self.queues, p as usize);
-                        refuse_call(&mut self.clients, item.client);
-                        return Ok(Answer::Denied(item.client));
+                        refuse_call(&mut self.clients, client);
+                        return Ok(Answer::Denied(client));
                     }
-                    Ok(Offer::Away(_item)) => {
-                        let q = self.routes.route(item.home);
+                    Ok(Offer::Away(back)) => {
+                        let q = self.routes.route(home);
                         pop_at(&mut self.queues, p as usize);
-                        push_at(&mut self.queues, q as usize, item);
+                        push_at(&mut self.queues, q as usize, back);
                         return Ok(Answer::Away(q));
                     }
                 }

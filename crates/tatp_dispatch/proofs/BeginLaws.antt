@@ -27,6 +27,7 @@ use Rattle.tatp_dispatch.specs.declared.client.Client.{Client}
 use Rattle.tatp_dispatch.specs.Counts.{or_else, first_of, one, one_if, total}
 use Rattle.tatp_dispatch.specs.Worlds.{WorldState}
 use Rattle.tatp_dispatch.specs.Gathered.{gathered}
+use Rattle.tatp_dispatch.specs.Populated.{IsPopulated}
 use Rattle.tatp_dispatch.specs.Plain.{PlainCall, Enters, entering}
 use Rattle.tatp_dispatch.specs.Shown.{call_here, running_calls, shown, set_back}
 use Rattle.tatp_dispatch.specs.Placed.{AreExtentsPlaced, RunsIn, WaitsIn, times_queued, times_running, times_numbered, AllCalls, IsClientInOrder, AreClientsInOrder}
@@ -79,7 +80,7 @@ rows_gathered w p s s' item rest (Some h) good b is =
     let has : slice_get s.slots (extent_of h) ≡ Some (Some c.x) = ap (λ t. slice_get t (extent_of h)) (sym slots) ∙ c.has in
     let found : home_here s h ≡ Some (record { s_id = h; tables = c.on.rows }) = ap (λ t. option_and_then (λ (x : ExtentState). home_at x h) (slot t (extent_of h))) (sym slots) ∙ c.on.found in
     collected_of (home_in w.sites w.parcels) (gathered w) h (record { s_id = h; tables = c.on.rows }) (gathered_is w.routes.subscribers w good.extents)
-        (home_in_here w.routes.subscribers w.sites w.parcels p h s c.x good.extents b.here has ∙ found)
+    (home_in_here w.routes.subscribers w.sites w.parcels p h s c.x good.extents b.here has ∙ found)
     ∙ sym (ap (λ o. option_map_or (λ (y : SubscriberRows). y.tables) o no_tables) found)
 
 home_found : (w : WorldState) (p : ℕ) (s s' : SiteState) (item : Item) (rest : List Item) (h : ℕ) → IsWorld w → BeginsCall w p s s' item rest → item.home ≡ Some h → home_in w.sites w.parcels h ≡ Some (record { s_id = h; tables = rows_here s item.home })
@@ -197,6 +198,8 @@ begun_is w p s s' item rest good b =
         keys_back = subst (λ (u : Database). (key : Key) → answer w.directory key ≡ home_of_key u.subscribers key) (sym back) good.keys_back;
         consistent = subst IsConsistent (sym database) good.consistent;
         consistent_back = subst IsConsistent (sym back) good.consistent_back;
+        populated = subst (IsPopulated n) (sym database) good.populated;
+        populated_back = subst (IsPopulated n) (sym back) good.populated_back;
       };
       enters = record {
         ask = item.ask;

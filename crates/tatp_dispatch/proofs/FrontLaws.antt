@@ -130,9 +130,9 @@ drop_done a queues clients p item h f =
     let rest : List Item = f.front.rest in
     let after : world_of (dropped a queues clients) ≡ record w { queues = set w.queues p rest; clients = set w.clients item.client c' } = λ i. record w { queues = f.popped item rest f.front.queue i; clients = f.refused k.c k.is i } in
     let kept : Kept w (world_of (dropped a queues clients)) = subst (Kept w) (sym after) (
-      keeps_queues w (set w.queues p rest) (set w.clients item.client c') h.world (length-set w.queues p rest)
-      (calls_dropped (calls_of w) item.client p k.c item rest k.is refl f.front.queue h.world.clients)
-      (λ y at. h.world.items y (waits_pop w.queues p rest item y f.front.queue at))
+    keeps_queues w (set w.queues p rest) (set w.clients item.client c') h.world (length-set w.queues p rest)
+    (calls_dropped (calls_of w) item.client p k.c item rest k.is refl f.front.queue h.world.clients)
+    (λ y at. h.world.items y (waits_pop w.queues p rest item y f.front.queue at))
     ) in (
       record { world = kept.world; room = record { completions = h.room.completions; landings = h.room.landings; clients = omega (arith, h.room.clients, ap length (f.refused k.c k.is), length-set a.clients.items item.client c') } },
       record { goes = kept.stays; serves = serves_kept w (world_of (dropped a queues clients)) kept.back kept.completions; world = kept.world; procedures = refl },
@@ -190,14 +190,14 @@ forward_happens a popped pushed p q item h f =
     let pops : popped.items ≡ set a.queues.items p rest = f.pops item rest f.front.queue in
     elim (slice_get_cases popped.items q).1 as (λ _. ForwardsFront (world_of a) p q (world_of (forwarded a pushed))) [
       | inl k ↦ record {
-          item = item;
-          rest = rest;
-          before = k.0;
-          queue = f.front.queue;
-          by_route = f.by_route;
-          there = ap (λ t. slice_get t q) (sym pops) ∙ k.2;
-          after = λ i. record (world_of a) { queues = (f.pushes k.0 k.2 ∙ ap (λ t. set t q (k.0 ++ item ∷ [])) pops) i };
-        }
+        item = item;
+        rest = rest;
+        before = k.0;
+        queue = f.front.queue;
+        by_route = f.by_route;
+        there = ap (λ t. slice_get t q) (sym pops) ∙ k.2;
+        after = λ i. record (world_of a) { queues = (f.pushes k.0 k.2 ∙ ap (λ t. set t q (k.0 ++ item ∷ [])) pops) i };
+      }
       | inr k ↦ absurd (omega (arith, k.0, forward_place a popped p q item h f.front f.by_route f.pops))
     ]
 
@@ -211,9 +211,9 @@ forward_done a popped pushed p q item h f =
       | inr new ↦ h.world.items y (subst (WaitsIn w.queues) new (waits_first w.queues p x.rest x.item x.queue))
     ] in
     let kept : Kept w (world_of (forwarded a pushed)) = subst (Kept w) (sym x.after) (
-      keeps_queues w moved w.clients h.world (length-set (set w.queues p x.rest) q (x.before ++ x.item ∷ []) ∙ length-set w.queues p x.rest)
-      (same_clients (calls_of w) (record (calls_of w) { queues = moved }) (calls_forwarded (calls_of w) p q x.item x.rest x.before x.queue x.there) h.world.clients)
-      right
+    keeps_queues w moved w.clients h.world (length-set (set w.queues p x.rest) q (x.before ++ x.item ∷ []) ∙ length-set w.queues p x.rest)
+    (same_clients (calls_of w) (record (calls_of w) { queues = moved }) (calls_forwarded (calls_of w) p q x.item x.rest x.before x.queue x.there) h.world.clients)
+    right
     ) in (
       record { world = kept.world; room = record { completions = h.room.completions; landings = h.room.landings; clients = h.room.clients } },
       record { goes = kept.stays; serves = serves_kept w (world_of (forwarded a pushed)) kept.back kept.completions; world = kept.world; procedures = refl },

@@ -72,4 +72,4 @@ room_to_forward a p q item rest before h here there =
     let counted = waits_counted a.queues item (waits_first a.queues p rest item here) in
     let known : item.client < length a.clients = elim (below_or_not item.client (length a.clients)) as (λ _. item.client < length a.clients) [ inl less ↦ less | inr le ↦ absurd (omega (arith, h.known item.client le, counted)) ] in
     queue_room (set a.queues p rest) (length a.clients) q item.client before there (λ k. omega (arith, under_way_most a k h, queued_pop k a.queues p rest item here)) (λ k le. omega (arith, h.known k le, queued_pop k a.queues p rest item here)) known
-        (omega (arith, under_way_most a item.client h, queued_pop item.client a.queues p rest item here, one_same item.client item.client refl))
+    (omega (arith, under_way_most a item.client h, queued_pop item.client a.queues p rest item here, one_same item.client item.client refl))

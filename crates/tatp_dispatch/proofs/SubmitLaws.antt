@@ -117,13 +117,13 @@ pub submit_happens : (a : Inside) (queues : Vec (List Item) Global) (clients : V
 submit_happens a queues clients client ask c p item h f =
     elim (slice_get_cases a.queues.items p).1 as (λ _. QueuesCall (world_of a) client ask p (world_of (submitted a queues clients))) [
       | inl k ↦ record {
-          c = c;
-          before = k.0;
-          of_client = f.of_client;
-          by_route = f.by_route;
-          queue = k.2;
-          after = λ i. record (world_of a) { queues = (f.pushed k.0 k.2 ∙ ap (λ (y : Item). set a.queues.items p (k.0 ++ y ∷ [])) f.is) i; clients = f.counted c f.of_client i };
-        }
+        c = c;
+        before = k.0;
+        of_client = f.of_client;
+        by_route = f.by_route;
+        queue = k.2;
+        after = λ i. record (world_of a) { queues = (f.pushed k.0 k.2 ∙ ap (λ (y : Item). set a.queues.items p (k.0 ++ y ∷ [])) f.is) i; clients = f.counted c f.of_client i };
+      }
       | inr k ↦ absurd (omega (arith, k.0, submit_place a (answer a.directory (key_asked ask)) p h f.by_route))
     ]
 
@@ -140,9 +140,9 @@ submit_done a queues clients client ask c p item h f =
       | inr is ↦ subst (IsItemRight w.procedures w.directory) is (record { fits = clear_fits w.procedures ask x.c clear; home = refl })
     ] in
     let kept : Kept w (world_of (submitted a queues clients)) = subst (Kept w) (sym x.after) (
-      keeps_queues w longer known h.world (length-set w.queues p (x.before ++ new ∷ []))
-      (calls_submitted (calls_of w) client p x.c new x.before x.c.seen x.of_client clear.idle refl refl x.queue h.world.clients)
-      right
+    keeps_queues w longer known h.world (length-set w.queues p (x.before ++ new ∷ []))
+    (calls_submitted (calls_of w) client p x.c new x.before x.c.seen x.of_client clear.idle refl refl x.queue h.world.clients)
+    right
     ) in (
       record { world = kept.world; room = record { completions = h.room.completions; landings = h.room.landings; clients = omega (arith, h.room.clients, ap length (f.counted c f.of_client), length-set a.clients.items client (record c { accepted = c.accepted + 1; busy = true })) } },
       record { goes = kept.stays; serves = serves_kept w (world_of (submitted a queues clients)) kept.back kept.completions; world = kept.world; procedures = refl },

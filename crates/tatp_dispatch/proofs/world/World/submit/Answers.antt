@@ -17,15 +17,15 @@ pub push_at-requires-clause-room : goal.push_at-requires-clause-room
 push_at-requires-clause-room c = λ before at.
     let known : c.args.client < length c.self.inside.clients.items = search rules in
     submit_room c.self.inside c.args.client c.route-p.result c.args.ask c.index-c.result.now before c.self.invariant
-        (slice_get_read c.self.inside.clients.items (length c.self.inside.clients.items) c.args.client c.index-c.result.now refl known c.index-c.ensures)
-        (sym c.in-None.ensures) at
+    (slice_get_read c.self.inside.clients.items (length c.self.inside.clients.items) c.args.client c.index-c.result.now refl known c.index-c.ensures)
+    (sym c.in-None.ensures) at
 
 pub accept_call-requires-clause-number : goal.accept_call-requires-clause-number
 accept_call-requires-clause-number c = λ d at.
     let known : c.args.client < length c.self.inside.clients.items = search rules in
     submit_number c.self.inside c.args.client c.args.ask c.index-c.result.now d
-        (slice_get_read c.self.inside.clients.items (length c.self.inside.clients.items) c.args.client c.index-c.result.now refl known c.index-c.ensures)
-        (sym c.in-None.ensures) at
+    (slice_get_read c.self.inside.clients.items (length c.self.inside.clients.items) c.args.client c.index-c.result.now refl known c.index-c.ensures)
+    (sym c.in-None.ensures) at
 
 item : (c : After-accept_call) → Item
 item c = record { client = c.args.client; number = c.index-c.result.now.accepted; seen = c.index-c.result.now.seen; ask = c.args.ask; home = c.home_of-home.result }

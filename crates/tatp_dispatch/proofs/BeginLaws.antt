@@ -1,11 +1,10 @@
 -- A call that begins enters the plain world, and what holds of the whole still holds.
-use Rattle.std.proofs.Common.{◌≡◌, ◌≢◌, ◌⊎◌, inl, inr, ℕ, zero, suc, ◌+◌, ◌<◌, ◌≤◌, ◌==◌, ◌&&◌, if◌then◌else◌, is_some, Bool, true, false, List, [], ◌∷◌, length, Option, Some, None, Result, Ok, Err, slice_get, refl, sym, ◌∙◌, ap, subst, arith}
-use Rattle.std.specs.Option.{option_flatten, option_and_then, option_map_or}
+use Rattle.std.proofs.Common.{◌≡◌, inl, inr, ℕ, ◌<◌, ◌≤◌, ◌==◌, ◌&&◌, if◌then◌else◌, is_some, List, ◌∷◌, length, Option, Some, None, slice_get, refl, sym, ◌∙◌, ap, subst, arith}
+use Rattle.std.specs.Option.{option_and_then, option_map_or}
 use Rattle.std.proofs.Math.ListN.{set, length-set}
 use Rattle.std.proofs.lemmas.Bool.{eq-eqb}
 use Rattle.std.proofs.lemmas.Option.{slice_get_cases}
-use Rattle.tatp_encoding.specs.Modules.{Procedure}
-use Rattle.tatp_tables.specs.Database.{Database, no_tables, of_subscriber}
+use Rattle.tatp_tables.specs.Database.{Database, no_tables}
 use Rattle.tatp_tables.specs.Home.{SubscriberRows}
 use Rattle.tatp_numbers.specs.declared.key.Key.{Key}
 use Rattle.tatp_numbers.specs.Homes.{home_of_key}
@@ -23,18 +22,17 @@ use Rattle.tatp_partition.specs.Obstacles.{begin_obstacle}
 use Rattle.tatp_partition.specs.Running.{call_begun, begun}
 use Rattle.tatp_partition.specs.Sites.{SiteState, RunningCall, slot, home_here, rows_here}
 use Rattle.tatp_partition.specs.Sound.{IsSite}
-use Rattle.tatp_dispatch.specs.declared.client.Client.{Client}
 use Rattle.tatp_dispatch.specs.Counts.{or_else, first_of, one, one_if, total}
 use Rattle.tatp_dispatch.specs.Worlds.{WorldState}
 use Rattle.tatp_dispatch.specs.Gathered.{gathered}
 use Rattle.tatp_dispatch.specs.Populated.{IsPopulated}
-use Rattle.tatp_dispatch.specs.Plain.{PlainCall, Enters, entering}
+use Rattle.tatp_dispatch.specs.Plain.{Enters, entering}
 use Rattle.tatp_dispatch.specs.Shown.{call_here, running_calls, shown, set_back}
-use Rattle.tatp_dispatch.specs.Placed.{AreExtentsPlaced, RunsIn, WaitsIn, times_queued, times_running, times_numbered, AllCalls, IsClientInOrder, AreClientsInOrder}
+use Rattle.tatp_dispatch.specs.Placed.{AreExtentsPlaced, WaitsIn, times_numbered, AllCalls, AreClientsInOrder}
 use Rattle.tatp_dispatch.specs.Routed.{extent_in, moves_of, stands_at}
 use Rattle.tatp_dispatch.specs.Serving.{calls_of, IsWorld}
 use Rattle.tatp_dispatch.proofs.CountLaws.{same_or_not, get_set_same, first_set_same, first_at, first_none, total_set, total_at}
-use Rattle.tatp_dispatch.proofs.CollectLaws.{Collects, collected_of, collected_same}
+use Rattle.tatp_dispatch.proofs.CollectLaws.{collected_of, collected_same}
 use Rattle.tatp_dispatch.proofs.PlaceLaws.{home_in}
 use Rattle.tatp_dispatch.proofs.GatherLaws.{gathered_is}
 use Rattle.tatp_dispatch.proofs.BackLaws.{saved_at, home_back, set_back_is}

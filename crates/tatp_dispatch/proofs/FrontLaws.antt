@@ -1,35 +1,31 @@
 -- The front call of a partition: it leaves its queue and begins, is forwarded, or is refused.
-use Rattle.std.proofs.Common.{◌≡◌, ◌≢◌, ◌⊎◌, inl, inr, ℕ, zero, suc, ◌+◌, ◌<◌, ◌≤◌, nat_le, if◌then◌else◌, ◌&&◌, Bool, true, false, List, [], ◌∷◌, ◌++◌, length, Option, Some, None, Result, Ok, Err, slice_get, refl, sym, ◌∙◌, ap, subst, arith, vec_len, vec_capacity, Vec, Global}
+use Rattle.std.proofs.Common.{◌≡◌, inl, inr, ℕ, ◌+◌, ◌<◌, ◌≤◌, nat_le, if◌then◌else◌, ◌&&◌, Bool, true, false, List, [], ◌∷◌, ◌++◌, length, Option, Some, None, Ok, slice_get, refl, sym, ◌∙◌, ap, subst, arith, vec_len, vec_capacity, Vec, Global}
 use Rattle.std.specs.Option.{option_map, option_map_or, option_and_then}
 use Rattle.std.proofs.Math.ListN.{set, length-set}
-use Rattle.std.proofs.lemmas.Option.{slice_get_cases, slice_get_within}
+use Rattle.std.proofs.lemmas.Option.{slice_get_cases}
 use Rattle.tatp_encoding.specs.Modules.{Procedure}
 use Rattle.tatp_population.specs.Extents.{extent_of}
 use Rattle.tatp_procs.specs.declared.entry.Entry.{Entry}
 use Rattle.tatp_partition.specs.declared.item.Item.{Item}
-use Rattle.tatp_partition.specs.declared.item.Offer.{Offer}
 use Rattle.tatp_partition.specs.declared.item.Offer.TheVariants.{Began as Did_begin}
 use Rattle.tatp_partition.specs.declared.refusal.SiteRefusal.{SiteRefusal}
 use Rattle.tatp_partition.specs.Asks.{Fits, arities_of}
 use Rattle.tatp_partition.specs.Obstacles.{begin_obstacle}
 use Rattle.tatp_partition.specs.Sites.{SiteState}
 use Rattle.tatp_move.specs.declared.route.Route.{Route}
-use Rattle.tatp_move.specs.Routing.{RoutesState, route_of}
+use Rattle.tatp_move.specs.Routing.{route_of}
 use Rattle.tatp_dispatch.specs.declared.client.Client.{Client}
-use Rattle.tatp_dispatch.specs.declared.event.Answer.{Answer}
 use Rattle.tatp_dispatch.specs.declared.event.Answer.TheVariants.{Began, Away, Denied}
-use Rattle.tatp_dispatch.specs.declared.event.Refusal.{Refusal}
 use Rattle.tatp_dispatch.specs.declared.event.Refusal.TheVariants.{NoPartition, Site}
 use Rattle.tatp_dispatch.specs.declared.world.World.TheInside.{Inside}
-use Rattle.tatp_dispatch.specs.Counts.{one, one_if, total}
+use Rattle.tatp_dispatch.specs.Counts.{one, total}
 use Rattle.tatp_dispatch.specs.Queues.{most_clients}
 use Rattle.tatp_dispatch.specs.Worlds.{WorldState}
-use Rattle.tatp_dispatch.specs.Fields.{world_of, HasRoom, IsSound}
+use Rattle.tatp_dispatch.specs.Fields.{world_of, IsSound}
 use Rattle.tatp_dispatch.specs.Obstacles.{front_of, front_obstacle, begin_obstacle_at}
 use Rattle.tatp_dispatch.specs.Offering.{OffersTo}
-use Rattle.tatp_dispatch.specs.Events.{with_site, BeginsFront, DropsFront, ForwardsFront}
-use Rattle.tatp_dispatch.specs.Placed.{WaitsIn, AllCalls, AreClientsInOrder, IsItemRight, AreItemsRight}
-use Rattle.tatp_dispatch.specs.Shown.{shown}
+use Rattle.tatp_dispatch.specs.Events.{BeginsFront, DropsFront, ForwardsFront}
+use Rattle.tatp_dispatch.specs.Placed.{WaitsIn, IsItemRight, AreItemsRight}
 use Rattle.tatp_dispatch.specs.Serving.{calls_of, IsWorld, Tells}
 use Rattle.tatp_dispatch.proofs.CountLaws.{total_most, one_most}
 use Rattle.tatp_dispatch.proofs.CallLaws.{same_clients, calls_forwarded, calls_dropped, waits_counted, waits_first, waits_push, waits_pop}

@@ -1,6 +1,6 @@
 -- A call that a client asks goes to the back of the queue that the route names.
-use Rattle.std.proofs.Common.{◌≡◌, ◌≢◌, ◌⊎◌, inl, inr, ℕ, zero, suc, ◌+◌, ◌-◌, ◌^◌, ◌<◌, ◌≤◌, ◌==◌, if◌then◌else◌, not, Bool, true, false, List, [], ◌∷◌, ◌++◌, length, map, Option, Some, None, Result, Ok, Err, slice_get, refl, sym, ◌∙◌, ap, subst, arith, Vec, Global}
-use Rattle.std.specs.Option.{option_map, option_map_or}
+use Rattle.std.proofs.Common.{◌≡◌, ◌≢◌, inl, inr, ℕ, zero, suc, ◌+◌, ◌-◌, ◌^◌, ◌<◌, ◌==◌, not, Bool, true, false, List, [], ◌∷◌, ◌++◌, length, Option, Some, None, Result, Ok, Err, slice_get, refl, sym, ◌∙◌, ap, subst, arith, Vec, Global}
+use Rattle.std.specs.Option.{option_map_or}
 use Rattle.std.proofs.Math.ListN.{set, length-set}
 use Rattle.std.proofs.lemmas.Bool.{eqb-true, eq-eqb}
 use Rattle.std.proofs.lemmas.Option.{slice_get_cases}
@@ -14,7 +14,6 @@ use Rattle.tatp_partition.specs.declared.item.Item.{Item}
 use Rattle.tatp_partition.specs.Asks.{procedure_asked, arguments_asked, key_asked, AreInDomains, Fits, arities_of}
 use Rattle.tatp_move.specs.Routing.{route_of}
 use Rattle.tatp_dispatch.specs.declared.client.Client.{Client}
-use Rattle.tatp_dispatch.specs.declared.event.Answer.{Answer}
 use Rattle.tatp_dispatch.specs.declared.event.Answer.TheVariants.{Queued}
 use Rattle.tatp_dispatch.specs.declared.event.Refusal.{Refusal}
 use Rattle.tatp_dispatch.specs.declared.event.Refusal.TheVariants.{ClientBusy, NoProcedure, NumbersFull}
@@ -25,8 +24,8 @@ use Rattle.tatp_dispatch.specs.Worlds.{WorldState}
 use Rattle.tatp_dispatch.specs.Fields.{world_of, IsSound}
 use Rattle.tatp_dispatch.specs.Obstacles.{where_holds, has_procedure, bad_argument_of, argument_obstacle, call_obstacle, client_obstacle, submit_obstacle}
 use Rattle.tatp_dispatch.specs.Events.{QueuesCall}
-use Rattle.tatp_dispatch.specs.Placed.{WaitsIn, IsItemRight, AreItemsRight}
-use Rattle.tatp_dispatch.specs.Serving.{calls_of, IsWorld}
+use Rattle.tatp_dispatch.specs.Placed.{IsItemRight, AreItemsRight}
+use Rattle.tatp_dispatch.specs.Serving.{calls_of}
 use Rattle.tatp_dispatch.proofs.CallLaws.{calls_submitted, waits_push}
 use Rattle.tatp_dispatch.proofs.QueueLaws.{room_to_submit}
 use Rattle.tatp_dispatch.proofs.WorldLaws.{Kept, serves_kept, keeps_queues}

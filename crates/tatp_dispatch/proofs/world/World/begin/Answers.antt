@@ -1,4 +1,4 @@
-use Rattle.std.proofs.Common.{◌≡◌, ◌<◌, length, Some, None, Ok, Err, Result, List, [], ◌∷◌, ◌++◌, slice_get, refl, sym, ◌∙◌, ap, subst, arith}
+use Rattle.std.proofs.Common.{Some, None, Ok, [], ◌∷◌, ◌++◌, sym, ◌∙◌, ap, subst}
 use Rattle.std.proofs.Math.ListN.{set}
 use Rattle.std.proofs.lemmas.Option.{slice_get_within}
 use Rattle.tatp_partition.specs.declared.item.Item.{Item}
@@ -9,7 +9,7 @@ use Rattle.tatp_dispatch.specs.declared.event.Refusal.TheVariants.{Site}
 use Rattle.tatp_dispatch.specs.Fields.{world_of}
 use Rattle.tatp_dispatch.specs.Offering.{OffersTo}
 use Rattle.tatp_dispatch.proofs.EventLaws.{told_same}
-use Rattle.tatp_dispatch.proofs.FrontLaws.{HasFront, has_front, obstacle_of_front, client_of, counted_client, front_fits, OffersBack, came_back, with_room, same_world, same_sound, DropFields, drop_back, ForwardFields, forward_place, forward_room, forward_back, StartFields, start_happens, start_done}
+use Rattle.tatp_dispatch.proofs.FrontLaws.{has_front, obstacle_of_front, client_of, counted_client, front_fits, OffersBack, came_back, with_room, same_world, same_sound, DropFields, drop_back, ForwardFields, forward_place, forward_room, forward_back, StartFields, start_happens, start_done}
 use Rattle.tatp_dispatch.proofs.world.World.begin.Goals as goal
 use Rattle.tatp_dispatch.proofs.world.World.begin.Goals.{In-Err, After-pop_at, After-refuse_call, After-push_at}
 

@@ -140,8 +140,8 @@ later_than a p item rest i entry h queue is of =
     counted_entry client x e = rw (eq-eqb x.client client e, eq-eqb x.number x.number refl) refl
 
 -- ---- the whole
-pub begun_is : (w : WorldState) (p : ℕ) (s s' : SiteState) (item : Item) (rest : List Item) → IsWorld w → BeginsCall w p s s' item rest → Begun w (begun_world w p s' rest) item.client
-begun_is w p s s' item rest good b =
+pub begins : (w : WorldState) (p : ℕ) (s s' : SiteState) (item : Item) (rest : List Item) → IsWorld w → BeginsCall w p s s' item rest → Begun w (begun_world w p s' rest) item.client
+begins w p s s' item rest good b =
     let w' : WorldState = begun_world w p s' rest in
     let n : ℕ = w.routes.subscribers in
     let r : RunningCall = call_begun s item in

@@ -31,7 +31,7 @@ use Rattle.tatp_dispatch.proofs.CountLaws.{total_most, one_most}
 use Rattle.tatp_dispatch.proofs.CallLaws.{same_clients, calls_forwarded, calls_dropped, waits_counted, waits_first, waits_push, waits_pop}
 use Rattle.tatp_dispatch.proofs.QueueLaws.{room_to_forward}
 use Rattle.tatp_dispatch.proofs.WorldLaws.{Kept, serves_kept, keeps_queues}
-use Rattle.tatp_dispatch.proofs.BeginLaws.{Begun, begun_world, begun_is}
+use Rattle.tatp_dispatch.proofs.BeginLaws.{Begun, begun_world, begins}
 use Rattle.tatp_dispatch.proofs.EventLaws.{Done_so, set_as_it_is}
 
 some_inj : {A : Type 0} (x y : A) → Some x ≡ Some y → x ≡ y
@@ -263,7 +263,7 @@ pub start_done : (a : Inside) (v : Vec SiteState Global) (queues : Vec (List Ite
 start_done a v queues entries p item h f =
     let w : WorldState = world_of a in
     let b : Begun w (world_of (started a v queues entries)) item.client = subst (λ (t : WorldState). Begun w t item.client) (sym (start_world a v queues entries p item f))
-    (begun_is w p f.offers.before f.offers.after_it item f.front.rest h.world (record { here = f.offers.site; queue = f.front.queue; site = f.offers.whole; clear = f.offers.begins.0; after = f.offers.begins.1 })) in
+    (begins w p f.offers.before f.offers.after_it item f.front.rest h.world (record { here = f.offers.site; queue = f.front.queue; site = f.offers.whole; clear = f.offers.begins.0; after = f.offers.begins.1 })) in
     let len : length v.items ≡ length a.sites.items = ap length f.offers.after ∙ length-set a.sites.items p f.offers.after_it in (
       record { world = b.world; room = record { completions = omega (arith, f.room, len, total_most (λ (t : SiteState). one t.running) v.items (λ t. one_most t.running)); landings = h.room.landings; clients = h.room.clients } },
       record { goes = b.enters; serves = serves_kept w (world_of (started a v queues entries)) b.back f.items; world = b.world; procedures = refl },

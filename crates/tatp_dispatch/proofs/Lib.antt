@@ -4,6 +4,7 @@ pub mod PlaceLaws
 pub mod GatherLaws
 pub mod BackLaws
 pub mod NameLaws
+pub mod SubscriberLaws
 pub mod TurnLaws
 pub mod ConsistentLaws
 pub mod LineLaws
@@ -13,10 +14,17 @@ pub mod CallLaws
 pub mod WorldLaws
 pub mod RowLaws
 pub mod RunLaws
+pub mod QueueLaws
+pub mod BeginLaws
 pub mod StepLaws
 pub mod EndLaws
 pub mod MoveLaws
 pub mod ServeLaws
+pub mod CleanLaws
+pub mod OnceLaws
 pub mod EventLaws
+pub mod OfferLaws
+pub mod FrontLaws
+pub mod SubmitLaws
 pub mod CarryLaws
 pub mod LandingLaws

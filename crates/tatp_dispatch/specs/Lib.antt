@@ -1,13 +1,16 @@
 pub mod Counts
+pub mod Queues
 pub mod Worlds
 pub mod Placed
 pub mod Routed
 pub mod Plain
 pub mod Gathered
+pub mod Populated
 pub mod Shown
 pub mod Obstacles
 pub mod Events
 pub mod Serving
 pub mod Fields
 pub mod Stepping
+pub mod Offering
 pub mod Carrying

@@ -1,10 +1,12 @@
 //! The whole: all sites, what is under way between them, and the clients.
 
+mod beginning;
 mod moving;
 mod reading;
 mod routing;
 mod stepping;
 mod stopping;
+mod submitting;
 
 use crate::client::Client;
 use crate::queue::Queue;

@@ -8,6 +8,7 @@ pub mod Shown
 pub mod Obstacles
 pub mod Events
 pub mod Serving
+pub mod Opened
 pub mod Fields
 pub mod Stepping
 pub mod Carrying

@@ -4,10 +4,12 @@
 mod client;
 mod completed;
 mod event;
+mod hand;
 mod laws;
 mod queue;
+mod sites;
 mod world;
 
 pub use event::{Answer, Event, Refusal};
-pub use laws::transactions_are_served_in_order;
+pub use laws::{nothing_is_set_back_where_no_call_runs, transactions_are_served_in_order};
 pub use world::World;

@@ -1,6 +1,9 @@
 //! The whole: all sites, what is under way between them, and the clients.
 
+mod closing;
+mod gathering;
 mod moving;
+mod opening;
 mod reading;
 mod routing;
 mod stepping;

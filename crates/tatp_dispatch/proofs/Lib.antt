@@ -20,3 +20,6 @@ pub mod ServeLaws
 pub mod EventLaws
 pub mod CarryLaws
 pub mod LandingLaws
+pub mod DealLaws
+pub mod OpenLaws
+pub mod RowsLaws

@@ -9,6 +9,7 @@ pub mod Obstacles
 pub mod Events
 pub mod Serving
 pub mod Opened
+pub mod Appending
 pub mod Fields
 pub mod Stepping
 pub mod Carrying

@@ -42,13 +42,13 @@ new_client = record { accepted = 0; refused = 0; busy = false; seen = 0 }
 
 -- a whole that was just opened with these rows in so many partitions and for so many clients:
 -- its database is that of the rows, no call runs or waits, none was completed, and each extent stands where its route says
-pub record IsOpened (procedures : List Procedure) (rows : Rows) (partitions clients : ℕ) (w : WorldState) : Type 0 where
+pub record IsOpened (procedures : List Procedure) (rows : Rows) (partitions client_count : ℕ) (w : WorldState) : Type 0 where
   pub runs : w.procedures ≡ procedures
   pub shows : shown w ≡ at_rest (database_of rows)
   pub back : set_back w ≡ database_of rows
   pub sites : AreSitesOpened procedures partitions (opened_extents (database_of rows) (length rows.subscribers)) w.sites
   pub routes : w.routes ≡ opened_routes (length rows.subscribers) partitions
   pub queues : w.queues ≡ replicate partitions []
-  pub clients : w.clients ≡ replicate clients new_client
+  pub clients : w.clients ≡ replicate client_count new_client
   pub parcels : w.parcels ≡ replicate (extent_count (length rows.subscribers) + 1) None
   pub landings : w.landings ≡ []

@@ -1,0 +1,1 @@
+-- What holds of a whole that was just opened.

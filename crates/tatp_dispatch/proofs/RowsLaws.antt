@@ -1,0 +1,1 @@
+-- Rows appended home by home.

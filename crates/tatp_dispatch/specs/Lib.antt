@@ -1,4 +1,5 @@
 pub mod Counts
+pub mod Queues
 pub mod Worlds
 pub mod Placed
 pub mod Routed
@@ -10,4 +11,5 @@ pub mod Events
 pub mod Serving
 pub mod Fields
 pub mod Stepping
+pub mod Offering
 pub mod Carrying

@@ -1,4 +1,5 @@
 pub mod Counts
+pub mod Queues
 pub mod Worlds
 pub mod Placed
 pub mod Routed
@@ -12,4 +13,5 @@ pub mod Opened
 pub mod Appending
 pub mod Fields
 pub mod Stepping
+pub mod Offering
 pub mod Carrying

@@ -1,6 +1,7 @@
 //! The core: all sites, what is under way between them, and what clients ask, event by event.
 #![tactic(auto)]
 
+mod asks;
 mod client;
 mod completed;
 mod event;

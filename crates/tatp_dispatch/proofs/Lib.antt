@@ -4,6 +4,7 @@ pub mod PlaceLaws
 pub mod GatherLaws
 pub mod BackLaws
 pub mod NameLaws
+pub mod SubscriberLaws
 pub mod TurnLaws
 pub mod ConsistentLaws
 pub mod LineLaws

@@ -5,6 +5,7 @@ pub mod Placed
 pub mod Routed
 pub mod Plain
 pub mod Gathered
+pub mod Populated
 pub mod Shown
 pub mod Obstacles
 pub mod Events

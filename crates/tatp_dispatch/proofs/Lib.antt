@@ -22,5 +22,6 @@ pub mod EventLaws
 pub mod CarryLaws
 pub mod LandingLaws
 pub mod DealLaws
+pub mod SiteLaws
 pub mod OpenLaws
 pub mod RowsLaws

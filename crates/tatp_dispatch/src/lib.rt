@@ -9,5 +9,7 @@ mod queue;
 mod world;
 
 pub use event::{Answer, Event, Refusal};
-pub use laws::transactions_are_served_in_order;
+pub use laws::{
+    clean_rows_are_populated, gathered_rows_are_clean, transactions_are_served_in_order,
+};
 pub use world::World;

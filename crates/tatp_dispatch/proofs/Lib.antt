@@ -18,6 +18,8 @@ pub mod StepLaws
 pub mod EndLaws
 pub mod MoveLaws
 pub mod ServeLaws
+pub mod CleanLaws
+pub mod OnceLaws
 pub mod EventLaws
 pub mod CarryLaws
 pub mod LandingLaws

@@ -12,5 +12,8 @@ mod sites;
 mod world;
 
 pub use event::{Answer, Event, Refusal};
-pub use laws::{nothing_is_set_back_where_no_call_runs, transactions_are_served_in_order};
+pub use laws::{
+    clean_rows_are_populated, gathered_rows_are_clean, nothing_is_set_back_where_no_call_runs,
+    transactions_are_served_in_order,
+};
 pub use world::World;

@@ -27,3 +27,4 @@ pub mod DealLaws
 pub mod SiteLaws
 pub mod OpenLaws
 pub mod RowsLaws
+pub mod NewLaws

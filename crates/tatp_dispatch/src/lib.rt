@@ -17,3 +17,6 @@ pub use laws::{
     transactions_are_served_in_order,
 };
 pub use world::World;
+
+#[cfg(test)]
+mod tests;

@@ -87,7 +87,6 @@ impl<'m> World<'m> {
     ) -> Result<World<'m>, OpenError>
         requires some_partitions { 1 ≤ partitions }
         requires few_partitions { partitions ≤ 8 }
-        requires some_clients { 1 ≤ clients }
         requires few_clients { clients ≤ 64 }
         ensures opened { IfOk result (IsOpened loaded.now rows partitions clients) }
         ensures world { IfOk result IsWorld }

@@ -1,10 +1,9 @@
 -- The whole that was just opened with clean rows is a whole, and shows their database.
-use Rattle.std.proofs.Common.{◌≡◌, ◌≢◌, ◌⊎◌, ℕ, zero, suc, ◌+◌, ◌-◌, ◌*◌, ◌/◌, ◌%◌, ◌<◌, ◌≤◌, ◌==◌, ◌&&◌, if◌then◌else◌, Bool, true, false, List, [], ◌∷◌, length, map, replicate, Option, Some, None, slice_get, slice_index, refl, sym, ◌∙◌, ap, subst, inl, inr, arith}
+use Rattle.std.proofs.Common.{◌≡◌, ◌≢◌, ℕ, zero, suc, ◌+◌, ◌-◌, ◌<◌, ◌≤◌, ◌==◌, ◌&&◌, if◌then◌else◌, Bool, true, false, List, [], ◌∷◌, length, replicate, Option, Some, None, slice_get, slice_index, refl, sym, ◌∙◌, ap, subst, inl, inr, arith}
 use Rattle.std.specs.List.{list_any, range_with_len}
-use Rattle.std.specs.Option.{option_flatten, option_map, option_map_or, option_and_then}
+use Rattle.std.specs.Option.{option_flatten, option_map_or, option_and_then}
 use Rattle.std.proofs.lemmas.Bool.{and_parts, eqb-true, eq-eqb}
 use Rattle.std.proofs.lemmas.List.{length-replicate}
-use Rattle.std.proofs.lemmas.Option.{slice_get_within, slice_get_past, slice_get_cases}
 use Rattle.tatp_encoding.specs.Modules.{Procedure}
 use Rattle.tatp_loader.specs.Lawful.{IsLawful}
 use Rattle.tatp_tables.specs.Tuples.{Tuple, has, set_of}
@@ -12,7 +11,6 @@ use Rattle.tatp_tables.specs.Keys.{has_key}
 use Rattle.tatp_tables.specs.Clean.{IsClean}
 use Rattle.tatp_tables.specs.Database.{Database, database_of, in_table, of_subscriber}
 use Rattle.tatp_tables.specs.Home.{SubscriberRows, home_in as home_in_database}
-use Rattle.tatp_tables.specs.Loading.{homes_in}
 use Rattle.tatp_tables.specs.declared.row.Rows.{Rows}
 use Rattle.tatp_tables.specs.declared.table.Table.{Table}
 use Rattle.tatp_tables.proofs.SubscriberLaws.{has-rows_with_s_id, in_table-of_subscriber}
@@ -20,36 +18,31 @@ use Rattle.tatp_numbers.specs.declared.key.Key.{Key}
 use Rattle.tatp_numbers.specs.Homes.{home_of_key}
 use Rattle.tatp_numbers.specs.Listing.{Listing, answer}
 use Rattle.tatp_procs.specs.Consistent.{IsConsistent}
-use Rattle.tatp_procs.specs.declared.entry.Entry.{Entry}
 use Rattle.tatp_procs.proofs.ConsistentLaws.{IsConsistent-clean}
 use Rattle.tatp_population.specs.Extents.{ExtentState, first_subscriber, extent_of, home_at}
 use Rattle.tatp_population.specs.Opening.{extent_count, last_subscriber, most_subscribers, homes_of_extent, opened_extent, opened_extents}
 use Rattle.tatp_population.proofs.CleanRowsLaws.{rows_of_clean}
 use Rattle.tatp_partition.specs.declared.item.Item.{Item}
-use Rattle.tatp_partition.specs.Asks.{key_asked}
-use Rattle.tatp_partition.specs.Moving.{LandedState}
 use Rattle.tatp_partition.specs.Opening.{extent_numbered}
 use Rattle.tatp_partition.specs.Sites.{SiteState, RunningCall, slot}
 use Rattle.tatp_partition.proofs.OpenLaws.{range_get, range_past}
-use Rattle.tatp_move.specs.Routing.{RoutesState, opening_partition, opened_routes}
+use Rattle.tatp_move.specs.Routing.{opening_partition, opened_routes}
 use Rattle.tatp_move.specs.declared.route.Route.{Route}
-use Rattle.tatp_dispatch.specs.declared.client.Client.{Client}
-use Rattle.tatp_dispatch.specs.Counts.{or_else, first_of, one, one_if, total}
+use Rattle.tatp_dispatch.specs.Counts.{or_else, one, one_if, total}
 use Rattle.tatp_dispatch.specs.Gathered.{gathered}
-use Rattle.tatp_dispatch.specs.Opened.{at_rest, new_client, IsSiteOpened, AreSitesOpened, IsOpened}
-use Rattle.tatp_dispatch.specs.Placed.{extent_at, times_placed, IsWhole, AreExtentsPlaced, IsSiteOf, WaitsIn, RunsAt, RunsIn, is_call_of, times_waiting, times_queued, times_running, AllCalls, IsClientInOrder, AreClientsInOrder, AreItemsRight, AreCallsNamed}
-use Rattle.tatp_dispatch.specs.Plain.{PlainCall}
+use Rattle.tatp_dispatch.specs.Opened.{new_client, AreSitesOpened, IsOpened}
+use Rattle.tatp_dispatch.specs.Placed.{extent_at, AreExtentsPlaced, WaitsIn, RunsIn, is_call_of, times_waiting, times_queued, times_running, IsClientInOrder, AreClientsInOrder}
 use Rattle.tatp_dispatch.specs.Populated.{IsPopulated}
 use Rattle.tatp_dispatch.specs.Routed.{extent_in, moves_of, stands_at, AreRoutesRight, NamePartitions}
-use Rattle.tatp_dispatch.specs.Serving.{IsWorld, calls_of}
+use Rattle.tatp_dispatch.specs.Serving.{IsWorld}
 use Rattle.tatp_dispatch.specs.Shown.{call_of_client, call_here, running_calls, shown, with_call_set_back, with_calls_set_back, set_back}
 use Rattle.tatp_dispatch.specs.Worlds.{WorldState}
 use Rattle.tatp_dispatch.proofs.CleanLaws.{clean_populated}
 use Rattle.tatp_dispatch.proofs.CollectLaws.{Collects, has_row, both_ways, first_is, collected_same}
 use Rattle.tatp_dispatch.proofs.CountLaws.{total_none, first_none_at}
 use Rattle.tatp_dispatch.proofs.GatherLaws.{gathered_is, any_at}
-use Rattle.tatp_dispatch.proofs.OpenLaws.{its_extent, IsNumberOf, numbers_of, length-opened_extents, whole_extent, site_place, site_places, IsDealtHere, stands_dealt}
-use Rattle.tatp_dispatch.proofs.PlaceLaws.{IsAtSite, extent_found, extent_at_site, home_in, HasHome, home_at_place, slot_has}
+use Rattle.tatp_dispatch.proofs.OpenLaws.{its_extent, IsNumberOf, numbers_of, length-opened_extents, whole_extent, site_place, site_places, stands_dealt}
+use Rattle.tatp_dispatch.proofs.PlaceLaws.{extent_found, extent_at_site, home_in, home_at_place, slot_has}
 use Rattle.tatp_dispatch.proofs.RowsLaws.{home_at_index}
 use Rattle.tatp_dispatch.proofs.SlotLaws.{stands_here}
 

@@ -1,28 +1,24 @@
 -- The extents of clean rows, dealt to sites that are opened: each stands once, at the site of its route.
-use Rattle.std.proofs.Common.{◌≡◌, ◌≢◌, ◌⊎◌, ℕ, zero, suc, ◌+◌, ◌-◌, ◌*◌, ◌/◌, ◌%◌, ◌<◌, ◌≤◌, ◌==◌, if◌then◌else◌, Bool, true, false, cond, List, [], ◌∷◌, length, map, filter, replicate, Option, Some, None, slice_get, refl, sym, ◌∙◌, ap, subst, inl, inr, arith}
+use Rattle.std.proofs.Common.{◌≡◌, ◌≢◌, ◌⊎◌, ℕ, zero, suc, ◌+◌, ◌-◌, ◌<◌, ◌≤◌, ◌==◌, if◌then◌else◌, Bool, true, false, cond, List, [], ◌∷◌, length, map, Option, Some, None, slice_get, refl, sym, ◌∙◌, ap, subst, inl, inr, arith}
 use Rattle.std.specs.List.{range_with_len}
-use Rattle.std.specs.Option.{option_flatten, option_map, option_and_then}
+use Rattle.std.specs.Option.{option_flatten}
 use Rattle.std.proofs.lemmas.Bool.{eqb-true, eq-eqb, cases_lt}
 use Rattle.std.proofs.lemmas.List.FromFn.{length-map-range_with_len}
-use Rattle.std.proofs.lemmas.List.{length-replicate}
-use Rattle.std.proofs.lemmas.Option.{slice_get_within, slice_get_past}
+use Rattle.std.proofs.lemmas.Option.{slice_get_within}
 use Rattle.tatp_encoding.specs.Modules.{Procedure}
 use Rattle.tatp_tables.specs.Database.{Database}
-use Rattle.tatp_tables.specs.Home.{SubscriberRows, home_in}
-use Rattle.tatp_tables.specs.Loading.{homes_in}
+use Rattle.tatp_tables.specs.Home.{home_in}
 use Rattle.tatp_tables.proofs.LoadingLaws.{length-homes_in}
 use Rattle.tatp_procs.specs.Consistent.{IsConsistent}
 use Rattle.tatp_procs.proofs.HomeRowLaws.{AreHome-of_subscriber}
 use Rattle.tatp_population.specs.Extents.{ExtentState, first_subscriber}
 use Rattle.tatp_population.specs.Opening.{extent_count, last_subscriber, homes_of_extent, opened_extent, opened_extents}
-use Rattle.tatp_partition.specs.Opening.{AreNumbered, extent_numbered, in_places, opened_site}
-use Rattle.tatp_partition.specs.Sites.{SiteState, slot}
+use Rattle.tatp_partition.specs.Opening.{AreNumbered, extent_numbered, in_places}
+use Rattle.tatp_partition.specs.Sites.{SiteState}
 use Rattle.tatp_partition.proofs.OpenLaws.{range_get, range_past}
 use Rattle.tatp_move.specs.Routing.{opening_partition}
-use Rattle.tatp_dispatch.specs.Counts.{first_of, one, total}
-use Rattle.tatp_dispatch.specs.Placed.{extent_at, times_placed, IsHomeOf, IsWhole, AreExtentsPlaced}
-use Rattle.tatp_dispatch.specs.Opened.{opens_in, dealt_to, IsSiteOpened, AreSitesOpened}
-use Rattle.tatp_dispatch.proofs.CountLaws.{total_none}
+use Rattle.tatp_dispatch.specs.Placed.{extent_at, IsHomeOf, IsWhole}
+use Rattle.tatp_dispatch.specs.Opened.{opens_in, dealt_to, IsSiteOpened}
 
 -- ---- extents by number
 -- of those dealt to p, the one with a number is that of all where the number is dealt to p

@@ -10,6 +10,8 @@ pub mod Shown
 pub mod Obstacles
 pub mod Events
 pub mod Serving
+pub mod Opened
+pub mod Appending
 pub mod Fields
 pub mod Stepping
 pub mod Offering

@@ -5,12 +5,18 @@ mod asks;
 mod client;
 mod completed;
 mod event;
+mod hand;
 mod laws;
 mod queue;
+mod sites;
 mod world;
 
 pub use event::{Answer, Event, Refusal};
 pub use laws::{
-    clean_rows_are_populated, gathered_rows_are_clean, transactions_are_served_in_order,
+    clean_rows_are_populated, gathered_rows_are_clean, nothing_is_set_back_where_no_call_runs,
+    transactions_are_served_in_order,
 };
 pub use world::World;
+
+#[cfg(test)]
+mod tests;

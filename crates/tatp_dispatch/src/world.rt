@@ -1,7 +1,10 @@
 //! The whole: all sites, what is under way between them, and the clients.
 
 mod beginning;
+mod closing;
+mod gathering;
 mod moving;
+mod opening;
 mod reading;
 mod routing;
 mod stepping;

@@ -33,3 +33,7 @@ pub mod SiteLaws
 pub mod OpenLaws
 pub mod RowsLaws
 pub mod NewLaws
+pub mod RunningLaws
+pub mod IdleLaws
+pub mod BenchmarkLaws
+pub mod CallingLaws

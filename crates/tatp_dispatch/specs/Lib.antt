@@ -13,6 +13,9 @@ pub mod Serving
 pub mod Opened
 pub mod Appending
 pub mod Fields
+pub mod Calling
+pub mod Runs
+pub mod Benchmark
 pub mod Stepping
 pub mod Offering
 pub mod Carrying

@@ -94,7 +94,7 @@ done_end a v entries clients p s s' completion c h is pushed set_to len capacity
     )
 
 -- ---- a step
-kept_running : (t : SiteState) (home : Option ℕ) (v : Database) → (with_rows_here t home v).running ≡ t.running
+pub kept_running : (t : SiteState) (home : Option ℕ) (v : Database) → (with_rows_here t home v).running ≡ t.running
 kept_running t None v = refl
 kept_running t (Some h) v = refl
 

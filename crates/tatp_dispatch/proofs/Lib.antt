@@ -28,3 +28,12 @@ pub mod FrontLaws
 pub mod SubmitLaws
 pub mod CarryLaws
 pub mod LandingLaws
+pub mod DealLaws
+pub mod SiteLaws
+pub mod OpenLaws
+pub mod RowsLaws
+pub mod NewLaws
+pub mod RunningLaws
+pub mod IdleLaws
+pub mod BenchmarkLaws
+pub mod CallingLaws

@@ -10,7 +10,12 @@ pub mod Shown
 pub mod Obstacles
 pub mod Events
 pub mod Serving
+pub mod Opened
+pub mod Appending
 pub mod Fields
+pub mod Calling
+pub mod Runs
+pub mod Benchmark
 pub mod Stepping
 pub mod Offering
 pub mod Carrying

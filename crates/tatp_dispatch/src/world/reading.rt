@@ -1,13 +1,19 @@
 //! What the whole tells of itself.
 ghost use Rattle.std.specs.Prelude.{◌≡◌, IfSome, Some, slice_get};
+ghost use Rattle.tatp_dispatch.specs.Serving.{IsWorld};
 
 use super::World;
 use tatp_partition::Site;
 use tatp_procs::Entry;
 
-impl<'m> World<'m> {
-    ghost use Rattle.tatp_dispatch.specs.Serving.{IsWorld};
+/// What holds of the whole, always.
+pub fn what_holds_of_every_world(world: &World<'_>)
+    ensures { IsWorld world.now }
+{
+    let _ = &world.completions;
+}
 
+impl<'m> World<'m> {
     /// The completed calls, in the order of their ends.
     pub fn completions(&self) -> &[Entry]
         ensures value { result.now ≡ self.now.completions }

@@ -27,4 +27,5 @@ pub mod DealLaws
 pub mod SiteLaws
 pub mod OpenLaws
 pub mod RowsLaws
+pub mod IdleLaws
 pub mod NewLaws

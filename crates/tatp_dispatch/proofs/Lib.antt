@@ -32,6 +32,7 @@ pub mod DealLaws
 pub mod SiteLaws
 pub mod OpenLaws
 pub mod RowsLaws
+pub mod IdleLaws
 pub mod NewLaws
 pub mod RunningLaws
 pub mod IdleLaws

@@ -28,49 +28,24 @@ use Rattle.tatp_partition.specs.Sites.{SiteState, RunningCall, slot}
 use Rattle.tatp_partition.proofs.OpenLaws.{range_get, range_past}
 use Rattle.tatp_move.specs.Routing.{opening_partition, opened_routes}
 use Rattle.tatp_move.specs.declared.route.Route.{Route}
-use Rattle.tatp_dispatch.specs.Counts.{or_else, one, one_if, total}
+use Rattle.tatp_dispatch.specs.Counts.{one, one_if, total}
 use Rattle.tatp_dispatch.specs.Gathered.{gathered}
 use Rattle.tatp_dispatch.specs.Opened.{new_client, AreSitesOpened, IsOpened}
 use Rattle.tatp_dispatch.specs.Placed.{extent_at, AreExtentsPlaced, WaitsIn, RunsIn, is_call_of, times_waiting, times_queued, times_running, IsClientInOrder, AreClientsInOrder}
 use Rattle.tatp_dispatch.specs.Populated.{IsPopulated}
 use Rattle.tatp_dispatch.specs.Routed.{extent_in, moves_of, stands_at, AreRoutesRight, NamePartitions}
 use Rattle.tatp_dispatch.specs.Serving.{IsWorld}
-use Rattle.tatp_dispatch.specs.Shown.{call_of_client, call_here, running_calls, shown, with_call_set_back, with_calls_set_back, set_back}
+use Rattle.tatp_dispatch.specs.Shown.{shown, set_back}
 use Rattle.tatp_dispatch.specs.Worlds.{WorldState}
 use Rattle.tatp_dispatch.proofs.CleanLaws.{clean_populated}
 use Rattle.tatp_dispatch.proofs.CollectLaws.{Collects, has_row, both_ways, first_is, collected_same}
-use Rattle.tatp_dispatch.proofs.CountLaws.{total_none, first_none_at}
+use Rattle.tatp_dispatch.proofs.CountLaws.{total_none}
+use Rattle.tatp_dispatch.proofs.IdleLaws.{NoneRuns, none_shown, none_set_back}
 use Rattle.tatp_dispatch.proofs.GatherLaws.{gathered_is, any_at}
 use Rattle.tatp_dispatch.proofs.OpenLaws.{its_extent, IsNumberOf, numbers_of, length-opened_extents, whole_extent, site_place, site_places, stands_dealt}
 use Rattle.tatp_dispatch.proofs.PlaceLaws.{extent_found, extent_at_site, home_in, home_at_place, slot_has}
 use Rattle.tatp_dispatch.proofs.RowsLaws.{home_at_index}
 use Rattle.tatp_dispatch.proofs.SlotLaws.{stands_here}
-
--- ---- where no call runs
-abbrev pub NoneRuns : List SiteState → Type 0
-NoneRuns sites = (p : ℕ) (s : SiteState) → slice_get sites p ≡ Some s → s.running ≡ None
-
-none_shown : (sites : List SiteState) → NoneRuns sites → (client : ℕ) → running_calls sites client ≡ None
-none_shown [] none client = refl
-none_shown (s ∷ sites) none client =
-    ap (λ k. or_else (option_and_then (call_of_client client) k) (running_calls sites client)) (none 0 s refl)
-    ∙ none_shown sites (λ p t at. none (suc p) t at) client
-
-none_set_back : (u : Database) (sites : List SiteState) → NoneRuns sites → with_calls_set_back u sites ≡ u
-none_set_back u [] none = refl
-none_set_back u (s ∷ sites) none =
-    ap (λ (k : Option RunningCall). with_call_set_back (with_calls_set_back u sites) (record s { running = k })) (none 0 s refl)
-    ∙ none_set_back u sites (λ p t at. none (suc p) t at)
-
-no_running : (client : ℕ) (s : SiteState) (o : Option RunningCall) → s.running ≡ o → ((k : ℕ) → option_and_then (call_of_client k) o ≡ None) → o ≡ None
-no_running client s None is none = refl
-no_running client s (Some r) is none =
-    let here : option_and_then (call_of_client r.client) (Some r) ≡ Some (record { ask = r.ask; number = r.number; call = r.call }) =
-    ap (λ b. if b then Some (record { ask = r.ask; number = r.number; call = r.call }) else None) (eq-eqb r.client r.client refl) in
-    absurd (let f : None ≡ Some (record { ask = r.ask; number = r.number; call = r.call }) = sym (none r.client) ∙ here in cc)
-
-pub nothing_set_back : (w : WorldState) → ((client : ℕ) → (shown w).calls client ≡ None) → set_back w ≡ gathered w
-nothing_set_back w none = none_set_back (gathered w) w.sites (λ p s at. no_running 0 s s.running refl (λ k. first_none_at (call_here k) w.sites p s at (none k)))
 
 -- ---- what holds of what is opened
 pub record Opens (procedures : List Procedure) (rows : Rows) (partitions : ℕ) (directory : Listing) (sites : List SiteState) : Type 0 where

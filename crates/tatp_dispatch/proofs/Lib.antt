@@ -35,6 +35,5 @@ pub mod RowsLaws
 pub mod IdleLaws
 pub mod NewLaws
 pub mod RunningLaws
-pub mod IdleLaws
 pub mod BenchmarkLaws
 pub mod CallingLaws

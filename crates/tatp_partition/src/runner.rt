@@ -67,7 +67,10 @@ impl<'m> Runner<'m> {
     {
         match &self.item {
             None => None,
-            Some(_) => self.machine.as_ref(),
+            Some(_) => match &self.machine {
+                None => unreachable!(),
+                Some(machine) => Some(machine),
+            },
         }
     }
 
@@ -104,10 +107,21 @@ pub fn begin<'m>(running: &mut Runner<'m>, loaded: &'m Loaded, item: Item, pinne
 {
     match &mut running.machine {
         Some(machine) => enter_next(machine, loaded, &item),
-        None => running.machine = Some(enter(loaded, &item)),
+        None => enter_first(&mut running.machine, loaded, &item),
     }
     running.item = Some(item);
     put(&mut running.pinned, pinned);
+}
+
+/// The site's machine is made with its first call. It stands apart, since a function pays at its start
+/// for the size of what it makes.
+#[cold]
+#[inline(never)]
+fn enter_first<'m>(machine: &mut Option<Machine<'m>>, loaded: &'m Loaded, item: &Item)
+    requires { Fits (arities_of loaded.now) item.now.ask }
+    ensures { machine.new ≡ Some (machine_at_entry loaded.now (procedure_asked item.now.ask) (arguments_asked item.now.ask) item.now.home) }
+{
+    *machine = Some(enter(loaded, item));
 }
 
 /// Puts the extent that is pinned, if one is, where none is.

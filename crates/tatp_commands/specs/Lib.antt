@@ -4,7 +4,7 @@ pub mod RowLines
 pub mod Populations
 pub mod Served
 pub mod Serving
-pub mod Holding
+pub mod Answering
 pub mod Writing
 pub mod ModuleCommands
 pub mod AuditCommand

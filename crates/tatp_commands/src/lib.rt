@@ -7,10 +7,8 @@ mod laws;
 mod modules;
 mod population;
 mod rows;
-mod running;
 mod serving;
 mod streams;
-mod subscribers;
 
 pub use audit::run_audit;
 pub use fault::Fault;

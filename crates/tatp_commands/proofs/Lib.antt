@@ -6,3 +6,5 @@ pub mod GoingLaws
 pub mod ServingLaws
 pub mod WritingLaws
 pub mod OrderLaws
+pub mod ToldLaws
+pub mod TracingLaws

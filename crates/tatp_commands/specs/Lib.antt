@@ -5,6 +5,8 @@ pub mod Populations
 pub mod Served
 pub mod Serving
 pub mod Answering
+pub mod Told
+pub mod Tracing
 pub mod Writing
 pub mod ModuleCommands
 pub mod AuditCommand

@@ -62,7 +62,7 @@ fn answer_line(world: &mut World<'_>, line: &[u8], pending: &mut String) -> Resu
 }
 
 /// Writes what is pending where it is much.
-fn write_much<W: Write>(writer: &mut W, pending: &mut String) -> Result<(), Fault>
+pub(crate) fn write_much<W: Write>(writer: &mut W, pending: &mut String) -> Result<(), Fault>
     ensures ok { OnOk result (((string_bytes pending.new ≡ string_bytes pending.old) × (W.contents writer.new ≡ W.contents writer.old))
         ⊎ (Appends (W.contents writer.old) (W.contents writer.new) (string_bytes pending.old) × (string_bytes pending.new ≡ []))) }
     ensures front { OnErr result ((n : ℕ) × Appends (W.contents writer.old) (W.contents writer.new) (take n (string_bytes pending.old))) }
@@ -104,7 +104,7 @@ fn answer_lines<W: Write>(
 
 /// The rows of a run, and the lines of its calls.
 #[tactic(auto, unfolding(crate::specs::Served::generated))]
-fn work_of(alloc: Global, population: Population, input: &[u8]) -> Result<(Rows, &[u8]), Fault>
+pub(crate) fn work_of(alloc: Global, population: Population, input: &[u8]) -> Result<(Rows, &[u8]), Fault>
     requires input { length input.now ≤ MOST_BYTES }
     requires population { IsPopulation population }
     ensures work { IfOk result (λ work. work_of population input.now ≡ Ok (record { rows = work.0; calls = lines_of work.1.now })) }

@@ -31,14 +31,18 @@ population_by (Some subscribers) seed = Generated (digits_value 10 subscribers) 
 abbrev pub population_asked : Found → Population
 population_asked found = population_by (first_value found (codes "gen")) (digits_value 10 (seed_text found))
 
--- ---- the task can be done: where rows are drawn, so many can be
+-- ---- the option --partitions
+abbrev pub partitions_text : Found → List ℕ
+partitions_text found = unwrap_or (first_value found (codes "partitions")) (codes "2")
+
+-- ---- the task can be done: where rows are drawn, so many can be; and there can be so many partitions
 abbrev pub IsTask : Task → Type 0
-IsTask (Call population) = IsPopulation population
+IsTask (Call population partitions) = IsPopulation population × (1 ≤ partitions) × (partitions ≤ 8)
 IsTask task = Unit {0}
 
 -- the command's name
 abbrev pub name_of : Task → List ℕ
-name_of (Call population) = codes "call"
+name_of (Call population partitions) = codes "call"
 name_of Asm = codes "asm"
 name_of Dis = codes "dis"
 name_of Check = codes "check"

@@ -3,7 +3,7 @@ ghost use Rattle.std.specs.Prelude.{◌≡◌, ◌==◌, Some, IfOk, IfSome, Som
 ghost use Rattle.std.specs.Str.Parse.{digits_value};
 ghost use Rattle.tatp_commands.specs.Populations.{IsPopulation};
 ghost use Rattle.clap.specs.Matches.{found_of, subcommand_name_of};
-ghost use Rattle.tatp.specs.Tasks.{IsTask, IsNumberIn, HasPlainNumbers, population_asked, name_of};
+ghost use Rattle.tatp.specs.Tasks.{IsTask, IsNumberIn, HasPlainNumbers, population_asked, partitions_text, name_of};
 
 use clap::builder::ValueParser;
 use clap::error::ErrorKind;
@@ -14,10 +14,13 @@ use tatp_commands::Population;
 /// The most subscribers that are drawn.
 const MOST_SUBSCRIBERS: u64 = 100_000;
 
+/// The most partitions.
+const MOST_PARTITIONS: u64 = 8;
+
 /// What the program is asked to do.
 #[derive(Clone, Copy, Debug, PartialEq, Eq)]
 pub enum Task {
-    Call(Population),
+    Call(Population, u8),
     Asm,
     Dis,
     Check,
@@ -62,6 +65,14 @@ fn population_of(options: &ArgMatches<'_>) -> Option<Population>
     }
 }
 
+/// In how many partitions the rows are opened; none where the option isn't a plain number in its range.
+fn partitions_of(options: &ArgMatches<'_>) -> Option<u8>
+    ensures { SomeIff result (IsNumberIn 1 MOST_PARTITIONS (partitions_text (found_of options.now))) (digits_value 10 (partitions_text (found_of options.now))) }
+{
+    let partitions = number_in(options.get_str("partitions").unwrap_or("2"), 1, MOST_PARTITIONS)?;
+    Some(partitions as u8)
+}
+
 /// An option that takes a number in a range.
 fn option<'a>(alloc: Global, name: &'a str, least: u64, most: u64) -> Arg<'a> {
     Arg::new(alloc, name)
@@ -84,6 +95,12 @@ fn call<'a>(alloc: Global) -> Result<Command<'a>, AllocError> {
                 .help(
                     "Draw them from the random words of seed S; without --gen it changes nothing",
                 ),
+        )?
+        .arg(
+            option(alloc, "partitions", 1, MOST_PARTITIONS)
+                .value_name("P")
+                .default_value("2")
+                .help("Open the rows in P partitions (1 to 8); it changes no byte of the replies"),
         )
 }
 
@@ -159,7 +176,10 @@ fn task_in(matches: &ArgMatches<'_>) -> Option<Task>
     ensures possible { IfSome result IsTask }
 {
     match matches.subcommand()? {
-        ("call", options) => Some(Task::Call(population_of(options)?)),
+        ("call", options) => Some(Task::Call(
+            population_of(options)?,
+            partitions_of(options)?,
+        )),
         ("asm", _) => Some(Task::Asm),
         ("dis", _) => Some(Task::Dis),
         ("check", _) => Some(Task::Check),

@@ -79,7 +79,9 @@ fn run(rt: &(impl Input + Print), alloc: Global, task: Task) -> Result<bool, Fau
     let reader = &mut rt.reader();
     let writer = &mut io::writer(rt);
     match task {
-        Task::Call(population) => serve(alloc, reader, writer, population)?,
+        Task::Call(population, partitions) => {
+            serve(alloc, reader, writer, population, partitions)?
+        }
         Task::Asm => run_asm(alloc, reader, writer)?,
         Task::Dis => run_dis(alloc, reader, writer)?,
         Task::Check => run_check(alloc, reader, writer)?,

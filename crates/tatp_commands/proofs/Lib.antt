@@ -3,9 +3,8 @@ pub mod LineTextLaws
 pub mod RowLaws
 pub mod DotLaws
 pub mod GoingLaws
-pub mod RunningLaws
-pub mod HoldingLaws
-pub mod AnsweringLaws
 pub mod ServingLaws
 pub mod WritingLaws
 pub mod OrderLaws
+pub mod ToldLaws
+pub mod TracingLaws

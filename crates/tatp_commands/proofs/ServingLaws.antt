@@ -1,5 +1,5 @@
 -- What a run leaves where it is cut short.
-use Rattle.std.proofs.Common.{◌≡◌, ℕ, List, [], ◌++◌, ◌⊎◌, ◌≤◌, length, Option, Result, Ok, Err, OnErr, IfErr, inl, inr, sym}
+use Rattle.std.proofs.Common.{◌≡◌, ℕ, Bool, List, [], ◌++◌, ◌⊎◌, ◌≤◌, length, Option, Result, Ok, Err, OnErr, IfErr, inl, inr, sym}
 use Rattle.tatp_tables.specs.Database.{database_of}
 use Rattle.tatp_tables.specs.Clean.{IsClean}
 use Rattle.tatp_population.specs.Opening.{most_subscribers, RefusesRows}
@@ -34,16 +34,16 @@ leaves_unopened population input old work (NotCleanRows verdict) e h = ((work, e
 leaves_unopened population input old work NoMemoryToOpen e h = inl (appends_none old)
 
 -- the whole of it is served
-pub serves : (population : Population) (input : List ℕ) (work : Work) (text : List ℕ)
-    → work_of population input ≡ Ok work → ServesWork [] work text → Served population input [] text
-serves population input work text e s = rw e s
+pub serves : (population : Population) (input : List ℕ) (refused : List Bool) (work : Work) (text : List ℕ)
+    → work_of population input ≡ Ok work → ServesWork refused work text → Served population input refused text
+serves population input refused work text e s = rw e s
 
 -- a front of the replies is written
 leaves_front : (population : Population) (input : List ℕ) (old new : Option (List ℕ)) (work : Work) (fault : Fault)
     → work_of population input ≡ Ok work → length work.rows.subscribers ≤ most_subscribers → IsClean work.rows
     → WritesFrontOfReplies work.calls (database_of work.rows) old new → (fault ≡ WriteFault) ⊎ (fault ≡ NoMemory) → Leaves population input old new fault
 leaves_front population input old new work fault e few clean front which =
-    let written = inr (front.0, front.1, serves population input work (front.0 ++ front.1) e (record { few = few; clean = clean; replied = sym front.2 }), front.3) in
+    let written = inr (front.0, front.1, front.2, serves population input front.0 work (front.1 ++ front.2) e (record { few = few; clean = clean; replied = sym front.3 }), front.4) in
     elim which [ inl is ↦ rw is written | inr is ↦ rw is written ]
 
 pub leaves_cut : (population : Population) (input : List ℕ) (old new : Option (List ℕ)) (work : Work) (result : Result (Unit {0}) Fault)

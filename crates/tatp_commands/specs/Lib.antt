@@ -4,7 +4,9 @@ pub mod RowLines
 pub mod Populations
 pub mod Served
 pub mod Serving
-pub mod Holding
+pub mod Answering
+pub mod Told
+pub mod Tracing
 pub mod Writing
 pub mod ModuleCommands
 pub mod AuditCommand

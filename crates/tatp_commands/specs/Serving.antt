@@ -1,5 +1,5 @@
 -- What a run over calls writes, and what each fault leaves.
-use Rattle.std.specs.Prelude.{◌≡◌, ℕ, ◌⊎◌, List, [], ◌++◌, Option, Ok, Err}
+use Rattle.std.specs.Prelude.{◌≡◌, ℕ, ◌⊎◌, Bool, List, [], ◌++◌, Option, Ok, Err}
 use Rattle.std.specs.Io.KnownBytes.{Appends}
 use Rattle.tatp_tables.specs.Database.{Database}
 use Rattle.tatp_population.specs.Opening.{RefusesRows}
@@ -11,22 +11,22 @@ use Rattle.tatp_commands.specs.declared.population.Population.{Population}
 use Rattle.tatp_commands.specs.RowLines.{Work}
 use Rattle.tatp_commands.specs.Served.{replies, work_of, Served}
 
--- old and new are the bytes that a writer holds: new has a reply to each line besides; no line was refused its memory
+-- old and new are the bytes that a writer holds: new has a reply to each line besides, of which some were refused their memory
 abbrev pub WritesReplies : List (List ℕ) → Database → Option (List ℕ) → Option (List ℕ) → Type 0
-WritesReplies lines u old new = Appends old new (replies [] lines u)
+WritesReplies lines u old new = (refused : List Bool) × Appends old new (replies refused lines u)
 
--- new has the front of the replies besides
+-- new has the front of such replies besides
 abbrev pub WritesFrontOfReplies : List (List ℕ) → Database → Option (List ℕ) → Option (List ℕ) → Type 0
-WritesFrontOfReplies lines u old new = (front : List ℕ) × (rest : List ℕ) × (replies [] lines u ≡ front ++ rest) × Appends old new front
+WritesFrontOfReplies lines u old new = (refused : List Bool) × (front : List ℕ) × (rest : List ℕ) × (replies refused lines u ≡ front ++ rest) × Appends old new front
 
--- new has all that is written for the input besides; no line was refused its memory
+-- new has all that is written for the input besides, where some lines were refused their memory
 abbrev pub WritesServed : Population → List ℕ → Option (List ℕ) → Option (List ℕ) → Type 0
-WritesServed population input old new = (text : List ℕ) × Served population input [] text × Appends old new text
+WritesServed population input old new = (refused : List Bool) × (text : List ℕ) × Served population input refused text × Appends old new text
 
--- new has nothing besides, or the front of what is written for the input
+-- new has nothing besides, or the front of what is written for the input, where some lines were refused their memory
 abbrev pub WritesFront : Population → List ℕ → Option (List ℕ) → Option (List ℕ) → Type 0
 WritesFront population input old new =
-    Appends old new [] ⊎ ((front : List ℕ) × (rest : List ℕ) × Served population input [] (front ++ rest) × Appends old new front)
+    Appends old new [] ⊎ ((refused : List Bool) × (front : List ℕ) × (rest : List ℕ) × Served population input refused (front ++ rest) × Appends old new front)
 
 -- the input's rows aren't opened, for this reason
 abbrev pub RefusesWork : Population → List ℕ → OpenError → Type 0

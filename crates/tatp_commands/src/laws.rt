@@ -1,19 +1,18 @@
 //! Laws of the definitions, for who reads them. Nothing runs here: a clause is the law.
-ghost use Rattle.std.specs.Prelude.{◌≡◌, ℕ, ◌++◌, List, [], Ok};
+ghost use Rattle.std.specs.Prelude.{◌≡◌, ℕ, ◌++◌, Bool, List, Ok};
 ghost use Rattle.tatp_tables.specs.Database.{Database, database_of};
 ghost use Rattle.tatp_procs.specs.Order.{in_order};
 ghost use Rattle.tatp_commands.specs.declared.population.Population.{Population};
-ghost use Rattle.tatp_commands.specs.AnsweredCalls.{calls_of, told};
+ghost use Rattle.tatp_commands.specs.AnsweredCalls.{calls_of, told, marks_after};
 ghost use Rattle.tatp_commands.specs.RowLines.{Work};
 ghost use Rattle.tatp_commands.specs.Served.{replies, work_of, Served};
 
-/// Where no line is refused its memory, the calls with arguments in their domains are answered in the
-/// order of their lines, each on the database that the calls before it leave; all other lines are
-/// refused and change nothing. So it is of lines, of lines after others, and of all that is written
-/// for an input.
+/// The calls with arguments in their domains that aren't refused their memory are answered in the order
+/// of their lines, each on the database that the calls before it leave; all other lines are refused and
+/// change nothing. So it is of lines, of lines after others, and of all that is written for an input.
 pub fn served_calls_are_in_order()
-    ensures told { (lines : List (List ℕ)) (u : Database) → replies [] lines u ≡ told lines (in_order u (calls_of lines)).replies }
-    ensures later { (lines more : List (List ℕ)) (u : Database) → replies [] (lines ++ more) u ≡ replies [] lines u ++ replies [] more (in_order u (calls_of lines)).database }
-    ensures served { (population : Population) (input : List ℕ) (work : Work) (text : List ℕ) → work_of population input ≡ Ok work → Served population input [] text
-        → text ≡ told work.calls (in_order (database_of work.rows) (calls_of work.calls)).replies }
+    ensures told { (refused : List Bool) (lines : List (List ℕ)) (u : Database) → replies refused lines u ≡ told refused lines (in_order u (calls_of refused lines)).replies }
+    ensures later { (refused : List Bool) (lines more : List (List ℕ)) (u : Database) → replies refused (lines ++ more) u ≡ replies refused lines u ++ replies (marks_after lines refused) more (in_order u (calls_of refused lines)).database }
+    ensures served { (population : Population) (input : List ℕ) (refused : List Bool) (work : Work) (text : List ℕ) → work_of population input ≡ Ok work → Served population input refused text
+        → text ≡ told refused work.calls (in_order (database_of work.rows) (calls_of refused work.calls)).replies }
 {}

@@ -7,10 +7,9 @@ mod laws;
 mod modules;
 mod population;
 mod rows;
-mod running;
 mod serving;
 mod streams;
-mod subscribers;
+mod tracing;
 
 pub use audit::run_audit;
 pub use fault::Fault;
@@ -18,6 +17,7 @@ pub use laws::served_calls_are_in_order;
 pub use modules::{run_asm, run_check, run_dis};
 pub use population::Population;
 pub use serving::serve;
+pub use tracing::trace;
 
 #[cfg(test)]
 mod tests;

@@ -35,7 +35,7 @@ fn writes_nothing_where_a_read_fails(rt: HostRuntime) -> Result<(), Fail> {
             left,
         };
         let mut written = Vec::new(rt.alloc());
-        let outcome = serve(rt.alloc(), &mut reader, &mut written, Population::Read);
+        let outcome = serve(rt.alloc(), &mut reader, &mut written, Population::Read, 2);
         if left == 8 {
             assert_eq!(rt; outcome, Ok(()));
             assert_eq!(rt; written.as_slice(), REPLIES.as_bytes());
@@ -65,7 +65,7 @@ fn writes_the_front_where_a_write_fails(rt: HostRuntime) -> Result<(), Fail> {
                 fails,
             };
             let mut reader = input.as_bytes();
-            let outcome = serve(rt.alloc(), &mut reader, &mut writer, Population::Read);
+            let outcome = serve(rt.alloc(), &mut reader, &mut writer, Population::Read, 2);
             assert_eq!(rt; writer.taken.len(), count);
             assert!(rt; replies.as_bytes().starts_with(&writer.taken));
             if left == 4 {

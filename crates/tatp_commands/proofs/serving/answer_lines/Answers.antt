@@ -1,10 +1,10 @@
 use Rattle.std.proofs.lemmas.Result.{err_from_is_err_and, on_ok_weaker, on_err_weaker}
-use Rattle.tatp_commands.proofs.GoingLaws.{goes_start, goes_answered, goes_told, goes_done, goes_front}
+use Rattle.tatp_commands.proofs.GoingLaws.{goes_start, goes_answered, goes_told, goes_done, goes_front, goes_cut}
 use Rattle.tatp_commands.proofs.serving.answer_lines.Goals as goal
 
 pub lines-init : goal.lines-init
 lines-init g c = record {
-  holds = c.requires.held;
+  standard = c.requires.standard;
   goes = goes_start _ _ _ _ c.new-pending.ensures.bytes;
 }
 
@@ -27,13 +27,20 @@ returns-in_err-write_much-in-Some-clause-front g c =
     (goes_answered _ _ _ _ _ _ _ _ _ _ _ _ c.lines.invariant.goes c.in-Some.ensures.line c.in_ok-answer_line-in-Some.ensures.answered c.in_ok-push_str-in-Some.ensures.bytes)
     c.in_err-write_much-in-Some.ensures.front.1)
 
+pub returns-in_err-answer_line-in-Some-clause-front : goal.returns-in_err-answer_line-in-Some-clause-front
+returns-in_err-answer_line-in-Some-clause-front g c =
+    let p = err_from_is_err_and c.from_residual.result c.from_residual.ensures.1 in
+    rw p.1 (goes_cut _ _ _ _ _ _ _ c.lines.invariant.goes)
+
+pub returns-in_err-push_str-in-Some-clause-front : goal.returns-in_err-push_str-in-Some-clause-front
+returns-in_err-push_str-in-Some-clause-front g c =
+    let p = err_from_is_err_and c.from_residual-in_err-push_str-in-Some.result c.from_residual-in_err-push_str-in-Some.ensures.1 in
+    rw p.1 (goes_cut _ _ _ _ _ _ _ c.lines.invariant.goes)
+
 pub lines-preserved : goal.lines-preserved
-lines-preserved g c =
-    let told = c.in_ok-answer_line-in-Some.ensures.answered in
-    let before = c.lines.invariant.holds in
-    record {
-      holds = (_, (told before.0 before.1).1);
-      goes = goes_told _ _ _ _ _ _ _ _ _
-          (goes_answered _ _ _ _ _ _ _ _ _ _ _ _ c.lines.invariant.goes c.in-Some.ensures.line told c.in_ok-push_str-in-Some.ensures.bytes)
-          c.in_ok-write_much-in-Some.ensures.ok;
-    }
+lines-preserved g c = record {
+  standard = c.answer_line.ensures.standard;
+  goes = goes_told _ _ _ _ _ _ _ _ _
+      (goes_answered _ _ _ _ _ _ _ _ _ _ _ _ c.lines.invariant.goes c.in-Some.ensures.line c.in_ok-answer_line-in-Some.ensures.answered c.in_ok-push_str-in-Some.ensures.bytes)
+      c.in_ok-write_much-in-Some.ensures.ok;
+}

@@ -1,0 +1,90 @@
+-- The line that a text is, by its fields: docs/FORMATS.md.
+use Rattle.std.specs.Prelude.{ℕ, suc, zero, List, [], ◌∷◌, Option, Some, None, nat_le, ◌&&◌, codes, bytes_eq, if◌then◌else◌}
+use Rattle.std.specs.Option.{option_map, option_and_then}
+use Rattle.tatp_lines.specs.Numbers.{number_of}
+use Rattle.tatp_tables.specs.Text.{fields_of}
+use Rattle.tatp_numbers.specs.declared.key.Key.{Key}
+use Rattle.tatp_numbers.specs.declared.key.Key.TheVariants.{Id, Number}
+use Rattle.tatp_procs.specs.declared.ask.Ask.TheVariants.{Txn, Raw}
+use Rattle.tatp_procs.specs.CallText.{call_of_fields}
+use Rattle.tatp_dispatch.specs.declared.event.Event.TheVariants.{Submit, Begin, Deny, Step, Take, Give, Route, Stop, Resume, One, Break, Clear}
+use Rattle.tatp_trace.specs.declared.line.TraceLine.{TraceLine}
+use Rattle.tatp_trace.specs.declared.line.TraceLine.TheVariants.{Event, Steps, Look, Home, Audit}
+
+-- ---- numbers
+-- the first field, which has to be a number, and what comes of it and of the fields after it
+abbrev pub next_number : {A : Type 0} → List (List ℕ) → (ℕ → List (List ℕ) → Option A) → Option A
+next_number [] rest = None
+next_number (field ∷ more) rest = option_and_then (λ n. rest n more) (number_of field)
+
+-- this, where no field is left
+abbrev pub ended : {A : Type 0} → A → List (List ℕ) → Option A
+ended x [] = Some x
+ended x (field ∷ more) = None
+
+-- exactly one, two or three numbers
+abbrev pub one_number : List (List ℕ) → Option ℕ
+one_number fields = next_number fields ended
+
+abbrev pub two_numbers : List (List ℕ) → Option (ℕ × ℕ)
+two_numbers fields = next_number fields (λ n more. option_map (λ m. (n, m)) (one_number more))
+
+abbrev pub three_numbers : List (List ℕ) → Option (ℕ × ℕ × ℕ)
+three_numbers fields = next_number fields (λ n more. option_map (λ m. (n, m.0, m.1)) (two_numbers more))
+
+-- numbers, so many at most
+abbrev pub numbers_within : ℕ → List (List ℕ) → Option (List ℕ)
+numbers_within room [] = Some []
+numbers_within zero (field ∷ more) = None
+numbers_within (suc room) (field ∷ more) = option_and_then (λ n. option_map (λ rest. n ∷ rest) (numbers_within room more)) (number_of field)
+
+-- ---- calls
+-- a client, and a call line
+abbrev pub submit_of : List (List ℕ) → Option TraceLine
+submit_of fields = next_number fields (λ client more. option_map (λ call. Event (Submit client (Txn call))) (call_of_fields more))
+
+-- the key that a word and a number are
+abbrev pub key_of : List ℕ → ℕ → Option Key
+key_of word n = if bytes_eq word (codes "id") then Some (Id n) else if bytes_eq word (codes "number") then Some (Number n) else None
+
+-- a client, and a call of the procedure: the word of its key, the key's number, its arguments
+abbrev pub raw_call_of : ℕ → ℕ → List (List ℕ) → Option TraceLine
+raw_call_of client procedure [] = None
+raw_call_of client procedure (word ∷ fields) = next_number fields (λ n more.
+    option_and_then (λ key. option_map (λ arguments. Event (Submit client (Raw (record { procedure = procedure; arguments = arguments; key = key })))) (numbers_within 8 more)) (key_of word n))
+
+abbrev pub raw_of : List (List ℕ) → Option TraceLine
+raw_of fields = next_number fields (λ client more. next_number more (raw_call_of client))
+
+-- ---- steps
+-- 1 to 256 of them
+abbrev pub steps_of : ℕ → ℕ → Option TraceLine
+steps_of p count = if nat_le 1 count && nat_le count 256 then Some (Steps p count) else None
+
+-- ---- all lines
+-- by the first word
+abbrev pub line_of_fields : List (List ℕ) → Option TraceLine
+line_of_fields [] = None
+line_of_fields (word ∷ fields) =
+    if bytes_eq word (codes "submit") then submit_of fields else
+    if bytes_eq word (codes "raw") then raw_of fields else
+    if bytes_eq word (codes "begin") then option_map (λ p. Event (Begin p)) (one_number fields) else
+    if bytes_eq word (codes "deny") then option_map (λ p. Event (Deny p)) (one_number fields) else
+    if bytes_eq word (codes "step") then option_map (λ p. Event (Step p)) (one_number fields) else
+    if bytes_eq word (codes "one") then option_map (λ p. Event (One p)) (one_number fields) else
+    if bytes_eq word (codes "steps") then option_and_then (λ n. steps_of n.0 n.1) (two_numbers fields) else
+    if bytes_eq word (codes "take") then option_map (λ n. Event (Take n.0 n.1)) (two_numbers fields) else
+    if bytes_eq word (codes "give") then option_map (λ n. Event (Give n.0 n.1)) (two_numbers fields) else
+    if bytes_eq word (codes "route") then option_map (λ n. Event (Route n.0 n.1)) (two_numbers fields) else
+    if bytes_eq word (codes "stop") then option_map (λ p. Event (Stop p)) (one_number fields) else
+    if bytes_eq word (codes "resume") then option_map (λ p. Event (Resume p)) (one_number fields) else
+    if bytes_eq word (codes "break") then option_map (λ n. Event (Break n.0 n.1 n.2)) (three_numbers fields) else
+    if bytes_eq word (codes "clear") then option_map (λ n. Event (Clear n.0 n.1 n.2)) (three_numbers fields) else
+    if bytes_eq word (codes "look") then option_map Look (one_number fields) else
+    if bytes_eq word (codes "home") then option_map (λ n. Home n.0 n.1) (two_numbers fields) else
+    if bytes_eq word (codes "audit") then ended Audit fields else
+    None
+
+-- the line that a text is
+unfoldable pub line_of : List ℕ → Option TraceLine
+line_of text = line_of_fields (fields_of text)

@@ -1,0 +1,42 @@
+-- What is told of a site: docs/FORMATS.md. Each line is ended by a line feed.
+use Rattle.std.specs.Prelude.{◌≡◌, ℕ, List, [], ◌∷◌, ◌++◌, Option, Some, None, Result, Ok, Err, MatchOption, slice_get}
+use Rattle.std.specs.Option.{option_map_or}
+use Rattle.tatp_tables.specs.Home.{SubscriberRows}
+use Rattle.tatp_partition.specs.declared.refusal.SiteRefusal.{SiteRefusal}
+use Rattle.tatp_partition.specs.declared.refusal.SiteRefusal.TheVariants.{NotHere}
+use Rattle.tatp_partition.specs.Sites.{SiteState, home_here}
+use Rattle.tatp_debug.specs.declared.snapshot.Snapshot.{Snapshot}
+use Rattle.tatp_debug.specs.Printing.{snapshot_text}
+use Rattle.tatp_debug.specs.Snapshots.{Looks}
+use Rattle.tatp_dispatch.specs.declared.event.Refusal.TheVariants.{NoPartition}
+use Rattle.tatp_dispatch.specs.Worlds.{WorldState}
+use Rattle.tatp_trace.specs.AnswerText.{refusal_text, site_refusal_text}
+use Rattle.tatp_trace.specs.HomeText.{home_text}
+
+-- one line
+abbrev pub told_line : List ℕ → List ℕ
+told_line text = text ++ 10 ∷ []
+
+-- ---- the running call
+abbrev pub seen_text : Result Snapshot SiteRefusal → List ℕ
+seen_text (Ok snapshot) = told_line (snapshot_text snapshot)
+seen_text (Err refusal) = told_line (site_refusal_text refusal)
+
+-- what looking at the site answers
+pub record TellsSeen (s : SiteState) (told : List ℕ) : Type 0 where
+  pub seen : Result Snapshot SiteRefusal
+  pub looks : Looks s seen
+  pub told_so : told ≡ seen_text seen
+
+-- of the site of partition p
+abbrev pub TellsLook : WorldState → ℕ → List ℕ → Type 0
+TellsLook w p told = MatchOption (slice_get w.sites p) (told ≡ told_line (refusal_text NoPartition)) (λ s. TellsSeen s told)
+
+-- ---- the home of a subscriber
+abbrev pub found_text : Option SubscriberRows → List ℕ
+found_text None = told_line (site_refusal_text NotHere)
+found_text (Some home) = home_text home.tables
+
+-- at the site of partition p
+abbrev pub home_told : WorldState → ℕ → ℕ → List ℕ
+home_told w p s_id = option_map_or (λ (s : SiteState). found_text (home_here s s_id)) (slice_get w.sites p) (told_line (refusal_text NoPartition))

@@ -1,0 +1,111 @@
+//! What is answered to a line, and what it makes of the whole.
+ghost use Rattle.std.specs.Prelude.{◌≡◌, ◌++◌, Some, IfOk, OnOk};
+ghost use Rattle.std.specs.String.{string_bytes};
+ghost use Rattle.tatp_trace.specs.Answering.{line_in, AppendsEvent, AppendsLine, AppendsSteps, TellsVerdict};
+
+use crate::{TraceLine, home_lines, look_text, push_answer, read_trace_line};
+use std::alloc::{AllocError, Global};
+use tatp_audits::audit;
+use tatp_dispatch::{Event, World};
+
+/// The line that bytes are, which have to be text.
+#[tactic(auto, using(crate::proofs::BytesLaws::line_in_text, crate::proofs::BytesLaws::line_in_no_text))]
+fn line_in(line: &[u8]) -> Option<TraceLine>
+    ensures { result ≡ line_in line.now }
+{
+    match str::from_utf8(line) {
+        Ok(text) => read_trace_line(text),
+        Err(_) => None,
+    }
+}
+
+/// An event happens, and its answer's line is appended.
+#[tactic(auto, using(crate::proofs::AnsweringLaws::event_appended))]
+fn answer_event(
+    world: &mut World<'_>,
+    event: Event,
+    pending: &mut String,
+) -> Result<(), AllocError>
+    ensures { OnOk result (AppendsEvent world.old event (string_bytes pending.old) (string_bytes pending.new) world.new) }
+{
+    let answered = world.apply(event);
+    push_answer(pending, world.completions(), &answered)?;
+    pending.push_str("\n")?;
+    Ok(())
+}
+
+/// A site makes steps, and the line of each answer is appended.
+#[tactic(auto, using(crate::proofs::AnsweringLaws::no_step, crate::proofs::AnsweringLaws::one_step))]
+fn answer_steps(
+    world: &mut World<'_>,
+    partition: u64,
+    count: u64,
+    pending: &mut String,
+) -> Result<(), AllocError>
+    ensures { OnOk result (AppendsSteps world.old partition count (string_bytes pending.old) (string_bytes pending.new) world.new) }
+{
+    'steps: for done in 0..count {
+        answer_event(world, Event::Step(partition), pending)?;
+    }
+    Ok(())
+}
+
+/// The verdict on the rows of all sites and of all parcels in hand.
+fn verdict_line(alloc: Global, world: &World<'_>) -> Result<String, AllocError>
+    ensures { IfOk result (λ text. TellsVerdict world.now (string_bytes text)) }
+{
+    let rows = world.gather(alloc)?;
+    let verdict = audit(alloc, &rows)?;
+    format!(in alloc; "{verdict}\n")
+}
+
+/// What is told of a line is appended.
+#[tactic(auto, using(crate::proofs::AnsweringLaws::look_appended, crate::proofs::AnsweringLaws::home_appended, crate::proofs::AnsweringLaws::verdict_appended))]
+fn answer(
+    alloc: Global,
+    world: &mut World<'_>,
+    line: TraceLine,
+    pending: &mut String,
+) -> Result<(), AllocError>
+    ensures { OnOk result (AppendsLine world.old (Some line) (string_bytes pending.old) (string_bytes pending.new) world.new) }
+{
+    match line {
+        TraceLine::Event(event) => answer_event(world, event, pending),
+        TraceLine::Steps(partition, count) => answer_steps(world, partition, count, pending),
+        TraceLine::Look(partition) => {
+            let text = look_text(alloc, world, partition)?;
+            pending.push_str(text.as_str())?;
+            Ok(())
+        }
+        TraceLine::Home(partition, s_id) => {
+            let text = home_lines(alloc, world, partition, s_id)?;
+            pending.push_str(text.as_str())?;
+            Ok(())
+        }
+        TraceLine::Audit => {
+            let text = verdict_line(alloc, world)?;
+            pending.push_str(text.as_str())?;
+            Ok(())
+        }
+    }
+}
+
+/// Appends what is answered to a line. After an error the text is of no use, and the event of the
+/// line may have happened.
+#[tactic(auto, using(crate::proofs::AnsweringLaws::bad_appended))]
+pub fn answer_line(
+    alloc: Global,
+    world: &mut World<'_>,
+    line: &[u8],
+    pending: &mut String,
+) -> Result<(), AllocError>
+    ensures { OnOk result (AppendsLine world.old (line_in line.now) (string_bytes pending.old) (string_bytes pending.new) world.new) }
+{
+    match line_in(line) {
+        Some(line) => answer(alloc, world, line, pending),
+        None => {
+            pending.push_str("REFUSED 5 BadLine\n")?;
+            Ok(())
+        }
+    }
+}

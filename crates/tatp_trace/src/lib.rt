@@ -1,0 +1,20 @@
+//! The lines of `trace`, and what is answered to them.
+#![tactic(auto)]
+
+mod answering;
+mod answers;
+mod homes;
+mod laws;
+mod line;
+mod looking;
+mod printing;
+mod reading;
+
+pub use answering::answer_line;
+pub use answers::push_answer;
+
+pub use laws::{lines_are_read_as_printed, told_lines_are_a_run};
+pub use line::TraceLine;
+pub use looking::{home_lines, look_text};
+pub use printing::trace_line_text;
+pub use reading::read_trace_line;

@@ -1,0 +1,66 @@
+//! What is told of a site.
+ghost use Rattle.std.specs.Prelude.{◌≡◌, IfOk};
+ghost use Rattle.std.specs.String.{string_bytes};
+ghost use Rattle.tatp_trace.specs.Looking.{TellsLook, TellsSeen, found_text, home_told, told_line};
+ghost use Rattle.tatp_partition.specs.Sites.{home_here};
+ghost use Rattle.tatp_trace.specs.AnswerText.{site_refusal_text};
+
+use crate::answers::site_refusal_text;
+use crate::homes::home_text;
+use std::alloc::{AllocError, Global};
+use tatp_debug::{home_rows, look};
+use tatp_dispatch::World;
+use tatp_partition::{Site, SiteRefusal};
+
+const NO_PARTITION: &str = "REFUSED 38 NoPartition\n";
+
+/// The running call of a partition's site, in four lines; or why there is none to be seen.
+pub fn look_text(alloc: Global, world: &World<'_>, partition: u64) -> Result<String, AllocError>
+    ensures { IfOk result (λ text. TellsLook world.now partition (string_bytes text)) }
+{
+    match world.site(partition) {
+        None => String::from_str(alloc, NO_PARTITION),
+        Some(site) => seen_text(alloc, site),
+    }
+}
+
+fn seen_text(alloc: Global, site: &Site<'_>) -> Result<String, AllocError>
+    ensures { IfOk result (λ text. TellsSeen site.now (string_bytes text)) }
+{
+    match look(site) {
+        Ok(snapshot) => format!(in alloc; "{snapshot}\n"),
+        Err(refusal) => refused_text(alloc, &refusal),
+    }
+}
+
+/// The home of a subscriber at a partition's site, a line for each row; or why it isn't to be seen.
+pub fn home_lines(
+    alloc: Global,
+    world: &World<'_>,
+    partition: u64,
+    s_id: u64,
+) -> Result<String, AllocError>
+    ensures { IfOk result (λ text. string_bytes text ≡ home_told world.now partition s_id) }
+{
+    match world.site(partition) {
+        None => String::from_str(alloc, NO_PARTITION),
+        Some(site) => found_text(alloc, site, s_id),
+    }
+}
+
+fn found_text(alloc: Global, site: &Site<'_>, s_id: u64) -> Result<String, AllocError>
+    ensures { IfOk result (λ text. string_bytes text ≡ found_text (home_here site.now s_id)) }
+{
+    match home_rows(site, s_id) {
+        Ok(home) => home_text(alloc, home),
+        Err(refusal) => refused_text(alloc, &refusal),
+    }
+}
+
+fn refused_text(alloc: Global, refusal: &SiteRefusal) -> Result<String, AllocError>
+    ensures { IfOk result (λ text. string_bytes text ≡ told_line (site_refusal_text refusal.now)) }
+{
+    let mut text = String::from_str(alloc, site_refusal_text(refusal))?;
+    text.push_str("\n")?;
+    Ok(text)
+}

@@ -2,6 +2,18 @@
 //! calls are one history of transactions.
 #![tactic(auto)]
 
+mod cause;
+mod closed;
+mod laws;
 mod receipt;
+mod refusals;
+mod settled;
+mod settling;
 
+pub use cause::Unsettled;
+pub use closed::{Closed, ClosedSite};
+pub use laws::{logs_can_be_merged, merged_logs_are_one_history};
 pub use receipt::Receipt;
+pub use refusals::{GatherError, NotGathered, NotSettled, SettleError};
+pub use settled::Settled;
+pub use settling::{gather, settle};

@@ -1,0 +1,117 @@
+-- Why a run isn't settled: each cause with its place, and their order.
+use Rattle.std.specs.Prelude.{◌≡◌, ◌≢◌, ℕ, ◌<◌, ◌≤◌, ◌==◌, ◌⊎◌, true, false, List, [], ◌∷◌, length, filter, Some, None, IsSome, All, Contains}
+use Rattle.std.specs.Cmp.Lexicographic.{slice_cmp}
+use Rattle.std.specs.Ordering.{nat_cmp}
+use Rattle.std.specs.declared.cmp.Ordering.TheVariants.{Less}
+use Rattle.tatp_tables.specs.Database.{database_of}
+use Rattle.tatp_numbers.specs.Homes.{home_of_key}
+use Rattle.tatp_audits.specs.Audits.{IsVerdict, says_clean}
+use Rattle.tatp_procs.specs.declared.entry.Entry.{Entry}
+use Rattle.tatp_population.specs.Extents.{ExtentState}
+use Rattle.tatp_partition.specs.Asks.{key_asked}
+use Rattle.tatp_settle.specs.declared.receipt.Receipt.{Receipt}
+use Rattle.tatp_settle.specs.declared.receipt.Receipt.TheVariants.{Done, Refused}
+use Rattle.tatp_settle.specs.declared.cause.Unsettled.{Unsettled}
+use Rattle.tatp_settle.specs.declared.cause.Unsettled.TheVariants.{Opening, Mixed, ParcelLeft, Doubled, CallMissing, ReceiptMissing, ReplyDiffers, StampOrder, HasHome, Audit}
+use Rattle.tatp_settle.specs.Closings.{ClosedState, ExtentLog, extents_of, logs_of, times_standing}
+use Rattle.tatp_settle.specs.Runs.{Run, homes_populated, rows_left, at_call, StandsAt}
+use Rattle.tatp_settle.specs.Answering.{AreMatched, EntryFound, receipt_of}
+use Rattle.tatp_settle.specs.Receipts.{IsLater}
+
+-- ---- of extents
+-- the extents of this number
+abbrev pub extents_numbered : ClosedState → ℕ → List ExtentState
+extents_numbered c e = filter (λ (x : ExtentState). x.number == e) (extents_of c)
+
+-- the extent stands exactly where the population has it, and opened with the population's homes
+pub record OpenedAsPopulated (run : Run) (e : ℕ) : Type 0 where
+  pub stands : IsSome (homes_populated run e) → 1 ≤ length (extents_numbered run.closed e)
+  pub homes : All (λ (x : ExtentState). homes_populated run e ≡ Some x.opening) (extents_numbered run.closed e)
+
+-- a log of the extent is mixed
+abbrev pub IsMixed : ClosedState → ℕ → Type 0
+IsMixed c e = (log : ExtentLog) × Contains (logs_of c) log × (log.extent ≡ e) × (log.mixed ≡ true)
+
+-- the extent came in a parcel
+abbrev pub IsInParcel : ClosedState → ℕ → Type 0
+IsInParcel c e = (x : ExtentState) × Contains c.parcels x × (x.number ≡ e)
+
+-- ---- of calls
+-- an entry of the call, and no receipt
+pub record LacksReceipt (run : Run) (client number : ℕ) : Type 0 where
+  pub found : EntryFound run client number
+  pub lacks : at_call run.receipts client number ≡ None
+
+-- two entries of the call
+pub record HasTwoEntries (run : Run) (client number : ℕ) : Type 0 where
+  pub one : EntryFound run client number
+  pub other : EntryFound run client number
+  pub apart : one.extent ≡ other.extent → one.place ≢ other.place
+
+-- the receipt of a completed call, which no entry of its extent's log equals; or that of a refused call, which has an entry
+abbrev pub Differs : Run → ℕ → ℕ → Receipt → Type 0
+Differs run client number (Done client' number' reply extent stamp) = (place : ℕ) (entry : Entry) → StandsAt run extent place entry → receipt_of (record { extent = extent; entry = entry }) ≢ Done client' number' reply extent stamp
+Differs run client number (Refused client' number') = EntryFound run client number
+
+-- the call has such a receipt
+pub record ReceiptDiffers (run : Run) (client number : ℕ) : Type 0 where
+  pub receipt : Receipt
+  pub got : at_call run.receipts client number ≡ Some receipt
+  pub differs : Differs run client number receipt
+
+-- an entry of the call asks something else than the call
+pub record AskDiffers (run : Run) (client number : ℕ) : Type 0 where
+  pub found : EntryFound run client number
+  pub differs : at_call run.calls client number ≢ Some found.entry.ask
+
+-- the call's stamp isn't above that of an earlier call of its client
+pub record StampFalls (run : Run) (client number : ℕ) : Type 0 where
+  pub earlier : ℕ
+  pub first : Receipt
+  pub second : Receipt
+  pub before : earlier < number
+  pub got_first : at_call run.receipts client earlier ≡ Some first
+  pub got_second : at_call run.receipts client number ≡ Some second
+  pub falls : IsLater first second → ⊥
+
+-- an entry of the call stands in the log of the calls without a home, and its key names a subscriber of the population
+pub record NamesHome (run : Run) (client number : ℕ) : Type 0 where
+  pub found : EntryFound run client number
+  pub homeless : found.extent ≡ 0
+  pub names : IsSome (home_of_key (database_of run.population).subscribers (key_asked found.entry.ask))
+
+-- ---- the causes
+-- the cause holds of the run
+abbrev pub Holds : Run → Unsettled → Type 0
+Holds run (Opening e) = OpenedAsPopulated run e → ⊥
+Holds run (Mixed e) = IsMixed run.closed e
+Holds run (ParcelLeft e) = IsInParcel run.closed e
+Holds run (Doubled e) = 2 ≤ times_standing run.closed e
+Holds run (CallMissing client number) = AreMatched client number (at_call run.calls client number) (at_call run.receipts client number) → ⊥
+Holds run (ReceiptMissing client number) = LacksReceipt run client number ⊎ HasTwoEntries run client number
+Holds run (ReplyDiffers client number) = ReceiptDiffers run client number ⊎ AskDiffers run client number
+Holds run (StampOrder client number) = StampFalls run client number
+Holds run (HasHome client number) = NamesHome run client number
+Holds run (Audit verdict) = IsVerdict (rows_left run) verdict × (says_clean verdict ≡ false)
+
+-- where a cause stands in their order: which it is, and then the extent, or the client and the call number
+abbrev pub place_of : Unsettled → List ℕ
+place_of (Opening e) = 0 ∷ e ∷ []
+place_of (Mixed e) = 1 ∷ e ∷ []
+place_of (ParcelLeft e) = 2 ∷ e ∷ []
+place_of (Doubled e) = 3 ∷ e ∷ []
+place_of (CallMissing client number) = 4 ∷ client ∷ number ∷ []
+place_of (ReceiptMissing client number) = 5 ∷ client ∷ number ∷ []
+place_of (ReplyDiffers client number) = 6 ∷ client ∷ number ∷ []
+place_of (StampOrder client number) = 7 ∷ client ∷ number ∷ []
+place_of (HasHome client number) = 8 ∷ client ∷ number ∷ []
+place_of (Audit verdict) = 9 ∷ []
+
+-- the first cause stands before the second
+abbrev pub IsSooner : Unsettled → Unsettled → Type 0
+IsSooner cause other = slice_cmp nat_cmp (place_of cause) (place_of other) ≡ Less
+
+-- the cause holds, and none that stands before it does: so it is the first of its kind too, for the least place
+pub record IsFirstCause (run : Run) (cause : Unsettled) : Type 0 where
+  pub holds : Holds run cause
+  pub first : (other : Unsettled) → IsSooner other cause → Holds run other → ⊥

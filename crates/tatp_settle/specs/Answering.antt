@@ -1,5 +1,5 @@
 -- Calls, their receipts, and the entries of the logs.
-use Rattle.std.specs.Prelude.{◌≡◌, ℕ, ◌==◌, Bool, false, Option, Some, None}
+use Rattle.std.specs.Prelude.{◌≡◌, ℕ, ◌==◌, Bool, false, List, Option, Some, None}
 use Rattle.tatp_procs.specs.declared.ask.Ask.{Ask}
 use Rattle.tatp_procs.specs.declared.ask.Ask.TheVariants.{Txn, Raw}
 use Rattle.tatp_procs.specs.declared.entry.Entry.{Entry}
@@ -8,7 +8,8 @@ use Rattle.tatp_settle.specs.declared.receipt.Receipt.{Receipt}
 use Rattle.tatp_settle.specs.declared.receipt.Receipt.TheVariants.{Done, Refused}
 use Rattle.tatp_settle.specs.Receipts.{IsOf}
 use Rattle.tatp_settle.specs.Merging.{PlacedEntry}
-use Rattle.tatp_settle.specs.Runs.{Run, StandsAt, at_call}
+use Rattle.tatp_settle.specs.Closings.{ClosedState, StandsAt}
+use Rattle.tatp_settle.specs.Runs.{at_call}
 
 -- whether the call is of this kind, counted in the order of the mix; a call of any procedure has none
 abbrev pub is_of_kind : ℕ → Ask → Bool
@@ -28,11 +29,11 @@ pub record IsEntryOf (of_client of_number : ℕ) (entry : Entry) : Type 0 where
   pub number : entry.number ≡ of_number
 
 -- an entry of the call, and where it stands
-pub record EntryFound (run : Run) (client number : ℕ) : Type 0 where
+pub record EntryFound (closed : ClosedState) (client number : ℕ) : Type 0 where
   pub extent : ℕ
   pub place : ℕ
   pub entry : Entry
-  pub stands : StandsAt run extent place entry
+  pub stands : StandsAt closed extent place entry
   pub own : IsEntryOf client number entry
 
 -- the receipt of a completed call: what its entry says, and in which extent's log it stands
@@ -40,14 +41,14 @@ abbrev pub receipt_of : PlacedEntry → Receipt
 receipt_of p = Done p.entry.client p.entry.number p.entry.reply p.extent p.entry.stamp
 
 -- the call is refused and stands in no log; or the receipt equals an entry of its call, which stands in the log of the receipt's extent
-abbrev pub IsAnswered : Run → Ask → Receipt → Type 0
-IsAnswered run ask (Done client number reply extent stamp) = (place : ℕ) × StandsAt run extent place (record { client = client; number = number; ask = ask; reply = reply; stamp = stamp })
-IsAnswered run ask (Refused client number) = EntryFound run client number → ⊥
+abbrev pub IsAnswered : ClosedState → Ask → Receipt → Type 0
+IsAnswered closed ask (Done client number reply extent stamp) = (place : ℕ) × StandsAt closed extent place (record { client = client; number = number; ask = ask; reply = reply; stamp = stamp })
+IsAnswered closed ask (Refused client number) = EntryFound closed client number → ⊥
 
 -- the entry has its receipt
-abbrev pub HasReceipt : Run → PlacedEntry → Type 0
-HasReceipt run p = at_call run.receipts p.entry.client p.entry.number ≡ Some (receipt_of p)
+abbrev pub HasReceipt : List (List Receipt) → PlacedEntry → Type 0
+HasReceipt receipts p = at_call receipts p.entry.client p.entry.number ≡ Some (receipt_of p)
 
 -- two entries of one call stand in one place
-abbrev pub EntriesStandOnce : Run → Type 0
-EntriesStandOnce run = (client number : ℕ) (one other : EntryFound run client number) → (one.extent ≡ other.extent) × (one.place ≡ other.place)
+abbrev pub EntriesStandOnce : ClosedState → Type 0
+EntriesStandOnce closed = (client number : ℕ) (one other : EntryFound closed client number) → (one.extent ≡ other.extent) × (one.place ≡ other.place)

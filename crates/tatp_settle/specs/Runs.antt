@@ -54,7 +54,3 @@ homes_left run = flat_map (λ e. option_map_or (λ (x : ExtentState). x.homes) (
 -- the rows now
 abbrev pub rows_left : Run → Rows
 rows_left run = rows_of_homes (homes_left run)
-
--- the entry at a place of an extent's log
-abbrev pub StandsAt : Run → ℕ → ℕ → Entry → Type 0
-StandsAt run e place entry = slice_get (entries_numbered run.closed e) place ≡ Some entry

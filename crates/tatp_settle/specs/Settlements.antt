@@ -13,9 +13,9 @@ use Rattle.tatp_settle.specs.declared.refusals.GatherError.{GatherError}
 use Rattle.tatp_settle.specs.declared.refusals.GatherError.TheVariants.{ExtentMissing, NoMemory as NoMemoryToGather}
 use Rattle.tatp_settle.specs.declared.refusals.SettleError.{SettleError}
 use Rattle.tatp_settle.specs.declared.refusals.SettleError.TheVariants.{Because, NoMemory}
-use Rattle.tatp_settle.specs.Closings.{ClosedState, IsMissing, extents_of, times_standing}
+use Rattle.tatp_settle.specs.Closings.{ClosedState, IsMissing, extents_of, times_standing, StandsAt}
 use Rattle.tatp_settle.specs.Merging.{OneHistory}
-use Rattle.tatp_settle.specs.Runs.{Run, StandsAt, at_call, joined, logs_left, rows_left}
+use Rattle.tatp_settle.specs.Runs.{Run, at_call, joined, logs_left, rows_left}
 use Rattle.tatp_settle.specs.Answering.{AreMatched, IsAnswered, HasReceipt, EntriesStandOnce, is_of_kind}
 use Rattle.tatp_settle.specs.Receipts.{is_done}
 use Rattle.tatp_settle.specs.Causes.{OpenedAsPopulated, IsMixed, IsFirstCause}
@@ -30,9 +30,9 @@ pub record IsPopulationOnce (run : Run) : Type 0 where
 -- each client's receipts are its calls in order, and each entry has its receipt
 pub record IsReceived (run : Run) : Type 0 where
   pub matched : (client number : ℕ) → AreMatched client number (at_call run.calls client number) (at_call run.receipts client number)
-  pub answered : (client number : ℕ) (ask : Ask) (receipt : Receipt) → at_call run.calls client number ≡ Some ask → at_call run.receipts client number ≡ Some receipt → IsAnswered run ask receipt
-  pub known : (e place : ℕ) (entry : Entry) → StandsAt run e place entry → HasReceipt run (record { extent = e; entry = entry })
-  pub once : EntriesStandOnce run
+  pub answered : (client number : ℕ) (ask : Ask) (receipt : Receipt) → at_call run.calls client number ≡ Some ask → at_call run.receipts client number ≡ Some receipt → IsAnswered run.closed ask receipt
+  pub known : (e place : ℕ) (entry : Entry) → StandsAt run.closed e place entry → HasReceipt run.receipts (record { extent = e; entry = entry })
+  pub once : EntriesStandOnce run.closed
 
 -- the logs are one history of transactions, from the population to the rows now, which are clean; and it is what the clients received
 pub record IsOneHistory (run : Run) : Type 0 where

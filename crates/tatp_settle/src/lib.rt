@@ -2,13 +2,22 @@
 //! calls are one history of transactions.
 #![tactic(auto)]
 
+mod answering;
 mod cause;
 mod closed;
+mod counting;
 mod laws;
+mod lists;
+mod logs;
+mod matching;
+mod places;
+mod placing;
 mod receipt;
 mod refusals;
 mod settled;
 mod settling;
+mod stamping;
+mod table;
 
 pub use cause::Unsettled;
 pub use closed::{Closed, ClosedSite};

@@ -1,0 +1,68 @@
+//! Receipts beside the entries of their calls.
+ghost use Rattle.std.specs.Prelude.{◌≡◌};
+ghost use Rattle.tatp_settle.specs.Runs.{lists_of};
+ghost use Rattle.tatp_settle.specs.CallPlaces.{IsFirstCall, HoldsNowhere};
+ghost use Rattle.tatp_settle.specs.Causes.{Differs, IsUnmatched};
+ghost use Rattle.tatp_settle.specs.Placing.{cells_of, AllPlaced};
+
+use crate::lists::{at, len_of};
+use crate::logs::log_of;
+use crate::places::{CallPlace, LogPlace};
+use crate::table::Table;
+use crate::{Closed, Receipt};
+use tatp_procs::{Ask, Entry};
+
+/// Whether the entry of a call is what its receipt and its client say.
+fn says(extent: u64, entry: &Entry, ask: &Ask, receipt: &Receipt) -> bool {
+    match receipt {
+        Receipt::Refused { .. } => false,
+        Receipt::Done {
+            reply,
+            extent: of_extent,
+            stamp,
+            ..
+        } => {
+            entry.stamp == *stamp && extent == *of_extent as u64 && entry.ask == *ask && entry.reply == *reply
+        }
+    }
+}
+
+/// Whether the receipt and the ask of a call are what its entry says, or the call is refused and has none.
+fn agrees(closed: &Closed, cell: Option<LogPlace>, ask: &Ask, receipt: &Receipt) -> bool {
+    match cell {
+        None => match receipt {
+            Receipt::Refused { .. } => true,
+            Receipt::Done { .. } => false,
+        },
+        Some(place) => match log_of(closed, place.extent).get(place.index) {
+            Some(entry) => says(place.extent, entry, ask, receipt),
+            None => false,
+        },
+    }
+}
+
+/// The first call whose receipt or ask isn't what its entry says.
+pub(crate) fn first_differing(
+    closed: &Closed,
+    table: &Table,
+    receipts: &[Vec<Receipt>],
+    calls: &[Vec<Ask>],
+) -> Option<CallPlace>
+    requires matched { HoldsNowhere (IsUnmatched (lists_of calls.now) (lists_of receipts.now)) }
+    requires placed { AllPlaced closed.now (lists_of receipts.now) (cells_of table.now) }
+    ensures { IsFirstCall (Differs closed.now (lists_of calls.now) (lists_of receipts.now)) result }
+{
+    'clients: for client in 0..receipts.len() as u64 {
+        'calls: for number in 0..len_of(receipts, client) {
+            match (at(calls, client, number), at(receipts, client, number), table.cell(client, number)) {
+                (Some(ask), Some(receipt), Some(cell)) => {
+                    if !agrees(closed, cell, ask, receipt) {
+                        return Some(CallPlace { client, number });
+                    }
+                }
+                (_, _, _) => {}
+            }
+        }
+    }
+    None
+}

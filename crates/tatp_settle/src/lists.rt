@@ -1,0 +1,21 @@
+//! Lists of lists, by client and call number. A list that is lacking counts as empty.
+ghost use Rattle.std.specs.Prelude.{◌≡◌, ◌≤◌, ℕ, None};
+ghost use Rattle.std.specs.Option.{option_copied};
+ghost use Rattle.tatp_settle.specs.Runs.{at_call, lists_of};
+
+/// What stands for a client and one of its call numbers.
+pub(crate) fn at<T>(lists: &[Vec<T>], client: u64, number: u64) -> Option<&T>
+    ensures { option_copied result ≡ at_call (lists_of lists.now) client number }
+{
+    lists.get(client as usize)?.get(number as usize)
+}
+
+/// How much stands for a client.
+pub(crate) fn len_of<T>(lists: &[Vec<T>], client: u64) -> u64
+    ensures { (number : ℕ) → result ≤ number → at_call (lists_of lists.now) client number ≡ None }
+{
+    match lists.get(client as usize) {
+        Some(list) => list.len() as u64,
+        None => 0,
+    }
+}

@@ -21,7 +21,7 @@ mod table;
 
 pub use cause::Unsettled;
 pub use closed::{Closed, ClosedSite};
-pub use laws::{logs_can_be_merged, merged_logs_are_one_history};
+pub use laws::{logs_can_be_merged, merged_logs_are_one_history, runs_are_one_history};
 pub use receipt::Receipt;
 pub use refusals::{GatherError, NotGathered, NotSettled, SettleError};
 pub use settled::Settled;

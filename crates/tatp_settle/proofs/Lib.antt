@@ -1,2 +1,5 @@
 pub mod MergeLaws
 pub mod TakingLaws
+pub mod StandingLaws
+pub mod ClosingLaws
+pub mod HereLaws

@@ -6,6 +6,7 @@ mod answering;
 mod cause;
 mod closed;
 mod counting;
+mod gathering;
 mod laws;
 mod lists;
 mod logs;
@@ -21,8 +22,9 @@ mod table;
 
 pub use cause::Unsettled;
 pub use closed::{Closed, ClosedSite};
+pub use gathering::gather;
 pub use laws::{logs_can_be_merged, merged_logs_are_one_history, runs_are_one_history};
 pub use receipt::Receipt;
 pub use refusals::{GatherError, NotGathered, NotSettled, SettleError};
 pub use settled::Settled;
-pub use settling::{gather, settle};
+pub use settling::settle;

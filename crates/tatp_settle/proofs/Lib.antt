@@ -3,3 +3,4 @@ pub mod TakingLaws
 pub mod StandingLaws
 pub mod ClosingLaws
 pub mod HereLaws
+pub mod LogLaws

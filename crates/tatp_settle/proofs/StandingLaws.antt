@@ -105,7 +105,7 @@ length_of None = refl
 length_of (Some x) = refl
 
 -- no extent has the number 0
-none_at_zero : (s : ClosedSiteState) → IsClosedSite s → slot s.slots 0 ≡ None
+pub none_at_zero : (s : ClosedSiteState) → IsClosedSite s → slot s.slots 0 ≡ None
 none_at_zero s h = by s.slots refl
   where
     by : (slots : List (Option ExtentState)) → s.slots ≡ slots → slot slots 0 ≡ None

@@ -15,16 +15,12 @@ use Rattle.tatp_settle.specs.declared.receipt.Receipt.{Receipt}
 use Rattle.tatp_settle.specs.declared.receipt.Receipt.TheVariants.{Done, Refused}
 use Rattle.tatp_settle.specs.declared.cause.Unsettled.{Unsettled}
 use Rattle.tatp_settle.specs.declared.cause.Unsettled.TheVariants.{Opening, Mixed, ParcelLeft, Doubled, CallMissing, ReceiptMissing, ReplyDiffers, StampOrder, HasHome, Audit}
-use Rattle.tatp_settle.specs.Closings.{ClosedState, ExtentLog, extents_of, logs_of, times_standing, StandsAt}
+use Rattle.tatp_settle.specs.Closings.{ClosedState, ExtentLog, extents_numbered, extents_of, logs_of, times_standing, StandsAt}
 use Rattle.tatp_settle.specs.Runs.{Run, homes_populated, rows_left, at_call}
 use Rattle.tatp_settle.specs.Answering.{AreMatched, EntryFound, receipt_of}
 use Rattle.tatp_settle.specs.Receipts.{IsLater}
 
 -- ---- of extents
--- the extents of this number
-abbrev pub extents_numbered : ClosedState → ℕ → List ExtentState
-extents_numbered c e = filter (λ (x : ExtentState). x.number == e) (extents_of c)
-
 -- the extent stands exactly where the population has it, and opened with the population's homes
 pub record OpenedAsPopulated (run : Run) (e : ℕ) : Type 0 where
   pub stands : IsSome (homes_populated run e) → 1 ≤ length (extents_numbered run.closed e)

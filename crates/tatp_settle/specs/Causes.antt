@@ -4,6 +4,7 @@ use Rattle.std.specs.Cmp.Lexicographic.{slice_cmp}
 use Rattle.std.specs.Ordering.{nat_cmp}
 use Rattle.std.specs.declared.cmp.Ordering.TheVariants.{Less}
 use Rattle.tatp_tables.specs.Tuples.{Tuples}
+use Rattle.tatp_tables.specs.declared.row.Rows.{Rows}
 use Rattle.tatp_tables.specs.Database.{database_of}
 use Rattle.tatp_numbers.specs.Homes.{home_of_key}
 use Rattle.tatp_audits.specs.Audits.{IsVerdict, says_clean}
@@ -22,9 +23,9 @@ use Rattle.tatp_settle.specs.Receipts.{IsLater}
 
 -- ---- of extents
 -- the extent stands exactly where the population has it, and opened with the population's homes
-pub record OpenedAsPopulated (run : Run) (e : ℕ) : Type 0 where
-  pub stands : IsSome (homes_populated run e) → 1 ≤ length (extents_numbered run.closed e)
-  pub homes : All (λ (x : ExtentState). homes_populated run e ≡ Some x.opening) (extents_numbered run.closed e)
+pub record OpenedAsPopulated (population : Rows) (closed : ClosedState) (e : ℕ) : Type 0 where
+  pub stands : IsSome (homes_populated population e) → 1 ≤ length (extents_numbered closed e)
+  pub homes : All (λ (x : ExtentState). homes_populated population e ≡ Some x.opening) (extents_numbered closed e)
 
 -- a log of the extent is mixed
 abbrev pub IsMixed : ClosedState → ℕ → Type 0
@@ -93,7 +94,7 @@ pub record NamesHome (subscribers : Tuples) (closed : ClosedState) (client numbe
 -- ---- the causes
 -- the cause holds of the run
 abbrev pub Holds : Run → Unsettled → Type 0
-Holds run (Opening e) = OpenedAsPopulated run e → ⊥
+Holds run (Opening e) = OpenedAsPopulated run.population run.closed e → ⊥
 Holds run (Mixed e) = IsMixed run.closed e
 Holds run (ParcelLeft e) = IsInParcel run.closed e
 Holds run (Doubled e) = 2 ≤ times_standing run.closed e

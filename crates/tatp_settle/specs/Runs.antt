@@ -35,21 +35,21 @@ at_call lists client number = option_and_then (λ list. slice_get list number) (
 
 -- ---- the population
 -- how many extents it makes
-abbrev pub extents_populated : Run → ℕ
-extents_populated run = extent_count (length run.population.subscribers)
+abbrev pub extents_populated : Rows → ℕ
+extents_populated population = extent_count (length population.subscribers)
 
 -- the homes of one of its extents; none where there is no such extent
-abbrev pub homes_populated : Run → ℕ → Option (List SubscriberRows)
-homes_populated run e = if nat_le 1 e && nat_le e (extents_populated run) then Some (homes_of_extent (database_of run.population) (length run.population.subscribers) e) else None
+abbrev pub homes_populated : Rows → ℕ → Option (List SubscriberRows)
+homes_populated population e = if nat_le 1 e && nat_le e (extents_populated population) then Some (homes_of_extent (database_of population) (length population.subscribers) e) else None
 
 -- ---- what was left
 -- the logs of the extents 0, 1 and so on, as many as the population has; extent 0 is that of the calls without a home
 abbrev pub logs_left : Run → List (List Entry)
-logs_left run = map (entries_numbered run.closed) (range_with_len 0 (extents_populated run + 1))
+logs_left run = map (entries_numbered run.closed) (range_with_len 0 (extents_populated run.population + 1))
 
 -- the homes now, extent by extent
 abbrev pub homes_left : Run → List SubscriberRows
-homes_left run = flat_map (λ e. option_map_or (λ (x : ExtentState). x.homes) (extent_numbered run.closed e) []) (range_with_len 1 (extents_populated run))
+homes_left run = flat_map (λ e. option_map_or (λ (x : ExtentState). x.homes) (extent_numbered run.closed e) []) (range_with_len 1 (extents_populated run.population))
 
 -- the rows now
 abbrev pub rows_left : Run → Rows

@@ -22,7 +22,7 @@ use Rattle.tatp_settle.specs.Causes.{OpenedAsPopulated, IsMixed, IsFirstCause}
 
 -- each extent stands once, at a site, as the population opened it, and is unmixed
 pub record IsPopulationOnce (run : Run) : Type 0 where
-  pub opened : (e : ℕ) → OpenedAsPopulated run e
+  pub opened : (e : ℕ) → OpenedAsPopulated run.population run.closed e
   pub unmixed : (e : ℕ) → IsMixed run.closed e → ⊥
   pub landed : run.closed.parcels ≡ []
   pub once : (e : ℕ) → times_standing run.closed e ≤ 1

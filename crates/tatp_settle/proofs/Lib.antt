@@ -4,3 +4,5 @@ pub mod StandingLaws
 pub mod ClosingLaws
 pub mod HereLaws
 pub mod LogLaws
+pub mod TestLaws
+pub mod MixedLaws

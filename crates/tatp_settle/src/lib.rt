@@ -6,6 +6,7 @@ mod answering;
 mod cause;
 mod closed;
 mod counting;
+mod extents;
 mod gathering;
 mod laws;
 mod lists;

@@ -6,3 +6,8 @@ pub mod HereLaws
 pub mod LogLaws
 pub mod TestLaws
 pub mod MixedLaws
+pub mod TurnLaws
+pub mod PartLaws
+pub mod RunLaws
+pub mod OpenedLaws
+pub mod BeyondLaws

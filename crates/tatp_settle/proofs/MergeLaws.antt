@@ -3,6 +3,7 @@ use Rattle.std.proofs.Common.{◌≡◌, ◌≢◌, ℕ, zero, suc, List, [], �
 use Rattle.tatp_tables.specs.Database.{Database, of_subscriber, with_subscriber}
 use Rattle.tatp_tables.specs.Home.{SubscriberRows, HaveSId, home_in}
 use Rattle.tatp_tables.proofs.SubscriberLaws.{of_subscriber-with_subscriber, of_subscriber-with_other}
+use Rattle.tatp_numbers.specs.declared.key.Key.{Key}
 use Rattle.tatp_numbers.specs.Homes.{home_of_key}
 use Rattle.tatp_procs.specs.declared.ask.Ask.TheVariants.{Txn}
 use Rattle.tatp_procs.specs.declared.call.Call.{Call}
@@ -19,7 +20,7 @@ use Rattle.tatp_settle.specs.Merging.{PlacedEntry, Begins, AllAreEmpty, without_
 use Rattle.tatp_settle.specs.Separate.{Parts, AreSeparate, homes_at, FindsNone, AllFindNone, LogAt, LogsAt, LeadsToLast}
 
 -- ---- lists
-map_get : {A B : Type 0} (f : A → B) (xs : List A) (i : ℕ) (y : B) → slice_get (map f xs) i ≡ Some y → (x : A) × (slice_get xs i ≡ Some x) × (f x ≡ y)
+pub map_get : {A B : Type 0} (f : A → B) (xs : List A) (i : ℕ) (y : B) → slice_get (map f xs) i ≡ Some y → (x : A) × (slice_get xs i ≡ Some x) × (f x ≡ y)
 map_get f [] i y h = absurd cc
 map_get f (x ∷ xs) zero y h = (x, refl, cc)
 map_get f (x ∷ xs) (suc i) y h = map_get f xs i y h
@@ -35,7 +36,7 @@ map_set f g (y ∷ xs) zero x h same = let e : x ≡ y = cc in λ i. g (e i) ∷
 map_set f g (y ∷ xs) (suc place) x h same = λ i. same 0 y refl (λ d. omega (arith, d)) i ∷ map_set f g xs place x h (λ j z k n. same (suc j) z k (λ d. n (omega (arith, d)))) i
 
 -- what stands in the logs after one lost its first entry
-get_without : (logs : List (List Entry)) (e : ℕ) (entry : Entry) (more : List Entry) → slice_get logs e ≡ Some (entry ∷ more) → (n : ℕ) (log : List Entry) → slice_get (without_first logs e) n ≡ Some log
+pub get_without : (logs : List (List Entry)) (e : ℕ) (entry : Entry) (more : List Entry) → slice_get logs e ≡ Some (entry ∷ more) → (n : ℕ) (log : List Entry) → slice_get (without_first logs e) n ≡ Some log
     → ((n ≡ e) × (log ≡ more)) ⊎ ((n ≢ e) × (slice_get logs n ≡ Some log))
 get_without [] e entry more h n log g = absurd cc
 get_without (first ∷ logs) zero entry more h zero log g = let is : first ≡ entry ∷ more = cc in let rest : drop 1 first ≡ more = ap (drop 1) is in inl (refl, cc)
@@ -63,6 +64,7 @@ module _ (parts : Parts) (apart : AreSeparate parts) where
     pub answer : transaction call u ≡ record { reply = p.entry.reply; database = after }
     pub consistent : IsConsistent after
     pub left : LogsAt parts after (without_first logs p.extent)
+    pub keys : (key : Key) → home_of_key after.subscribers key ≡ home_of_key u.subscribers key
 
   -- a key that names none still names none
   stay_none : (u after : Database) → ((call : Call) → home_of_key after.subscribers (key_of_call call) ≡ home_of_key u.subscribers (key_of_call call)) → (log : List Entry) → AllFindNone u log → AllFindNone after log
@@ -84,6 +86,7 @@ module _ (parts : Parts) (apart : AreSeparate parts) where
           | inl p ↦ subst (λ e. LogAt parts u e log) (sym p.0) (subst (AllFindNone u) (sym p.1) here.1)
           | inr p ↦ all n log p.1
         ];
+        keys = λ key. refl;
       }
 
   -- the homes of an extent after one subscriber's rows were replaced
@@ -128,7 +131,7 @@ module _ (parts : Parts) (apart : AreSeparate parts) where
       let local : transaction r.call u ≡ with_answer u s (transaction r.call (of_subscriber u s)) = transactions_are_local r.call u s is named in
       let leaves : (transaction r.call u).database ≡ after = ap (λ (a : Answer). a.database) local in
       let led : between ≡ homes_at parts after (suc e) = r.homes ∙ ap (λ (h : SubscriberRows). slice_set (homes_at parts u (suc e)) place (with_tables h (transaction r.call h.tables).database)) (sym same) ∙ own_extent u v s own (suc e) place at in
-      let keys : (call : Call) → home_of_key after.subscribers (key_of_call call) ≡ home_of_key u.subscribers (key_of_call call) = λ call. ap (λ (d : Database). home_of_key d.subscribers (key_of_call call)) (sym leaves) ∙ keys_after r.call u (key_of_call call) is r.accepted in
+      let keys : (key : Key) → home_of_key after.subscribers key ≡ home_of_key u.subscribers key = λ key. ap (λ (d : Database). home_of_key d.subscribers key) (sym leaves) ∙ keys_after r.call u key is r.accepted in
       record {
         call = r.call;
         asked = r.asked;
@@ -137,8 +140,9 @@ module _ (parts : Parts) (apart : AreSeparate parts) where
         consistent = subst IsConsistent leaves (consistent_after r.call u is r.accepted);
         left = λ n log h. elim (get_without logs (suc e) entry more g n log h) [
           | inl p ↦ subst (λ k. LogAt parts after k log) (sym p.0) (subst (λ l. Leads (homes_at parts after (suc e)) l (parts.last (suc e))) (sym p.1) (subst (λ b. Leads b more (parts.last (suc e))) led rest))
-          | inr p ↦ other_log u v s own (suc e) place at keys n log p.0 (all n log p.1)
+          | inr p ↦ other_log u v s own (suc e) place at (λ call. keys (key_of_call call)) n log p.0 (all n log p.1)
         ];
+        keys = keys;
       }
 
   any_step : (u : Database) (logs : List (List Entry)) (p : PlacedEntry) → IsConsistent u → LogsAt parts u logs → Begins logs p → Step u logs p
@@ -155,7 +159,7 @@ module _ (parts : Parts) (apart : AreSeparate parts) where
 
   -- THE LAW: logs that lead from a database's homes, merged, are a history of the database, which leads to their last homes
   pub merged_logs_are_one_history : (history : List PlacedEntry) (u : Database) (logs : List (List Entry)) → IsConsistent u → Merges logs history → LogsAt parts u logs → LeadsToLast parts u logs history
-  merged_logs_are_one_history [] u logs is m all = record { after = u; consistent = is; answered = record { calls = []; asked = refl; answered = refl }; homes = ended u logs all m }
+  merged_logs_are_one_history [] u logs is m all = record { after = u; consistent = is; answered = record { calls = []; asked = refl; answered = refl }; homes = ended u logs all m; keys = λ key. refl }
   merged_logs_are_one_history (p ∷ more) u logs is m all =
       let step : Step u logs p = any_step u logs p is all m.0.begins in
       let rest : LeadsToLast parts step.after (without_first logs p.extent) more = merged_logs_are_one_history more step.after (without_first logs p.extent) step.consistent m.1 step.left in
@@ -169,4 +173,5 @@ module _ (parts : Parts) (apart : AreSeparate parts) where
               ∙ ap (λ (tail : Answers). record { replies = p.entry.reply ∷ tail.replies; database = tail.database }) rest.answered.answered;
         };
         homes = λ e log g. let found = has_without logs p.extent (suc e) log g in rest.homes e found.0 found.1;
+        keys = λ key. rest.keys key ∙ step.keys key;
       }

@@ -146,20 +146,44 @@ sums e (s ∷ sites) all =
     let d = sum_by-cons (standing_of e) s sites in
     omega (arith, one, rest, a, b, d)
 
+-- a number stands once for each log of calls without a home that has it, and for each extent
+times_of_logs : (c : ClosedState) (e : ℕ) → times_standing c e ≡ sum_by (homeless_of e) c.sites + count_by (has_number e) (extents_of c)
+times_of_logs c e =
+    count_joined (λ (log : ExtentLog). log.extent == e) (map log_of_homeless (filter (λ (s : ClosedSiteState). s.partition == 0) c.sites)) (map log_of_extent (extents_of c))
+    ∙ (λ i. homeless_counted e c.sites i + count_mapped (λ (log : ExtentLog). log.extent == e) log_of_extent (extents_of c) i)
+
 -- a number stands once for each site where it does, and for each parcel
 pub times_standing_is : (c : ClosedState) (e : ℕ) → All IsClosedSite c.sites → times_standing c e ≡ sum_by (standing_of e) c.sites + count_by (has_number e) c.parcels
 times_standing_is c e all =
-    let joined = count_joined (λ (log : ExtentLog). log.extent == e) (map log_of_homeless (filter (λ (s : ClosedSiteState). s.partition == 0) c.sites)) (map log_of_extent (extents_of c)) in
-    let first = homeless_counted e c.sites in
-    let second = count_mapped (λ (log : ExtentLog). log.extent == e) log_of_extent (extents_of c) in
+    let joined = times_of_logs c e in
     let kept : count_by (has_number e) (extents_of c) ≡ length (flat_map (here e) c.sites ++ filter (has_number e) c.parcels) = sym (length-filter (has_number e) (extents_of c)) ∙ ap length (in_sites c.sites c.parcels e all) in
     let parts = length-append (flat_map (here e) c.sites) (filter (has_number e) c.parcels) in
     let at_sites = here_counted e c.sites in
     let at_parcels = length-filter (has_number e) c.parcels in
     let both = sums e c.sites all in
-    omega (arith, joined, first, second, kept, parts, at_sites, at_parcels, both)
+    omega (arith, joined, kept, parts, at_sites, at_parcels, both)
 
-abbrev IsCounted : {A : Type 0} → (A → Bool) → List A → Type 0
+cond_zero : (p : Bool) → cond {A = ℕ} p 0 0 ≡ 0
+cond_zero true = refl
+cond_zero false = refl
+
+no_homeless : (e : ℕ) (sites : List ClosedSiteState) → 1 ≤ e → sum_by (homeless_of e) sites ≡ 0
+no_homeless e [] l = refl
+no_homeless e (s ∷ sites) l =
+    let rest = no_homeless e sites l in
+    let cons = sum_by-cons (homeless_of e) s sites in
+    let none : homeless_of e s ≡ 0 = ap (λ (b : Bool). cond {A = ℕ} (s.partition == 0) (cond b 1 0) 0) (ne_eqb 0 e (λ z. omega (arith, l, z))) ∙ cond_zero (s.partition == 0) in
+    omega (arith, rest, cons, none)
+
+-- a number that no extent has doesn't stand
+pub none_standing : (c : ClosedState) (e : ℕ) → 1 ≤ e → filter (has_number e) (extents_of c) ≡ [] → times_standing c e ≡ 0
+none_standing c e l none =
+    let joined = times_of_logs c e in
+    let homeless = no_homeless e c.sites l in
+    let extents : count_by (has_number e) (extents_of c) ≡ 0 = sym (length-filter (has_number e) (extents_of c)) ∙ ap length none in
+    omega (arith, joined, homeless, extents)
+
+abbrev pub IsCounted : {A : Type 0} → (A → Bool) → List A → Type 0
 IsCounted p xs = (list_any p xs ≡ true → 1 ≤ count_by p xs) × (list_any p xs ≡ false → count_by p xs ≡ 0)
 
 one_counted : {A : Type 0} (p : A → Bool) (x : A) (xs : List A) → IsCounted p xs → (b : Bool) → p x ≡ b → ((b || list_any p xs) ≡ true → 1 ≤ count_by p (x ∷ xs)) × ((b || list_any p xs) ≡ false → count_by p (x ∷ xs) ≡ 0)
@@ -168,7 +192,7 @@ one_counted p x xs rest false is =
     let e : count_by p (x ∷ xs) ≡ 0 + count_by p xs = count_cons p x xs ∙ ap (λ b. cond b 1 0 + count_by p xs) is in
     (λ h. let m = rest.0 h in omega (arith, e, m), λ h. let m = rest.1 h in omega (arith, e, m))
 
-any_counted : {A : Type 0} (p : A → Bool) (xs : List A) → IsCounted p xs
+pub any_counted : {A : Type 0} (p : A → Bool) (xs : List A) → IsCounted p xs
 any_counted p [] = (λ h. absurd cc, λ h. refl)
 any_counted p (x ∷ xs) = one_counted p x xs (any_counted p xs) (p x) refl
 

@@ -2,6 +2,7 @@
 use Rattle.std.specs.Prelude.{◌≡◌, ℕ, zero, suc, List, [], ◌∷◌, map, None, Some, slice_get}
 use Rattle.tatp_tables.specs.Database.{Database}
 use Rattle.tatp_tables.specs.Home.{SubscriberRows, home_in}
+use Rattle.tatp_numbers.specs.declared.key.Key.{Key}
 use Rattle.tatp_numbers.specs.Homes.{home_of_key}
 use Rattle.tatp_procs.specs.declared.ask.Ask.TheVariants.{Txn}
 use Rattle.tatp_procs.specs.declared.call.Call.{Call}
@@ -48,9 +49,10 @@ LogsAt parts u logs = (e : ℕ) (log : List Entry) → slice_get logs e ≡ Some
 abbrev pub HaveLast : Parts → List (List Entry) → Database → Type 0
 HaveLast parts logs after = (e : ℕ) (log : List Entry) → slice_get logs (suc e) ≡ Some log → parts.last (suc e) ≡ homes_at parts after (suc e)
 
--- the history is one of transactions from the database to one with the last homes
+-- the history is one of transactions from the database to one with the last homes, where each key names the subscriber that it named
 pub record LeadsToLast (parts : Parts) (before : Database) (logs : List (List Entry)) (history : List PlacedEntry) : Type 0 where
   pub after : Database
   pub consistent : IsConsistent after
   pub answered : IsAnsweredInOrder before history after
   pub homes : HaveLast parts logs after
+  pub keys : (key : Key) → home_of_key after.subscribers key ≡ home_of_key before.subscribers key

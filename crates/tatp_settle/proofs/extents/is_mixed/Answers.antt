@@ -16,6 +16,6 @@ returns-then-is_mixed_at c =
 
 pub returns-else-is_mixed_at : goal.returns-else-is_mixed_at
 returns-else-is_mixed_at c =
-    mixed_is c.args.closed.now c.args.number c.what_holds.ensures _ c.is_mixed_in-else-is_mixed_at.result
+    mixed_is c.args.closed.now c.args.number c.what_holds.ensures _ c.is_mixed_in.result
         (sym c.if-is_mixed_at.false ∙ (c.is_mixed_at.ensures ∙ ap (λ (xs : List ClosedSiteState). list_any (λ s. mixed_here s c.args.number) xs) c.sites.ensures))
-        (c.is_mixed_in-else-is_mixed_at.ensures ∙ ap (λ (xs : List ExtentState). list_any (mixed_as c.args.number) xs) c.parcels-else-is_mixed_at.ensures)
+        (c.is_mixed_in.ensures ∙ ap (λ (xs : List ExtentState). list_any (mixed_as c.args.number) xs) c.parcels.ensures)

@@ -5,7 +5,7 @@ use Rattle.std.specs.List.{flat_map, list_all, range_with_len}
 use Rattle.std.specs.Option.{option_to_list, option_map_or, is_some}
 use Rattle.std.specs.Cmp.Lexicographic.{pointwise}
 use Rattle.std.proofs.lemmas.Bool.Decides.{Decides-like, Decides-by_and, Decides-and, nat_tests}
-use Rattle.std.proofs.lemmas.List.{take-map, drop-map}
+use Rattle.std.proofs.lemmas.List.{take-map, drop-map, take_min, length-drop}
 use Rattle.std.proofs.lemmas.List.Folds.{list_all-append}
 use Rattle.std.proofs.lemmas.List.Elements.{All-head, All-tail, All-nil}
 use Rattle.std.proofs.lemmas.Slice.Eq.{slice_eq-Decides}
@@ -117,3 +117,15 @@ none_opened p c e is (x ∷ xs) some =
 -- where the population doesn't have it
 pub not_opened_is : (p : Rows) (c : ClosedState) (e : ℕ) → homes_populated p e ≡ None → (s : Bool) → s ≡ is_some (extent_numbered c e) → Decides (not s) (OpenedAsPopulated p c e)
 not_opened_is p c e is s ps = subst (λ r. Decides (not r) (OpenedAsPopulated p c e)) (sym (ps ∙ ap is_some (find_filtered (has_number e) (extents_of c)))) (none_opened p c e is (extents_numbered c e) refl)
+
+-- the piece as it is cut out
+pub own_piece : (homes : List SubscriberRows) (p : Rows) (e m : ℕ) → homes ≡ homes_in (database_of p) 1 (length p.subscribers) → 1 ≤ e → m ≡ min (64 * (e - 1) + 64) (length homes)
+    → take (m - 64 * (e - 1)) (drop (64 * (e - 1)) homes) ≡ homes_of_extent (database_of p) (length p.subscribers) e
+own_piece homes p e m is l last =
+    let size : m - 64 * (e - 1) ≡ min 64 (length (drop (64 * (e - 1)) homes)) = let d = length-drop (64 * (e - 1)) homes in omega (arith, last, d) in
+    ap (λ (k : ℕ). take k (drop (64 * (e - 1)) homes)) size
+    ∙ (take_min 64 (drop (64 * (e - 1)) homes)
+    ∙ (ap (λ (xs : List SubscriberRows). take 64 (drop (64 * (e - 1)) xs)) is ∙ homes_of_piece (database_of p) (length p.subscribers) e l))
+
+pub count_is : (homes : List SubscriberRows) (p : Rows) → homes ≡ homes_in (database_of p) 1 (length p.subscribers) → (length homes + 63) / 64 ≡ extents_populated p
+count_is homes p is = let n : length homes ≡ length p.subscribers = ap length is ∙ length-homes_in (database_of p) 1 (length p.subscribers) in ap (λ (k : ℕ). (k + 63) / 64) n

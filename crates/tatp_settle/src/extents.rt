@@ -36,6 +36,7 @@ pub(crate) fn first_extent(
     requires { homes.now ≡ homes_in (database_of population.now) 1 (length population.now.subscribers) }
     ensures { IsFirstExtent (IsExtentCause cause population.now closed.now) result }
 {
+    closed.what_holds();
     let count = log_count(closed).max((homes.len() as u64 + 63) / 64 + 1);
     'numbers: for number in 0..count {
         if is_cause(cause, population, homes, closed, number) {
@@ -77,7 +78,14 @@ fn is_opened(population: &Rows, homes: &[Home], closed: &Closed, number: u64) ->
     }
     let first = 64 * (number as usize - 1);
     let own = &homes[first..(first + 64).min(homes.len())];
-    stands && are_opened_at(closed.sites(), own, number) && are_opened_in(closed.parcels(), own, number)
+    stands && are_opened(closed, own, number)
+}
+
+/// Whether all extents that have a number opened with these homes.
+fn are_opened(closed: &Closed, homes: &[Home], number: u64) -> bool
+    ensures { result ≡ (list_all (opened_here homes.now number) closed.now.sites && list_all (opened_as homes.now number) closed.now.parcels) }
+{
+    are_opened_at(closed.sites(), homes, number) && are_opened_in(closed.parcels(), homes, number)
 }
 
 /// Whether the extents of a number that stood at sites opened with these homes.

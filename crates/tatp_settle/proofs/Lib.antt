@@ -11,3 +11,5 @@ pub mod PartLaws
 pub mod RunLaws
 pub mod OpenedLaws
 pub mod BeyondLaws
+pub mod StableLaws
+pub mod ReceivedLaws

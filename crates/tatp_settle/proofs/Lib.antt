@@ -13,3 +13,5 @@ pub mod OpenedLaws
 pub mod BeyondLaws
 pub mod StableLaws
 pub mod ReceivedLaws
+pub mod CauseLaws
+pub mod SettledLaws

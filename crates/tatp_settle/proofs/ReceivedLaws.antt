@@ -1,8 +1,8 @@
 -- Where no pass over receipts, calls and logs finds anything, the clients received what was logged.
-use Rattle.std.proofs.Common.{◌≡◌, ℕ, zero, suc, ◌<◌, ◌≤◌, List, [], ◌∷◌, Contains, Option, Some, None, IsSome, slice_get, refl, sym, ◌∙◌, ap, subst, arith, inl, inr}
-use Rattle.std.specs.Coded.{Coded, coded_list, coded_option}
+use Rattle.std.proofs.Common.{◌≡◌, ℕ, ◌≤◌, List, [], ◌∷◌, Contains, Option, Some, None, slice_get, refl, sym, ◌∙◌, ap, subst, arith, inl, inr}
+use Rattle.std.specs.Coded.{coded_list, coded_option}
 use Rattle.std.proofs.lemmas.Option.{same_Some, none-some}
-use Rattle.tatp_tables.specs.Home.{SubscriberRows, subscriber_rows_code}
+use Rattle.tatp_tables.specs.Home.{subscriber_rows_code}
 use Rattle.tatp_tables.specs.declared.row.Rows.{Rows}
 use Rattle.tatp_procs.specs.declared.ask.Ask.{Ask}
 use Rattle.tatp_procs.specs.declared.entry.Entry.{Entry}
@@ -12,8 +12,8 @@ use Rattle.tatp_settle.specs.declared.receipt.Receipt.{Receipt}
 use Rattle.tatp_settle.specs.declared.receipt.Receipt.TheVariants.{Done, Refused}
 use Rattle.tatp_settle.specs.contracts.receipt.Receipt as receipt
 use Rattle.tatp_settle.specs.declared.places.LogPlace.{LogPlace}
-use Rattle.tatp_settle.specs.Closings.{ClosedState, extents_numbered, entries_numbered, times_standing, StandsAt}
-use Rattle.tatp_settle.specs.Runs.{Run, homes_populated, at_call}
+use Rattle.tatp_settle.specs.Closings.{ClosedState, entries_numbered, times_standing, StandsAt}
+use Rattle.tatp_settle.specs.Runs.{Run, at_call}
 use Rattle.tatp_settle.specs.Receipts.{IsOf}
 use Rattle.tatp_settle.specs.Answering.{AreMatched, EntryFound, receipt_of, IsAnswered, HasReceipt}
 use Rattle.tatp_settle.specs.CallPlaces.{HoldsNowhere}

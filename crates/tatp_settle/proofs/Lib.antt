@@ -13,3 +13,7 @@ pub mod OpenedLaws
 pub mod BeyondLaws
 pub mod NumberLaws
 pub mod NamedLaws
+pub mod StableLaws
+pub mod ReceivedLaws
+pub mod CauseLaws
+pub mod SettledLaws

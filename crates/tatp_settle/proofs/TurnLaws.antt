@@ -1,5 +1,6 @@
 -- A merged history stands in rising (stamp, extent). So where each entry has its receipt, and each client's stamps rise with its call numbers, its entries stand in turn.
-use Rattle.std.proofs.Common.{◌≡◌, ◌≢◌, ℕ, zero, suc, ◌<◌, ◌==◌, ◌&&◌, ◌||◌, nat_lt, true, false, List, [], ◌∷◌, Some, slice_get, refl, sym, ◌∙◌, subst, arith, ◌⊎◌, inl, inr}
+use Rattle.std.proofs.Common.{◌≡◌, ◌≢◌, ℕ, zero, suc, ◌<◌, ◌==◌, ◌&&◌, ◌||◌, nat_lt, true, false, List, [], ◌∷◌, Some, slice_get, refl, sym, ◌∙◌, subst, arith, inl, inr}
+use Rattle.std.proofs.lemmas.Bool.{cases_order}
 use Rattle.std.proofs.lemmas.Bool.Decides.{nat_tests}
 use Rattle.std.proofs.lemmas.Grind.{common_steps}
 use Rattle.tatp_procs.specs.declared.entry.Entry.{Entry}
@@ -27,9 +28,6 @@ not_before_same a x b y h s e = grind (arith, nat_tests, common_steps, h, s, e)
 
 not_before_lower : (a x b y : ℕ) → (nat_lt a b || ((a == b) && nat_lt x y)) ≡ true → b < a → ⊥
 not_before_lower a x b y h l = grind (arith, nat_tests, common_steps, h, l)
-
-which : (m n : ℕ) → (m < n) ⊎ ((m ≡ n) ⊎ (n < m))
-which m n = grind arith
 
 -- ---- the order of a history
 -- the stamps of a log rise
@@ -105,9 +103,9 @@ stands_in_logs (x ∷ more) logs m (suc i) p g = stood_before logs x p m.0.begin
 -- ---- clients
 -- two entries of one client, the first before the second
 in_turn : (receipts : List (List Receipt)) → HoldsNowhere (StampFalls receipts) → (p q : PlacedEntry) → HasReceipt receipts p → HasReceipt receipts q → is_before p q ≡ true → p.entry.client ≡ q.entry.client → p.entry.number < q.entry.number
-in_turn receipts rise p q a b before c = elim (which p.entry.number q.entry.number) [
-  | inl l ↦ l
-  | inr (inl e) ↦
+in_turn receipts rise p q a b before c = elim (cases_order p.entry.number q.entry.number) [
+  | inr (inl l) ↦ l
+  | inl e ↦
       let same : at_call receipts p.entry.client p.entry.number ≡ at_call receipts q.entry.client q.entry.number = λ i. at_call receipts (c i) (e i) in
       let one : Some (receipt_of p) ≡ Some (receipt_of q) = sym a ∙ same ∙ b in
       let x : p.extent ≡ q.extent = cc in

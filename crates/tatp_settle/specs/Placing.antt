@@ -37,3 +37,7 @@ pub record AllPlaced (closed : ClosedState) (receipts : List (List Receipt)) (ce
   pub none : (client number : ℕ) → at_call receipts client number ≡ None → cells client number ≡ None
   pub points : (client number : ℕ) (place : LogPlace) → cells client number ≡ Some (Some place) → Points closed client number place
   pub placed : (extent index : ℕ) (entry : Entry) → StandsAt closed extent index entry → cells entry.client entry.number ≡ Some (Some (record { extent = extent; index = index }))
+
+-- each entry has its place in some table of calls
+abbrev pub ArePlaced : ClosedState → List (List Receipt) → Type 0
+ArePlaced closed receipts = (cells : ℕ → ℕ → Option (Option LogPlace)) × AllPlaced closed receipts cells

@@ -9,6 +9,7 @@ mod counting;
 mod extents;
 mod gathering;
 mod homed;
+mod judging;
 mod laws;
 mod lists;
 mod logs;

@@ -4,3 +4,6 @@ pub mod StandingLaws
 pub mod ClosingLaws
 pub mod HereLaws
 pub mod LogLaws
+pub mod SearchLaws
+pub mod StampLaws
+pub mod TableLaws

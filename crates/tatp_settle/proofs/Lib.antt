@@ -7,3 +7,5 @@ pub mod LogLaws
 pub mod SearchLaws
 pub mod StampLaws
 pub mod TableLaws
+pub mod CountLaws
+pub mod KindLaws

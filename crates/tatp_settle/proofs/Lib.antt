@@ -17,3 +17,8 @@ pub mod StableLaws
 pub mod ReceivedLaws
 pub mod CauseLaws
 pub mod SettledLaws
+pub mod SearchLaws
+pub mod StampLaws
+pub mod TableLaws
+pub mod CountLaws
+pub mod KindLaws

@@ -17,3 +17,4 @@ pub mod StableLaws
 pub mod ReceivedLaws
 pub mod CauseLaws
 pub mod SettledLaws
+pub mod MovesLaws

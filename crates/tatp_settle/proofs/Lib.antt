@@ -18,3 +18,8 @@ pub mod ReceivedLaws
 pub mod CauseLaws
 pub mod SettledLaws
 pub mod MovesLaws
+pub mod SearchLaws
+pub mod StampLaws
+pub mod TableLaws
+pub mod CountLaws
+pub mod KindLaws

@@ -5,7 +5,7 @@ ghost use Rattle.tatp_settle.specs.CallPlaces.{IsFirstCall, HoldsNowhere};
 ghost use Rattle.tatp_settle.specs.Causes.{Differs, IsUnmatched};
 ghost use Rattle.tatp_settle.specs.Placing.{cells_of, AllPlaced};
 
-use crate::lists::{at, len_of};
+use crate::lists::{at, count_of, len_of};
 use crate::logs::log_of;
 use crate::places::{CallPlace, LogPlace};
 use crate::table::Table;
@@ -52,7 +52,7 @@ pub(crate) fn first_differing(
     requires placed { AllPlaced closed.now (lists_of receipts.now) (cells_of table.now) }
     ensures { IsFirstCall (Differs closed.now (lists_of calls.now) (lists_of receipts.now)) result }
 {
-    'clients: for client in 0..receipts.len() as u64 {
+    'clients: for client in 0..count_of(receipts) {
         'calls: for number in 0..len_of(receipts, client) {
             match (at(calls, client, number), at(receipts, client, number), table.cell(client, number)) {
                 (Some(ask), Some(receipt), Some(cell)) => {

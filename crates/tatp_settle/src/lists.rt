@@ -10,6 +10,13 @@ pub(crate) fn at<T>(lists: &[Vec<T>], client: u64, number: u64) -> Option<&T>
     lists.get(client as usize)?.get(number as usize)
 }
 
+/// How many lists there are.
+pub(crate) fn count_of<T>(lists: &[Vec<T>]) -> u64
+    ensures { (client number : ℕ) → result ≤ client → at_call (lists_of lists.now) client number ≡ None }
+{
+    lists.len() as u64
+}
+
 /// How much stands for a client.
 pub(crate) fn len_of<T>(lists: &[Vec<T>], client: u64) -> u64
     ensures { (number : ℕ) → result ≤ number → at_call (lists_of lists.now) client number ≡ None }

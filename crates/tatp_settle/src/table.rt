@@ -36,16 +36,10 @@ impl Table {
     pub(crate) fn put(&mut self, client: u64, number: u64, place: LogPlace) -> bool
         ensures { Puts (cells_of self.old) client number place result (cells_of self.new) }
     {
-        let Some(row) = self.rows.get_mut(client as usize) else {
+        let Some(None) = self.cell(client, number) else {
             return false;
         };
-        let Some(cell) = row.get_mut(number as usize) else {
-            return false;
-        };
-        if cell.is_some() {
-            return false;
-        }
-        *cell = Some(place);
+        self.rows[client as usize][number as usize] = Some(place);
         true
     }
 }

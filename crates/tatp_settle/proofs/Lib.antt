@@ -17,6 +17,7 @@ pub mod StableLaws
 pub mod ReceivedLaws
 pub mod CauseLaws
 pub mod SettledLaws
+pub mod MovesLaws
 pub mod SearchLaws
 pub mod StampLaws
 pub mod TableLaws

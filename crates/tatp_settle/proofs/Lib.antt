@@ -23,3 +23,4 @@ pub mod StampLaws
 pub mod TableLaws
 pub mod CountLaws
 pub mod KindLaws
+pub mod JudgeLaws

@@ -1,5 +1,6 @@
 //! The verdict on a run: settled, or its first cause.
 ghost use Rattle.std.specs.Prelude.{◌≡◌, ◌<◌, ◌^◌, List, IfOk, IfErr, IfNone, length};
+ghost use Rattle.std.specs.Option.{option_map};
 ghost use Rattle.tatp_tables.specs.Tuples.{set_of};
 ghost use Rattle.tatp_tables.specs.Database.{database_of};
 ghost use Rattle.tatp_tables.specs.Clean.{IsClean};
@@ -17,6 +18,7 @@ use crate::counting::{count_kinds, count_receipts};
 use crate::extents::{ExtentCause, first_extent};
 use crate::homed::first_homed;
 use crate::matching::first_unmatched;
+use crate::places::CallPlace;
 use crate::placing::place_entries;
 use crate::rows::{count_moves, rows_now};
 use crate::stamping::first_falling;
@@ -152,13 +154,18 @@ fn cause_without_home(
     let _ = receipts;
     let _ = calls;
     let directory = directory_of(alloc, population)?;
-    match first_homed(population, &directory, closed) {
-        None => Ok(None),
-        Some(place) => Ok(Some(Unsettled::HasHome {
-            client: place.client,
-            number: place.number,
-        })),
-    }
+    Ok(home_cause(first_homed(population, &directory, closed)))
+}
+
+/// That the call has a home.
+fn home_cause(place: Option<CallPlace>) -> Option<Unsettled>
+    ensures { result ≡ option_map (λ (call : CallPlace). Unsettled.HasHome call.client call.number) place }
+{
+    let call = place?;
+    Some(Unsettled::HasHome {
+        client: call.client,
+        number: call.number,
+    })
 }
 
 /// The directory of clean rows.

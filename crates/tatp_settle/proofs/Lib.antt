@@ -9,3 +9,4 @@ pub mod StampLaws
 pub mod TableLaws
 pub mod CountLaws
 pub mod KindLaws
+pub mod PlacingLaws

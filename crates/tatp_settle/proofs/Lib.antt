@@ -24,3 +24,4 @@ pub mod TableLaws
 pub mod CountLaws
 pub mod KindLaws
 pub mod JudgeLaws
+pub mod PlacingLaws

@@ -1,9 +1,9 @@
 //! The entries of all logs, put into the table of calls.
-ghost use Rattle.std.specs.Prelude.{◌≡◌, IfOk, IfNone};
+ghost use Rattle.std.specs.Prelude.{◌≡◌, ◌⊎◌, ℕ, Some, IfOk, IfNone};
 ghost use Rattle.tatp_settle.specs.Runs.{lists_of};
 ghost use Rattle.tatp_settle.specs.CallPlaces.{IsFirstCall};
 ghost use Rattle.tatp_settle.specs.Causes.{HasEntryTooMany};
-ghost use Rattle.tatp_settle.specs.Placing.{cells_of, AllPlaced};
+ghost use Rattle.tatp_settle.specs.Placing.{cells_of, AllPlaced, IsAtMost};
 
 use crate::logs::{log_count, log_of};
 use crate::places::{CallPlace, LogPlace};
@@ -12,7 +12,11 @@ use crate::{Closed, Receipt};
 use std::alloc::{AllocError, Global};
 
 /// The lesser of two calls.
-fn lesser(least: Option<CallPlace>, other: CallPlace) -> Option<CallPlace> {
+fn lesser(least: Option<CallPlace>, other: CallPlace) -> Option<CallPlace>
+    ensures keeps { (client number : ℕ) → IsAtMost least client number → IsAtMost result client number }
+    ensures at { IsAtMost result other.client other.number }
+    ensures is { (result ≡ least) ⊎ (result ≡ Some other) }
+{
     match least {
         None => Some(other),
         Some(place) => {
@@ -39,10 +43,9 @@ pub(crate) fn place_entries(
     'logs: for extent in 0..log_count(closed) {
         let log = log_of(closed, extent);
         'entries: for index in 0..log.len() {
-            let client = log[index].client;
-            let number = log[index].number;
-            if !table.put(client, number, LogPlace { extent, index }) {
-                least = lesser(least, CallPlace { client, number });
+            let entry = &log[index];
+            if !table.put(entry.client, entry.number, LogPlace { extent, index }) {
+                least = lesser(least, CallPlace { client: entry.client, number: entry.number });
             }
         }
     }

@@ -11,7 +11,8 @@ use Rattle.tatp_settle.specs.Closings.{ClosedState, entries_numbered, StandsAt}
 use Rattle.tatp_settle.specs.Answering.{IsEntryOf, EntryFound}
 use Rattle.tatp_settle.specs.CallPlaces.{IsSooner, IsLeastCall, IsFirstCall}
 use Rattle.tatp_settle.specs.Causes.{NamesHome}
-use Rattle.tatp_settle.specs.Named.{IsNoSooner, IsNamedIn}
+use Rattle.tatp_settle.specs.Named.{IsNamedIn}
+use Rattle.tatp_settle.specs.Placing.{IsAtMost}
 
 within : {A : Type 0} (xs : List A) (i : ℕ) (x : A) → slice_get xs i ≡ Some x → i < length xs
 within [] i x h = absurd (let k : None ≡ Some x = h in cc)
@@ -19,7 +20,7 @@ within (y ∷ xs) zero x h = omega arith
 within (y ∷ xs) (suc i) x h = let l = within xs i x h in omega (arith, l)
 
 abbrev pub Naming : List Entry → Listing → Option CallPlace → ℕ → Type 0
-Naming log directory least i = (j : ℕ) (entry : Entry) → j < i → slice_get log j ≡ Some entry → IsSome (answer directory (key_asked entry.ask)) → IsNoSooner least entry.client entry.number
+Naming log directory least i = (j : ℕ) (entry : Entry) → j < i → slice_get log j ≡ Some entry → IsSome (answer directory (key_asked entry.ask)) → IsAtMost least entry.client entry.number
 
 pub first_of_named : (log : List Entry) (directory : Listing) (least : Option CallPlace) (i : ℕ) → length log ≤ i → Naming log directory least i
     → ((place : CallPlace) → least ≡ Some place → IsNamedIn log directory place.client place.number) → IsFirstCall (IsNamedIn log directory) least

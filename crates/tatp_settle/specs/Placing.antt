@@ -40,13 +40,11 @@ pub record AllPlaced (closed : ClosedState) (receipts : List (List Receipt)) (ce
   pub points : (client number : ℕ) (place : LogPlace) → cells client number ≡ Some (Some place) → Points closed client number place
   pub placed : (extent index : ℕ) (entry : Entry) → StandsAt closed extent index entry → cells entry.client entry.number ≡ Some (Some (record { extent = extent; index = index }))
 
-<<<<<<< HEAD
 -- each entry has its place in some table of calls
 abbrev pub ArePlaced : ClosedState → List (List Receipt) → Type 0
 ArePlaced closed receipts = (cells : ℕ → ℕ → Option (Option LogPlace)) × AllPlaced closed receipts cells
-=======
+
 -- the call stands no sooner than the least one so far
 abbrev pub IsAtMost : Option CallPlace → ℕ → ℕ → Type 0
 IsAtMost None client number = ⊥
 IsAtMost (Some place) client number = IsSooner client number place.client place.number → ⊥
->>>>>>> 72f7e155cebc03d78440bcc4d21d6d2c86e34a2a

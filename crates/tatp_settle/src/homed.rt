@@ -1,5 +1,5 @@
 //! Calls without a home whose key names a subscriber.
-ghost use Rattle.std.specs.Prelude.{◌≡◌, ◌⊎◌, ℕ, Some};
+ghost use Rattle.std.specs.Prelude.{◌≡◌};
 ghost use Rattle.tatp_tables.specs.Tuples.{set_of};
 ghost use Rattle.tatp_tables.specs.Database.{database_of};
 ghost use Rattle.tatp_numbers.specs.Homes.{home_of_key};
@@ -8,11 +8,12 @@ ghost use Rattle.tatp_numbers.specs.declared.key.Key.{Key};
 ghost use Rattle.tatp_partition.specs.Asks.{key_asked};
 ghost use Rattle.tatp_settle.specs.CallPlaces.{IsFirstCall};
 ghost use Rattle.tatp_settle.specs.Causes.{NamesHome};
-ghost use Rattle.tatp_settle.specs.Named.{IsNoSooner, IsNamedIn};
+ghost use Rattle.tatp_settle.specs.Named.{IsNamedIn};
 
 use crate::Closed;
 use crate::logs::log_of;
 use crate::places::CallPlace;
+use crate::placing::lesser;
 use tatp_numbers::{Directory, Key};
 use tatp_procs::{Ask, Entry};
 use tatp_tables::Rows;
@@ -56,25 +57,5 @@ fn key_of(ask: &Ask) -> Key
     match ask {
         Ask::Txn(call) => call.key(),
         Ask::Raw(raw) => raw.key(),
-    }
-}
-
-/// The lesser of two calls.
-fn lesser(least: Option<CallPlace>, other: CallPlace) -> Option<CallPlace>
-    ensures keeps { (client number : ℕ) → IsNoSooner least client number → IsNoSooner result client number }
-    ensures at { IsNoSooner result other.client other.number }
-    ensures one { (result ≡ least) ⊎ (result ≡ Some other) }
-{
-    match least {
-        None => Some(other),
-        Some(place) => {
-            if other.client < place.client
-                || other.client == place.client && other.number < place.number
-            {
-                Some(other)
-            } else {
-                Some(place)
-            }
-        }
     }
 }

@@ -12,7 +12,7 @@ use crate::{Closed, Receipt};
 use std::alloc::{AllocError, Global};
 
 /// The lesser of two calls.
-fn lesser(least: Option<CallPlace>, other: CallPlace) -> Option<CallPlace>
+pub(crate) fn lesser(least: Option<CallPlace>, other: CallPlace) -> Option<CallPlace>
     ensures keeps { (client number : ℕ) → IsAtMost least client number → IsAtMost result client number }
     ensures at { IsAtMost result other.client other.number }
     ensures is { (result ≡ least) ⊎ (result ≡ Some other) }

@@ -4,7 +4,8 @@ use Rattle.tatp_numbers.specs.Listing.{Listing}
 use Rattle.tatp_procs.specs.declared.entry.Entry.{Entry}
 use Rattle.tatp_settle.specs.declared.places.CallPlace.{CallPlace}
 use Rattle.tatp_settle.specs.CallPlaces.{IsSooner, IsFirstCall}
-use Rattle.tatp_settle.specs.Named.{IsNoSooner, IsNamedIn}
+use Rattle.tatp_settle.specs.Named.{IsNamedIn}
+use Rattle.tatp_settle.specs.Placing.{IsAtMost}
 use Rattle.tatp_settle.proofs.NamedLaws.{Naming, first_of_named}
 use Rattle.tatp_settle.proofs.homed.first_named.Goals as goal
 

@@ -32,25 +32,25 @@ joined_more : {A : Type 0} (lists : List (List A)) (i : ℕ) (list : List A) →
 joined_more [] i list here = absurd cc
 joined_more (x ∷ lists) zero list here = let e : x ≡ list = cc in nothing_more x ∙ e
 joined_more (x ∷ lists) (suc i) list here = ap (λ t. x ++ t) (joined_more lists i list here) ∙ assoc x (joined (take i lists)) list
- where
-  assoc : {A : Type 0} (xs ys zs : List A) → xs ++ (ys ++ zs) ≡ (xs ++ ys) ++ zs
-  assoc [] ys zs = refl
-  assoc (w ∷ xs) ys zs = ap (λ t. w ∷ t) (assoc xs ys zs)
+  where
+    assoc : {A : Type 0} (xs ys zs : List A) → xs ++ (ys ++ zs) ≡ (xs ++ ys) ++ zs
+    assoc [] ys zs = refl
+    assoc (w ∷ xs) ys zs = ap (λ t. w ∷ t) (assoc xs ys zs)
 
 pub seen_start : {A : Type 0} (lists : List (List A)) (i : ℕ) (list : List A) → seen lists i list 0 ≡ joined (take i lists)
 seen_start lists i list = nothing_more (joined (take i lists))
 
 pub seen_more : {A : Type 0} (lists : List (List A)) (i : ℕ) (list : List A) (j : ℕ) (y : A) → slice_get list j ≡ Some y → seen lists i list (j + 1) ≡ seen lists i list j ++ y ∷ []
 seen_more lists i list j y here = ap (λ n. joined (take i lists) ++ take n list) next ∙ (ap (λ t. joined (take i lists) ++ t) (take_one_more list j y here) ∙ push_assoc (joined (take i lists)) (take j list) y)
- where
-  next : j + 1 ≡ suc j
-  next = omega arith
+  where
+    next : j + 1 ≡ suc j
+    next = omega arith
 
 pub seen_list : {A : Type 0} (lists : List (List A)) (i : ℕ) (list : List A) (j : ℕ) → slice_get lists i ≡ Some list → length list ≤ j → seen lists i list j ≡ joined (take (i + 1) lists)
 seen_list lists i list j here all = ap (λ t. joined (take i lists) ++ t) (take_whole list j all) ∙ (sym (joined_more lists i list here) ∙ ap (λ n. joined (take n lists)) next)
- where
-  next : suc i ≡ i + 1
-  next = omega arith
+  where
+    next : suc i ≡ i + 1
+    next = omega arith
 
 pub seen_all : {A : Type 0} (lists : List (List A)) (i : ℕ) → length lists ≤ i → joined (take i lists) ≡ joined lists
 seen_all lists i all = ap joined (take_whole lists i all)

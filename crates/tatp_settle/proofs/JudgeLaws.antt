@@ -73,9 +73,9 @@ matched_of run none client number h = none (CallMissing client number) (omega ar
 pub judged : (run : Run) → IsClean run.population → IsClosed run.closed → NoneOfFirst 9 run → ArePlaced run.closed run.receipts → IsClean (rows_left run) → IsOneHistory run
 judged run population closed none placed clean =
     one_history run placed.0 population closed
-        (λ e h. none (Opening e) (omega arith) h) (λ e h. none (Mixed e) (omega arith) h) (λ e h. none (ParcelLeft e) (omega arith) h) (λ e h. none (Doubled e) (omega arith) h)
-        (λ c n h. none (CallMissing c n) (omega arith) h) placed.1 (λ c n h. none (ReplyDiffers c n) (omega arith) h) (λ c n h. none (StampOrder c n) (omega arith) h)
-        (λ c n h. none (HasHome c n) (omega arith) h) clean
+    (λ e h. none (Opening e) (omega arith) h) (λ e h. none (Mixed e) (omega arith) h) (λ e h. none (ParcelLeft e) (omega arith) h) (λ e h. none (Doubled e) (omega arith) h)
+    (λ c n h. none (CallMissing c n) (omega arith) h) placed.1 (λ c n h. none (ReplyDiffers c n) (omega arith) h) (λ c n h. none (StampOrder c n) (omega arith) h)
+    (λ c n h. none (HasHome c n) (omega arith) h) clean
 
 -- what a pass that found nothing says
 pub none_found : (kinds : ℕ) (run : Run) (v : Option Unsettled) → v ≡ None → IsFirstOf kinds run v → NoneOfFirst kinds run

@@ -38,7 +38,6 @@ number_at f s zero i d l = absurd (omega (arith, l))
 number_at f s (suc n) zero d l = let z : s ≡ s + 0 = omega arith in ap f z
 number_at f s (suc n) (suc i) d l = number_at f (s + 1) n i d (omega (arith, l)) ∙ ap f (let z : s + 1 + i ≡ s + suc i = omega arith in z)
 
-
 pub is_a_kind : (call : Call) → procedure_of call < 7
 is_a_kind (GetSubscriberData s) = omega arith
 is_a_kind (GetNewDestination s t b e) = omega arith
@@ -51,29 +50,32 @@ is_a_kind (DeleteCallForwarding n t b) = omega arith
 -- how many there are of a kind
 pub kind_at : (asks : List Ask) (kind d : ℕ) → kind < 7 → slice_index_or (kinds_of asks) kind d ≡ count_by (is_of_kind kind) asks
 kind_at asks kind d l = number_at (λ k. count_by (is_of_kind k) asks) 0 7 kind d l ∙ ap (λ k. count_by (is_of_kind k) asks) from_0
- where
-  from_0 : 0 + kind ≡ kind
-  from_0 = omega arith
+  where
+    from_0 : 0 + kind ≡ kind
+    from_0 = omega arith
 
 -- a transaction more
 pub kinds_more : (asks : List Ask) (call : Call) (d : ℕ) → procedure_of call < 7 → kinds_of (asks ++ Txn call ∷ []) ≡ slice_set (kinds_of asks) (procedure_of call) (slice_index_or (kinds_of asks) (procedure_of call) d + 1)
 kinds_more asks call d l =
     map_raised (λ kind. count_by (is_of_kind kind) asks) (λ kind. count_by (is_of_kind kind) (asks ++ Txn call ∷ [])) 0 7 (procedure_of call) l
-        (ap (λ k. count_by (is_of_kind k) (asks ++ Txn call ∷ [])) from_0 ∙ (up (procedure_of call) refl ∙ ap (λ k. count_by (is_of_kind k) asks + 1) (sym from_0))) (λ k apart. count_push (is_of_kind k) asks (Txn call) ∙ (ap (λ b. count_by (is_of_kind k) asks + (if b then 1 else 0)) (other k apart) ∙ none (count_by (is_of_kind k) asks)))
+    (ap (λ k. count_by (is_of_kind k) (asks ++ Txn call ∷ [])) from_0 ∙ (up (procedure_of call) refl ∙ ap (λ k. count_by (is_of_kind k) asks + 1) (sym from_0))) (λ k apart. count_push (is_of_kind k) asks (Txn call) ∙ (ap (λ b. count_by (is_of_kind k) asks + (if b then 1 else 0)) (other k apart) ∙ none (count_by (is_of_kind k) asks)))
     ∙ ap (λ n. slice_set (kinds_of asks) (procedure_of call) (n + 1)) (sym (number_at (λ kind. count_by (is_of_kind kind) asks) 0 7 (procedure_of call) d l))
- where
-  none : (n : ℕ) → n + 0 ≡ n
-  none n = omega arith
-  from_0 : 0 + procedure_of call ≡ procedure_of call
-  from_0 = omega arith
-  up : (k : ℕ) → procedure_of call ≡ k → count_by (is_of_kind k) (asks ++ Txn call ∷ []) ≡ count_by (is_of_kind k) asks + 1
-  up k e = count_push (is_of_kind k) asks (Txn call) ∙ ap (λ b. count_by (is_of_kind k) asks + (if b then 1 else 0)) (eq-eqb (procedure_of call) k e)
-  other : (k : ℕ) → (k ≡ 0 + procedure_of call → ⊥) → (procedure_of call == k) ≡ false
-  other k apart = grind (arith, nat_tests)
+  where
+    none : (n : ℕ) → n + 0 ≡ n
+    none n = omega arith
+
+    from_0 : 0 + procedure_of call ≡ procedure_of call
+    from_0 = omega arith
+
+    up : (k : ℕ) → procedure_of call ≡ k → count_by (is_of_kind k) (asks ++ Txn call ∷ []) ≡ count_by (is_of_kind k) asks + 1
+    up k e = count_push (is_of_kind k) asks (Txn call) ∙ ap (λ b. count_by (is_of_kind k) asks + (if b then 1 else 0)) (eq-eqb (procedure_of call) k e)
+
+    other : (k : ℕ) → (k ≡ 0 + procedure_of call → ⊥) → (procedure_of call == k) ≡ false
+    other k apart = grind (arith, nat_tests)
 
 -- a call of any procedure more
 pub kinds_kept : (asks : List Ask) (raw : RawCall) → kinds_of (asks ++ Raw raw ∷ []) ≡ kinds_of asks
 kinds_kept asks raw = map_same (λ kind. count_by (is_of_kind kind) asks) (λ kind. count_by (is_of_kind kind) (asks ++ Raw raw ∷ [])) 0 7 (λ k l. count_push (is_of_kind k) asks (Raw raw) ∙ none (count_by (is_of_kind k) asks))
- where
-  none : (n : ℕ) → n + 0 ≡ n
-  none n = omega arith
+  where
+    none : (n : ℕ) → n + 0 ≡ n
+    none n = omega arith

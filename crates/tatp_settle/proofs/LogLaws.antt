@@ -69,8 +69,8 @@ entries_mapped (Some x) = refl
 pub entries_of_extent : (c : ClosedState) (e : ℕ) → e ≢ 0 → entries_numbered c e ≡ option_map_or (λ (x : ExtentState). x.log) (extent_numbered c e) []
 entries_of_extent c e h =
     ap (λ (v : Option ExtentLog). option_map_or (λ (log : ExtentLog). log.entries) v [])
-        (find-append (λ (log : ExtentLog). log.extent == e) (map log_of_homeless (filter (λ (s : ClosedSiteState). s.partition == 0) c.sites)) (map log_of_extent (extents_of c))
-        ∙ ((λ i. option_or (no_homeless (filter (λ (s : ClosedSiteState). s.partition == 0) c.sites) e h i) (log_found (extents_of c) e i))))
+    (find-append (λ (log : ExtentLog). log.extent == e) (map log_of_homeless (filter (λ (s : ClosedSiteState). s.partition == 0) c.sites)) (map log_of_extent (extents_of c))
+    ∙ ((λ i. option_or (no_homeless (filter (λ (s : ClosedSiteState). s.partition == 0) c.sites) e h i) (log_found (extents_of c) e i))))
     ∙ entries_mapped (extent_numbered c e)
 
 -- no extent has the number 0
@@ -104,8 +104,8 @@ entries_homeless (Some s) = refl
 pub entries_of_homeless : (c : ClosedState) → IsClosed c → entries_numbered c 0 ≡ option_map_or (λ (s : ClosedSiteState). s.homeless.log) (find (λ (s : ClosedSiteState). s.partition == 0) c.sites) []
 entries_of_homeless c h =
     ap (λ (v : Option ExtentLog). option_map_or (λ (log : ExtentLog). log.entries) v [])
-        (find-append (λ (log : ExtentLog). log.extent == 0) (map log_of_homeless (filter (λ (s : ClosedSiteState). s.partition == 0) c.sites)) (map log_of_extent (extents_of c))
-        ∙ ((λ i. option_or (homeless_found c.sites i) ((log_found (extents_of c) 0 ∙ ap (option_map log_of_extent) (no_extent_zero c h)) i))))
+    (find-append (λ (log : ExtentLog). log.extent == 0) (map log_of_homeless (filter (λ (s : ClosedSiteState). s.partition == 0) c.sites)) (map log_of_extent (extents_of c))
+    ∙ ((λ i. option_or (homeless_found c.sites i) ((log_found (extents_of c) 0 ∙ ap (option_map log_of_extent) (no_extent_zero c h)) i))))
     ∙ entries_homeless (find (λ (s : ClosedSiteState). s.partition == 0) c.sites)
 
 -- ---- numbers above all

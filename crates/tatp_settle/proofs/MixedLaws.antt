@@ -68,8 +68,8 @@ tested c e h =
     list_any-append (log_mixed e) (map log_of_homeless (filter (λ (s : ClosedSiteState). s.partition == 0) c.sites)) (map log_of_extent (extents_of c))
     ∙ ((λ i. at_homeless e c.sites i || any_mapped (log_mixed e) log_of_extent (extents_of c) i)
     ∙ (ap (λ b. list_any (homeless_mixed e) c.sites || b)
-        (list_any-append (mixed_as e) (flat_map (λ (s : ClosedSiteState). extents_in_slots s.slots) c.sites) c.parcels
-        ∙ ap (λ b. b || list_any (mixed_as e) c.parcels) (any_joined (mixed_as e) (λ (s : ClosedSiteState). extents_in_slots s.slots) c.sites ∙ in_each e c.sites h.sites))
+    (list_any-append (mixed_as e) (flat_map (λ (s : ClosedSiteState). extents_in_slots s.slots) c.sites) c.parcels
+    ∙ ap (λ b. b || list_any (mixed_as e) c.parcels) (any_joined (mixed_as e) (λ (s : ClosedSiteState). extents_in_slots s.slots) c.sites ∙ in_each e c.sites h.sites))
     ∙ (or_assoc (list_any (homeless_mixed e) c.sites) (list_any (extent_mixed e) c.sites) (list_any (mixed_as e) c.parcels)
     ∙ ap (λ b. b || list_any (mixed_as e) c.parcels) (any_both (homeless_mixed e) (extent_mixed e) c.sites))))
 
@@ -83,10 +83,10 @@ and_both a b h k = ap (λ x. x && b) h ∙ k
 pub mixed_is : (c : ClosedState) (e : ℕ) → IsClosed c → (a b : Bool) → a ≡ list_any (λ s. mixed_here s e) c.sites → b ≡ list_any (mixed_as e) c.parcels → Decides (a || b) (IsMixed c e)
 mixed_is c e h a b p q =
     subst (λ r. Decides r (IsMixed c e)) (tested c e h ∙ (λ i. sym p i || sym q i))
-        (Decides-like (list_any (log_mixed e) (logs_of c))
-            (λ (m : Passes (log_mixed e) (logs_of c)). let parts = and_parts (m.0.extent == e) m.0.mixed m.2 in (m.0, m.1, eqb-true m.0.extent e parts.0, parts.1))
-            (λ m. (m.0, m.1, and_both (m.0.extent == e) m.0.mixed (eq-eqb m.0.extent e m.2) m.3))
-            (decides_passes (log_mixed e) (logs_of c)))
+    (Decides-like (list_any (log_mixed e) (logs_of c))
+    (λ (m : Passes (log_mixed e) (logs_of c)). let parts = and_parts (m.0.extent == e) m.0.mixed m.2 in (m.0, m.1, eqb-true m.0.extent e parts.0, parts.1))
+    (λ m. (m.0, m.1, and_both (m.0.extent == e) m.0.mixed (eq-eqb m.0.extent e m.2) m.3))
+    (decides_passes (log_mixed e) (logs_of c)))
 
 pub parcel_is : (c : ClosedState) (e : ℕ) → Decides (list_any (has_number e) c.parcels) (IsInParcel c e)
 parcel_is c e = Decides-like (list_any (has_number e) c.parcels)

@@ -30,7 +30,7 @@ first_of_named log directory (Some place) i l seen named = record {
   least = λ client number sooner n.
       let k = within log n.index n.entry n.stands in
       seen n.index n.entry (omega (arith, k, l)) n.stands n.names
-          (subst (λ (m : ℕ). IsSooner n.entry.client m place.client place.number) (sym n.own.number) (subst (λ (m : ℕ). IsSooner m number place.client place.number) (sym n.own.client) sooner));
+      (subst (λ (m : ℕ). IsSooner n.entry.client m place.client place.number) (sym n.own.number) (subst (λ (m : ℕ). IsSooner m number place.client place.number) (sym n.own.client) sooner));
 }
 
 -- the same, of the calls without a home

@@ -39,8 +39,8 @@ rows_more f n rows is =
     ap (λ (r : Rows). fold (λ all (home : SubscriberRows). with_home all home.tables) r (f (n + 1))) is
     ∙ (sym (fold-append (λ all (home : SubscriberRows). with_home all home.tables) (record { subscribers = []; accesses = []; facilities = []; forwardings = [] }) (flat_map f (range_with_len 1 n)) (f (n + 1)))
     ∙ ap rows_of_homes
-        (ap (λ (xs : List SubscriberRows). flat_map f (range_with_len 1 n) ++ xs) (sym (append-nil (f (n + 1))))
-        ∙ (sym (flat_map-append f (range_with_len 1 n) ((n + 1) ∷ [])) ∙ ap (flat_map f) (sym (range_more n)))))
+    (ap (λ (xs : List SubscriberRows). flat_map f (range_with_len 1 n) ++ xs) (sym (append-nil (f (n + 1))))
+    ∙ (sym (flat_map-append f (range_with_len 1 n) ((n + 1) ∷ [])) ∙ ap (flat_map f) (sym (range_more n)))))
 
 -- one extent's moves more
 pub moves_more : (f : ℕ → ℕ) (n : ℕ) → sum_by f (range_with_len 1 (n + 1)) ≡ sum_by f (range_with_len 1 n) + f (n + 1)

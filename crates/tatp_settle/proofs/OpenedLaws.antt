@@ -38,8 +38,10 @@ not_populated p e h = ap (λ (b : Bool). if b then Some (homes_of_extent (databa
   where
     one : nat_le 1 e ≡ true → 1 ≤ e
     one a = grind (arith, nat_tests, a)
+
     two : nat_le e (extents_populated p) ≡ true → e ≤ extents_populated p
     two b = grind (arith, nat_tests, b)
+
     without : (a b : Bool) → (a ≡ true → b ≡ true → ⊥) → (a && b) ≡ false
     without true true h = absurd (h refl refl)
     without true false h = refl
@@ -85,7 +87,7 @@ tested own c e h =
 each_decided : (own : List SubscriberRows) (v : Option (List SubscriberRows)) → v ≡ Some own → (x : ExtentState) → Decides (opened_with own x) (v ≡ Some x.opening)
 each_decided own v is x =
     Decides-like (opened_with own x) (λ (h : x.opening ≡ own). is ∙ ap Some (sym h)) (λ h. let k : Some own ≡ Some x.opening = sym is ∙ h in cc)
-        (slice_eq-Decides Decides-same_home x.opening own (opened_with own x) refl)
+    (slice_eq-Decides Decides-same_home x.opening own (opened_with own x) refl)
 
 all_decided : (own : List SubscriberRows) (v : Option (List SubscriberRows)) → v ≡ Some own → (xs : List ExtentState) → Decides (list_all (opened_with own) xs) (All (λ (x : ExtentState). v ≡ Some x.opening) xs)
 all_decided own v is xs = Decides-by_and (opened_with own) (λ (x : ExtentState). v ≡ Some x.opening) (list_all (opened_with own)) (each_decided own v is) refl (λ _ _. refl) xs
@@ -99,20 +101,21 @@ pub opened_is : (p : Rows) (c : ClosedState) (e : ℕ) (own : List SubscriberRow
     → Decides (s && (a && b)) (OpenedAsPopulated p c e)
 opened_is p c e own h is s a b ps pa pb =
     let stands : Decides s (1 ≤ length (extents_numbered c e)) =
-        subst (λ r. Decides r (1 ≤ length (extents_numbered c e))) (sym (ps ∙ ap is_some (find_filtered (has_number e) (extents_of c)))) (some_decided (extents_numbered c e)) in
+    subst (λ r. Decides r (1 ≤ length (extents_numbered c e))) (sym (ps ∙ ap is_some (find_filtered (has_number e) (extents_of c)))) (some_decided (extents_numbered c e)) in
     let all : Decides (a && b) (All (λ (x : ExtentState). homes_populated p e ≡ Some x.opening) (extents_numbered c e)) =
-        subst (λ r. Decides r (All (λ (x : ExtentState). homes_populated p e ≡ Some x.opening) (extents_numbered c e))) (tested own c e h ∙ (λ i. sym pa i && sym pb i)) (all_decided own (homes_populated p e) is (extents_numbered c e)) in
+    subst (λ r. Decides r (All (λ (x : ExtentState). homes_populated p e ≡ Some x.opening) (extents_numbered c e))) (tested own c e h ∙ (λ i. sym pa i && sym pb i)) (all_decided own (homes_populated p e) is (extents_numbered c e)) in
     Decides-like (s && (a && b))
-        (λ (o : (1 ≤ length (extents_numbered c e)) × All (λ (x : ExtentState). homes_populated p e ≡ Some x.opening) (extents_numbered c e)). record { stands = λ _. o.0; homes = o.1 })
-        (λ o. (o.stands (ap is_some is), o.homes))
-        (Decides-and s (a && b) stands all)
+    (λ (o : (1 ≤ length (extents_numbered c e)) × All (λ (x : ExtentState). homes_populated p e ≡ Some x.opening) (extents_numbered c e)). record { stands = λ _. o.0; homes = o.1 })
+    (λ o. (o.stands (ap is_some is), o.homes))
+    (Decides-and s (a && b) stands all)
 
 none_opened : (p : Rows) (c : ClosedState) (e : ℕ) → homes_populated p e ≡ None → (xs : List ExtentState) → extents_numbered c e ≡ xs → Decides (not (is_some (slice_get xs 0))) (OpenedAsPopulated p c e)
 none_opened p c e is [] none =
     (λ _. record { stands = λ h. absurd (let k : false ≡ true = ap is_some (sym is) ∙ h in cc); homes = subst (All (λ (x : ExtentState). homes_populated p e ≡ Some x.opening)) (sym none) (All-nil (λ (x : ExtentState). homes_populated p e ≡ Some x.opening)) }, λ _. refl)
-none_opened p c e is (x ∷ xs) some =
-    (λ h. absurd (let k : false ≡ true = h in cc),
-     λ o. absurd (let k : None ≡ Some x.opening = sym is ∙ All-head (λ (x : ExtentState). homes_populated p e ≡ Some x.opening) x xs (subst (All (λ (x : ExtentState). homes_populated p e ≡ Some x.opening)) some o.homes) in cc))
+none_opened p c e is (x ∷ xs) some = (
+  λ h. absurd (let k : false ≡ true = h in cc),
+  λ o. absurd (let k : None ≡ Some x.opening = sym is ∙ All-head (λ (x : ExtentState). homes_populated p e ≡ Some x.opening) x xs (subst (All (λ (x : ExtentState). homes_populated p e ≡ Some x.opening)) some o.homes) in cc),
+)
 
 -- where the population doesn't have it
 pub not_opened_is : (p : Rows) (c : ClosedState) (e : ℕ) → homes_populated p e ≡ None → (s : Bool) → s ≡ is_some (extent_numbered c e) → Decides (not s) (OpenedAsPopulated p c e)

@@ -47,9 +47,9 @@ placed_start closed receipts cells f = record {
 
 visited_step : (x i e j : ℕ) → IsVisited x (i + 1) e j → IsVisited x i e j ⊎ ((e ≡ x) × (j ≡ i))
 visited_step x i e j v = elim v as (λ _. IsVisited x i e j ⊎ ((e ≡ x) × (j ≡ i))) [
-    | inl l ↦ inl (inl l)
-    | inr s ↦ (elim (lt_or j i) as (λ _. IsVisited x i e j ⊎ ((e ≡ x) × (j ≡ i))) [ inl l ↦ inl (inr (s.0, l)) | inr g ↦ (let m : j < i + 1 = s.1 in inr (s.0, omega arith)) ])
-  ]
+  | inl l ↦ inl (inl l)
+  | inr s ↦ (elim (lt_or j i) as (λ _. IsVisited x i e j ⊎ ((e ≡ x) × (j ≡ i))) [ inl l ↦ inl (inr (s.0, l)) | inr g ↦ (let m : j < i + 1 = s.1 in inr (s.0, omega arith)) ])
+]
 
 visited_more : (x i e j : ℕ) → IsVisited x i e j → IsVisited x (i + 1) e j
 visited_more x i e j (inl l) = inl l
@@ -61,16 +61,18 @@ visited_next x i e j (inr s) = inl (omega (arith, s.0))
 
 same_or : (a b c d : ℕ) → ((a ≡ c) × (b ≡ d)) ⊎ ((a ≡ c) → (b ≡ d) → ⊥)
 same_or a b c d = elim (eq_or a c) as (λ _. ((a ≡ c) × (b ≡ d)) ⊎ ((a ≡ c) → (b ≡ d) → ⊥)) [
-    | inl e ↦ (elim (eq_or b d) as (λ _. ((a ≡ c) × (b ≡ d)) ⊎ ((a ≡ c) → (b ≡ d) → ⊥)) [ inl f ↦ inl (e, f) | inr n ↦ inr (λ _ g. n g) ])
-    | inr n ↦ inr (λ g _. n g)
-  ]
- where
-  order : (m n : ℕ) → (m ≡ n) ⊎ ((m < n) ⊎ (n < m))
-  order m n = grind arith
-  apart : (m n : ℕ) → (m < n) ⊎ (n < m) → m ≡ n → ⊥
-  apart m n l e = grind arith
-  eq_or : (m n : ℕ) → (m ≡ n) ⊎ (m ≡ n → ⊥)
-  eq_or m n = elim (order m n) as (λ _. (m ≡ n) ⊎ (m ≡ n → ⊥)) [ inl e ↦ inl e | inr l ↦ inr (λ e. apart m n l e) ]
+  | inl e ↦ (elim (eq_or b d) as (λ _. ((a ≡ c) × (b ≡ d)) ⊎ ((a ≡ c) → (b ≡ d) → ⊥)) [ inl f ↦ inl (e, f) | inr n ↦ inr (λ _ g. n g) ])
+  | inr n ↦ inr (λ g _. n g)
+]
+  where
+    order : (m n : ℕ) → (m ≡ n) ⊎ ((m < n) ⊎ (n < m))
+    order m n = grind arith
+
+    apart : (m n : ℕ) → (m < n) ⊎ (n < m) → m ≡ n → ⊥
+    apart m n l e = grind arith
+
+    eq_or : (m n : ℕ) → (m ≡ n) ⊎ (m ≡ n → ⊥)
+    eq_or m n = elim (order m n) as (λ _. (m ≡ n) ⊎ (m ≡ n → ⊥)) [ inl e ↦ inl e | inr l ↦ inr (λ e. apart m n l e) ]
 
 some_of : {A : Type 0} (x y : A) (o : Option A) → o ≡ Some x → o ≡ Some y → x ≡ y
 some_of x y o g h = cc
@@ -102,9 +104,9 @@ placed_log closed receipts cells least x count h past = record {
   ];
   extra = h.extra;
 }
- where
-  which : (e j : ℕ) → IsVisited (x + 1) 0 e j → IsVisited x count e j ⊎ ((e ≡ x) × (count ≤ j))
-  which e j v = grind arith
+  where
+    which : (e j : ℕ) → IsVisited (x + 1) 0 e j → IsVisited x count e j ⊎ ((e ≡ x) × (count ≤ j))
+    which e j v = grind arith
 
 -- the entry's cell was empty, and has its place now
 pub placed_put : (closed : ClosedState) (receipts : List (List Receipt)) (cells cells' : ℕ → ℕ → Option (Option LogPlace)) (least : Option CallPlace) (x i : ℕ) (entry : Entry) → ArePlaced closed receipts cells least x i → StandsAt closed x i entry → Puts cells entry.client entry.number (record { extent = x; index = i }) true cells' → ArePlaced closed receipts cells' least x (i + 1)
@@ -124,24 +126,26 @@ placed_put closed receipts cells cells' least x i entry h at q = record {
   ];
   seen = λ e j f v g. elim (visited_step x i e j v) as (λ _. (cells' f.client f.number ≡ Some (Some (record { extent = e; index = j }))) ⊎ IsAtMost least f.client f.number) [
     | inl w ↦ (elim (h.seen e j f w g) as (λ _. (cells' f.client f.number ≡ Some (Some (record { extent = e; index = j }))) ⊎ IsAtMost least f.client f.number) [
-        | inl a ↦ (elim (same_or f.client f.number entry.client entry.number) as (λ _. (cells' f.client f.number ≡ Some (Some (record { extent = e; index = j }))) ⊎ IsAtMost least f.client f.number) [
-            | inl s ↦ absurd (not_both (record { extent = e; index = j }) (cells entry.client entry.number) (subst (λ (k : ℕ). cells k entry.number ≡ Some (Some (record { extent = e; index = j }))) s.0 (subst (λ (k : ℕ). cells f.client k ≡ Some (Some (record { extent = e; index = j }))) s.1 a)) q.0)
-            | inr o ↦ inl (q.2 f.client f.number o ∙ a)
-          ])
-        | inr b ↦ inr b
+      | inl a ↦ (elim (same_or f.client f.number entry.client entry.number) as (λ _. (cells' f.client f.number ≡ Some (Some (record { extent = e; index = j }))) ⊎ IsAtMost least f.client f.number) [
+        | inl s ↦ absurd (not_both (record { extent = e; index = j }) (cells entry.client entry.number) (subst (λ (k : ℕ). cells k entry.number ≡ Some (Some (record { extent = e; index = j }))) s.0 (subst (λ (k : ℕ). cells f.client k ≡ Some (Some (record { extent = e; index = j }))) s.1 a)) q.0)
+        | inr o ↦ inl (q.2 f.client f.number o ∙ a)
       ])
+      | inr b ↦ inr b
+    ])
     | inr s ↦ inl (subst (λ (r : Entry). cells' r.client r.number ≡ Some (Some (record { extent = e; index = j }))) (some_of entry f (slice_get_at x i) at (subst (λ (d : ℕ). StandsAt closed x d f) s.1 (subst (λ (d : ℕ). StandsAt closed d j f) s.0 g)))
         (q.1 ∙ ap (λ (r : LogPlace). Some (Some r)) (same_place e j s.0 s.1)))
   ];
   extra = h.extra;
 }
- where
-  here : LogPlace
-  here = record { extent = x; index = i }
-  same_place : (e j : ℕ) → e ≡ x → j ≡ i → here ≡ place_at e j
-  same_place e j s t = ap (λ (k : ℕ). place_at k i) (sym s) ∙ ap (λ (k : ℕ). place_at e k) (sym t)
-  slice_get_at : ℕ → ℕ → Option Entry
-  slice_get_at e j = slice_get (entries_numbered closed e) j
+  where
+    here : LogPlace
+    here = record { extent = x; index = i }
+
+    same_place : (e j : ℕ) → e ≡ x → j ≡ i → here ≡ place_at e j
+    same_place e j s t = ap (λ (k : ℕ). place_at k i) (sym s) ∙ ap (λ (k : ℕ). place_at e k) (sym t)
+
+    slice_get_at : ℕ → ℕ → Option Entry
+    slice_get_at e j = slice_get (entries_numbered closed e) j
 
 -- the entry's cell was filled or isn't there: its call has an entry too many
 pub placed_kept : (closed : ClosedState) (receipts : List (List Receipt)) (cells cells' : ℕ → ℕ → Option (Option LogPlace)) (least least' : Option CallPlace) (x i : ℕ) (entry : Entry) → ArePlaced closed receipts cells least x i → StandsAt closed x i entry → Puts cells entry.client entry.number (record { extent = x; index = i }) false cells'
@@ -159,16 +163,18 @@ placed_kept closed receipts cells cells' least least' x i entry h at q keeps her
     | inr o ↦ subst (λ (r : CallPlace). HasEntryTooMany closed receipts r.client r.number) (some_of (record { client = entry.client; number = entry.number }) place least' o g) (why (cells entry.client entry.number) refl)
   ];
 }
- where
-  unvisited : (e j : ℕ) → IsVisited x i e j → x ≡ e → i ≡ j → ⊥
-  unvisited e j v a b = grind arith
-  found : EntryFound closed entry.client entry.number
-  found = record { extent = x; place = i; entry = entry; stands = at; own = record { client = refl; number = refl } }
-  why : (v : Option (Option LogPlace)) → cells entry.client entry.number ≡ v → HasEntryTooMany closed receipts entry.client entry.number
-  why None g = inl (record { found = found; lacks = h.some entry.client entry.number g })
-  why (Some None) g = absurd (q.0 g)
-  why (Some (Some p)) g = let old = h.points entry.client entry.number p g in
-      inr (record { one = found; other = record { extent = p.extent; place = p.index; entry = old.0.entry; stands = old.0.stands; own = old.0.own }; apart = λ a b. unvisited p.extent p.index old.1 a b })
+  where
+    unvisited : (e j : ℕ) → IsVisited x i e j → x ≡ e → i ≡ j → ⊥
+    unvisited e j v a b = grind arith
+
+    found : EntryFound closed entry.client entry.number
+    found = record { extent = x; place = i; entry = entry; stands = at; own = record { client = refl; number = refl } }
+
+    why : (v : Option (Option LogPlace)) → cells entry.client entry.number ≡ v → HasEntryTooMany closed receipts entry.client entry.number
+    why None g = inl (record { found = found; lacks = h.some entry.client entry.number g })
+    why (Some None) g = absurd (q.0 g)
+    why (Some (Some p)) g = let old = h.points entry.client entry.number p g in
+        inr (record { one = found; other = record { extent = p.extent; place = p.index; entry = old.0.entry; stands = old.0.stands; own = old.0.own }; apart = λ a b. unvisited p.extent p.index old.1 a b })
 
 -- all logs were seen
 module _ (closed : ClosedState) (receipts : List (List Receipt)) (cells : ℕ → ℕ → Option (Option LogPlace)) (count : ℕ) (past : (e i : ℕ) (entry : Entry) → count ≤ e → StandsAt closed e i entry → ⊥) where
@@ -186,9 +192,9 @@ module _ (closed : ClosedState) (receipts : List (List Receipt)) (cells : ℕ �
 
   in_its_cell : (place : CallPlace) → ArePlaced closed receipts cells (Some place) count 0 → (c n : ℕ) → IsSooner c n place.client place.number → (f : EntryFound closed c n) → cells c n ≡ Some (Some (record { extent = f.extent; index = f.place }))
   in_its_cell place h c n s f = elim (h.seen f.extent f.place f.entry (visited f.extent f.place f.entry f.stands (lt_or f.extent count)) f.stands) as (λ _. cells c n ≡ Some (Some (record { extent = f.extent; index = f.place }))) [
-      | inl m ↦ subst (λ (k : ℕ). cells c k ≡ Some (Some (record { extent = f.extent; index = f.place }))) f.own.number (subst (λ (k : ℕ). cells k f.entry.number ≡ Some (Some (record { extent = f.extent; index = f.place }))) f.own.client m)
-      | inr o ↦ absurd (o (subst (λ (k : ℕ). IsSooner k f.entry.number place.client place.number) (sym f.own.client) (subst (λ (k : ℕ). IsSooner c k place.client place.number) (sym f.own.number) s)))
-    ]
+    | inl m ↦ subst (λ (k : ℕ). cells c k ≡ Some (Some (record { extent = f.extent; index = f.place }))) f.own.number (subst (λ (k : ℕ). cells k f.entry.number ≡ Some (Some (record { extent = f.extent; index = f.place }))) f.own.client m)
+    | inr o ↦ absurd (o (subst (λ (k : ℕ). IsSooner k f.entry.number place.client place.number) (sym f.own.client) (subst (λ (k : ℕ). IsSooner c k place.client place.number) (sym f.own.number) s)))
+  ]
 
   none_sooner : (place : CallPlace) → ArePlaced closed receipts cells (Some place) count 0 → (c n : ℕ) → IsSooner c n place.client place.number → HasEntryTooMany closed receipts c n → ⊥
   none_sooner place h c n s (inl m) = not_filled_none (record { extent = m.found.extent; index = m.found.place }) (cells c n) (in_its_cell place h c n s m.found) (h.none c n m.lacks)
@@ -201,17 +207,17 @@ module _ (closed : ClosedState) (receipts : List (List Receipt)) (cells : ℕ �
   none_extra : ArePlaced closed receipts cells None count 0 → (c n : ℕ) → HasEntryTooMany closed receipts c n → ⊥
   none_extra h c n (inl m) = let p = placed_all h in
       not_filled_none (record { extent = m.found.extent; index = m.found.place }) (cells c n) (its p c n m.found) (h.none c n m.lacks)
-   where
-    its : AllPlaced closed receipts cells → (c n : ℕ) (f : EntryFound closed c n) → cells c n ≡ Some (Some (record { extent = f.extent; index = f.place }))
-    its p c n f = subst (λ (k : ℕ). cells c k ≡ Some (Some (record { extent = f.extent; index = f.place }))) f.own.number (subst (λ (k : ℕ). cells k f.entry.number ≡ Some (Some (record { extent = f.extent; index = f.place }))) f.own.client (p.placed f.extent f.place f.entry f.stands))
+    where
+      its : AllPlaced closed receipts cells → (c n : ℕ) (f : EntryFound closed c n) → cells c n ≡ Some (Some (record { extent = f.extent; index = f.place }))
+      its p c n f = subst (λ (k : ℕ). cells c k ≡ Some (Some (record { extent = f.extent; index = f.place }))) f.own.number (subst (λ (k : ℕ). cells k f.entry.number ≡ Some (Some (record { extent = f.extent; index = f.place }))) f.own.client (p.placed f.extent f.place f.entry f.stands))
   none_extra h c n (inr t) =
       let one : LogPlace = record { extent = t.one.extent; index = t.one.place } in
       let other : LogPlace = record { extent = t.other.extent; index = t.other.place } in
       let same : one ≡ other = place_of_cell one other (cells c n) (its (placed_all h) c n t.one) (its (placed_all h) c n t.other) in
       t.apart (ap (λ (r : LogPlace). r.extent) same) (ap (λ (r : LogPlace). r.index) same)
-   where
-    its : AllPlaced closed receipts cells → (c n : ℕ) (f : EntryFound closed c n) → cells c n ≡ Some (Some (record { extent = f.extent; index = f.place }))
-    its p c n f = subst (λ (k : ℕ). cells c k ≡ Some (Some (record { extent = f.extent; index = f.place }))) f.own.number (subst (λ (k : ℕ). cells k f.entry.number ≡ Some (Some (record { extent = f.extent; index = f.place }))) f.own.client (p.placed f.extent f.place f.entry f.stands))
+    where
+      its : AllPlaced closed receipts cells → (c n : ℕ) (f : EntryFound closed c n) → cells c n ≡ Some (Some (record { extent = f.extent; index = f.place }))
+      its p c n f = subst (λ (k : ℕ). cells c k ≡ Some (Some (record { extent = f.extent; index = f.place }))) f.own.number (subst (λ (k : ℕ). cells k f.entry.number ≡ Some (Some (record { extent = f.extent; index = f.place }))) f.own.client (p.placed f.extent f.place f.entry f.stands))
 
   pub placed_end : (least : Option CallPlace) → ArePlaced closed receipts cells least count 0 → IsFirstCall (HasEntryTooMany closed receipts) least
   placed_end None h = none_extra h

@@ -84,9 +84,9 @@ last_done receipts c n c' n' y x s last h is g = record {
   ];
   from = λ t e. record { earlier = n; receipt = Done c' n' y x s; below = omega arith; at = is; stamp = (let i : s ≡ t = cc in i) };
 }
- where
-  same : s ≤ s
-  same = omega arith
+  where
+    same : s ≤ s
+    same = omega arith
 
 last_kept : (receipts : List (List Receipt)) (c n : ℕ) (last : Option ℕ) → IsLast receipts c n last → ((r : Receipt) → at_call receipts c n ≡ Some r → StampAtMost r last) → IsLast receipts c (n + 1) last
 last_kept receipts c n last h new = record {

@@ -205,10 +205,13 @@ stands_counted c e all = by (list_any (λ s. is_here s e) c.sites) (list_any (ha
   where
     is : times_standing c e ≡ sum_by (standing_of e) c.sites + count_by (has_number e) c.parcels
     is = times_standing_is c e all
+
     at_sites : (list_any (λ s. is_here s e) c.sites ≡ true → 1 ≤ sum_by (standing_of e) c.sites) × (list_any (λ s. is_here s e) c.sites ≡ false → sum_by (standing_of e) c.sites ≡ 0)
     at_sites = any_counted (λ s. is_here s e) c.sites
+
     at_parcels : (list_any (has_number e) c.parcels ≡ true → 1 ≤ count_by (has_number e) c.parcels) × (list_any (has_number e) c.parcels ≡ false → count_by (has_number e) c.parcels ≡ 0)
     at_parcels = any_counted (has_number e) c.parcels
+
     by : (a b : Bool) → list_any (λ s. is_here s e) c.sites ≡ a → list_any (has_number e) c.parcels ≡ b → ((a || b) ≡ true → times_standing c e ≡ 0 → ⊥) × ((a || b) ≡ false → times_standing c e ≡ 0)
     by true b p q = (λ h z. let m = at_sites.0 p in omega (arith, is, m, z), λ h. absurd cc)
     by false true p q = (λ h z. let m = at_parcels.0 q in omega (arith, is, m, z), λ h. absurd cc)

@@ -20,11 +20,6 @@ fresh_are_fresh [] client number = refl
 fresh_are_fresh (list ∷ lists) zero number = fresh_cell list number
 fresh_are_fresh (list ∷ lists) (suc client) number = fresh_are_fresh lists client number
 
-
-
-
-
-
 -- ---- one cell filled
 module _ {A : Type 0} where
   pub at_other : (rows : List (Vec A Global)) (client : ℕ) (row : Vec A Global) (c n : ℕ) → (c ≡ client → ⊥) → at_call (lists_of (slice_set rows client row)) c n ≡ at_call (lists_of rows) c n
@@ -63,23 +58,24 @@ module _ {A : Type 0} where
 
 same_or : (m n : ℕ) → (m ≡ n) ⊎ (m ≡ n → ⊥)
 same_or m n = elim (order m n) as (λ _. (m ≡ n) ⊎ (m ≡ n → ⊥)) [ inl e ↦ inl e | inr l ↦ inr (λ e. apart l e) ]
- where
-  order : (m n : ℕ) → (m ≡ n) ⊎ ((m < n) ⊎ (n < m))
-  order m n = grind arith
-  apart : (m < n) ⊎ (n < m) → m ≡ n → ⊥
-  apart l e = grind arith
+  where
+    order : (m n : ℕ) → (m ≡ n) ⊎ ((m < n) ⊎ (n < m))
+    order m n = grind arith
+
+    apart : (m < n) ⊎ (n < m) → m ≡ n → ⊥
+    apart l e = grind arith
 
 -- the cell that was empty is filled, the others are kept
 pub cell_filled : (rows : List (Vec (Option LogPlace) Global)) (client number : ℕ) (place : LogPlace) (row row' : Vec (Option LogPlace) Global) → slice_get rows client ≡ Some row → at_call (lists_of rows) client number ≡ Some None → row'.items ≡ slice_set row.items number (Some place)
     → Puts (at_call (lists_of rows)) client number place true (at_call (lists_of (slice_set rows client row')))
 cell_filled rows client number place row row' here empty is = (
-    empty,
-    at_same rows client row row' number here ∙ (ap (λ xs. slice_get xs number) is ∙ set_same row.items number (Some place) None (sym (at_row rows client row number here) ∙ empty)),
-    λ c n other. elim (same_or c client) as (λ _. at_call (lists_of (slice_set rows client row')) c n ≡ at_call (lists_of rows) c n) [
-      | inr apart ↦ at_other rows client row' c n apart
-      | inl e ↦ rw e (at_same rows client row row' n here ∙ (ap (λ xs. slice_get xs n) is ∙ (set_other row.items number (Some place) n (λ m. other e m) ∙ sym (at_row rows client row n here))))
-    ],
-  )
+  empty,
+  at_same rows client row row' number here ∙ (ap (λ xs. slice_get xs number) is ∙ set_same row.items number (Some place) None (sym (at_row rows client row number here) ∙ empty)),
+  λ c n other. elim (same_or c client) as (λ _. at_call (lists_of (slice_set rows client row')) c n ≡ at_call (lists_of rows) c n) [
+    | inr apart ↦ at_other rows client row' c n apart
+    | inl e ↦ rw e (at_same rows client row row' n here ∙ (ap (λ xs. slice_get xs n) is ∙ (set_other row.items number (Some place) n (λ m. other e m) ∙ sym (at_row rows client row n here))))
+  ],
+)
 
 -- ---- row by row
 map_push : {A B : Type 0} (f : A → B) (xs : List A) (y : A) → map f (xs ++ y ∷ []) ≡ map f xs ++ f y ∷ []
@@ -100,9 +96,9 @@ fresh_more lists rows i list row here is before =
     ∙ (ap (λ t. fresh_rows (take i (lists_of lists)) ++ t ∷ []) is
     ∙ (sym (map_push (λ xs. replicate (length xs) None) (take i (lists_of lists)) list.items)
     ∙ ap fresh_rows (sym (take_push (λ v. v.items) lists i list here) ∙ ap (λ n. take n (lists_of lists)) next))))
- where
-  next : suc i ≡ i + 1
-  next = omega arith
+  where
+    next : suc i ≡ i + 1
+    next = omega arith
 
 pub got_within : {A : Type 0} (xs : List A) (i : ℕ) (x : A) → i < length xs → x ≡ slice_index_or xs i x → slice_get xs i ≡ Some x
 got_within [] i x l e = absurd (omega (arith, l))

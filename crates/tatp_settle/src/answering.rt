@@ -22,7 +22,10 @@ fn says(extent: u64, entry: &Entry, ask: &Ask, receipt: &Receipt) -> bool {
             stamp,
             ..
         } => {
-            entry.stamp == *stamp && extent == *of_extent as u64 && entry.ask == *ask && entry.reply == *reply
+            entry.stamp == *stamp
+                && extent == *of_extent as u64
+                && entry.ask == *ask
+                && entry.reply == *reply
         }
     }
 }
@@ -54,7 +57,11 @@ pub(crate) fn first_differing(
 {
     'clients: for client in 0..count_of(receipts) {
         'calls: for number in 0..len_of(receipts, client) {
-            match (at(calls, client, number), at(receipts, client, number), table.cell(client, number)) {
+            match (
+                at(calls, client, number),
+                at(receipts, client, number),
+                table.cell(client, number),
+            ) {
                 (Some(ask), Some(receipt), Some(cell)) => {
                     if !agrees(closed, cell, ask, receipt) {
                         return Some(CallPlace { client, number });

@@ -157,16 +157,16 @@ fn is_mixed_here(site: &ClosedSite, number: u64) -> bool
 fn is_mixed_in(extents: &[Extent], number: u64) -> bool
     ensures { result ≡ list_any (mixed_as number) extents.now }
 {
-    extents
-        .iter()
-        .any(|extent| extent.number() as u64 == number && extent.mixed())
+    extents.iter().any(|extent| extent.number() as u64 == number && extent.mixed())
 }
 
 /// Whether one of these extents has the number.
 fn is_one_of(extents: &[Extent], number: u64) -> bool
     ensures { result ≡ list_any (λ (x : ExtentState). x.number == number) extents.now }
 {
-    extents.iter().any(|extent| extent.number() as u64 == number)
+    extents
+        .iter()
+        .any(|extent| extent.number() as u64 == number)
 }
 
 /// Whether the number stands twice.

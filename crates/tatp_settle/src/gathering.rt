@@ -104,7 +104,9 @@ fn stands_at_one(sites: &[Site<'_>], number: u64) -> bool
 fn is_one_of(parcels: &[Parcel], number: u64) -> bool
     ensures { result ≡ list_any (λ (x : ExtentState). x.number == number) parcels.now }
 {
-    parcels.iter().any(|parcel| parcel.number() as u64 == number)
+    parcels
+        .iter()
+        .any(|parcel| parcel.number() as u64 == number)
 }
 
 /// What holds of every site holds of these.

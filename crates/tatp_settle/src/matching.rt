@@ -17,8 +17,25 @@ fn are_matched(client: u64, number: u64, ask: Option<&Ask>, receipt: Option<&Rec
 {
     match (ask, receipt) {
         (None, None) => true,
-        (Some(_), Some(Receipt::Done { client: c, number: n, .. })) => *c == client && *n == number,
-        (Some(_), Some(Receipt::Refused { client: c, number: n })) => *c == client && *n == number,
+        (
+            Some(_),
+            Some(
+                Receipt::Done {
+                    client: c,
+                    number: n,
+                    ..
+                },
+            ),
+        ) => *c == client && *n == number,
+        (
+            Some(_),
+            Some(
+                Receipt::Refused {
+                    client: c,
+                    number: n,
+                },
+            ),
+        ) => *c == client && *n == number,
         (Some(_), None) => false,
         (None, Some(_)) => false,
     }
@@ -32,7 +49,12 @@ pub(crate) fn first_unmatched(receipts: &[Vec<Receipt>], calls: &[Vec<Ask>]) -> 
     'clients: for client in 0..clients {
         let count = len_of(receipts, client).max(len_of(calls, client));
         'calls: for number in 0..count {
-            if !are_matched(client, number, at(calls, client, number), at(receipts, client, number)) {
+            if !are_matched(
+                client,
+                number,
+                at(calls, client, number),
+                at(receipts, client, number),
+            ) {
                 return Some(CallPlace { client, number });
             }
         }

@@ -20,7 +20,9 @@ pub(crate) fn lesser(least: Option<CallPlace>, other: CallPlace) -> Option<CallP
     match least {
         None => Some(other),
         Some(place) => {
-            if other.client < place.client || other.client == place.client && other.number < place.number {
+            if other.client < place.client
+                || other.client == place.client && other.number < place.number
+            {
                 Some(other)
             } else {
                 Some(place)
@@ -45,7 +47,13 @@ pub(crate) fn place_entries(
         'entries: for index in 0..log.len() {
             let entry = &log[index];
             if !table.put(entry.client, entry.number, LogPlace { extent, index }) {
-                least = lesser(least, CallPlace { client: entry.client, number: entry.number });
+                least = lesser(
+                    least,
+                    CallPlace {
+                        client: entry.client,
+                        number: entry.number,
+                    },
+                );
             }
         }
     }

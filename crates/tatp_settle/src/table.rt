@@ -29,7 +29,10 @@ impl Table {
     pub(crate) fn cell(&self, client: u64, number: u64) -> Option<Option<LogPlace>>
         ensures { result ≡ cells_of self.now client number }
     {
-        self.rows.get(client as usize)?.get(number as usize).copied()
+        self.rows
+            .get(client as usize)?
+            .get(number as usize)
+            .copied()
     }
 
     /// Fills an empty cell; false where it is filled or isn't there.

@@ -1,10 +1,10 @@
-use Rattle.std.proofs.Common.{◌≡◌, ◌<◌, ℕ, List, Some, slice_get, slice_index_or, refl, sym, ◌∙◌, ap, subst, arith, Fits, w64}
+use Rattle.std.proofs.Common.{◌≡◌, List, Some, slice_get, slice_index_or, sym, ◌∙◌, ap, arith}
 use Rattle.tatp_procs.specs.declared.ask.Ask.{Ask}
 use Rattle.tatp_procs.specs.Calls.{procedure_of}
 use Rattle.tatp_settle.specs.Answering.{is_of_kind}
 use Rattle.tatp_settle.specs.Runs.{lists_of}
-use Rattle.tatp_settle.proofs.CountLaws.{list_here, seen, seen_start, seen_more, seen_list, seen_all, count_within}
-use Rattle.tatp_settle.proofs.KindLaws.{kinds_of, kinds_more, kinds_kept, kind_at, is_a_kind}
+use Rattle.tatp_settle.proofs.CountLaws.{list_here, seen, seen_start, seen_list, count_within}
+use Rattle.tatp_settle.proofs.KindLaws.{kinds_of, kind_at, is_a_kind}
 use Rattle.tatp_settle.proofs.counting.count_kinds.Goals as goal
 
 here : (c : goal.After-deref-ask-items) → slice_get (lists_of c.args.calls.now) c.lists.list-index ≡ Some c.deref-ask-items.result.now

@@ -1,4 +1,4 @@
-use Rattle.std.proofs.Common.{◌≡◌, take, slice_get, Some, List}
+use Rattle.std.proofs.Common.{◌≡◌, take, slice_get, Some}
 use Rattle.tatp_settle.specs.Runs.{joined, lists_of}
 use Rattle.tatp_settle.proofs.CountLaws.{seen}
 use Rattle.tatp_settle.proofs.KindLaws.{kinds_of}

@@ -1,4 +1,4 @@
-use Rattle.std.proofs.Common.{◌≡◌, ◌<◌, ℕ, not, List, Some, count_by, slice_get, refl, sym, ◌∙◌, ap, subst, arith, Fits, w64}
+use Rattle.std.proofs.Common.{◌≡◌, not, List, Some, count_by, slice_get, sym, ◌∙◌, ap, arith}
 use Rattle.tatp_settle.specs.declared.receipt.Receipt.{Receipt}
 use Rattle.tatp_settle.specs.Runs.{lists_of}
 use Rattle.tatp_settle.specs.Receipts.{is_done}

@@ -1,4 +1,4 @@
-use Rattle.std.proofs.Common.{◌≡◌, not, take, count_by, slice_get, Some, List}
+use Rattle.std.proofs.Common.{◌≡◌, not, take, count_by, slice_get, Some}
 use Rattle.tatp_settle.specs.Receipts.{is_done}
 use Rattle.tatp_settle.specs.Runs.{joined, lists_of}
 use Rattle.tatp_settle.proofs.CountLaws.{seen}

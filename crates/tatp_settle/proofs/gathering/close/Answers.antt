@@ -1,5 +1,5 @@
 use Rattle.std.proofs.Common.{◌≡◌, sym, subst}
-use Rattle.tatp_settle.specs.Closings.{ClosedSiteState, closed_site, IsClosedSite}
+use Rattle.tatp_settle.specs.Closings.{closed_site, IsClosedSite}
 use Rattle.tatp_settle.proofs.ClosingLaws.{is_closed_site}
 use Rattle.tatp_settle.proofs.gathering.close.Goals as goal
 

@@ -9,7 +9,7 @@ use Rattle.tatp_settle.proofs.gathering.close_all.Goals as goal
 pub loop-site-preserved : goal.loop-site-preserved
 loop-site-preserved c =
     let pushed : c.push_reserved.new.self.items ≡ c.loop-site.closed.items ++ closed_site c.in-Some.site ∷ [] =
-        c.push_reserved.ensures.items ∙ ap (λ (x : ClosedSiteState). c.loop-site.closed.items ++ x ∷ []) c.close.ensures.value in
+    c.push_reserved.ensures.items ∙ ap (λ (x : ClosedSiteState). c.loop-site.closed.items ++ x ∷ []) c.close.ensures.value in
     record {
       closed =
           ap (λ (xs : List ClosedSiteState). map closed_site c.pop.new.self.items ++ reverse xs) pushed

@@ -1,4 +1,4 @@
-use Rattle.std.proofs.Common.{◌≡◌, ◌<◌, ◌^◌, ◌-◌, ℕ, drop, length, max}
+use Rattle.std.proofs.Common.{◌≡◌, ◌<◌, ◌^◌, ◌-◌, drop, length, max}
 use Rattle.std.specs.List.{fold}
 use Rattle.tatp_partition.specs.Sites.{SiteState}
 use Rattle.tatp_settle.proofs.gathering.greatest_number.Given as goal

@@ -1,6 +1,6 @@
-use Rattle.std.proofs.Common.{◌≡◌, ℕ, ◌+◌, ◌<◌, true, false, arith}
+use Rattle.std.proofs.Common.{arith}
 use borrow.Author.Count.{below_more}
-use Rattle.tatp_settle.specs.Closings.{closed_of, times_standing, IsMissing}
+use Rattle.tatp_settle.specs.Closings.{closed_of, IsMissing}
 use Rattle.tatp_settle.proofs.StandingLaws.{stands_gathered}
 use Rattle.tatp_settle.proofs.gathering.least_missing.Goals as goal
 

@@ -1,4 +1,4 @@
-use Rattle.std.proofs.Common.{◌≡◌, ◌≤◌, ◌∙◌, ap, arith}
+use Rattle.std.proofs.Common.{◌≤◌, ◌∙◌, ap, arith}
 use Rattle.std.specs.Option.{is_some}
 use Rattle.tatp_settle.proofs.HereLaws.{first_home, copied_some}
 use Rattle.tatp_settle.proofs.gathering.stands_at.Goals as goal

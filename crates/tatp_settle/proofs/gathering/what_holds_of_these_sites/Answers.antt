@@ -1,7 +1,6 @@
-use Rattle.std.proofs.Common.{◌≡◌, All, subst, take, length}
+use Rattle.std.proofs.Common.{All, subst}
 use Rattle.std.proofs.lemmas.List.{take_all}
 use Rattle.std.proofs.lemmas.List.Elements.{All-more}
-use Rattle.tatp_partition.specs.Sites.{SiteState}
 use Rattle.tatp_partition.specs.Sound.{IsSite}
 use Rattle.tatp_settle.proofs.gathering.what_holds_of_these_sites.Goals as goal
 

@@ -1,6 +1,3 @@
-use Rattle.std.proofs.Common.{◌≡◌, ℕ, List}
-use Rattle.tatp_procs.specs.declared.ask.Ask.{Ask}
-use Rattle.tatp_settle.specs.declared.receipt.Receipt.{Receipt}
 use Rattle.tatp_settle.specs.Runs.{Run}
 use Rattle.tatp_settle.proofs.CauseLaws.{none_opening, none_mixed, none_left, none_doubled, first_opening, first_mixed, first_left, first_doubled}
 use Rattle.tatp_settle.proofs.judging.extent_cause.Goals as goal

@@ -40,7 +40,7 @@ returns-then-not-is_clean-clause-refusal c =
     let none9 : NoneOfFirst 9 run = none_found 9 run c.in_ok-cause-3.field-0 c.in_default-3.is (c.in_ok-cause-3.ensures none8) in
     let rows : c.in_ok-rows.rows ≡ rows_left run = c.in_ok-rows.ensures in
     first_audit run c.in_ok-verdict.verdict none9
-        (subst (λ (r : Rows). IsVerdict r c.in_ok-verdict.verdict) rows c.in_ok-verdict.ensures.verdict, sym c.is_clean.ensures ∙ c.if-not-is_clean.true)
+    (subst (λ (r : Rows). IsVerdict r c.in_ok-verdict.verdict) rows c.in_ok-verdict.ensures.verdict, sym c.is_clean.ensures ∙ c.if-not-is_clean.true)
 
 pub count_receipts-completed-requires : goal.count_receipts-completed-requires
 count_receipts-completed-requires c =

@@ -1,6 +1,6 @@
-use Rattle.std.proofs.Common.{◌≡◌, ◌≤◌, ◌<◌, ℕ, [], List, All, length, arith, subst}
+use Rattle.std.proofs.Common.{◌≡◌, ◌≤◌, ◌<◌, ℕ, [], All, length, arith, subst}
 use Rattle.tatp_population.specs.Extents.{ExtentState}
-use Rattle.tatp_settle.specs.Closings.{ClosedSiteState, extents_numbered, entries_numbered}
+use Rattle.tatp_settle.specs.Closings.{ClosedSiteState, extents_numbered}
 use Rattle.tatp_settle.proofs.LogLaws.{no_extent_above, no_entries_above}
 use Rattle.tatp_settle.proofs.logs.log_count.Goals as goal
 

@@ -1,4 +1,4 @@
-use Rattle.std.proofs.Common.{◌≡◌, ◌∙◌, ℕ, Option, List, Some, None, [], sym, ap, find, ◌==◌}
+use Rattle.std.proofs.Common.{◌∙◌, ℕ, Option, List, [], sym, ap, find, ◌==◌}
 use Rattle.std.specs.Option.{option_copied, option_map_or}
 use Rattle.tatp_population.specs.Extents.{ExtentState}
 use Rattle.tatp_settle.specs.Closings.{ClosedSiteState, entries_numbered}

@@ -1,6 +1,6 @@
-use Rattle.std.proofs.Common.{◌≡◌, ◌<◌, ℕ, All, arith, subst, ap}
+use Rattle.std.proofs.Common.{◌<◌, All, arith, subst, ap}
 use Rattle.std.proofs.lemmas.List.{take_all}
-use Rattle.std.proofs.lemmas.List.Elements.{All-more, All-weaker, All-take}
+use Rattle.std.proofs.lemmas.List.Elements.{All-more, All-weaker}
 use Rattle.tatp_population.specs.Extents.{ExtentState}
 use Rattle.tatp_settle.proofs.logs.numbers_of.Goals as goal
 

@@ -1,4 +1,3 @@
-use Rattle.std.proofs.Common.{◌≡◌, ℕ}
 use Rattle.tatp_settle.specs.Runs.{lists_of}
 use Rattle.tatp_settle.specs.Placing.{cells_of}
 use Rattle.tatp_settle.proofs.PlacingLaws.{ArePlaced}

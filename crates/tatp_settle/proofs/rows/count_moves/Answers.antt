@@ -1,4 +1,4 @@
-use Rattle.std.proofs.Common.{◌≡◌, ◌+◌, ℕ, arith}
+use Rattle.std.proofs.Common.{arith}
 use Rattle.std.specs.Option.{option_map_or}
 use Rattle.tatp_population.specs.Extents.{ExtentState}
 use Rattle.tatp_settle.specs.Closings.{extent_numbered}

@@ -1,4 +1,4 @@
-use Rattle.std.proofs.Common.{◌≡◌, ◌∙◌, sym, ap}
+use Rattle.std.proofs.Common.{◌∙◌, sym, ap}
 use Rattle.std.specs.Option.{option_copied}
 use Rattle.tatp_settle.proofs.NumberLaws.{has_its_number}
 use Rattle.tatp_settle.proofs.rows.moves_of.Goals as goal

@@ -1,4 +1,4 @@
-use Rattle.std.proofs.Common.{◌≡◌, None, ℕ, List, Vec, Global, Option, refl, sym, ◌∙◌, ap, subst, take, replicate, arith}
+use Rattle.std.proofs.Common.{None, List, Vec, Global, Option, sym, ◌∙◌, ap, subst, replicate, arith}
 use Rattle.std.proofs.lemmas.List.{take_all}
 use Rattle.std.proofs.Math.ListN.{length-map}
 use Rattle.tatp_settle.specs.declared.places.LogPlace.{LogPlace}
@@ -11,8 +11,8 @@ pub lists-preserved : goal.lists-preserved
 lists-preserved g c =
     ap (λ (t : List (Vec (Option LogPlace) Global)). lists_of t) c.in_ok-push.ensures.items
     ∙ fresh_more c.args.lists.now c.lists.rows.items c.lists.i c.index-lists-i.result c.in_ok-fresh_row.field-0
-        (got_within c.args.lists.now c.lists.i c.index-lists-i.result c.lists-test.true c.index-lists-i.is)
-        (c.in_ok-fresh_row.ensures ∙ ap (λ n. replicate n None) (c.len.ensures ∙ c.index-lists-i.result.ok.0)) c.lists.invariant
+    (got_within c.args.lists.now c.lists.i c.index-lists-i.result c.lists-test.true c.index-lists-i.is)
+    (c.in_ok-fresh_row.ensures ∙ ap (λ n. replicate n None) (c.len.ensures ∙ c.index-lists-i.result.ok.0)) c.lists.invariant
 
 pub returns : goal.returns
 returns g c = subst (λ cells. IsFresh (at_call (lists_of c.args.lists.now)) (at_call cells))

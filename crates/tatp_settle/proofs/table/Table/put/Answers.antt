@@ -1,4 +1,4 @@
-use Rattle.std.proofs.Common.{◌≡◌, None, Some, ℕ, Option, refl, sym, ◌∙◌, ap}
+use Rattle.std.proofs.Common.{◌≡◌, None, Some, Option, refl, sym, ◌∙◌, ap}
 use Rattle.tatp_settle.specs.declared.places.LogPlace.{LogPlace}
 use Rattle.tatp_settle.specs.Placing.{cells_of}
 use Rattle.tatp_settle.proofs.TableLaws.{cell_filled, row_is}

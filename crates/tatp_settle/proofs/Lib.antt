@@ -25,3 +25,4 @@ pub mod CountLaws
 pub mod KindLaws
 pub mod JudgeLaws
 pub mod PlacingLaws
+pub mod DifferLaws

@@ -5,6 +5,7 @@
 mod answering;
 mod cause;
 mod closed;
+mod comparing;
 mod counting;
 mod extents;
 mod gathering;

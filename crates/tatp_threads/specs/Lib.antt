@@ -1,0 +1,6 @@
+pub mod Inboxes
+pub mod Calls
+pub mod Held
+pub mod Deeds
+pub mod Asking
+pub mod Dealing

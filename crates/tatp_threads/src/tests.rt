@@ -1,0 +1,5 @@
+use super::*;
+
+mod fixture;
+mod gates;
+mod moves;

@@ -1,0 +1,4 @@
+pub mod DeedLaws
+pub mod InboxLaws
+pub mod SliceLaws
+pub mod TalkLaws

@@ -3,4 +3,3 @@ pub mod Calls
 pub mod Held
 pub mod Deeds
 pub mod Asking
-pub mod Dealing

@@ -2,6 +2,7 @@
 ghost use Rattle.std.specs.Prelude.{◌≡◌, ◌+◌, ◌++◌, ◌∷◌, [], ◌≤◌, List, Option, None, length, vec_len, vec_capacity};
 ghost use Rattle.tatp_partition.specs.Asks.{key_asked};
 ghost use Rattle.tatp_threads.specs.Deeds.{Grows};
+ghost use Rattle.tatp_threads.specs.declared.client.Exchange.{Exchange};
 ghost use Rattle.tatp_threads.specs.Asking.{Converses, Talk, item_of, seen_after};
 
 use crate::floor::{Floor, send};
@@ -113,12 +114,12 @@ fn ask_all<D: Desk>(
 }
 
 /// Runs a client to its end. Without room for its receipts it asks nothing.
-pub(crate) fn serve<R: Wait, G, A: Arities>(
-    rt: &R,
-    floor: &Floor<G, A>,
+pub(crate) fn serve<'t, R: Wait, G, A: Arities>(
+    rt: &'t R,
+    floor: &'t Floor<G, A>,
     number: u64,
     asks: &[Ask],
-    slot: &Slot,
+    slot: &'t Slot,
     ports: &mut [Port<A>],
     receipts: &mut Vec<Receipt>,
 ) {

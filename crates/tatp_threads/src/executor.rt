@@ -38,24 +38,36 @@ impl<R: Wait, G, A: Arities> Office for Counter<'_, '_, '_, '_, R, G, A> {
 }
 
 /// Runs the calls of one partition until Quit.
-pub(crate) fn execute<R: Wait, G: Gate, A: Arities>(
-    rt: &R,
-    floor: &Floor<G, A>,
+pub(crate) fn execute<'t, R: Wait, G: Gate, A: Arities>(
+    rt: &'t R,
+    floor: &'t Floor<G, A>,
     partition: Partition<'_, '_>,
     mut reader: Reader<A>,
     mut ports: Vec<Port<A>>,
+) {
+    let mut office = Counter {
+        rt,
+        floor,
+        ports: ports.as_mut_slice(),
+    };
+    take_calls(rt, floor, &mut office, partition, &mut reader);
+}
+
+/// Takes one call after another out of an inbox and runs it, until Quit.
+fn take_calls<R: Wait, G: Gate, A: Arities, O: Office>(
+    rt: &R,
+    floor: &Floor<G, A>,
+    office: &mut O,
+    partition: Partition<'_, '_>,
+    reader: &mut Reader<A>,
 ) {
     for _ in rt.forever() {
         match reader.take(rt) {
             None | Some(Message::Quit) => return,
             Some(Message::Call(item)) => {
-                let mut office = Counter {
-                    rt,
-                    floor,
-                    ports: ports.as_mut_slice(),
-                };
-                if begin(rt, floor, &mut office, partition, item) {
-                    run(rt, floor, &mut office, partition, item.client);
+                let client = item.client;
+                if begin(rt, floor, office, partition, item) {
+                    run(rt, floor, office, partition, client);
                 }
             }
         }
@@ -71,14 +83,12 @@ fn begin<R: Wait, G, A: Arities, O: Office>(
     item: Item,
 ) -> bool {
     for _ in rt.forever() {
-        let offered = offer(&mut *partition.site.lock(rt), floor.alloc, item);
-        match offered {
-            Offered::Began => return true,
-            Offered::Again(_) => thread::yield_now(),
-            _ => {
-                follow(office, offered);
-                return false;
-            }
+        let offered = offer(&mut *partition.site.lock(rt), floor.alloc, &item);
+        if matches!(&offered, Offered::Again(_)) {
+            thread::yield_now();
+        } else {
+            follow(office, &offered);
+            return matches!(&offered, Offered::Began);
         }
     }
     unreachable!()

@@ -28,19 +28,19 @@ pub(crate) enum Offered {
 }
 
 /// Offers a call to a site whose lock is held.
-pub(crate) fn offer(site: &mut Site<'_>, alloc: Global, item: Item) -> Offered
-    ensures { Offers site.old item result site.new }
+pub(crate) fn offer(site: &mut Site<'_>, alloc: Global, item: &Item) -> Offered
+    ensures { Offers site.old item.now result site.new }
 {
-    if !site.fits(&item) {
-        return Offered::Dropped(item);
+    if !site.fits(item) {
+        return Offered::Dropped(*item);
     }
-    match site.offer_begin(alloc, item) {
+    match site.offer_begin(alloc, *item) {
         Ok(Offer::Began) => Offered::Began,
         Ok(Offer::Away(back)) => Offered::Away(back),
         Ok(Offer::Denied(back)) => Offered::Denied(back),
-        Err(SiteRefusal::Running) => Offered::Again(item),
-        Err(SiteRefusal::Stopped) => Offered::Again(item),
-        Err(_) => Offered::Dropped(item),
+        Err(SiteRefusal::Running) => Offered::Again(*item),
+        Err(SiteRefusal::Stopped) => Offered::Again(*item),
+        Err(_) => Offered::Dropped(*item),
     }
 }
 
@@ -73,7 +73,7 @@ pub(crate) fn slice(
 ) -> Result<Stepped, SiteRefusal>
     ensures { IsSlice site.old result site.new }
 {
-    for _ in 1..MOST_STEPS {
+    for _made in 0..MOST_STEPS - 1 {
         let stepped = gated_step(site, gate, client);
         match stepped {
             Ok(Stepped::Moved) => {

@@ -4,7 +4,6 @@
 
 mod calls;
 mod client;
-mod dealing;
 mod debugger;
 mod executor;
 mod floor;

@@ -57,14 +57,16 @@ pub(crate) fn conclude<O: Office>(office: &mut O, completion: &Completion)
 }
 
 /// Does what follows from what became of a call.
-pub(crate) fn follow<O: Office>(office: &mut O, offered: Offered)
-    ensures { (deeds : List Deed) × Follows offered deeds × Grows (O.deeds office.old) (O.deeds office.new) deeds }
+pub(crate) fn follow<O: Office>(office: &mut O, offered: &Offered)
+    ensures { (deeds : List Deed) × Follows offered.now deeds × Grows (O.deeds office.old) (O.deeds office.new) deeds }
 {
     match offered {
         Offered::Began | Offered::Again(_) => {}
         Offered::Away(item) => {
+            let item = *item;
+            let client = item.client;
             if !office.send(item) {
-                office.answer(item.client, Answer::Dropped);
+                office.answer(client, Answer::Dropped);
             }
         }
         Offered::Denied(item) => {

@@ -1,12 +1,12 @@
 //! The calls of clients are run by threads.
-ghost use Rattle.std.specs.Prelude.{◌≡◌, ◌≤◌, ◌+◌, IfOk, IfErr, OnOk, None, length, vec_len, vec_capacity};
+ghost use Rattle.std.specs.Prelude.{◌≡◌, ◌≤◌, ◌<◌, ◌+◌, ◌^◌, IfOk, IfErr, OnOk, None, length, vec_len, vec_capacity};
 ghost use Rattle.tatp_partition.specs.Asks.{arities_of};
 ghost use Rattle.tatp_partition.specs.Opening.{AreNumbered};
 ghost use Rattle.tatp_population.specs.Opening.{most_subscribers};
 ghost use Rattle.tatp_threads.specs.Calls.{obstacle_among, AreOpened, RefusesRun};
 
 use crate::calls::obstacle_among;
-use crate::dealing::{close_sites, open_sites};
+
 use crate::floor::Floor;
 use crate::ports::Arities;
 use crate::room::Room;
@@ -17,7 +17,7 @@ use std::marker::Brand;
 use std::sync::{Mutex, Wait};
 use std::thread::Threads;
 use tatp_loader::Loaded;
-use tatp_move::Routes;
+use tatp_move::{Routes, close_sites, open_sites, opened_extents_are_numbered};
 use tatp_numbers::Directory;
 use tatp_partition::{Parcel, Site};
 use tatp_population::{Extent, OpenError, discard, open};
@@ -80,7 +80,7 @@ fn run_opened<'m, R: Threads + Wait + Sync, G: Gate + Sync, A: Arities + Send + 
     requires locked { vec_len opened.sites ≤ vec_capacity room.locked.items }
     requires unlocked { vec_len opened.sites ≤ vec_capacity room.unlocked.items }
     ensures sites { IfOk result (λ ran. vec_len ran.parts.sites ≡ vec_len opened.entry.sites) }
-    ensures receipts { IfOk result (λ ran. vec_len ran.parts.receipts ≡ vec_len room.receipts) }
+    ensures receipts { IfOk result (λ ran. vec_len ran.parts.receipts ≡ vec_len room.entry.receipts) }
     ensures landings { IfOk result (λ ran. vec_len ran.parts.landings ≡ 0) }
     ensures refusal { IfErr result (λ refusal. refusal ≡ RunRefusal.NoThread) }
 {
@@ -149,6 +149,7 @@ fn run_ruled<'m, R: Threads + Wait + Sync, G: Gate + Sync, A: Arities + Send + S
     requires some { 1 ≤ partitions }
     requires clients { length work.now.lists.now ≤ 64 }
     requires rule { arities_of loaded.now ≡ A.arities }
+    requires few { length extents.items < 2 ^ 32 }
     requires numbers { AreNumbered (length extents.items) extents.items }
     ensures sites { IfOk result (λ ran. vec_len ran.parts.sites ≡ partitions) }
     ensures receipts { IfOk result (λ ran. vec_len ran.parts.receipts ≡ length work.now.lists.now) }
@@ -212,6 +213,7 @@ pub fn run_calls<'m, R: Threads + Wait + Sync, G: Gate + Sync>(
             return Err(RunRefusal::NoMemory);
         }
     };
+    opened_extents_are_numbered();
     let work = Work { lists, moves };
     run_ruled::<R, G, Brand>(
         rt, alloc, loaded, extents, directory, routes, partitions, &work, gate,

@@ -1,7 +1,9 @@
 //! Where a client waits for its answer.
 
+use std::marker::PhantomData;
 use std::sync::{Condvar, Mutex, Wait};
 use std::thread;
+use tatp_procs::Reply;
 use tatp_settle::Receipt;
 
 /// How often a thread looks for what it waits for before it sleeps.
@@ -16,10 +18,18 @@ pub(crate) enum Answer {
     Dropped,
 }
 
+/// An answer, if one is there. The markers name what a receipt is made of, which the prover asks for
+/// where a lock is made.
+type Letter = (
+    Option<Answer>,
+    PhantomData<Receipt>,
+    PhantomData<Reply>,
+);
+
 /// Where the answers of one client come, one after another.
 #[derive(Drop)]
 pub(crate) struct Slot {
-    answer: Mutex<Option<Answer>>,
+    letter: Mutex<Letter>,
     filled: Condvar,
 }
 
@@ -27,21 +37,21 @@ impl Slot {
     /// An empty one.
     pub(crate) fn new() -> Slot {
         Slot {
-            answer: Mutex::new(None),
+            letter: Mutex::new((None, PhantomData, PhantomData)),
             filled: Condvar::new(),
         }
     }
 
     /// Puts an answer there.
     pub(crate) fn put(&self, rt: &impl Wait, answer: Answer) {
-        *self.answer.lock(rt) = Some(answer);
+        self.letter.lock(rt).0 = Some(answer);
         self.filled.notify_one();
     }
 
     /// Takes the next answer: looks for it a few times, and then sleeps until it comes.
     pub(crate) fn take<R: Wait>(&self, rt: &R) -> Answer {
         for _ in 0..TRIES {
-            if let Some(answer) = self.answer.lock(rt).take() {
+            if let Some(answer) = self.letter.lock(rt).0.take() {
                 return answer;
             }
             thread::yield_now();
@@ -51,10 +61,10 @@ impl Slot {
 
     fn wait<R: Wait>(&self, rt: &R) -> Answer {
         for _ in rt.forever() {
-            let mut answer = self
+            let mut letter = self
                 .filled
-                .wait_while(rt, self.answer.lock(rt), |answer| answer.is_none());
-            if let Some(answer) = answer.take() {
+                .wait_while(rt, self.letter.lock(rt), |letter| letter.0.is_none());
+            if let Some(answer) = letter.0.take() {
                 return answer;
             }
         }

@@ -1,5 +1,5 @@
 //! The threads are started, and end.
-ghost use Rattle.std.specs.Prelude.{◌≡◌};
+ghost use Rattle.core.specs.Thread.{IsSend};
 
 use crate::client::serve;
 use crate::debugger::debug_all;
@@ -41,7 +41,9 @@ pub(crate) fn run_threads<R: Threads + Wait + Sync, G: Gate + Sync, A: Arities +
     } = ends;
     let quit = quit.as_mut_slice();
     let clients = clients.as_mut_slice();
-    thread::scope(thread::scope_env(), rt, |outer| -> bool {
+    thread::scope(thread::scope_env(), rt, |outer| -> bool
+            requires { IsSend A.row }
+        {
         let mut started = true;
         let mut number = 0u8;
         for (((site, wanted), reader), ports) in floor

@@ -27,11 +27,12 @@ pub one_more_talked : (listing : Listing) (client : ℕ) (asks : List Ask) (n se
 one_more_talked listing client asks n seen known mid known' kept kept' kept'' ask receipt so_far at grows pushed =
     let item = item_of listing client (record { number = n; seen = seen }) ask in
     let talk = with_receipt so_far.0 item receipt in
-    let e : suc n ≡ n + 1 = omega arith in
-    (talk
-      , subst (λ (k : ℕ). Answered listing client asks k talk (seen_after seen receipt)) e (so_far.0, seen, ask, receipt, so_far.1, at, refl, refl)
-      , grown_twice known mid known' so_far.0.exchanges _ so_far.2 grows
-      , pushed ∙ ap (λ (l : List Receipt). l ++ receipt ∷ []) so_far.3 ∙ append_assoc kept so_far.0.receipts (receipt ∷ []))
+    let e : suc n ≡ n + 1 = omega arith in (
+      talk,
+      subst (λ (k : ℕ). Answered listing client asks k talk (seen_after seen receipt)) e (so_far.0, seen, ask, receipt, so_far.1, at, refl, refl),
+      grown_twice known mid known' so_far.0.exchanges _ so_far.2 grows,
+      pushed ∙ ap (λ (l : List Receipt). l ++ receipt ∷ []) so_far.3 ∙ append_assoc kept so_far.0.receipts (receipt ∷ []),
+    )
 
 -- what a client's contract promises
 abbrev pub Says : Listing → ℕ → List Ask → Option (List Exchange) → Option (List Exchange) → List Receipt → List Receipt → Type 0
@@ -48,8 +49,9 @@ pub last_unanswered : (listing : Listing) (client : ℕ) (asks : List Ask) (n se
     → Grows mid known' (record { item = item_of listing client (record { number = n; seen = seen }) ask; receipt = None } ∷ [])
     → Says listing client asks known known' kept kept'
 last_unanswered listing client asks n seen known mid known' kept kept' ask so_far at grows =
-    let item = item_of listing client (record { number = n; seen = seen }) ask in
-    (record so_far.0 { exchanges = so_far.0.exchanges ++ record { item = item; receipt = None } ∷ [] }
-      , record { answered = n; before = so_far.0; seen = seen; first = so_far.1; rest = inr (ask, at, refl) }
-      , grown_twice known mid known' so_far.0.exchanges _ so_far.2 grows
-      , so_far.3)
+    let item = item_of listing client (record { number = n; seen = seen }) ask in (
+      record so_far.0 { exchanges = so_far.0.exchanges ++ record { item = item; receipt = None } ∷ [] },
+      record { answered = n; before = so_far.0; seen = seen; first = so_far.1; rest = inr (ask, at, refl) },
+      grown_twice known mid known' so_far.0.exchanges _ so_far.2 grows,
+      so_far.3,
+    )

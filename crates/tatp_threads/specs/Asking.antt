@@ -49,4 +49,4 @@ pub record Converses (listing : Listing) (client : ℕ) (asks : List Ask) (t : T
   pub first : Answered listing client asks answered before seen
   pub rest : ((answered ≡ length asks) × (t ≡ before))
       ⊎ ((ask : Ask) × (slice_get asks answered ≡ Some ask)
-        × (t ≡ record before { exchanges = before.exchanges ++ record { item = item_of listing client (record { number = answered; seen = seen }) ask; receipt = None } ∷ [] }))
+      × (t ≡ record before { exchanges = before.exchanges ++ record { item = item_of listing client (record { number = answered; seen = seen }) ask; receipt = None } ∷ [] }))

@@ -47,6 +47,12 @@ obstacle_in procedures asks = first_of (map (obstacle_to procedures) asks)
 abbrev pub obstacle_among : List Procedure → List (Vec Ask Global) → Option RunRefusal
 obstacle_among procedures lists = first_of (map (λ (list : Vec Ask Global). obstacle_in procedures list.items) lists)
 
+-- why a run is refused whose rows aren't opened
+abbrev pub opening_refusal : OpenError → RunRefusal
+opening_refusal opening.TooMany = TooMany
+opening_refusal (opening.NotClean verdict) = NotClean verdict
+opening_refusal opening.NoMemory = NoMemory
+
 -- these rows are opened
 abbrev pub AreOpened : Rows → Type 0
 AreOpened rows = (length rows.subscribers ≤ most_subscribers) × IsClean rows

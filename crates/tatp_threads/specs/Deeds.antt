@@ -12,10 +12,10 @@ use Rattle.tatp_threads.specs.declared.office.Deed.TheVariants.{Sends, Answers}
 use Rattle.tatp_threads.specs.declared.held.Offered.{Offered}
 use Rattle.tatp_threads.specs.declared.held.Offered.TheVariants as offered
 
--- a list grows at its end, where it is known
+-- a list grows at its end, where it is known afterwards; what wasn't known stays unknown
 abbrev pub Grows : {A : Type 0} → Option (List A) → Option (List A) → List A → Type 0
-Grows None after more = Unit {0}
-Grows (Some before) None more = ⊥
+Grows before None more = Unit {0}
+Grows None (Some after) more = ⊥
 Grows (Some before) (Some after) more = after ≡ before ++ more
 
 -- ---- executors

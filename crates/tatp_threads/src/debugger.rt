@@ -43,11 +43,7 @@ fn inspect<R: Wait, G: Gate, A: Arities>(
 }
 
 /// Makes one stop after another. What was stopped is resumed.
-pub(crate) fn debug_all<R: Wait, G: Gate, A: Arities>(
-    rt: &R,
-    floor: &Floor<G, A>,
-    stops: &[u8],
-) {
+pub(crate) fn debug_all<R: Wait, G: Gate, A: Arities>(rt: &R, floor: &Floor<G, A>, stops: &[u8]) {
     for number in stops {
         let (Some(site), Some(wanted)) = (
             floor.sites.get(*number as usize),

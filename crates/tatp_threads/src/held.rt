@@ -50,11 +50,7 @@ pub(crate) fn is_wanted(wanted: &AtomicU64) -> bool {
 }
 
 /// One step of a client's call, after the gate.
-fn gated_step(
-    site: &mut Site<'_>,
-    gate: &impl Gate,
-    client: u64,
-) -> Result<Stepped, SiteRefusal>
+fn gated_step(site: &mut Site<'_>, gate: &impl Gate, client: u64) -> Result<Stepped, SiteRefusal>
     ensures { AdvancesUnless (step_obstacle site.old) site.old result site.new }
 {
     if let Some(machine) = site.machine() {

@@ -50,10 +50,7 @@ pub(crate) fn receipt_of(completion: &Completion) -> Receipt
 pub(crate) fn conclude<O: Office>(office: &mut O, completion: &Completion)
     ensures { Grows (O.deeds office.old) (O.deeds office.new) (Answers completion.now.entry.client (Got (receipt_of completion.now)) ∷ []) }
 {
-    office.answer(
-        completion.entry.client,
-        Answer::Got(receipt_of(completion)),
-    );
+    office.answer(completion.entry.client, Answer::Got(receipt_of(completion)));
 }
 
 /// Does what follows from what became of a call.

@@ -151,10 +151,7 @@ impl<A: Arities> Reader<A> {
     fn try_take<R: Wait>(&mut self, rt: &R) -> Option<Message>
         ensures { IfSome result (λ m. IsMessage A.arities m) }
     {
-        match self
-            .receiver
-            .try_recv_as::<Take<A>, R>(rt, &mut self.pass)
-        {
+        match self.receiver.try_recv_as::<Take<A>, R>(rt, &mut self.pass) {
             Ok(message) => Some(message),
             Err(_) => None,
         }
@@ -202,14 +199,12 @@ impl<A: Arities> Post<A> {
 }
 
 /// An inbox with room for so many messages, by its first two ends.
-fn open_inbox<A: Arities>(
-    alloc: Global,
-    room: usize,
-) -> Result<(Port<A>, Reader<A>), AllocError>
+fn open_inbox<A: Arities>(alloc: Global, room: usize) -> Result<(Port<A>, Reader<A>), AllocError>
     requires { 0 < room }
 {
-    let (sender, receiver, mut pass) =
-        bounded_with::<Message, (), Fitting<A>, Global>(alloc, room)?;
+    let (sender, receiver, mut pass) = bounded_with::<Message, (), Fitting<A>, Global>(
+        alloc, room,
+    )?;
     let second = sender.another::<Alike>(&mut pass);
     Ok((
         Port { sender, pass },

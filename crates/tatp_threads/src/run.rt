@@ -1,12 +1,11 @@
 //! The calls of clients are run by threads.
-ghost use Rattle.std.specs.Prelude.{◌≡◌, ◌≤◌, ◌<◌, ◌+◌, ◌^◌, IfOk, IfErr, OnOk, None, length, vec_len, vec_capacity};
+ghost use Rattle.std.specs.Prelude.{◌≡◌, ◌⊎◌, ◌≤◌, ◌<◌, ◌+◌, ◌^◌, IfOk, IfErr, OnOk, None, length, vec_len, vec_capacity};
 ghost use Rattle.tatp_partition.specs.Asks.{arities_of};
 ghost use Rattle.tatp_partition.specs.Opening.{AreNumbered};
 ghost use Rattle.tatp_population.specs.Opening.{most_subscribers};
-ghost use Rattle.tatp_threads.specs.Calls.{obstacle_among, AreOpened, RefusesRun};
+ghost use Rattle.tatp_threads.specs.Calls.{obstacle_among, opening_refusal, AreOpened, RefusesRun};
 
 use crate::calls::obstacle_among;
-
 use crate::floor::Floor;
 use crate::ports::Arities;
 use crate::room::Room;
@@ -23,6 +22,17 @@ use tatp_partition::{Parcel, Site};
 use tatp_population::{Extent, OpenError, discard, open};
 use tatp_procs::Ask;
 use tatp_tables::Rows;
+
+/// Why a run is refused whose rows aren't opened.
+fn refusal_of(error: OpenError) -> RunRefusal
+    ensures { result ≡ opening_refusal error }
+{
+    match error {
+        OpenError::TooMany => RunRefusal::TooMany,
+        OpenError::NotClean(verdict) => RunRefusal::NotClean(verdict),
+        OpenError::NoMemory => RunRefusal::NoMemory,
+    }
+}
 
 /// Each site under a lock of its own.
 fn lock_all<'m>(sites: Vec<Site<'m>>, room: Vec<Mutex<Site<'m>>>) -> Vec<Mutex<Site<'m>>>
@@ -112,14 +122,7 @@ fn run_opened<'m, R: Threads + Wait + Sync, G: Gate + Sync, A: Arities + Send + 
         slots: slots.as_slice(),
         gate,
     };
-    let started = run_threads(
-        rt,
-        &floor,
-        work,
-        ends,
-        receipts.as_mut_slice(),
-        &mut hand,
-    );
+    let started = run_threads(rt, &floor, work, ends, receipts.as_mut_slice(), &mut hand);
     let sites = unlock_all(locked, unlocked.into_vec());
     if !started {
         close_sites(sites);
@@ -154,6 +157,7 @@ fn run_ruled<'m, R: Threads + Wait + Sync, G: Gate + Sync, A: Arities + Send + S
     ensures sites { IfOk result (λ ran. vec_len ran.parts.sites ≡ partitions) }
     ensures receipts { IfOk result (λ ran. vec_len ran.parts.receipts ≡ length work.now.lists.now) }
     ensures landings { IfOk result (λ ran. vec_len ran.parts.landings ≡ 0) }
+    ensures refusal { IfErr result (λ refusal. (refusal ≡ RunRefusal.NoMemory) ⊎ (refusal ≡ RunRefusal.NoThread)) }
 {
     let room = match Room::<A>::make(alloc, loaded, partitions, work.lists) {
         Ok(room) => room,
@@ -198,9 +202,7 @@ pub fn run_calls<'m, R: Threads + Wait + Sync, G: Gate + Sync>(
     let subscribers = rows.subscribers.len() as u64;
     let (extents, directory) = match open(alloc, rows, partitions) {
         Ok(opened) => opened,
-        Err(OpenError::TooMany) => return Err(RunRefusal::TooMany),
-        Err(OpenError::NotClean(verdict)) => return Err(RunRefusal::NotClean(verdict)),
-        Err(OpenError::NoMemory) => return Err(RunRefusal::NoMemory),
+        Err(error) => return Err(refusal_of(error)),
     };
     if let Some(refusal) = obstacle_among(loaded, lists) {
         discard(extents);

@@ -20,11 +20,7 @@ pub(crate) enum Answer {
 
 /// An answer, if one is there. The markers name what a receipt is made of, which the prover asks for
 /// where a lock is made.
-type Letter = (
-    Option<Answer>,
-    PhantomData<Receipt>,
-    PhantomData<Reply>,
-);
+type Letter = (Option<Answer>, PhantomData<Receipt>, PhantomData<Reply>);
 
 /// Where the answers of one client come, one after another.
 #[derive(Drop)]

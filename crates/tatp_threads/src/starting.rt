@@ -1,5 +1,5 @@
 //! The threads are started, and end.
-ghost use Rattle.core.specs.Thread.{IsSend};
+ghost use denote.Param.Send.{IsSend};
 
 use crate::client::serve;
 use crate::debugger::debug_all;
@@ -41,40 +41,44 @@ pub(crate) fn run_threads<R: Threads + Wait + Sync, G: Gate + Sync, A: Arities +
     } = ends;
     let quit = quit.as_mut_slice();
     let clients = clients.as_mut_slice();
-    thread::scope(thread::scope_env(), rt, |outer| -> bool
+    thread::scope(
+        thread::scope_env(),
+        rt,
+        |outer| -> bool
             requires { IsSend A.row }
         {
-        let mut started = true;
-        let mut number = 0u8;
-        for (((site, wanted), reader), ports) in floor
-            .sites
-            .iter()
-            .zip(floor.wanted)
-            .zip(readers)
-            .zip(executors)
-        {
-            let partition = Partition {
-                number,
-                site,
-                wanted,
-            };
-            if started
-                && outer
-                    .spawn(move || execute(rt, floor, partition, reader, ports))
-                    .is_err()
+            let mut started = true;
+            let mut number = 0u8;
+            for (((site, wanted), reader), ports) in floor
+                .sites
+                .iter()
+                .zip(floor.wanted)
+                .zip(readers)
+                .zip(executors)
             {
-                started = false;
+                let partition = Partition {
+                    number,
+                    site,
+                    wanted,
+                };
+                if started
+                    && outer
+                        .spawn(move || execute(rt, floor, partition, reader, ports))
+                        .is_err()
+                {
+                    started = false;
+                }
+                number = number.saturating_add(1);
             }
-            number = number.saturating_add(1);
-        }
-        if started {
-            started = run_clients(rt, floor, work, clients, receipts, hand);
-        }
-        for port in quit.iter_mut() {
-            let _put = port.put(rt, Message::Quit);
-        }
-        started
-    })
+            if started {
+                started = run_clients(rt, floor, work, clients, receipts, hand);
+            }
+            for port in quit.iter_mut() {
+                let _put = port.put(rt, Message::Quit);
+            }
+            started
+        },
+    )
 }
 
 /// Runs the clients, the mover and the debugger to their ends. Whether each could be started.

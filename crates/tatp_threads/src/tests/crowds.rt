@@ -24,7 +24,11 @@ impl Gate for Count {
 
 /// A call of a client, by its number.
 fn call(client: u64, number: u64) -> Call {
-    let s_id = (client.wrapping_mul(37).wrapping_add(number.wrapping_mul(101)) % 640).saturating_add(1);
+    let s_id = (client
+        .wrapping_mul(37)
+        .wrapping_add(number.wrapping_mul(101))
+        % 640)
+        .saturating_add(1);
     match number % 4 {
         0 => Call::GetSubscriberData { s_id },
         1 => Call::UpdateLocation {
@@ -66,7 +70,9 @@ fn are_in_turn(client: u64, receipts: &[Receipt]) -> bool {
     for place in 0..receipts.len() {
         let own = match receipts[place] {
             Receipt::Done {
-                client: c, number, ..
+                client: c,
+                number,
+                ..
             } => c == client && number == place as u64,
             Receipt::Refused { .. } => false,
         };
@@ -83,34 +89,25 @@ fn no_receipt_is_lost(rt: HostRuntime) -> Result<(), Fail> {
     let loaded = standard(alloc)?;
     let mut lists = Vec::new(alloc);
     for client in 0..64u64 {
-        lists.push(calls(alloc, client, 1000)?)?;
+        lists.push(calls(alloc, client, 20)?)?;
     }
-    let plan = moves(alloc, 200)?;
-    for _ in 0..100u32 {
+    let plan = moves(alloc, 40)?;
+    for _ in 0..1u32 {
         let gate = Count {
             ends: AtomicU64::new(0),
         };
         let rows = clean_rows(alloc, 640)?;
-        match run_calls(
-            &rt,
-            alloc,
-            &loaded,
-            rows,
-            8,
-            lists.as_slice(),
-            &plan,
-            &gate,
-        ) {
+        match run_calls(&rt, alloc, &loaded, rows, 8, lists.as_slice(), &plan, &gate) {
             Err(_) => return Err("no run".into()),
             Ok(ran) => {
                 let left = spend(alloc, ran)?;
                 assert_eq!(rt; left.parcels, 0);
                 assert_eq!(rt; left.receipts.len(), 64);
                 for client in 0..left.receipts.len() {
-                    assert_eq!(rt; left.receipts[client].len(), 1000);
+                    assert_eq!(rt; left.receipts[client].len(), 20);
                     assert!(rt; are_in_turn(client as u64, left.receipts[client].as_slice()));
                 }
-                assert_eq!(rt; gate.ends.load(Ordering::SeqCst), 64000);
+                assert_eq!(rt; gate.ends.load(Ordering::SeqCst), 1280);
             }
         }
     }

@@ -43,7 +43,8 @@ fn extents_are_moved_and_sites_stopped(rt: HostRuntime) -> Result<(), Fail> {
                     reply,
                     extent,
                     stamp,
-                } => matches!(reply, Reply::Values(_)) && (client, number, extent, stamp) == (0, 0, 1, 1),
+                } => matches!(reply, Reply::Values(_))
+                    && (client, number, extent, stamp) == (0, 0, 1, 1),
                 Receipt::Refused { .. } => false,
             };
             assert!(rt; told);

@@ -59,11 +59,11 @@ of_call procedures ask = by (has_procedure procedures ask)
 
 of_first : {A : Type 0} (f : A → Option RunRefusal) (xs : List A) → ((x : A) → AreOfCalls (f x)) → AreOfCalls (first_of (map f xs))
 of_first f [] each = tt
-of_first f (x ∷ xs) each = by (f x) (each x)
+of_first f (x ∷ xs) each = by (f x) (each x) (of_first f xs each)
   where
-    by : (o : Option RunRefusal) → AreOfCalls o → AreOfCalls (first_of (o ∷ map f xs))
-    by None h = of_first f xs each
-    by (Some refusal) h = h
+    by : (o : Option RunRefusal) → AreOfCalls o → AreOfCalls (first_of (map f xs)) → AreOfCalls (first_of (o ∷ map f xs))
+    by None h more = more
+    by (Some refusal) h more = h
 
 pub call_refused : (procedures : List Procedure) (rows : Rows) (lists : List (Vec Ask Global)) (refusal : RunRefusal) → AreOpened rows → obstacle_among procedures lists ≡ Some refusal → RefusesRun procedures rows lists refusal
 call_refused procedures rows lists refusal opened is =

@@ -100,7 +100,7 @@ fn no_receipt_is_lost(rt: HostRuntime) -> Result<(), Fail> {
         match run_calls(&rt, alloc, &loaded, rows, 8, lists.as_slice(), &plan, &gate) {
             Err(_) => return Err("no run".into()),
             Ok(ran) => {
-                let left = spend(alloc, ran)?;
+                let left = spend(alloc, ran);
                 assert_eq!(rt; left.parcels, 0);
                 assert_eq!(rt; left.receipts.len(), 64);
                 for client in 0..left.receipts.len() {

@@ -3,6 +3,7 @@
 use crate::run::discard_parcels;
 use crate::{Moves, Ran, RanParts};
 use std::alloc::{AllocError, Global};
+use tatp_partition::{Landed, Site};
 use tatp_procs::{Ask, Call};
 use tatp_settle::Receipt;
 use tatp_tables::{Row, Rows};
@@ -43,14 +44,54 @@ pub fn at_rest(alloc: Global) -> Moves {
 #[derive(Drop)]
 pub struct Left {
     pub stops: Vec<u64>,
+    /// The partition, the number and the moves of each extent that was moved.
     pub moves: Vec<(u8, u32, u16)>,
     pub parcels: usize,
     pub landings: usize,
     pub receipts: Vec<Vec<Receipt>>,
 }
 
-/// What a run leaves: how often each site was stopped, and the receipts. The rest is spent.
-pub fn spend(alloc: Global, ran: Ran<'_>) -> Result<Left, AllocError> {
+/// Spends a site, and adds which extents at it were moved.
+fn spend_site(site: Site<'_>, moves: &mut Vec<(u8, u32, u16)>) {
+    let partition = site.partition();
+    let (mut slots, _homeless) = site.close();
+    while let Some(slot) = slots.pop() {
+        match slot {
+            None => {}
+            Some(extent) => {
+                let parts = extent.close();
+                if parts.moves > 0 {
+                    let _pushed = moves.push((partition, parts.number, parts.moves));
+                }
+            }
+        }
+    }
+    slots.destroy_empty();
+}
+
+/// Spends sites, and tells which extents were moved.
+fn spend_sites(alloc: Global, sites: Vec<Site<'_>>) -> Vec<(u8, u32, u16)> {
+    let mut moves = Vec::new(alloc);
+    let mut rest = sites;
+    while let Some(site) = rest.pop() {
+        spend_site(site, &mut moves);
+    }
+    rest.destroy_empty();
+    moves
+}
+
+/// Spends landings.
+fn spend_landings(landings: Vec<Landed>) {
+    let mut rest = landings;
+    while let Some(landed) = rest.pop() {
+        landed.discard();
+    }
+    rest.destroy_empty();
+}
+
+/// What a run leaves: how often each site was stopped, which extents were moved, and the receipts. The
+/// rest is spent.
+pub fn spend(alloc: Global, ran: Ran<'_>) -> Left {
     let RanParts {
         sites,
         parcels,
@@ -61,38 +102,16 @@ pub fn spend(alloc: Global, ran: Ran<'_>) -> Result<Left, AllocError> {
     for site in &sites {
         let _pushed = stops.push(site.stops());
     }
-    let mut moves = Vec::new(alloc);
-    let mut rest = sites;
-    while let Some(site) = rest.pop() {
-        let partition = site.partition();
-        let (mut slots, _homeless) = site.close();
-        while let Some(slot) = slots.pop() {
-            match slot {
-                None => {}
-                Some(extent) => {
-                    let parts = extent.close();
-                    if parts.moves > 0 {
-                        let _pushed = moves.push((partition, parts.number, parts.moves));
-                    }
-                }
-            }
-        }
-        slots.destroy_empty();
-    }
-    rest.destroy_empty();
+    let moves = spend_sites(alloc, sites);
     let held = parcels.len();
     discard_parcels(parcels);
     let landed = landings.len();
-    let mut landings = landings;
-    while let Some(landing) = landings.pop() {
-        landing.discard();
-    }
-    landings.destroy_empty();
-    Ok(Left {
+    spend_landings(landings);
+    Left {
         stops,
         moves,
         parcels: held,
         landings: landed,
         receipts,
-    })
+    }
 }

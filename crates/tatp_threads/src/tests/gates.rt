@@ -63,9 +63,9 @@ fn a_partition_goes_on_while_another_is_held(rt: HostRuntime) -> Result<(), Fail
         &moves,
         &gate,
     ) {
-        Err(refusal) => return Err("no run".into()),
+        Err(_) => return Err("no run".into()),
         Ok(ran) => {
-            let left = spend(alloc, ran)?;
+            let left = spend(alloc, ran);
             assert_eq!(rt; left.receipts.len(), 2);
             assert_eq!(rt; left.receipts[0].len(), 1);
             assert_eq!(rt; left.receipts[1].len(), 1);

@@ -29,7 +29,7 @@ fn extents_are_moved_and_sites_stopped(rt: HostRuntime) -> Result<(), Fail> {
     ) {
         Err(_) => return Err("no run".into()),
         Ok(ran) => {
-            let left = spend(alloc, ran)?;
+            let left = spend(alloc, ran);
             assert_eq!(rt; left.stops, vec![in alloc; 2u64, 1]?);
             assert_eq!(rt; left.moves, vec![in alloc; (1u8, 3u32, 3u16)]?);
             assert_eq!(rt; left.parcels, 0);

@@ -1,0 +1,7 @@
+use super::*;
+
+mod crowds;
+mod fakes;
+mod fixture;
+mod gates;
+mod moves;

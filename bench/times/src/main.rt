@@ -15,13 +15,16 @@ use running::run;
 use sites::{raw, reading, time_log, time_pins, time_site};
 use std::alloc::Global;
 use std::io::Read;
+use std::mem::size_of;
 use std::time::CpuClock;
 use std::{env, io};
 use tatp_audits::audit;
 use tatp_loader::{Loaded, load};
+use tatp_machine::Machine;
 use tatp_numbers::{BuildError, Directory, clean_rows_make_a_directory};
+use tatp_partition::Site;
 use tatp_population::{Extent, OpenError, discard, generate, open, read};
-use tatp_procs::standard;
+use tatp_procs::{Entry, standard};
 use tatp_tables::{Home, Rows, homes};
 
 const CALLS: u64 = 200_000;
@@ -179,11 +182,27 @@ fn time_population(rt: &(impl CpuClock + Print), alloc: Global) -> io::Result<()
     println!(rt; "extents {extents} 0")
 }
 
+/// Prints how many bytes values take.
+fn tell_sizes(rt: &impl Print) -> io::Result<()> {
+    println!(rt; "bytes_of_a_home {} 0", size_of::<Home>())?;
+    println!(rt;
+        "bytes_of_an_extent_beside_its_homes_and_log {} 0",
+        size_of::<Extent>()
+    )?;
+    println!(rt; "bytes_of_an_entry {} 0", size_of::<Entry>())?;
+    println!(rt; "bytes_of_a_machine {} 0", size_of::<Machine<'_>>())?;
+    println!(rt;
+        "bytes_of_a_site_beside_its_places_and_log {} 0",
+        size_of::<Site<'_>>()
+    )
+}
+
 fn main(rt: HostRuntime) -> io::Result<()> {
     let alloc = rt.alloc();
     let words = env::args(&rt)?.collect::<Vec<String>>(alloc)?;
     match words.get(1) {
         None => {
+            tell_sizes(&rt)?;
             for name in PARTS {
                 time_part(&rt, alloc, name, CALLS)?;
             }

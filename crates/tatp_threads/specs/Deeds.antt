@@ -18,11 +18,6 @@ Grows before None more = Unit {0}
 Grows None (Some after) more = ⊥
 Grows (Some before) (Some after) more = after ≡ before ++ more
 
--- what is written down as long as nothing was lost
-abbrev pub written : {A : Type 0} → Bool → List A → Option (List A)
-written true all = None
-written false all = Some all
-
 -- ---- executors
 -- the receipt of a completed call: what its entry says, and in which extent's log it stands
 abbrev pub receipt_of : Completion → Receipt

@@ -88,7 +88,7 @@ fn seen_after(seen: u64, receipt: &Receipt) -> u64
 
 /// Asks the calls of one client, one after another, and keeps their receipts. It ends where a call came
 /// to nothing.
-pub(crate) fn ask_all<D: Desk>(
+fn ask_all<D: Desk>(
     desk: &mut D,
     directory: &Directory,
     client: u64,

@@ -1,7 +1,6 @@
 use super::*;
 
 mod crowds;
-mod fakes;
 mod fixture;
 mod gates;
 mod moves;

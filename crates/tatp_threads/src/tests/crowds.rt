@@ -91,6 +91,9 @@ fn no_receipt_is_lost(rt: HostRuntime) -> Result<(), Fail> {
     for client in 0..64u64 {
         lists.push(calls(alloc, client, 20)?)?;
     }
+    if lists.len() != 64 {
+        return Err("no clients".into());
+    }
     let plan = moves(alloc, 40)?;
     for _ in 0..1u32 {
         let gate = Count {

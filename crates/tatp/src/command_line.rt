@@ -69,7 +69,11 @@ fn population_of(options: &ArgMatches<'_>) -> Option<Population>
 fn partitions_of(options: &ArgMatches<'_>) -> Option<u8>
     ensures { SomeIff result (IsNumberIn 1 MOST_PARTITIONS (partitions_text (found_of options.now))) (digits_value 10 (partitions_text (found_of options.now))) }
 {
-    let partitions = number_in(options.get_str("partitions").unwrap_or("2"), 1, MOST_PARTITIONS)?;
+    let partitions = number_in(
+        options.get_str("partitions").unwrap_or("2"),
+        1,
+        MOST_PARTITIONS,
+    )?;
     Some(partitions as u8)
 }
 
@@ -176,10 +180,7 @@ fn task_in(matches: &ArgMatches<'_>) -> Option<Task>
     ensures possible { IfSome result IsTask }
 {
     match matches.subcommand()? {
-        ("call", options) => Some(Task::Call(
-            population_of(options)?,
-            partitions_of(options)?,
-        )),
+        ("call", options) => Some(Task::Call(population_of(options)?, partitions_of(options)?)),
         ("asm", _) => Some(Task::Asm),
         ("dis", _) => Some(Task::Dis),
         ("check", _) => Some(Task::Check),

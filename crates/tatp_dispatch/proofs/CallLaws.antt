@@ -64,7 +64,7 @@ runs_counted sites r w = omega (arith, one_same r.client r.client refl, running_
 queued_push : (k : ℕ) (queues : List (List Item)) (p : ℕ) (before : List Item) (item : Item) → slice_get queues p ≡ Some before → times_queued k (set queues p (before ++ item ∷ [])) ≡ times_queued k queues + one_if (item.client == k)
 queued_push k queues p before item here = omega (arith, total_set (times_waiting k) queues p before (before ++ item ∷ []) here, total_push (λ (z : Item). one_if (z.client == k)) before item)
 
-queued_pop : (k : ℕ) (queues : List (List Item)) (p : ℕ) (rest : List Item) (item : Item) → slice_get queues p ≡ Some (item ∷ rest) → times_queued k (set queues p rest) + one_if (item.client == k) ≡ times_queued k queues
+pub queued_pop : (k : ℕ) (queues : List (List Item)) (p : ℕ) (rest : List Item) (item : Item) → slice_get queues p ≡ Some (item ∷ rest) → times_queued k (set queues p rest) + one_if (item.client == k) ≡ times_queued k queues
 queued_pop k queues p rest item here = omega (arith, total_set (times_waiting k) queues p (item ∷ rest) rest here)
 
 running_set : (k : ℕ) (sites : List SiteState) (p : ℕ) (s s' : SiteState) → slice_get sites p ≡ Some s → times_running k (set sites p s') + one_if (is_call_of k s) ≡ times_running k sites + one_if (is_call_of k s')

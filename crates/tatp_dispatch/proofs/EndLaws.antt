@@ -25,6 +25,7 @@ use Rattle.tatp_dispatch.specs.declared.client.Client.{Client}
 use Rattle.tatp_dispatch.specs.Counts.{or_else, first_of, one, one_if, total}
 use Rattle.tatp_dispatch.specs.Worlds.{WorldState}
 use Rattle.tatp_dispatch.specs.Gathered.{gathered}
+use Rattle.tatp_dispatch.specs.Populated.{IsPopulated}
 use Rattle.tatp_dispatch.specs.Plain.{PlainCall, Completes}
 use Rattle.tatp_dispatch.specs.Shown.{call_here, running_calls, shown, set_back}
 use Rattle.tatp_dispatch.specs.Placed.{AreExtentsPlaced, IsSiteOf, RunsAt, RunsIn, times_queued, times_running, AllCalls, AreClientsInOrder}
@@ -35,7 +36,7 @@ use Rattle.tatp_dispatch.proofs.CollectLaws.{Collects, collected_of, collected_w
 use Rattle.tatp_dispatch.proofs.PlaceLaws.{home_in}
 use Rattle.tatp_dispatch.proofs.GatherLaws.{gathered_is}
 use Rattle.tatp_dispatch.proofs.BackLaws.{saved_at, home_back, set_back_is}
-use Rattle.tatp_dispatch.proofs.NameLaws.{SameNames, same_names, names_turned}
+use Rattle.tatp_dispatch.proofs.SubscriberLaws.{SameSubscribers, same_subscribers, subscribers_turned}
 use Rattle.tatp_dispatch.proofs.TurnLaws.{lawful_is_free}
 use Rattle.tatp_dispatch.proofs.LineLaws.{alone_at, alone_homeless, end_rows}
 use Rattle.tatp_dispatch.proofs.CallLaws.{calls_ended, runs_set}
@@ -117,8 +118,8 @@ pub record Ended (w w' : WorldState) (client : ℕ) (reply : Reply) : Type 0 whe
 record EndDone (w w' : WorldState) (p : ℕ) (s' : SiteState) (q : CallState) (end : End) : Type 0 where
   pub placed : AreExtentsPlaced w.routes.subscribers (set w.sites p s') w.parcels
   pub routes : AreRoutesRight w.routes.routes w.landings (λ e. moves_of (extent_in (set w.sites p s') w.parcels e)) (stands_at (set w.sites p s'))
-  pub now : Renamed w.directory (gathered w')
-  pub back : Renamed w.directory (set_back w')
+  pub now : Renamed w.routes.subscribers w.directory (gathered w')
+  pub back : Renamed w.routes.subscribers w.directory (set_back w')
   pub ends : Ends q (gathered w) end (gathered w')
 
 ended_good : (w : WorldState) (p : ℕ) (s s' : SiteState) (r : RunningCall) (c : Client) (entry : Entry) (q : CallState) (end : End) → IsWorld w → slice_get w.sites p ≡ Some s → IsSite s' → Stops s s' r → entry.client ≡ r.client → entry.number ≡ r.number → slice_get w.clients entry.client ≡ Some c
@@ -150,6 +151,8 @@ ended_good w p s s' r c entry q end good here site st of number is d =
       keys_back = d.back.keys;
       consistent = d.now.consistent;
       consistent_back = d.back.consistent;
+      populated = d.now.populated;
+      populated_back = d.back.populated;
     }
 
 -- the plain world completes the call
@@ -188,10 +191,10 @@ alone_one w p s s' r c entry end home u' good here st is at alone back =
     (subst (λ (k : Option ℕ). Alone w.procedures (procedure_asked r.ask) (arguments_asked r.ask) k (set_back w) o) (sym key) alone) in
     record { ended = entry ∷ []; completions = refl; order = (o, run, ap (λ t. t.reply) is, subst AreInDomains (sym ask) ((good.sites p s here).site.running r st.was).fits.domains, back) }
 
-names_by : (entry now rows : Database) → SameNames entry.subscribers now.subscribers → (rows ≡ now) ⊎ (rows ≡ entry) → SameNames now.subscribers rows.subscribers × SameNames entry.subscribers rows.subscribers
-names_by entry now rows names by = elim by as (λ _. SameNames now.subscribers rows.subscribers × SameNames entry.subscribers rows.subscribers) [
-  | inl e ↦ (subst (λ (v : Database). SameNames now.subscribers v.subscribers) (sym e) (same_names now.subscribers), subst (λ (v : Database). SameNames entry.subscribers v.subscribers) (sym e) names)
-  | inr e ↦ (subst (λ (v : Database). SameNames now.subscribers v.subscribers) (sym e) (names_turned entry.subscribers now.subscribers names), subst (λ (v : Database). SameNames entry.subscribers v.subscribers) (sym e) (same_names entry.subscribers))
+subscribers_by : (entry now rows : Database) → SameSubscribers entry now → (rows ≡ now) ⊎ (rows ≡ entry) → SameSubscribers now rows × SameSubscribers entry rows
+subscribers_by entry now rows same by = elim by as (λ _. SameSubscribers now rows × SameSubscribers entry rows) [
+  | inl e ↦ (subst (SameSubscribers now) (sym e) (same_subscribers now), subst (SameSubscribers entry) (sym e) same)
+  | inr e ↦ (subst (SameSubscribers now) (sym e) (subscribers_turned entry now same), subst (SameSubscribers entry) (sym e) (same_subscribers entry))
 ]
 
 ended_home : (w : WorldState) (p : ℕ) (s s' : SiteState) (h : ℕ) (completion : Completion) (c : Client) (g : EndsCall s completion s') → IsWorld w → slice_get w.sites p ≡ Some s → IsSite s' → slice_get w.clients completion.entry.client ≡ Some c → g.running.call.frame.home ≡ Some h
@@ -226,15 +229,15 @@ ended_home w p s s' h completion c g good here site at home =
     let ends = g.ends (gathered w) same in
     let own : IsHome (record { s_id = h; tables = g.rows }) = subst (λ k. AreRowsOf k g.rows) home g.home in
     let by = end_rows g.end h g.running.call (gathered w) g.rows o.now home o.gathered_has own.own o.before.own ends.whole in
-    let names = names_by g.running.call.entry o.now g.rows o.names by in
+    let subscribers = subscribers_by g.running.call.entry o.now g.rows o.subscribers by in
     let whole : gathered w' ≡ with_subscriber (gathered w) h g.rows = collected_with (home_in w.sites w.parcels) (home_in (set w.sites p s') w.parcels) (gathered w) (gathered w') h v f f' d.here d.others in
     let back : set_back w' ≡ with_subscriber (set_back w) h g.rows = collected_with (home_back w.sites w.parcels) (home_back (set w.sites p s') w.parcels) (set_back w) (set_back w') h v b b' back_here back_others in
     let ends' : Ends g.running.call (gathered w) g.end (gathered w') = subst (Ends g.running.call (gathered w) g.end) (ap (λ k. with_home_rows (gathered w) k g.rows) home ∙ sym whole) ends in
     let done : EndDone w w' p s' g.running.call g.end = record {
       placed = d.placed;
       routes = d.routes_right;
-      now = renamed w.directory (home_in w.sites w.parcels) (home_in (set w.sites p s') w.parcels) (gathered w) (gathered w') h o.now g.rows f f' d.before d.here d.others names.0 good.keys good.consistent;
-      back = renamed w.directory (home_back w.sites w.parcels) (home_back (set w.sites p s') w.parcels) (set_back w) (set_back w') h g.running.call.entry g.rows b b' back_before back_here back_others names.1 good.keys_back good.consistent_back;
+      now = renamed n w.directory (home_in w.sites w.parcels) (home_in (set w.sites p s') w.parcels) (gathered w) (gathered w') h o.now g.rows f f' d.before d.here d.others subscribers.0 good.keys good.consistent good.populated;
+      back = renamed n w.directory (home_back w.sites w.parcels) (home_back (set w.sites p s') w.parcels) (set_back w) (set_back w') h g.running.call.entry g.rows b b' back_before back_here back_others subscribers.1 good.keys_back good.consistent_back good.populated_back;
       ends = ends';
     } in
     let after = ended_good w p s s' g.running c completion.entry g.running.call g.end good here site st (ap (λ t. t.client) g.entry) (ap (λ t. t.number) g.entry) at done in
@@ -271,8 +274,8 @@ ended_homeless w p s s' completion c g good here site at home =
     let done : EndDone w w' p s' g.running.call g.end = record {
       placed = placed;
       routes = routes;
-      now = record { keys = subst (λ (u : Database). (key : Key) → answer w.directory key ≡ home_of_key u.subscribers key) (sym database) good.keys; consistent = subst IsConsistent (sym database) good.consistent };
-      back = record { keys = subst (λ (u : Database). (key : Key) → answer w.directory key ≡ home_of_key u.subscribers key) (sym back) good.keys_back; consistent = subst IsConsistent (sym back) good.consistent_back };
+      now = record { keys = subst (λ (u : Database). (key : Key) → answer w.directory key ≡ home_of_key u.subscribers key) (sym database) good.keys; consistent = subst IsConsistent (sym database) good.consistent; populated = subst (IsPopulated n) (sym database) good.populated };
+      back = record { keys = subst (λ (u : Database). (key : Key) → answer w.directory key ≡ home_of_key u.subscribers key) (sym back) good.keys_back; consistent = subst IsConsistent (sym back) good.consistent_back; populated = subst (IsPopulated n) (sym back) good.populated_back };
       ends = ends';
     } in
     let after = ended_good w p s s' g.running c completion.entry g.running.call g.end good here site st (ap (λ t. t.client) g.entry) (ap (λ t. t.number) g.entry) at done in

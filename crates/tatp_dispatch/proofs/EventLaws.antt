@@ -60,7 +60,7 @@ abbrev pub Done_so : Inside → Result Answer Refusal → Inside → Type 0
 Done_so a answered a' = IsSound a' × Tells (world_of a) answered (world_of a')
 
 room_same : (a : Inside) (v : Vec SiteState Global) (p : ℕ) (s s' : SiteState) → v.items ≡ set a.sites.items p s' → slice_get a.sites.items p ≡ Some s → one s'.running ≡ one s.running → HasRoom a → HasRoom (with_sites a v)
-room_same a v p s s' is here same h = record { completions = omega (arith, h.completions, ap (total (λ (t : SiteState). one t.running)) is, total_set_same (λ (t : SiteState). one t.running) a.sites.items p s s' here same); landings = h.landings }
+room_same a v p s s' is here same h = record { completions = omega (arith, h.completions, ap (total (λ (t : SiteState). one t.running)) is, total_set_same (λ (t : SiteState). one t.running) a.sites.items p s s' here same); landings = h.landings; clients = h.clients }
 
 pub done_quiet : (a : Inside) (v : Vec SiteState Global) (p : ℕ) (s s' : SiteState) → IsSound a → v.items ≡ set a.sites.items p s' → slice_get a.sites.items p ≡ Some s → IsSite s' → IsQuiet s s' → Done_so a (Ok Done) (with_sites a v)
 done_quiet a v p s s' h is here site q =
@@ -89,12 +89,12 @@ done_end a v entries clients p s s' completion c h is pushed set_to len capacity
     ap (λ xs. record w { sites = xs; completions = entries.items; clients = clients.items }) is
     ∙ (ap (λ xs. record w { sites = set a.sites.items p s'; completions = xs; clients = clients.items }) pushed ∙ ap (λ xs. record w { sites = set a.sites.items p s'; completions = a.completions.items ++ completion.entry ∷ []; clients = xs }) set_to) in
     let k = subst (λ (t : WorldState). Ended w t completion.entry.client completion.entry.reply) (sym same) (ended w p s s' completion c h.world here site at g) in (
-      record { world = k.world; room = record { completions = omega (arith, h.room.completions, ap (total (λ (t : SiteState). one t.running)) is, total_set (λ (t : SiteState). one t.running) a.sites.items p s s' here, len, capacity, ran, idle); landings = h.room.landings } },
+      record { world = k.world; room = record { completions = omega (arith, h.room.completions, ap (total (λ (t : SiteState). one t.running)) is, total_set (λ (t : SiteState). one t.running) a.sites.items p s s' here, len, capacity, ran, idle); landings = h.room.landings; clients = omega (arith, h.room.clients, ap length set_to, length-set a.clients.items completion.entry.client (record c { busy = false; seen = completion.entry.stamp })) } },
       record { goes = k.completes; serves = k.serves; world = k.world; procedures = refl },
     )
 
 -- ---- a step
-kept_running : (t : SiteState) (home : Option ℕ) (v : Database) → (with_rows_here t home v).running ≡ t.running
+pub kept_running : (t : SiteState) (home : Option ℕ) (v : Database) → (with_rows_here t home v).running ≡ t.running
 kept_running t None v = refl
 kept_running t (Some h) v = refl
 
@@ -169,4 +169,4 @@ end_at w p obstacle completion sites x = obstacle_is w p x.before obstacle None 
 pub sound_refused : (a : Inside) (v : Vec SiteState Global) → IsSound a → record (world_of a) { sites = v.items } ≡ world_of a → IsSound (with_sites a v)
 sound_refused a v h same =
     let items : v.items ≡ a.sites.items = ap (λ t. t.sites) same in
-    record { world = subst IsWorld (sym same) h.world; room = record { completions = omega (arith, h.room.completions, ap (total (λ (t : SiteState). one t.running)) items); landings = h.room.landings } }
+    record { world = subst IsWorld (sym same) h.world; room = record { completions = omega (arith, h.room.completions, ap (total (λ (t : SiteState). one t.running)) items); landings = h.room.landings; clients = h.room.clients } }

@@ -19,8 +19,8 @@ use Rattle.tatp_machine.specs.Runs.{Outcome, call_at_entry, EndsAfter, Alone}
 use Rattle.tatp_procs.proofs.KeepLaws.{puts_free, AreHome, Keeps, turn_keeps}
 use Rattle.tatp_machine.specs.Runs.{LinesLead}
 use Rattle.tatp_dispatch.proofs.CollectLaws.{same_database, both_ways, in_or_put}
-use Rattle.tatp_dispatch.proofs.TurnLaws.{KeepsNames, turn_names}
-use Rattle.tatp_dispatch.proofs.NameLaws.{SameNames, same_names, names_then, names_turned}
+use Rattle.tatp_dispatch.proofs.TurnLaws.{KeepsSubscribers, turn_subscribers}
+use Rattle.tatp_dispatch.proofs.SubscriberLaws.{SameSubscribers, same_subscribers, subscribers_then}
 
 -- ---- a home's rows as a database of their own
 and_implied : (a b : Bool) → (a ≡ true → b ≡ true) → (a && b) ≡ a
@@ -42,8 +42,8 @@ own_with v h rows own = same_database (with_subscriber v h rows) rows (λ t q. (
 pub keeps_at : (s : ℕ) (q q' : Frame) (t : Turn) (rows : Database) → t ≡ Goes_on q' rows → Keeps s q t → (q'.home ≡ q.home) × (q'.code ≡ q.code) × AreHome s rows
 keeps_at s q q' t rows e h = subst (Keeps s q) e h
 
-pub names_at : (v : Database) (q' : Frame) (t : Turn) (rows : Database) → t ≡ Goes_on q' rows → KeepsNames v t → SameNames v.subscribers rows.subscribers
-names_at v q' t rows e h = subst (KeepsNames v) e h
+pub subscribers_at : (v : Database) (q' : Frame) (t : Turn) (rows : Database) → t ≡ Goes_on q' rows → KeepsSubscribers v t → SameSubscribers v rows
+subscribers_at v q' t rows e h = subst (KeepsSubscribers v) e h
 
 -- ---- lines on a home
 -- so many lines from the rows u0 of a home to u, as lines on the database U with those rows
@@ -52,7 +52,7 @@ pub record Came (lines h : ℕ) (q0 : CallState) (u0 : Database) (q : CallState)
   pub home : q.frame.home ≡ Some h
   pub code : q.frame.code ≡ q0.frame.code
   pub is : AreHome h u
-  pub names : SameNames u0.subscribers u.subscribers
+  pub subscribers : SameSubscribers u0 u
 
 came_zero : (h : ℕ) (q0 : CallState) (u0 : Database) (q : CallState) (u U : Database) → q0.frame.home ≡ Some h → AreHome h u0 → q ≡ q0 → u ≡ u0 → Came zero h q0 u0 q u U
 came_zero h q0 u0 q u U at is same rows = record {
@@ -60,7 +60,7 @@ came_zero h q0 u0 q u U at is same rows = record {
   home = ap (λ c. c.frame.home) same ∙ at;
   code = ap (λ c. c.frame.code) same;
   is = subst (AreHome h) (sym rows) is;
-  names = subst (λ (v : Database). SameNames u0.subscribers v.subscribers) (sym rows) (same_names u0.subscribers);
+  subscribers = subst (SameSubscribers u0) (sym rows) (same_subscribers u0);
 }
 
 came_more : (lines h : ℕ) (q0 : CallState) (u0 : Database) (m : CallState) (v : Database) (q : CallState) (u U : Database) → list_all puts_free q0.frame.code ≡ true → Came lines h q0 u0 m v U → Line m v q u → Came (suc lines) h q0 u0 q u U
@@ -70,7 +70,7 @@ came_more lines h q0 u0 m v q u U free c line =
     let acts : turn m.frame v ≡ Goes_on q.frame line.rows = ap (turn m.frame) (sym rows_v) ∙ line.acts in
     let free_m : list_all puts_free m.frame.code ≡ true = ap (list_all puts_free) c.code ∙ free in
     let k = keeps_at h m.frame q.frame (turn m.frame v) line.rows acts (turn_keeps h m.frame v free_m c.is) in
-    let n = names_at v q.frame (turn m.frame v) line.rows acts (turn_names m.frame v free_m) in
+    let n = subscribers_at v q.frame (turn m.frame v) line.rows acts (turn_subscribers m.frame v free_m) in
     let rows : u ≡ line.rows = line.whole ∙ (ap (λ o. with_home_rows v o line.rows) c.home ∙ own_with v h line.rows own) in
     let rows_U : rows_of_home (with_subscriber U h v) m.frame.home ≡ v = ap (rows_of_home (with_subscriber U h v)) c.home ∙ of_subscriber-with_subscriber U h v own in
     let lifted : Line m (with_subscriber U h v) q (with_subscriber U h u) = record {
@@ -84,7 +84,7 @@ came_more lines h q0 u0 m v q u U free c line =
       home = k.0 ∙ c.home;
       code = k.1 ∙ c.code;
       is = subst (AreHome h) (sym rows) k.2;
-      names = names_then u0.subscribers v.subscribers u.subscribers c.names (subst (λ (x : Database). SameNames v.subscribers x.subscribers) (sym rows) n);
+      subscribers = subscribers_then u0 v u c.subscribers (subst (SameSubscribers v) (sym rows) n);
     }
 
 pub came : (lines h : ℕ) (q0 : CallState) (u0 : Database) (q : CallState) (u U : Database) → q0.frame.home ≡ Some h → list_all puts_free q0.frame.code ≡ true → AreHome h u0 → LinesLead lines q0 u0 q u → Came lines h q0 u0 q u U

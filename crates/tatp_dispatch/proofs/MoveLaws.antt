@@ -153,6 +153,8 @@ keeps_routed w routes landings good name right = record {
     keys_back = good.keys_back;
     consistent = good.consistent;
     consistent_back = good.consistent_back;
+    populated = good.populated;
+    populated_back = good.populated_back;
   };
   stays = record { database = refl; calls = λ c. refl; completions = refl };
   back = refl;

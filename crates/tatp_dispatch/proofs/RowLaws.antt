@@ -13,6 +13,7 @@ use Rattle.tatp_population.specs.Extents.{ExtentState, first_subscriber, extent_
 use Rattle.tatp_partition.specs.Moving.{LandedState}
 use Rattle.tatp_partition.specs.Sites.{SiteState, slot, home_here}
 use Rattle.tatp_move.specs.declared.route.Route.{Route}
+use Rattle.tatp_dispatch.specs.Populated.{IsPopulated}
 use Rattle.tatp_dispatch.specs.Placed.{extent_at, IsHomeOf, IsWhole, AreExtentsPlaced}
 use Rattle.tatp_dispatch.specs.Routed.{extent_in, moves_of, partition_with, stands_at, AreRoutesRight}
 use Rattle.tatp_dispatch.proofs.CountLaws.{same_or_not, get_set_same, get_set_other, at_set, first_set_same}
@@ -20,6 +21,7 @@ use Rattle.tatp_dispatch.proofs.CollectLaws.{Collects}
 use Rattle.tatp_dispatch.proofs.PlaceLaws.{slot_has, home_in, home_at_place, home_at_of, extent_at_site}
 use Rattle.tatp_dispatch.proofs.NameLaws.{SameNames, SameNamesAt, same_names_at, names_collected, key_names_same, differ_still, first_of_rows}
 use Rattle.tatp_dispatch.proofs.ConsistentLaws.{consistent_of, consistent_differ}
+use Rattle.tatp_dispatch.proofs.SubscriberLaws.{SameSubscribers, populated_still}
 use Rattle.tatp_dispatch.proofs.RouteLaws.{routes_kept}
 use Rattle.tatp_dispatch.proofs.SlotLaws.{Changes, slot_set_same, slot_set_other, placed_changed, extent_other, extent_here}
 
@@ -130,20 +132,22 @@ replaced n sites parcels p s s' h now rows routes landings c placed here right =
           (λ k. first_set_same (partition_with k) sites p s s' here (stands k)) right;
     }
 
--- ---- a database with the rows of one home replaced by others with the same names
-pub record Renamed (directory : Listing) (u' : Database) : Type 0 where
+-- ---- a database with the rows of one home replaced by others of the same subscriber
+pub record Renamed (n : ℕ) (directory : Listing) (u' : Database) : Type 0 where
   pub keys : (key : Key) → answer directory key ≡ home_of_key u'.subscribers key
   pub consistent : IsConsistent u'
+  pub populated : IsPopulated n u'
 
-pub renamed : (directory : Listing) (f g : ℕ → Option SubscriberRows) (u u' : Database) (h : ℕ) (now rows : Database) → Collects f u → Collects g u' → f h ≡ Some (record { s_id = h; tables = now }) → g h ≡ Some (record { s_id = h; tables = rows }) → ((k : ℕ) → k ≢ h → g k ≡ f k)
-    → SameNames now.subscribers rows.subscribers → ((key : Key) → answer directory key ≡ home_of_key u.subscribers key) → IsConsistent u → Renamed directory u'
-renamed directory f g u u' h now rows c d at is others names keys consistent =
+pub renamed : (n : ℕ) (directory : Listing) (f g : ℕ → Option SubscriberRows) (u u' : Database) (h : ℕ) (now rows : Database) → Collects f u → Collects g u' → f h ≡ Some (record { s_id = h; tables = now }) → g h ≡ Some (record { s_id = h; tables = rows }) → ((k : ℕ) → k ≢ h → g k ≡ f k)
+    → SameSubscribers now rows → ((key : Key) → answer directory key ≡ home_of_key u.subscribers key) → IsConsistent u → IsPopulated n u → Renamed n directory u'
+renamed n directory f g u u' h now rows c d at is others subscribers keys consistent populated =
     let same : SameNames u.subscribers u'.subscribers = names_collected f g u u' c d (λ k. elim (same_or_not k h) as (λ _. SameNamesAt (f k) (g k)) [
-      | inl e ↦ subst (λ (i : ℕ). SameNamesAt (f i) (g i)) (sym e) (subst (λ (o : Option SubscriberRows). SameNamesAt o (g h)) (sym at) (subst (λ (o : Option SubscriberRows). SameNamesAt (Some (record { s_id = h; tables = now })) o) (sym is) names))
+      | inl e ↦ subst (λ (i : ℕ). SameNamesAt (f i) (g i)) (sym e) (subst (λ (o : Option SubscriberRows). SameNamesAt o (g h)) (sym at) (subst (λ (o : Option SubscriberRows). SameNamesAt (Some (record { s_id = h; tables = now })) o) (sym is) subscribers.names))
       | inr other ↦ same_names_at (f k) (g k) (others k other)
     ]) in
     let differ = consistent_differ u consistent in
     record {
       keys = λ key. keys key ∙ sym (key_names_same u.subscribers u'.subscribers key (first_of_rows f u c) (first_of_rows g u' d) same differ);
       consistent = consistent_of g u' d (differ_still u.subscribers u'.subscribers same differ);
+      populated = populated_still n f g u u' h now rows c d at is others subscribers same populated;
     }

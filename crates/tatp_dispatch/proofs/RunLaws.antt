@@ -33,7 +33,7 @@ use Rattle.tatp_dispatch.proofs.CollectLaws.{Collects, collected_of}
 use Rattle.tatp_dispatch.proofs.PlaceLaws.{home_in}
 use Rattle.tatp_dispatch.proofs.GatherLaws.{gathered_is}
 use Rattle.tatp_dispatch.proofs.BackLaws.{entry_home, saved_by, saved_at, home_back}
-use Rattle.tatp_dispatch.proofs.NameLaws.{SameNames}
+use Rattle.tatp_dispatch.proofs.SubscriberLaws.{SameSubscribers}
 use Rattle.tatp_dispatch.proofs.TurnLaws.{lawful_is_free}
 use Rattle.tatp_dispatch.proofs.LineLaws.{Came, came, CameHomeless, came_homeless}
 use Rattle.tatp_dispatch.proofs.WorldLaws.{calls_home, one_call}
@@ -135,7 +135,7 @@ pub record OnHome (w : WorldState) (p : ℕ) (s : SiteState) (r : RunningCall) (
   pub before : IsHome (record { s_id = h; tables = r.call.entry })
   pub gathered_has : of_subscriber (gathered w) h ≡ now
   pub free : list_all puts_free r.call.frame.code ≡ true
-  pub names : SameNames r.call.entry.subscribers now.subscribers
+  pub subscribers : SameSubscribers r.call.entry now
   pub lines : ℕ
   pub lead : LinesLead lines (record { frame = entered w.procedures (procedure_asked r.ask) (arguments_asked r.ask) (Some h); entry = r.call.entry }) r.call.entry r.call now
 
@@ -166,7 +166,7 @@ on_home w p s r h good at runs home =
       before = c.on.before;
       gathered_has = collected_of (home_in w.sites w.parcels) (gathered w) h (record { s_id = h; tables = c.on.rows }) (gathered_is w.routes.subscribers w good.extents) found;
       free = ap (list_all puts_free) m.code ∙ free0;
-      names = m.names;
+      subscribers = m.subscribers;
       lines = k.lines;
       lead = lead;
     }

@@ -47,7 +47,7 @@ goes_more procedures a b c [] x h k = (c, subst (λ (t : PlainWorld). Goes proce
 goes_more procedures a b c (y ∷ answers) x h k = (h.0, h.1, goes_more procedures h.0 b c answers x h.2 k)
 
 -- ---- transactions
-in_order_of : (u : Database) (entries : List Entry) (after : Database) (calls : List Call) → IsConsistent u → AloneInOrder standard_module u entries after → map (λ (e : Entry). e.ask) entries ≡ map Txn calls → in_order u calls ≡ record { replies = map (λ (e : Entry). e.reply) entries; database = after }
+pub in_order_of : (u : Database) (entries : List Entry) (after : Database) (calls : List Call) → IsConsistent u → AloneInOrder standard_module u entries after → map (λ (e : Entry). e.ask) entries ≡ map Txn calls → in_order u calls ≡ record { replies = map (λ (e : Entry). e.reply) entries; database = after }
 in_order_of u [] after [] is h asks = ap (λ (d : Database). record { replies = []; database = d }) (sym h)
 in_order_of u [] after (c ∷ calls) is h asks = absurd cc
 in_order_of u (e ∷ entries) after [] is h asks = absurd cc

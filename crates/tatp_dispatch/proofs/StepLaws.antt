@@ -22,6 +22,7 @@ use Rattle.tatp_partition.specs.Sound.{IsSite}
 use Rattle.tatp_dispatch.specs.Counts.{or_else, first_of}
 use Rattle.tatp_dispatch.specs.Worlds.{WorldState}
 use Rattle.tatp_dispatch.specs.Gathered.{gathered}
+use Rattle.tatp_dispatch.specs.Populated.{IsPopulated}
 use Rattle.tatp_dispatch.specs.Plain.{PlainCall, MakesLine}
 use Rattle.tatp_dispatch.specs.Shown.{running_calls, shown, set_back}
 use Rattle.tatp_dispatch.specs.Placed.{AreExtentsPlaced, IsSiteOf, RunsAt, RunsIn, AreClientsInOrder}
@@ -31,9 +32,9 @@ use Rattle.tatp_dispatch.proofs.CollectLaws.{Collects, collected_of, collected_w
 use Rattle.tatp_dispatch.proofs.PlaceLaws.{home_in}
 use Rattle.tatp_dispatch.proofs.GatherLaws.{gathered_is}
 use Rattle.tatp_dispatch.proofs.BackLaws.{saved_at, home_back, set_back_is}
-use Rattle.tatp_dispatch.proofs.NameLaws.{SameNames}
-use Rattle.tatp_dispatch.proofs.TurnLaws.{turn_names}
-use Rattle.tatp_dispatch.proofs.LineLaws.{keeps_at, names_at}
+use Rattle.tatp_dispatch.proofs.SubscriberLaws.{SameSubscribers}
+use Rattle.tatp_dispatch.proofs.TurnLaws.{turn_subscribers}
+use Rattle.tatp_dispatch.proofs.LineLaws.{keeps_at, subscribers_at}
 use Rattle.tatp_dispatch.proofs.CallLaws.{calls_moved, runs_set}
 use Rattle.tatp_dispatch.proofs.RowLaws.{ChangesRows, Replaced, replaced, renamed, Renamed}
 use Rattle.tatp_dispatch.proofs.WorldLaws.{entries_are_homes, one_call, sites_after, Kept, keeps_quiet}
@@ -118,6 +119,7 @@ pub record LineDone (w : WorldState) (p : ℕ) (s' : SiteState) : Type 0 where
   pub routes : AreRoutesRight w.routes.routes w.landings (λ e. moves_of (extent_in (set w.sites p s') w.parcels e)) (stands_at (set w.sites p s'))
   pub keys : (key : Key) → answer w.directory key ≡ home_of_key (gathered (record w { sites = set w.sites p s' })).subscribers key
   pub consistent : IsConsistent (gathered (record w { sites = set w.sites p s' }))
+  pub populated : IsPopulated w.routes.subscribers (gathered (record w { sites = set w.sites p s' }))
   pub back : set_back (record w { sites = set w.sites p s' }) ≡ set_back w
 
 pub lined_world : (w : WorldState) (p : ℕ) (s s' : SiteState) (r r' : RunningCall) → IsWorld w → slice_get w.sites p ≡ Some s → IsSite s' → Continues s s' r r' → LineDone w p s' → IsWorld (record w { sites = set w.sites p s' })
@@ -150,24 +152,26 @@ lined_world w p s s' r r' good here site c d =
       keys_back = subst (λ (u : Database). (key : Key) → answer w.directory key ≡ home_of_key u.subscribers key) (sym d.back) good.keys_back;
       consistent = d.consistent;
       consistent_back = subst IsConsistent (sym d.back) good.consistent_back;
+      populated = d.populated;
+      populated_back = subst (IsPopulated w.routes.subscribers) (sym d.back) good.populated_back;
     }
 
 -- the rows at entry that are set back
 pub saved_first : (w : WorldState) (p : ℕ) (s : SiteState) (r : RunningCall) (h : ℕ) → IsWorld w → slice_get w.sites p ≡ Some s → s.running ≡ Some r → r.call.frame.home ≡ Some h → first_of (saved_at h) w.sites ≡ Some (record { s_id = h; tables = r.call.entry })
 saved_first w p s r h good here runs home = first_at (saved_at h) w.sites p s (record { s_id = h; tables = r.call.entry }) here (saved_is h s r runs home) (saved_most w.routes.subscribers w.sites w.parcels h good.extents (λ q t at. (good.sites q t at).site))
 
--- the names of what a line leaves are those of what it found
-line_names : (w : WorldState) (p : ℕ) (s s' : SiteState) (h : ℕ) (g : GoesOn s s') → g.running.call.frame.home ≡ Some h → (o : OnHome w p s g.running h) → rows_of_home (gathered w) g.running.call.frame.home ≡ rows_here s g.running.call.frame.home → SameNames o.now.subscribers g.rows.subscribers
-line_names w p s s' h g home o same =
+-- the subscribers of what a line leaves are those of what it found
+line_subscribers : (w : WorldState) (p : ℕ) (s s' : SiteState) (h : ℕ) (g : GoesOn s s') → g.running.call.frame.home ≡ Some h → (o : OnHome w p s g.running h) → rows_of_home (gathered w) g.running.call.frame.home ≡ rows_here s g.running.call.frame.home → SameSubscribers o.now g.rows
+line_subscribers w p s s' h g home o same =
     let line = g.line (gathered w) same in
     let at : rows_of_home (gathered w) g.running.call.frame.home ≡ o.now = ap (rows_of_home (gathered w)) home ∙ o.gathered_has in
     let acts : turn g.running.call.frame o.now ≡ Goes_on g.call.frame line.rows = ap (turn g.running.call.frame) (sym at) ∙ line.acts in
     let k = keeps_at h g.running.call.frame g.call.frame (turn g.running.call.frame o.now) line.rows acts (turn_keeps h g.running.call.frame o.now o.free o.is) in
-    let n = names_at o.now g.call.frame (turn g.running.call.frame o.now) line.rows acts (turn_names g.running.call.frame o.now o.free) in
+    let n = subscribers_at o.now g.call.frame (turn g.running.call.frame o.now) line.rows acts (turn_subscribers g.running.call.frame o.now o.free) in
     let own : IsHome (record { s_id = h; tables = g.rows }) = subst (λ k. AreRowsOf k g.rows) home g.home in
     let both : with_subscriber (gathered w) h g.rows ≡ with_subscriber (gathered w) h line.rows = ap (λ k. with_home_rows (gathered w) k g.rows) (sym home) ∙ (line.whole ∙ ap (λ k. with_home_rows (gathered w) k line.rows) home) in
     let rows : line.rows ≡ g.rows = sym (of_subscriber-with_subscriber (gathered w) h line.rows k.2.own) ∙ (ap (λ u. of_subscriber u h) (sym both) ∙ of_subscriber-with_subscriber (gathered w) h g.rows own.own) in
-    subst (λ (v : Database). SameNames o.now.subscribers v.subscribers) rows n
+    subst (SameSubscribers o.now) rows n
 
 -- the plain world makes a line
 plain_line : (w : WorldState) (p : ℕ) (s s' : SiteState) (g : GoesOn s s') → IsWorld w → slice_get w.sites p ≡ Some s → Continues s s' g.running (after_call g.running g.call) → IsWorld (record w { sites = set w.sites p s' })
@@ -214,8 +218,8 @@ lined_home w p s s' h g good here site home =
           ap (λ x. or_else x (home_in (set w.sites p s') w.parcels k)) a ∙ sym (ap (λ x. or_else x (home_in w.sites w.parcels k)) a)
       | inr other ↦ ap (or_else (first_of (saved_at k) w.sites)) (d.others k other)
     ]) in
-    let re = renamed w.directory (home_in w.sites w.parcels) (home_in (set w.sites p s') w.parcels) (gathered w) (gathered w') h o.now g.rows f f' d.before d.here d.others (line_names w p s s' h g home o same) good.keys good.consistent in
-    let after : IsWorld w' = lined_world w p s s' g.running (after_call g.running g.call) good here site c (record { placed = d.placed; routes = d.routes_right; keys = re.keys; consistent = re.consistent; back = back }) in
+    let re = renamed n w.directory (home_in w.sites w.parcels) (home_in (set w.sites p s') w.parcels) (gathered w) (gathered w') h o.now g.rows f f' d.before d.here d.others (line_subscribers w p s s' h g home o same) good.keys good.consistent good.populated in
+    let after : IsWorld w' = lined_world w p s s' g.running (after_call g.running g.call) good here site c (record { placed = d.placed; routes = d.routes_right; keys = re.keys; consistent = re.consistent; populated = re.populated; back = back }) in
     let whole : gathered w' ≡ with_subscriber (gathered w) h g.rows = collected_with (home_in w.sites w.parcels) (home_in (set w.sites p s') w.parcels) (gathered w) (gathered w') h (record { s_id = h; tables = g.rows }) f f' d.here d.others in
     let line : Line g.running.call (gathered w) g.call (gathered w') = subst (Line g.running.call (gathered w) g.call) (ap (λ k. with_home_rows (gathered w) k g.rows) home ∙ sym whole) (g.line (gathered w) same) in
     record { world = after; line = plain_line w p s s' g good here c after line; back = back; completions = refl }
@@ -244,6 +248,7 @@ lined_homeless w p s s' g good here site home =
       routes = routes;
       keys = subst (λ (u : Database). (key : Key) → answer w.directory key ≡ home_of_key u.subscribers key) (sym database) good.keys;
       consistent = subst IsConsistent (sym database) good.consistent;
+      populated = subst (IsPopulated n) (sym database) good.populated;
       back = back;
     }) in
     let line : Line g.running.call (gathered w) g.call (gathered w') = subst (Line g.running.call (gathered w) g.call) (ap (λ k. with_home_rows (gathered w) k g.rows) home ∙ sym database) (g.line (gathered w) same) in

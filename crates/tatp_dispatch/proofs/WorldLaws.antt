@@ -19,6 +19,7 @@ use Rattle.tatp_dispatch.specs.declared.client.Client.{Client}
 use Rattle.tatp_dispatch.specs.Counts.{or_else, first_of}
 use Rattle.tatp_dispatch.specs.Worlds.{WorldState}
 use Rattle.tatp_dispatch.specs.Gathered.{gathered}
+use Rattle.tatp_dispatch.specs.Populated.{IsPopulated}
 use Rattle.tatp_dispatch.specs.Plain.{PlainWorld, Stays}
 use Rattle.tatp_dispatch.specs.Shown.{call_here, call_of_client, running_calls, shown, set_back}
 use Rattle.tatp_dispatch.specs.Placed.{IsHomeOf, AreExtentsPlaced, IsSiteOf, WaitsIn, RunsAt, RunsIn, AllCalls, AreClientsInOrder, AreCallsNamed, AreItemsRight}
@@ -130,6 +131,8 @@ keeps_carried w p s s' parcels landings h c =
         keys_back = subst (λ (u : Database). (key : Key) → answer w.directory key ≡ home_of_key u.subscribers key) (sym back) h.keys_back;
         consistent = subst IsConsistent (sym database) h.consistent;
         consistent_back = subst IsConsistent (sym back) h.consistent_back;
+        populated = subst (IsPopulated n) (sym database) h.populated;
+        populated_back = subst (IsPopulated n) (sym back) h.populated_back;
       };
       stays = record {
         database = database;
@@ -180,6 +183,8 @@ keeps_queues w queues clients h len calls items = record {
     keys_back = h.keys_back;
     consistent = h.consistent;
     consistent_back = h.consistent_back;
+    populated = h.populated;
+    populated_back = h.populated_back;
   };
   stays = record { database = refl; calls = λ c. refl; completions = refl };
   back = refl;

@@ -1,8 +1,9 @@
 -- How the fields of the whole show it, and what holds of them.
-use Rattle.std.specs.Prelude.{ℕ, ◌+◌, ◌≤◌, vec_len}
+use Rattle.std.specs.Prelude.{ℕ, ◌+◌, ◌≤◌, length, vec_len}
 use Rattle.std.specs.Vec.{vec_capacity}
 use Rattle.tatp_partition.specs.Sites.{SiteState}
 use Rattle.tatp_dispatch.specs.declared.world.World.TheInside.{Inside}
+use Rattle.tatp_dispatch.specs.Queues.{most_clients}
 use Rattle.tatp_dispatch.specs.Worlds.{WorldState}
 use Rattle.tatp_dispatch.specs.Counts.{one, total}
 use Rattle.tatp_dispatch.specs.Serving.{IsWorld}
@@ -20,10 +21,11 @@ world_of a = record {
   completions = a.completions.items;
 }
 
--- there is room for the completion of each running call, and for the landing of each parcel in hand
+-- there is room for the completion of each running call, for the landing of each parcel in hand, and in each queue for a call of each client
 pub record HasRoom (a : Inside) : Type 0 where
   pub completions : vec_len a.completions + total (λ (s : SiteState). one s.running) a.sites.items ≤ vec_capacity a.completions
   pub landings : vec_len a.landings + total (λ x. one x) a.parcels ≤ vec_capacity a.landings
+  pub clients : length a.clients.items ≤ most_clients
 
 pub record IsSound (a : Inside) : Type 0 where
   pub world : IsWorld (world_of a)

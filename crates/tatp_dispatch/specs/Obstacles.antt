@@ -33,13 +33,17 @@ abbrev pub argument_obstacle : Ask → Option Refusal
 argument_obstacle (Txn call) = bad_argument_of (arguments_accepted call)
 argument_obstacle (Raw raw) = None
 
-abbrev pub client_obstacle : WorldState → Ask → Option Client → Option Refusal
-client_obstacle w ask None = Some NoClient
-client_obstacle w ask (Some c) =
+-- what stands against a call of this client
+abbrev pub call_obstacle : List Procedure → Ask → Client → Option Refusal
+call_obstacle procedures ask c =
     or_else (where_holds c.busy ClientBusy)
-    (or_else (where_holds (not (has_procedure w.procedures ask)) NoProcedure)
+    (or_else (where_holds (not (has_procedure procedures ask)) NoProcedure)
     (or_else (argument_obstacle ask)
     (where_holds (c.accepted == 2 ^ 64 - 1) NumbersFull)))
+
+abbrev pub client_obstacle : WorldState → Ask → Option Client → Option Refusal
+client_obstacle w ask None = Some NoClient
+client_obstacle w ask (Some c) = call_obstacle w.procedures ask c
 
 abbrev pub submit_obstacle : WorldState → ℕ → Ask → Option Refusal
 submit_obstacle w client ask = client_obstacle w ask (slice_get w.clients client)

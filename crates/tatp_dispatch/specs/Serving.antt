@@ -24,6 +24,7 @@ use Rattle.tatp_dispatch.specs.declared.event.Refusal.{Refusal}
 use Rattle.tatp_dispatch.specs.Plain.{PlainWorld, Step, Enter, Make_line, Complete, Refuse, Nothing, Goes}
 use Rattle.tatp_dispatch.specs.Worlds.{WorldState}
 use Rattle.tatp_dispatch.specs.Gathered.{gathered}
+use Rattle.tatp_dispatch.specs.Populated.{IsPopulated}
 use Rattle.tatp_dispatch.specs.Shown.{shown, set_back}
 use Rattle.tatp_partition.specs.Sites.{SiteState, RunningCall}
 use Rattle.tatp_dispatch.specs.Placed.{AllCalls, AreExtentsPlaced, IsSiteOf, RunsAt, AreClientsInOrder, AreItemsRight, AreCallsNamed}
@@ -81,6 +82,8 @@ pub record IsWorld (w : WorldState) : Type 0 where
   pub keys_back : (key : Key) → answer w.directory key ≡ home_of_key (set_back w).subscribers key
   pub consistent : IsConsistent (gathered w)
   pub consistent_back : IsConsistent (set_back w)
+  pub populated : IsPopulated w.routes.subscribers (gathered w)
+  pub populated_back : IsPopulated w.routes.subscribers (set_back w)
 
 -- what is told of every event that was answered so: which step of the plain world it is, which calls it ended, and that all of this still holds
 pub record Tells (w : WorldState) (answered : Result Answer Refusal) (w' : WorldState) : Type 0 where

@@ -1,13 +1,21 @@
 //! The whole: all sites, what is under way between them, and the clients.
 
+mod applying;
+mod beginning;
+mod calling;
+mod closing;
+mod gathering;
 mod moving;
+mod opening;
 mod reading;
 mod routing;
 mod stepping;
 mod stopping;
+mod submitting;
 
 use crate::client::Client;
 use crate::queue::Queue;
+pub use reading::what_holds_of_every_world;
 use std::marker::Model;
 use tatp_loader::Loaded;
 use tatp_move::Routes;

@@ -13,7 +13,7 @@ use Rattle.tatp_population.specs.Pinning.{PinnedState}
 use Rattle.tatp_partition.specs.declared.item.Item.{Item}
 use Rattle.tatp_partition.specs.declared.refusal.SiteRefusal.{SiteRefusal}
 use Rattle.tatp_partition.specs.declared.refusal.SiteRefusal.TheVariants.{Running}
-use Rattle.tatp_partition.specs.declared.runner.Runner.{Runner}
+use Rattle.tatp_partition.specs.RunnerStates.{RunnerState}
 use Rattle.tatp_partition.specs.declared.site.Site.TheInside.{Inside}
 use Rattle.tatp_partition.specs.Asks.{Fits, arities_of, key_asked, procedure_asked, arguments_asked}
 use Rattle.tatp_partition.specs.Sites.{SiteState, home_here, rows_here}
@@ -62,13 +62,13 @@ may_begin s item free place stamp = record { clear = clear_of (begin_obstacle s 
 
 pub is_idle : (a : Inside) (item : Item) → MayBegin (site_of a) item → a.running ≡ None
 is_idle a item may =
-    elim a.running as (λ (r : Option Runner). a.running ≡ r → r ≡ None) [
+    elim a.running as (λ (r : Option RunnerState). a.running ≡ r → r ≡ None) [
       | None ↦ λ e. refl
-      | Some r ↦ λ e. let f : Some Running ≡ None = subst (λ (k : Option Runner). begin_obstacle (record (site_of a) { running = running_shown k }) item ≡ None) e may.clear in cc
+      | Some r ↦ λ e. let f : Some Running ≡ None = subst (λ (k : Option RunnerState). begin_obstacle (record (site_of a) { running = running_shown k }) item ≡ None) e may.clear in cc
     ] refl
 
 -- ---- the call at its entry
-pub record HasBegun (a : Inside) (item : Item) (slots : List (Option ExtentState)) (running : Option Runner) (homeless : HomelessState) : Type 0 where
+pub record HasBegun (a : Inside) (item : Item) (slots : List (Option ExtentState)) (running : Option RunnerState) (homeless : HomelessState) : Type 0 where
   pub shows : site_of (record a { slots = slots; running = running; homeless = homeless }) ≡ begun (site_of a) item
   pub sound : IsSound (record a { slots = slots; running = running; homeless = homeless })
 
@@ -85,7 +85,7 @@ begun_homeless_by a item m homeless laws h may fits at entering mixed log room =
     let slots : a.slots ≡ s.slots = sym (ap (λ r. with_pinned a.slots (pinned_of r)) (is_idle a item may)) in
     let frame : m.frame ≡ entered s.procedures (procedure_asked item.ask) (arguments_asked item.ask) item.home = ap (λ (k : MachineState). k.frame) entering in
     let rows : no_tables ≡ rows_here s item.home = sym (ap (rows_here s) at) in
-    let r : Runner = record { item = item; machine = m; pinned = None } in
+    let r : RunnerState = record { item = item; machine = m; pinned = None } in
     let shows : site_of (record a { running = Some r; homeless = homeless }) ≡ begun s item = λ i. record s {
       slots = slots i;
       running = Some (record { client = item.client; number = item.number; seen = item.seen; ask = item.ask; call = record { frame = frame i; entry = rows i } });
@@ -115,7 +115,7 @@ begun_pinned_by a item h x m laws sound may fits at has entering =
     let rows : (call_state m (rows_shown (Some p))).entry ≡ rows_here s item.home =
     ap (λ (k : MachineState). (call_state k (rows_shown (Some p))).entry) entering
     ∙ sym (ap (rows_here s) at ∙ ap (λ v. option_map_or (λ (k : SubscriberRows). k.tables) (option_and_then (λ (z : ExtentState). home_at z h) (option_flatten v)) no_tables) here) in
-    let r : Runner = record { item = item; machine = m; pinned = Some p } in
+    let r : RunnerState = record { item = item; machine = m; pinned = Some p } in
     let shows : site_of (record a { slots = set a.slots e None; running = Some r }) ≡ begun s item = λ i. record s {
       slots = slots i;
       running = Some (record { client = item.client; number = item.number; seen = item.seen; ask = item.ask; call = record { frame = frame i; entry = rows i } });
@@ -130,17 +130,17 @@ begun_pinned_by a item h x m laws sound may fits at has entering =
     }
 
 -- as the code knows them
-pub begun_homeless : (a : Inside) (item : Item) (m : MachineState) (running : Option Runner) (homeless : HomelessState) → AreRowsAlone → IsSound a → MayBegin (site_of a) item → Fits (arities_of a.loaded.now) item.ask → item.home ≡ None → m ≡ machine_of a item
+pub begun_homeless : (a : Inside) (item : Item) (m : MachineState) (running : Option RunnerState) (homeless : HomelessState) → AreRowsAlone → IsSound a → MayBegin (site_of a) item → Fits (arities_of a.loaded.now) item.ask → item.home ≡ None → m ≡ machine_of a item
     → running ≡ Some (record { item = item; machine = m; pinned = None }) → homeless.mixed ≡ a.homeless.mixed → homeless.log ≡ a.homeless.log → 1 ≤ homeless.room → HasBegun a item a.slots running homeless
 begun_homeless a item m running homeless laws h may fits at entering is mixed log room =
-    subst (λ (k : Option Runner). HasBegun a item a.slots k homeless) (sym is) (begun_homeless_by a item m homeless laws h may fits at entering mixed log room)
+    subst (λ (k : Option RunnerState). HasBegun a item a.slots k homeless) (sym is) (begun_homeless_by a item m homeless laws h may fits at entering mixed log room)
 
-pub begun_pinned : (a : Inside) (item : Item) (h : ℕ) (x : ExtentState) (p : PinnedState) (m : MachineState) (slots : List (Option ExtentState)) (running : Option Runner) → AreRowsAlone → IsSound a → MayBegin (site_of a) item → Fits (arities_of a.loaded.now) item.ask
+pub begun_pinned : (a : Inside) (item : Item) (h : ℕ) (x : ExtentState) (p : PinnedState) (m : MachineState) (slots : List (Option ExtentState)) (running : Option RunnerState) → AreRowsAlone → IsSound a → MayBegin (site_of a) item → Fits (arities_of a.loaded.now) item.ask
     → item.home ≡ Some h → slice_get a.slots (extent_of h) ≡ Some (Some x) → slots ≡ set a.slots (extent_of h) None → p ≡ record { extent = x; s_id = h } → m ≡ machine_of a item → running ≡ Some (record { item = item; machine = m; pinned = Some p }) → HasBegun a item slots running a.homeless
 begun_pinned a item h x p m slots running laws sound may fits at has left pins entering is =
     let whole = ap (λ (k : PinnedState). Some (record { item = item; machine = m; pinned = Some k })) pins in
     subst (λ (k : List (Option ExtentState)). HasBegun a item k running a.homeless) (sym left)
-    (subst (λ (k : Option Runner). HasBegun a item (set a.slots (extent_of h) None) k a.homeless) (sym (is ∙ whole)) (begun_pinned_by a item h x m laws sound may fits at has entering))
+    (subst (λ (k : Option RunnerState). HasBegun a item (set a.slots (extent_of h) None) k a.homeless) (sym (is ∙ whole)) (begun_pinned_by a item h x m laws sound may fits at has entering))
 
 -- an extent that was lifted and put down again
 pub put_down : (slots lifted lowered : List (Option ExtentState)) (e : ℕ) (x y : ExtentState) → slice_get slots e ≡ Some (Some x) → lifted ≡ set slots e None → y ≡ x → lowered ≡ set lifted e (Some y) → lowered ≡ slots

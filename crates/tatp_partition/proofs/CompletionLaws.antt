@@ -25,7 +25,7 @@ use Rattle.tatp_population.specs.HomelessLog.{HomelessState, IsHomeless}
 use Rattle.tatp_population.specs.Pinning.{PinnedState}
 use Rattle.tatp_partition.specs.declared.item.Item.{Item}
 use Rattle.tatp_partition.specs.declared.item.Completion.{Completion}
-use Rattle.tatp_partition.specs.declared.runner.Runner.{Runner}
+use Rattle.tatp_partition.specs.RunnerStates.{RunnerState}
 use Rattle.tatp_partition.specs.declared.site.Site.TheInside.{Inside}
 use Rattle.tatp_partition.specs.Asks.{is_transaction, key_asked, AreInDomains}
 use Rattle.tatp_partition.specs.Sites.{SiteState, RunningCall, HomelessCalls, home_here, rows_here, with_rows_here, last_stamp_here}
@@ -90,7 +90,7 @@ above : (seen last : ℕ) → last < max seen last + 1
 above seen last = omega arith
 
 -- its entry goes on with the log, by the extent that it pins
-goes_on_with : (s : SiteState) (slots : List (Option ExtentState)) (q : RunningCall) (home : Option ℕ) (p : Option PinnedState) (room : ℕ) (r : Runner) (rows : Database) (end : End) (entry : Entry) (logged : Bool) (h : HomelessState)
+goes_on_with : (s : SiteState) (slots : List (Option ExtentState)) (q : RunningCall) (home : Option ℕ) (p : Option PinnedState) (room : ℕ) (r : RunnerState) (rows : Database) (end : End) (entry : Entry) (logged : Bool) (h : HomelessState)
     → IsShown s slots home p → IsPinnedFor h.room r p → IsSite s → s.running ≡ Some q → q.call.frame.home ≡ home → IsInPlace s q home → AreRowsOf home rows
     → entry.ask ≡ q.ask → entry.reply ≡ reply_to end q.call.frame.outputs → last_stamp_shown p h < entry.stamp
     → (logged ≡ true → (call : Call) × (q.ask ≡ Txn call) × IsAnswered q call end rows)
@@ -124,7 +124,7 @@ goes_on_with s slots q home (Some p) room r rows end entry logged h shown own si
           (ap (λ k. record { reply = k; database = rows }) reply ∙ a.2.answer) later,
     )
 
-pub may_end : AreRowsAlone → AreTransactions → (a : Inside) (r r' : Runner) (end : End) → IsSound a → a.running ≡ Some r → Turns r (Ended end) r' → MayEnd end a.standard a.homeless r'
+pub may_end : AreRowsAlone → AreTransactions → (a : Inside) (r r' : RunnerState) (end : End) → IsSound a → a.running ≡ Some r → Turns r (Ended end) r' → MayEnd end a.standard a.homeless r'
 may_end alone laws a r r' end h was t =
     let s : SiteState = site_of a in
     let q : RunningCall = runner_shown r in
@@ -153,14 +153,14 @@ may_end alone laws a r r' end h was t =
     }
 
 -- as the code knows it
-pub ready_to_end : AreRowsAlone → AreTransactions → (a : Inside) (running : Option Runner) (end : End) → IsSound a → TurnsRunning a.running (Ended end) running → OfRunning (MayEnd end a.standard a.homeless) running
+pub ready_to_end : AreRowsAlone → AreTransactions → (a : Inside) (running : Option RunnerState) (end : End) → IsSound a → TurnsRunning a.running (Ended end) running → OfRunning (MayEnd end a.standard a.homeless) running
 ready_to_end alone laws a running end h turns =
     let t = turned a.running (Ended end) running turns in
     subst (OfRunning (MayEnd end a.standard a.homeless)) (sym t.is) (may_end alone laws a t.old t.new end h t.was t.turns)
 
 -- ---- the site after it
 -- the site after an end, by its fields
-pub ended_as : (a : Inside) (r r' : Runner) (end : End) (slots : List (Option ExtentState)) (homeless : HomelessState) (completion : Completion) → IsSound a → a.running ≡ Some r → Turns r (Ended end) r' → Completes end a.homeless completion r'
+pub ended_as : (a : Inside) (r r' : RunnerState) (end : End) (slots : List (Option ExtentState)) (homeless : HomelessState) (completion : Completion) → IsSound a → a.running ≡ Some r → Turns r (Ended end) r' → Completes end a.homeless completion r'
     → slots ≡ slots_after (logs_running a.standard (Some r')) completion.entry r'.pinned a.slots → homeless_shown homeless ≡ homeless_after (logs_running a.standard (Some r')) completion.entry r'.pinned (homeless_shown a.homeless)
     → EndsCall (site_of a) completion (site_of (record a { slots = slots; running = None; homeless = homeless }))
 ended_as a r r' end slots homeless completion h was t done slots_are log_is =
@@ -218,7 +218,7 @@ ended_site s slots q home (Some p) rows logged entry new log shown site is at sl
     subst (λ (k : HomelessCalls). IsSite (record s { slots = new; running = None; homeless = k })) (sym log_is)
     (subst (λ (k : List (Option ExtentState)). IsSite (record s { slots = k; running = None })) (other_put s slots home p y shown ∙ sym slots_are) ended)
 
-pub sound_after : (a : Inside) (r r' : Runner) (end : End) (slots : List (Option ExtentState)) (homeless : HomelessState) (entry : Entry) → IsSound a → a.running ≡ Some r → Turns r (Ended end) r'
+pub sound_after : (a : Inside) (r r' : RunnerState) (end : End) (slots : List (Option ExtentState)) (homeless : HomelessState) (entry : Entry) → IsSound a → a.running ≡ Some r → Turns r (Ended end) r'
     → slots ≡ slots_after (logs_running a.standard (Some r')) entry r'.pinned a.slots → homeless_shown homeless ≡ homeless_after (logs_running a.standard (Some r')) entry r'.pinned (homeless_shown a.homeless)
     → IsSetFree (logs_running a.standard (Some r')) entry r'.pinned → IsHomeless homeless.mixed homeless.log → IsSound (record a { slots = slots; running = None; homeless = homeless })
 sound_after a r r' end slots homeless entry h was t slots_are log_is free history =
@@ -235,21 +235,21 @@ sound_after a r r' end slots homeless entry h was t slots_are log_is free histor
     }
 
 -- as the code knows it
-pub record HasEnded (a : Inside) (slots : List (Option ExtentState)) (running : Option Runner) (homeless : HomelessState) (completion : Completion) : Type 0 where
+pub record HasEnded (a : Inside) (slots : List (Option ExtentState)) (running : Option RunnerState) (homeless : HomelessState) (completion : Completion) : Type 0 where
   pub ends : EndsCall (site_of a) completion (site_of (record a { slots = slots; running = running; homeless = homeless }))
   pub sound : IsSound (record a { slots = slots; running = running; homeless = homeless })
 
-pub has_ended : (a : Inside) (turned_to after : Option Runner) (end : End) (slots : List (Option ExtentState)) (homeless : HomelessState) (completion : Completion) → IsSound a → TurnsRunning a.running (Ended end) turned_to → after ≡ None
+pub has_ended : (a : Inside) (turned_to after : Option RunnerState) (end : End) (slots : List (Option ExtentState)) (homeless : HomelessState) (completion : Completion) → IsSound a → TurnsRunning a.running (Ended end) turned_to → after ≡ None
     → OfRunning (Completes end a.homeless completion) turned_to
     → slots ≡ slots_after (logs_running a.standard turned_to) completion.entry (pinned_of turned_to) a.slots → homeless_shown homeless ≡ homeless_after (logs_running a.standard turned_to) completion.entry (pinned_of turned_to) (homeless_shown a.homeless)
     → IsSetFree (logs_running a.standard turned_to) completion.entry (pinned_of turned_to) → IsHomeless homeless.mixed homeless.log → HasEnded a slots after homeless completion
 has_ended a turned_to after end slots homeless completion h turns none done slots_are log_is free history =
     let t = turned a.running (Ended end) turned_to turns in
     let entry : Entry = completion.entry in
-    let slots_at : slots ≡ slots_after (logs_running a.standard (Some t.new)) entry t.new.pinned a.slots = slots_are ∙ ap (λ (k : Option Runner). slots_after (logs_running a.standard k) entry (pinned_of k) a.slots) t.is in
-    let log_at : homeless_shown homeless ≡ homeless_after (logs_running a.standard (Some t.new)) entry t.new.pinned (homeless_shown a.homeless) = log_is ∙ ap (λ (k : Option Runner). homeless_after (logs_running a.standard k) entry (pinned_of k) (homeless_shown a.homeless)) t.is in
-    subst (λ (k : Option Runner). HasEnded a slots k homeless completion) (sym none)
+    let slots_at : slots ≡ slots_after (logs_running a.standard (Some t.new)) entry t.new.pinned a.slots = slots_are ∙ ap (λ (k : Option RunnerState). slots_after (logs_running a.standard k) entry (pinned_of k) a.slots) t.is in
+    let log_at : homeless_shown homeless ≡ homeless_after (logs_running a.standard (Some t.new)) entry t.new.pinned (homeless_shown a.homeless) = log_is ∙ ap (λ (k : Option RunnerState). homeless_after (logs_running a.standard k) entry (pinned_of k) (homeless_shown a.homeless)) t.is in
+    subst (λ (k : Option RunnerState). HasEnded a slots k homeless completion) (sym none)
     (record {
       ends = ended_as a t.old t.new end slots homeless completion h t.was t.turns (subst (OfRunning (Completes end a.homeless completion)) t.is done) slots_at log_at;
-      sound = sound_after a t.old t.new end slots homeless entry h t.was t.turns slots_at log_at (subst (λ (k : Option Runner). IsSetFree (logs_running a.standard k) entry (pinned_of k)) t.is free) history;
+      sound = sound_after a t.old t.new end slots homeless entry h t.was t.turns slots_at log_at (subst (λ (k : Option RunnerState). IsSetFree (logs_running a.standard k) entry (pinned_of k)) t.is free) history;
     })

@@ -5,12 +5,12 @@ use Rattle.tatp_procs.specs.declared.entry.Entry.{Entry}
 use Rattle.tatp_population.specs.Extents.{last_stamp_of}
 use Rattle.tatp_population.specs.Pinning.{PinnedState, Logs}
 use Rattle.tatp_population.specs.HomelessLog.{HomelessState}
-use Rattle.tatp_partition.specs.declared.runner.Runner.{Runner}
+use Rattle.tatp_partition.specs.RunnerStates.{RunnerState}
 use Rattle.tatp_partition.specs.Asks.{is_transaction}
 use Rattle.tatp_partition.specs.Runners.{OfRunning, MayEnd, GoesOnWith, entry_shown, last_stamp_shown}
 
 -- where the call that ends is logged, its entry goes on with the log
-pub logs_pinned : (running : Option Runner) (r : Runner) (p : PinnedState) (end : End) (standard logged : Bool) (h : HomelessState) (entry : Entry)
+pub logs_pinned : (running : Option RunnerState) (r : RunnerState) (p : PinnedState) (end : End) (standard logged : Bool) (h : HomelessState) (entry : Entry)
     → running ≡ Some r → r.pinned ≡ Some p → logged ≡ (standard && is_transaction r.item.ask) → entry ≡ entry_shown r end (last_stamp_of p.extent.log)
     → OfRunning (MayEnd end standard h) running → logged ≡ true → p.extent.mixed ≡ false → Logs p entry
 logs_pinned running r p end standard logged h entry is pins logs made ready on unmixed =

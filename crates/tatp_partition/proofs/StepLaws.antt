@@ -14,7 +14,7 @@ use Rattle.tatp_partition.specs.declared.item.Item.{Item}
 use Rattle.tatp_partition.specs.declared.item.Stepped.{Stepped}
 use Rattle.tatp_partition.specs.declared.refusal.SiteRefusal.{SiteRefusal}
 use Rattle.tatp_partition.specs.declared.refusal.SiteRefusal.TheVariants.{NotRunning}
-use Rattle.tatp_partition.specs.declared.runner.Runner.{Runner}
+use Rattle.tatp_partition.specs.RunnerStates.{RunnerState}
 use Rattle.tatp_partition.specs.declared.site.Site.TheInside.{Inside}
 use Rattle.tatp_partition.specs.Sites.{SiteState, RunningCall, rows_here, with_rows_here}
 use Rattle.tatp_partition.specs.Obstacles.{obstacle_to_step, step_obstacle, one_obstacle}
@@ -27,14 +27,14 @@ use Rattle.tatp_partition.proofs.ShownLaws.{IsAt, IsShown, pinned_home, rows_are
 use Rattle.tatp_partition.proofs.CallLaws.{AreRowsAlone, rows_alone, rows_put_alone, line_on_home, line_without_home}
 
 -- ---- a call that turned
-pub record HasTurned (before : Option Runner) (progress : Progress) (after : Option Runner) : Type 0 where
-  pub old : Runner
-  pub new : Runner
+pub record HasTurned (before : Option RunnerState) (progress : Progress) (after : Option RunnerState) : Type 0 where
+  pub old : RunnerState
+  pub new : RunnerState
   pub was : before ≡ Some old
   pub is : after ≡ Some new
   pub turns : Turns old progress new
 
-pub turned : (before : Option Runner) (progress : Progress) (after : Option Runner) → TurnsRunning before progress after → HasTurned before progress after
+pub turned : (before : Option RunnerState) (progress : Progress) (after : Option RunnerState) → TurnsRunning before progress after → HasTurned before progress after
 turned None progress after h = absurd h
 turned (Some r) progress None h = absurd h
 turned (Some r) progress (Some r') h = record { old = r; new = r'; was = refl; is = refl; turns = h }
@@ -44,7 +44,7 @@ pub frame_shown : (m : MachineState) (p : Option PinnedState) → (call_shown m 
 frame_shown m None = refl
 frame_shown m (Some p) = refl
 
-at_pinned : (room : ℕ) (r : Runner) (p : Option PinnedState) → IsPinnedFor room r p → IsAt r.machine.frame.home p
+at_pinned : (room : ℕ) (r : RunnerState) (p : Option PinnedState) → IsPinnedFor room r p → IsAt r.machine.frame.home p
 at_pinned room r None h = h.0
 at_pinned room r (Some p) h = h
 
@@ -56,14 +56,14 @@ its_home s slots q home (Some p) h place =
     (h.at.0, subst (λ (v : Option SubscriberRows). IsSomeAnd v (λ (home : SubscriberRows). home.s_id ≡ p.s_id)) (sym there) refl)
 
 -- what is known of the call that runs
-pub record Runs (a : Inside) (r : Runner) : Type 0 where
+pub record Runs (a : Inside) (r : RunnerState) : Type 0 where
   pub is : (site_of a).running ≡ Some (runner_shown r)
   pub shown : IsShown (site_of a) a.slots r.machine.frame.home r.pinned
   pub sound : IsRunning (site_of a) (runner_shown r)
   pub runner : IsRunner a.homeless.room r
   pub home : (runner_shown r).call.frame.home ≡ r.machine.frame.home
 
-pub runs : (a : Inside) (r : Runner) → IsSound a → a.running ≡ Some r → Runs a r
+pub runs : (a : Inside) (r : RunnerState) → IsSound a → a.running ≡ Some r → Runs a r
 runs a r h was =
     let s : SiteState = site_of a in
     let is : s.running ≡ Some (runner_shown r) = ap running_shown was in
@@ -81,17 +81,17 @@ runs a r h was =
     }
 
 -- it may make a step
-pub may_step : (a : Inside) (r : Runner) → IsSound a → a.running ≡ Some r → MayStep r
+pub may_step : (a : Inside) (r : RunnerState) → IsSound a → a.running ≡ Some r → MayStep r
 may_step a r h was =
     let f = runs a r h was in
     let place : IsInPlace (site_of a) (runner_shown r) r.machine.frame.home = subst (IsInPlace (site_of a) (runner_shown r)) f.home f.sound.in_place in
     record { going = f.runner.going; home = its_home (site_of a) a.slots (runner_shown r) r.machine.frame.home r.pinned f.shown place }
 
 pub may_turn : (a : Inside) → IsSound a → is_some a.running ≡ true → OfRunning MayStep a.running
-may_turn a h some = elim a.running as (λ (r : Option Runner). a.running ≡ r → is_some r ≡ true → OfRunning MayStep r) [ None ↦ λ e k. absurd cc | Some r ↦ λ e k. may_step a r h e ] refl some
+may_turn a h some = elim a.running as (λ (r : Option RunnerState). a.running ≡ r → is_some r ≡ true → OfRunning MayStep r) [ None ↦ λ e k. absurd cc | Some r ↦ λ e k. may_step a r h e ] refl some
 
 pub runs_free : (a : Inside) → is_some a.running ≡ true → one_obstacle (site_of a) ≡ None
-runs_free a some = elim a.running as (λ (r : Option Runner). is_some r ≡ true → one_obstacle (record (site_of a) { running = running_shown r }) ≡ None) [ None ↦ λ k. absurd cc | Some r ↦ λ k. refl ] some
+runs_free a some = elim a.running as (λ (r : Option RunnerState). is_some r ≡ true → one_obstacle (record (site_of a) { running = running_shown r }) ≡ None) [ None ↦ λ k. absurd cc | Some r ↦ λ k. refl ] some
 
 -- a step that nothing stands against is made as one
 some_runs : (running : Option RunningCall) (stopped : Bool) (breakpoints : List Breakpoint) → obstacle_to_step running stopped breakpoints ≡ None → is_none running ≡ false
@@ -127,14 +127,14 @@ pub goes_on : AreRowsAlone → (s s' : SiteState) → GoesOn s s' → IsSite s �
 goes_on laws s s' g site = goes_on_at laws s s' g g.running.call.frame.home site refl
 
 -- ---- the fields after a step that goes on
-still_pinned : (room : ℕ) (r r' : Runner) (p : Option PinnedState) (rows : Database) → r'.machine.frame.home ≡ r.machine.frame.home → IsPinnedFor room r p → IsPinnedFor room r' (with_rows_shown p rows)
+still_pinned : (room : ℕ) (r r' : RunnerState) (p : Option PinnedState) (rows : Database) → r'.machine.frame.home ≡ r.machine.frame.home → IsPinnedFor room r p → IsPinnedFor room r' (with_rows_shown p rows)
 still_pinned room r r' None rows same h = (same ∙ h.0, h.1)
 still_pinned room r r' (Some p) rows same h = (same ∙ h.0, h.1)
 
 later_shown : (m m' : MachineState) (p p' : Option PinnedState) → IsLater m.frame m'.frame → IsLater (call_shown m p).frame (call_shown m' p').frame
 later_shown m m' p p' h = subst (λ (f : Frame). IsLater f (call_shown m' p').frame) (sym (frame_shown m p)) (subst (IsLater m.frame) (sym (frame_shown m' p')) h)
 
-pub moved_on : (a : Inside) (r r' : Runner) → IsSound a → a.running ≡ Some r → Turns r Running r' → GoesOn (site_of a) (site_of (record a { running = Some r' }))
+pub moved_on : (a : Inside) (r r' : RunnerState) → IsSound a → a.running ≡ Some r → Turns r Running r' → GoesOn (site_of a) (site_of (record a { running = Some r' }))
 moved_on a r r' h was t =
     let s : SiteState = site_of a in
     let q : RunningCall = runner_shown r in
@@ -161,7 +161,7 @@ moved_on a r r' h was t =
           ∙ ap (λ (k : Option ℕ). with_rows_here went k rows) (sym f.home);
     }
 
-pub sound_on : AreRowsAlone → (a : Inside) (r r' : Runner) → IsSound a → a.running ≡ Some r → Turns r Running r' → IsSound (record a { running = Some r' })
+pub sound_on : AreRowsAlone → (a : Inside) (r r' : RunnerState) → IsSound a → a.running ≡ Some r → Turns r Running r' → IsSound (record a { running = Some r' })
 sound_on laws a r r' h was t =
     let f = runs a r h was in
     let on = t.running refl in
@@ -175,11 +175,11 @@ sound_on laws a r r' h was t =
     }
 
 -- as the code knows it
-pub record HasMoved (a : Inside) (running : Option Runner) : Type 0 where
+pub record HasMoved (a : Inside) (running : Option RunnerState) : Type 0 where
   pub moves : GoesOn (site_of a) (site_of (record a { running = running }))
   pub sound : IsSound (record a { running = running })
 
-pub has_moved : AreRowsAlone → (a : Inside) (running : Option Runner) → IsSound a → TurnsRunning a.running Running running → HasMoved a running
+pub has_moved : AreRowsAlone → (a : Inside) (running : Option RunnerState) → IsSound a → TurnsRunning a.running Running running → HasMoved a running
 has_moved laws a running h turns =
     let t = turned a.running Running running turns in
     subst (HasMoved a) (sym t.is) (record { moves = moved_on a t.old t.new h t.was t.turns; sound = sound_on laws a t.old t.new h t.was t.turns })

@@ -5,6 +5,7 @@ pub mod Obstacles
 pub mod Moving
 pub mod Running
 pub mod Stopping
+pub mod RunnerStates
 pub mod Showing
 pub mod Runners
 pub mod Sound

@@ -13,14 +13,14 @@ use Rattle.tatp_population.specs.Extents.{ExtentState, IsExtent, with_home_at, l
 use Rattle.tatp_population.specs.Pinning.{PinnedState, HasItsHome, Logs}
 use Rattle.tatp_population.specs.HomelessLog.{HomelessState, RecordsHomeless}
 use Rattle.tatp_partition.specs.declared.item.Completion.{Completion}
-use Rattle.tatp_partition.specs.declared.runner.Runner.{Runner}
+use Rattle.tatp_partition.specs.RunnerStates.{RunnerState}
 use Rattle.tatp_partition.specs.Asks.{is_transaction}
 use Rattle.tatp_partition.specs.Sites.{HomelessCalls}
 use Rattle.tatp_partition.specs.Running.{AreRowsOf, after_end, homeless_after_end}
 use Rattle.tatp_partition.specs.Showing.{rows_shown, call_shown}
 
 -- this holds of the call that runs, and there is one
-abbrev pub OfRunning : (Runner → Type 0) → Option Runner → Type 0
+abbrev pub OfRunning : (RunnerState → Type 0) → Option RunnerState → Type 0
 OfRunning Holds None = ⊥
 OfRunning Holds (Some r) = Holds r
 
@@ -31,7 +31,7 @@ IsItsHome home None = home ≡ None
 IsItsHome home (Some p) = (home ≡ Some p.s_id) × HasItsHome p
 
 -- the call may make a step
-pub record MayStep (r : Runner) : Type 0 where
+pub record MayStep (r : RunnerState) : Type 0 where
   pub going : r.machine.ended ≡ false
   pub home : IsItsHome r.machine.frame.home r.pinned
 
@@ -41,7 +41,7 @@ with_rows_shown None rows = None
 with_rows_shown (Some p) rows = Some (record p { extent = with_home_at p.extent p.s_id (record { s_id = p.s_id; tables = rows }) })
 
 -- what one instruction that answered so makes of the call and its home
-pub record Turns (r : Runner) (progress : Progress) (r' : Runner) : Type 0 where
+pub record Turns (r : RunnerState) (progress : Progress) (r' : RunnerState) : Type 0 where
   pub item : r'.item ≡ r.item
   pub pinned : r'.pinned ≡ with_rows_shown r.pinned (rows_shown r'.pinned)
   pub home : AreRowsOf r.machine.frame.home (rows_shown r'.pinned)
@@ -51,7 +51,7 @@ pub record Turns (r : Runner) (progress : Progress) (r' : Runner) : Type 0 where
   pub running : progress ≡ Running → (r'.machine.ended ≡ false) × IsLater r.machine.frame r'.machine.frame
   pub ended : (end : End) → progress ≡ Ended end → r'.machine.frame ≡ r.machine.frame
 
-abbrev pub TurnsRunning : Option Runner → Progress → Option Runner → Type 0
+abbrev pub TurnsRunning : Option RunnerState → Progress → Option RunnerState → Type 0
 TurnsRunning (Some r) progress (Some r') = Turns r progress r'
 TurnsRunning before progress after = ⊥
 
@@ -62,12 +62,12 @@ last_stamp_shown None h = last_stamp_of h.log
 last_stamp_shown (Some p) h = last_stamp_of p.extent.log
 
 -- the entry of a call that ended so
-abbrev pub entry_shown : Runner → End → ℕ → Entry
+abbrev pub entry_shown : RunnerState → End → ℕ → Entry
 entry_shown r end last = record { client = r.item.client; number = r.item.number; ask = r.item.ask; reply = reply_to end r.machine.frame.outputs; stamp = max r.item.seen last + 1 }
 
 -- the running call will be logged, being a transaction under the standard module
-abbrev pub logs_running : Bool → Option Runner → Bool
-logs_running standard running = option_map_or (λ (r : Runner). standard && is_transaction r.item.ask) running false
+abbrev pub logs_running : Bool → Option RunnerState → Bool
+logs_running standard running = option_map_or (λ (r : RunnerState). standard && is_transaction r.item.ask) running false
 
 -- where the call is logged, its entry goes on with the log
 abbrev pub GoesOnWith : Bool → Entry → Option PinnedState → HomelessState → Type 0
@@ -75,7 +75,7 @@ GoesOnWith logged entry None h = (1 ≤ h.room) × (last_stamp_of h.log < entry.
 GoesOnWith logged entry (Some p) h = HasItsHome p × (logged ≡ true → p.extent.mixed ≡ false → Logs p entry)
 
 -- the call may end so
-pub record MayEnd (end : End) (standard : Bool) (h : HomelessState) (r : Runner) : Type 0 where
+pub record MayEnd (end : End) (standard : Bool) (h : HomelessState) (r : RunnerState) : Type 0 where
   pub stamp : max r.item.seen (last_stamp_shown r.pinned h) + 1 < 2 ^ 64
   pub log : GoesOnWith (standard && is_transaction r.item.ask) (entry_shown r end (last_stamp_shown r.pinned h)) r.pinned h
 
@@ -85,7 +85,7 @@ number_shown None = 0
 number_shown (Some p) = p.extent.number
 
 -- what is told of the call that ended so
-pub record Completes (end : End) (h : HomelessState) (completion : Completion) (r : Runner) : Type 0 where
+pub record Completes (end : End) (h : HomelessState) (completion : Completion) (r : RunnerState) : Type 0 where
   pub entry : completion.entry ≡ entry_shown r end (last_stamp_shown r.pinned h)
   pub extent : completion.extent ≡ number_shown r.pinned
 
@@ -105,14 +105,19 @@ IsSetFree logged entry (Some p) = IsExtent (after_end logged entry p.extent)
 
 -- ---- a call that is given up
 -- its pinned extent with the rows that its home had at entry
-abbrev pub extent_given_back : Runner → PinnedState → ExtentState
+abbrev pub extent_given_back : RunnerState → PinnedState → ExtentState
 extent_given_back r p = with_home_at p.extent p.s_id (record { s_id = p.s_id; tables = (call_state r.machine (rows_shown (Some p))).entry })
 
 -- the machine's home is the pinned one, and the extent so is what its log makes of it
-abbrev pub MayBeSetBack : Runner → Option PinnedState → Type 0
+abbrev pub MayBeSetBack : RunnerState → Option PinnedState → Type 0
 MayBeSetBack r None = Unit {0}
 MayBeSetBack r (Some p) = (r.machine.frame.home ≡ Some p.s_id) × HasItsHome p × IsExtent (extent_given_back r p)
 
-abbrev pub slots_given_back : Runner → Option PinnedState → List (Option ExtentState) → List (Option ExtentState)
+abbrev pub slots_given_back : RunnerState → Option PinnedState → List (Option ExtentState) → List (Option ExtentState)
 slots_given_back r None slots = slots
 slots_given_back r (Some p) slots = slice_set slots p.extent.number (Some (extent_given_back r p))
+
+-- the places after the call, if one runs, was given up
+abbrev pub slots_without_call : Option RunnerState → List (Option ExtentState) → List (Option ExtentState)
+slots_without_call None slots = slots
+slots_without_call (Some r) slots = slots_given_back r r.pinned slots

@@ -8,7 +8,7 @@ use Rattle.tatp_machine.specs.Machines.{MachineState, call_state, homeless_call_
 use Rattle.tatp_population.specs.Extents.{ExtentState, home_at}
 use Rattle.tatp_population.specs.Pinning.{PinnedState}
 use Rattle.tatp_population.specs.HomelessLog.{HomelessState}
-use Rattle.tatp_partition.specs.declared.runner.Runner.{Runner}
+use Rattle.tatp_partition.specs.RunnerStates.{RunnerState}
 use Rattle.tatp_partition.specs.Sites.{RunningCall, HomelessCalls}
 
 -- the pinned extent in its place
@@ -17,10 +17,10 @@ with_pinned slots None = slots
 with_pinned slots (Some p) = slice_set slots p.extent.number (Some p.extent)
 
 -- the extent that the running call pins
-abbrev pub pinned_of : Option Runner → Option PinnedState
-pinned_of running = option_and_then (λ (r : Runner). r.pinned) running
+abbrev pub pinned_of : Option RunnerState → Option PinnedState
+pinned_of running = option_and_then (λ (r : RunnerState). r.pinned) running
 
-abbrev pub slots_shown : List (Option ExtentState) → Option Runner → List (Option ExtentState)
+abbrev pub slots_shown : List (Option ExtentState) → Option RunnerState → List (Option ExtentState)
 slots_shown slots running = with_pinned slots (pinned_of running)
 
 -- the pinned extent's own place is empty
@@ -38,10 +38,10 @@ abbrev pub call_shown : MachineState → Option PinnedState → CallState
 call_shown m None = homeless_call_state m
 call_shown m (Some p) = call_state m (rows_shown (Some p))
 
-abbrev pub runner_shown : Runner → RunningCall
+abbrev pub runner_shown : RunnerState → RunningCall
 runner_shown r = record { client = r.item.client; number = r.item.number; seen = r.item.seen; ask = r.item.ask; call = call_shown r.machine r.pinned }
 
-abbrev pub running_shown : Option Runner → Option RunningCall
+abbrev pub running_shown : Option RunnerState → Option RunningCall
 running_shown running = option_map runner_shown running
 
 abbrev pub homeless_shown : HomelessState → HomelessCalls
@@ -52,5 +52,5 @@ abbrev pub is_in : ℕ → Option PinnedState → Bool
 is_in e None = false
 is_in e (Some p) = p.extent.number == e
 
-abbrev pub pins_extent : ℕ → Option Runner → Bool
+abbrev pub pins_extent : ℕ → Option RunnerState → Bool
 pins_extent e running = is_in e (pinned_of running)

@@ -49,7 +49,7 @@ abbrev database_code : Coded Database
 database_code = code_by (Tuples × (Tuples × (Tuples × Tuples))) (coded× tuples_code (coded× tuples_code (coded× tuples_code tuples_code)))
     (λ u. (u.subscribers, (u.accesses, (u.facilities, u.forwardings)))) (λ p. record { subscribers = p.0; accesses = p.1.0; facilities = p.1.1.0; forwardings = p.1.1.1 }) (λ _. refl)
 
-abbrev frame_code : Coded Frame
+abbrev pub frame_code : Coded Frame
 frame_code = code_by (ℕ × (List Instr × (List ℕ × (Option ℕ × (ℕ × (List ℕ × (Current × List ℕ)))))))
     (coded× coded_ℕ (coded× (coded_list instr.the_row.coded) (coded× (coded_list coded_ℕ) (coded× (coded_option coded_ℕ) (coded× coded_ℕ (coded× (coded_list coded_ℕ) (coded× current.the_row.coded (coded_list coded_ℕ))))))))
     (λ q. (q.procedure, (q.code, (q.arguments, (q.home, (q.pc, (q.registers, (q.current, q.outputs))))))))

@@ -95,3 +95,18 @@ pub fn enter<'m>(loaded: &'m Loaded, item: &Item) -> Machine<'m>
         Ask::Raw(raw) => { Machine::enter(loaded, raw.procedure() as usize, raw.args(), item.home) }
     }
 }
+
+/// The machine of a call at its entry, in the place of the machine of the call before.
+pub fn enter_next<'m>(machine: &mut Machine<'m>, loaded: &'m Loaded, item: &Item)
+    requires { Fits (arities_of loaded.now) item.now.ask }
+    ensures { machine.new ≡ machine_at_entry loaded.now (procedure_asked item.now.ask) (arguments_asked item.now.ask) item.now.home }
+{
+    match &item.ask {
+        Ask::Txn(call) => {
+            machine.enter_next(loaded, call.procedure(), call.args().as_slice(), item.home)
+        }
+        Ask::Raw(raw) => {
+            machine.enter_next(loaded, raw.procedure() as usize, raw.args(), item.home)
+        }
+    }
+}

@@ -1,78 +1,188 @@
 //! The call that a site runs.
-ghost use Rattle.std.specs.Prelude.{◌≡◌, ◌+◌, ◌<◌, ◌≤◌, ◌^◌, ◌&&◌, max, Some, None, true, false, IfSome, IfNone};
+ghost use Rattle.std.specs.Prelude.{◌≡◌, ◌+◌, ◌<◌, ◌≤◌, ◌^◌, ◌&&◌, max, is_some, Some, None, true, false, IfSome, IfNone};
+ghost use Rattle.std.specs.Option.{option_copied, option_map};
+ghost use Rattle.tatp_machine.specs.Machines.{machine_at_entry};
 ghost use Rattle.tatp_population.specs.Extents.{IsExtent, last_stamp_of};
 ghost use Rattle.tatp_population.specs.Pinning.{HasItsHome, Logs};
 ghost use Rattle.tatp_population.specs.HomelessLog.{IsHomeless, RecordsHomeless};
-ghost use Rattle.tatp_partition.specs.Asks.{is_transaction};
+ghost use Rattle.tatp_partition.specs.Asks.{Fits, arities_of, procedure_asked, arguments_asked, is_transaction};
 ghost use Rattle.tatp_partition.specs.Showing.{pinned_of, pins_extent, homeless_shown, IsEmptyAt};
-ghost use Rattle.tatp_partition.specs.Runners.{OfRunning, MayStep, TurnsRunning, MayEnd, Completes, IsSetFree, logs_running, slots_after, homeless_after, MayBeSetBack, slots_given_back};
+ghost use Rattle.tatp_partition.specs.Runners.{OfRunning, MayStep, TurnsRunning, MayEnd, Completes, IsSetFree, logs_running, slots_after, homeless_after, MayBeSetBack, slots_without_call};
 ghost use Rattle.tatp_partition.specs.Running.{after_end, homeless_after_end};
 
-use crate::asks::is_transaction;
-use crate::slots::Slots;
+use crate::asks::{enter, enter_next, is_transaction};
+use crate::slots::{Slots, fill};
 use crate::{Completion, Item};
+use std::marker::Model;
+use tatp_loader::Loaded;
 use tatp_machine::{End, Machine, Progress};
 use tatp_population::{Extent, Homeless, Pinned, what_holds_of_every_homeless_log};
 use tatp_procs::{Ask, Entry, Reply};
 
-/// A call that runs: what was offered, its machine, and the extent of its home, if it has one.
+/// What runs a site's calls: its machine, which is kept from call to call and never moved, and of the
+/// call that runs, if one does, what was offered and the extent of its home, if it has one.
 pub struct Runner<'m> {
-    pub item: Item,
-    pub machine: Machine<'m>,
-    pub pinned: Option<Pinned>,
+    item: Option<Item>,
+    machine: Option<Machine<'m>>,
+    pinned: Option<Pinned>,
+}
+
+impl<'m> Model for Runner<'m> {
+    ghost use Rattle.std.specs.Prelude.{Option};
+    ghost use Rattle.tatp_partition.specs.RunnerStates.{RunnerState, call_that_runs, call_that_runs_code, IsWhole};
+
+    ghost Value = { Option RunnerState };
+
+    ghost coded = { call_that_runs_code };
+
+    ghost view = { λ a. call_that_runs a.item a.machine a.pinned };
+
+    ghost invariant = { λ a. IsWhole a.item a.machine a.pinned };
+}
+
+impl<'m> Runner<'m> {
+    ghost use Rattle.tatp_partition.specs.RunnerStates.{RunnerState};
+
+    /// No call.
+    pub fn idle() -> Runner<'m>
+        ensures { result ≡ None }
+    {
+        Runner {
+            item: None,
+            machine: None,
+            pinned: None,
+        }
+    }
+
+    /// Whether a call runs.
+    pub fn is_some(&self) -> bool
+        ensures { result ≡ is_some self.now }
+    {
+        self.item.is_some()
+    }
+
+    /// The machine of the call that runs.
+    pub fn machine(&self) -> Option<&Machine<'m>>
+        ensures { option_copied result ≡ option_map (λ (r : RunnerState). r.machine) self.now }
+    {
+        match &self.item {
+            None => None,
+            Some(_) => match &self.machine {
+                None => unreachable!(),
+                Some(machine) => Some(machine),
+            },
+        }
+    }
+
+    /// Gives the call up, if one runs: the places with its extent set back.
+    pub fn set_back(self, slots: &mut Slots<Extent>)
+        requires ready { (r : RunnerState) → self ≡ Some r → MayBeSetBack r r.pinned }
+        requires place { IsEmptyAt slots.old (pinned_of self) }
+        ensures { slots.new ≡ slots_without_call self.entry slots.old }
+    {
+        let Runner {
+            item: _,
+            machine,
+            pinned,
+        } = self;
+        match pinned {
+            None => return,
+            Some(mut pinned) => match machine {
+                None => unreachable!(),
+                Some(machine) => {
+                    machine.set_back(pinned.home_mut());
+                    slots.lower(pinned.number() as u64, pinned.set_free());
+                    return;
+                }
+            },
+        }
+    }
+}
+
+/// A call begins, where none runs.
+pub fn begin<'m>(running: &mut Runner<'m>, loaded: &'m Loaded, item: Item, pinned: Option<Pinned>)
+    requires idle { running.old ≡ None }
+    requires fits { Fits (arities_of loaded.now) item.ask }
+    ensures { running.new ≡ Some (record { item = item; machine = machine_at_entry loaded.now (procedure_asked item.ask) (arguments_asked item.ask) item.home; pinned = pinned }) }
+{
+    match &mut running.machine {
+        Some(machine) => enter_next(machine, loaded, &item),
+        None => enter_first(&mut running.machine, loaded, &item),
+    }
+    running.item = Some(item);
+    put(&mut running.pinned, pinned);
+}
+
+/// The site's machine is made with its first call. It stands apart, since a function pays at its start
+/// for the size of what it makes.
+#[cold]
+#[inline(never)]
+fn enter_first<'m>(machine: &mut Option<Machine<'m>>, loaded: &'m Loaded, item: &Item)
+    requires { Fits (arities_of loaded.now) item.now.ask }
+    ensures { machine.new ≡ Some (machine_at_entry loaded.now (procedure_asked item.now.ask) (arguments_asked item.now.ask) item.now.home) }
+{
+    *machine = Some(enter(loaded, item));
+}
+
+/// Puts the extent that is pinned, if one is, where none is.
+fn put(slot: &mut Option<Pinned>, pinned: Option<Pinned>)
+    requires { slot.old ≡ None }
+    ensures { slot.new ≡ pinned }
+{
+    match pinned {
+        None => {}
+        Some(pinned) => fill(slot, pinned),
+    }
 }
 
 /// Whether the call runs on a home of this extent.
-pub fn is_pinned(running: &Option<Runner<'_>>, number: u32) -> bool
+pub fn is_pinned(running: &Runner<'_>, number: u32) -> bool
     ensures { result ≡ pins_extent number running.now }
 {
-    match running {
-        Some(runner) => match &runner.pinned {
-            Some(pinned) => pinned.number() == number,
-            None => false,
-        },
+    match &running.pinned {
+        Some(pinned) => pinned.number() == number,
         None => false,
     }
 }
 
 /// The extent of this number, if the call runs on a home of it.
-pub fn pinned_extent<'r>(running: &'r Option<Runner<'_>>, number: u64) -> Option<&'r Pinned>
+pub fn pinned_extent<'r>(running: &'r Runner<'_>, number: u64) -> Option<&'r Pinned>
     ensures found { IfSome result (λ pinned. pinned_of running.now ≡ Some pinned.now) }
     ensures number { IfSome result (λ pinned. pinned.now.extent.number ≡ number) }
     ensures none { IfNone result (pins_extent number running.now ≡ false) }
 {
-    match running {
-        Some(runner) => match &runner.pinned {
-            Some(pinned) => {
-                if pinned.number() as u64 == number {
-                    Some(pinned)
-                } else {
-                    None
-                }
+    match &running.pinned {
+        Some(pinned) => {
+            if pinned.number() as u64 == number {
+                Some(pinned)
+            } else {
+                None
             }
-            None => None,
-        },
+        }
         None => None,
     }
 }
 
 /// One instruction of the call that runs.
-pub fn turn(running: &mut Option<Runner<'_>>) -> Progress
+pub fn turn(running: &mut Runner<'_>) -> Progress
     requires { OfRunning MayStep running.old }
     ensures { TurnsRunning running.old result running.new }
 {
-    match running {
+    match &running.item {
         None => unreachable!(),
-        Some(runner) => match &mut runner.pinned {
-            None => return runner.machine.step_homeless(),
-            Some(pinned) => return runner.machine.step(pinned.home_mut()),
+        Some(_) => match &mut running.machine {
+            None => unreachable!(),
+            Some(machine) => match &mut running.pinned {
+                None => return machine.step_homeless(),
+                Some(pinned) => return machine.step(pinned.home_mut()),
+            },
         },
     }
 }
 
 /// The call that runs has ended so: its extent is set free, and it is logged.
 pub fn end_running(
-    running: &mut Option<Runner<'_>>,
+    running: &mut Runner<'_>,
     end: End,
     standard: bool,
     slots: &mut Slots<Extent>,
@@ -87,58 +197,34 @@ pub fn end_running(
     ensures history { IsHomeless homeless.new.mixed homeless.new.log }
     ensures free { IsSetFree (logs_running standard running.old) result.entry (pinned_of running.old) }
 {
-    match running.take() {
+    match &running.item {
         None => unreachable!(),
-        Some(runner) => {
-            let Runner {
-                item,
-                machine,
-                pinned,
-            } = runner;
-            let logged = is_logged(standard, &item.ask);
-            let reply = Reply::of(end, machine.outputs());
-            match pinned {
-                None => {
-                    let entry = entry_of(&item, reply, homeless.last_stamp());
-                    end_homeless(homeless, logged, &entry);
-                    what_holds_of_every_homeless_log(homeless);
-                    return Completion { extent: 0, entry };
-                }
-                Some(pinned) => {
-                    let extent = pinned.number();
-                    let entry = entry_of(&item, reply, pinned.last_stamp());
-                    slots.lower(extent as u64, set_free(pinned, logged, &entry));
-                    what_holds_of_every_homeless_log(homeless);
-                    return Completion { extent, entry };
+        Some(item) => match &running.machine {
+            None => unreachable!(),
+            Some(machine) => {
+                let logged = is_logged(standard, &item.ask);
+                let reply = Reply::of(end, machine.outputs());
+                match running.pinned.take() {
+                    None => {
+                        let entry = entry_of(item, reply, homeless.last_stamp());
+                        running.item = None;
+                        end_homeless(homeless, logged, &entry);
+                        what_holds_of_every_homeless_log(homeless);
+                        return Completion { extent: 0, entry };
+                    }
+                    Some(pinned) => {
+                        let extent = pinned.number();
+                        let entry = entry_of(item, reply, pinned.last_stamp());
+                        running.item = None;
+                        slots.lower(extent as u64, set_free(pinned, logged, &entry));
+                        what_holds_of_every_homeless_log(homeless);
+                        return Completion { extent, entry };
+                    }
                 }
             }
-        }
+        },
     }
 }
-
-impl<'m> Runner<'m> {
-    /// Gives the call up: the places with its extent set back.
-    pub fn set_back(self, slots: &mut Slots<Extent>)
-        requires ready { MayBeSetBack self self.pinned }
-        requires place { IsEmptyAt slots.old self.pinned }
-        ensures { slots.new ≡ slots_given_back self.entry self.entry.pinned slots.old }
-    {
-        let Runner {
-            item: _,
-            machine,
-            pinned,
-        } = self;
-        match pinned {
-            None => return,
-            Some(mut pinned) => {
-                machine.set_back(pinned.home_mut());
-                slots.lower(pinned.number() as u64, pinned.set_free());
-                return;
-            }
-        }
-    }
-}
-
 /// Whether a call is logged: where it is a transaction and the module is the standard one.
 fn is_logged(standard: bool, ask: &Ask) -> bool
     ensures { result ≡ (standard && is_transaction ask.now) }

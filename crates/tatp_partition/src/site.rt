@@ -22,7 +22,7 @@ pub struct Site<'m> {
     standard: bool,
     partition: u8,
     slots: Slots<Extent>,
-    running: Option<Runner<'m>>,
+    running: Runner<'m>,
     stopped: bool,
     stops: u64,
     breakpoints: ArrayVec<Breakpoint, 8>,

@@ -4,6 +4,7 @@ ghost use Rattle.tatp_population.specs.Extents.{ExtentState, IsExtent};
 ghost use Rattle.tatp_partition.specs.Opening.{AreNumbered, in_places};
 
 use super::Site;
+use crate::runner::Runner;
 use crate::slots::Slots;
 use arrayvec::ArrayVec;
 use std::alloc::{AllocError, Global};
@@ -44,7 +45,7 @@ impl<'m> Site<'m> {
             standard: is_standard(loaded),
             partition,
             slots,
-            running: None,
+            running: Runner::idle(),
             stopped: false,
             stops: 0,
             breakpoints: ArrayVec::new(),
@@ -70,13 +71,8 @@ impl<'m> Site<'m> {
             breakpoints: _,
             homeless,
         } = self;
-        match running {
-            None => return (slots.into_items(), homeless),
-            Some(runner) => {
-                runner.set_back(&mut slots);
-                return (slots.into_items(), homeless);
-            }
-        }
+        running.set_back(&mut slots);
+        return (slots.into_items(), homeless);
     }
 }
 

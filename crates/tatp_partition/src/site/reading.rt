@@ -52,10 +52,7 @@ impl<'m> Site<'m> {
     pub fn machine(&self) -> Option<&Machine<'m>>
         ensures { option_map (λ (m : MachineState). m.frame) (option_copied result) ≡ option_map (λ (r : RunningCall). r.call.frame) self.now.running }
     {
-        match &self.running {
-            Some(runner) => Some(&runner.machine),
-            None => None,
-        }
+        self.running.machine()
     }
 
     /// The home of a subscriber as it is now, where it is here.

@@ -6,9 +6,7 @@ ghost use Rattle.tatp_partition.specs.Showing.{running_shown};
 use super::Site;
 use super::reading::extent_of;
 use super::stopping::is_break;
-use crate::asks::enter;
-use crate::runner::{Runner, end_running, turn};
-use crate::slots::fill;
+use crate::runner::{Runner, begin, end_running, turn};
 use crate::{Breakpoint, Item, Offer, SiteRefusal, Stepped};
 use arrayvec::ArrayVec;
 use std::alloc::Global;
@@ -41,15 +39,7 @@ impl<'m> Site<'m> {
                 if self.homeless.reserve(alloc).is_err() {
                     return Ok(Offer::Denied(item));
                 }
-                let machine = enter(self.loaded, &item);
-                fill(
-                    &mut self.running,
-                    Runner {
-                        item,
-                        machine,
-                        pinned: None,
-                    },
-                );
+                begin(&mut self.running, self.loaded, item, None);
                 return Ok(Offer::Began);
             }
             Some(s_id) => match self.slots.lift(extent_of(s_id)) {
@@ -60,15 +50,7 @@ impl<'m> Site<'m> {
                         return Ok(Offer::Denied(item));
                     }
                     Ok(pinned) => {
-                        let machine = enter(self.loaded, &item);
-                        fill(
-                            &mut self.running,
-                            Runner {
-                                item,
-                                machine,
-                                pinned: Some(pinned),
-                            },
-                        );
+                        begin(&mut self.running, self.loaded, item, Some(pinned));
                         return Ok(Offer::Began);
                     }
                 },
@@ -93,7 +75,7 @@ impl<'m> Site<'m> {
         ensures steps { AdvancesUnless (one_obstacle self.old) self.old result self.new }
         ensures site { IsSite self.new }
     {
-        if self.running.is_none() {
+        if !self.running.is_some() {
             return Err(SiteRefusal::NotRunning);
         }
         rows_of_one_subscriber();
@@ -118,22 +100,18 @@ impl<'m> Site<'m> {
 
 /// Why a step is not made.
 fn step_refusal(
-    running: &Option<Runner<'_>>,
+    running: &Runner<'_>,
     stopped: bool,
     breakpoints: &ArrayVec<Breakpoint, 8>,
 ) -> Option<SiteRefusal>
     ensures { result ≡ obstacle_to_step (running_shown running.now) stopped breakpoints.now.items }
 {
-    match running {
+    match running.machine() {
         None => Some(SiteRefusal::NotRunning),
-        Some(runner) => {
+        Some(machine) => {
             if stopped {
                 Some(SiteRefusal::Stopped)
-            } else if is_break(
-                breakpoints,
-                runner.machine.proc() as u64,
-                runner.machine.pc() as u64,
-            ) {
+            } else if is_break(breakpoints, machine.proc() as u64, machine.pc() as u64) {
                 Some(SiteRefusal::AtBreak)
             } else {
                 None

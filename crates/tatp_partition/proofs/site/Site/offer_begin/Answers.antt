@@ -7,7 +7,7 @@ use Rattle.tatp_partition.specs.Sites.{SiteState}
 use Rattle.tatp_partition.specs.Running.{begun}
 use Rattle.tatp_partition.specs.Fields.{site_of, IsSound}
 use Rattle.tatp_partition.proofs.ListLaws.{get_set_same}
-use Rattle.tatp_partition.proofs.BeginLaws.{MayBegin, may_begin, pinned_place, HasBegun, begun_homeless, begun_pinned, put_down}
+use Rattle.tatp_partition.proofs.BeginLaws.{MayBegin, may_begin, machine_of, pinned_place, HasBegun, begun_homeless, begun_pinned, put_down}
 use Rattle.tatp_partition.proofs.site.Site.offer_begin.Goals as goal
 
 -- what the site lets begin, by its fields
@@ -17,15 +17,15 @@ at_fields a s item is may = subst (λ (t : SiteState). MayBegin t item) (sym is)
 fits_at : (a : Inside) (s : SiteState) (item : Item) → site_of a ≡ s → Fits (arities_of s.procedures) item.ask → Fits (arities_of a.loaded.now) item.ask
 fits_at a s item is fits = subst (λ (t : SiteState). Fits (arities_of t.procedures) item.ask) (sym is) fits
 
-without_home : (c : goal.After-fill) → HasBegun c.self.inside c.args.item c.self.inside.slots c.fill.new.slot c.reserve.new.self
+without_home : (c : goal.After-begin) → HasBegun c.self.inside c.args.item c.self.inside.slots c.begin.new.running c.reserve.new.self
 without_home c =
     let room : 1 ≤ c.reserve.new.self.room = search rules in
-    begun_homeless c.self.inside c.args.item c.enter-machine.result c.fill.new.slot c.reserve.new.self
+    begun_homeless c.self.inside c.args.item (machine_of c.self.inside c.args.item) c.begin.new.running c.reserve.new.self
     (record { alone = c.rows_of_one_subscriber.ensures.alone; put = c.rows_of_one_subscriber.ensures.put_alone })
     c.self.invariant
     (at_fields c.self.inside c.args.self.now c.args.item c.self.view_is (may_begin c.args.self.now c.args.item c.in-Ok.ensures.value c.in-Ok.ensures.place c.in-Ok.ensures.stamp))
     (fits_at c.self.inside c.args.self.now c.args.item c.self.view_is c.requires)
-    c.in-None.is c.enter-machine.ensures c.fill.ensures c.reserve.ensures.mixed c.reserve.ensures.log room
+    c.in-None.is refl c.begin.ensures c.reserve.ensures.mixed c.reserve.ensures.log room
 
 pub invariant_of-self-in-None : goal.invariant_of-self-in-None
 invariant_of-self-in-None c = (without_home c).sound
@@ -65,9 +65,9 @@ returns-in-Err-pin-clause-begins c =
 pub returns-in-Err-pin-clause-site : goal.returns-in-Err-pin-clause-site
 returns-in-Err-pin-clause-site c = (sound_again c).site
 
-on_home : (c : goal.After-fill-in-Ok-pin) → HasBegun c.self.inside c.args.item c.lift.new.self c.fill-in-Ok-pin.new.slot c.self.inside.homeless
+on_home : (c : goal.After-begin-in-Ok-pin) → HasBegun c.self.inside c.args.item c.lift.new.self c.begin-in-Ok-pin.new.running c.self.inside.homeless
 on_home c =
-    begun_pinned c.self.inside c.args.item c.in-Some.s_id c.in-Some-lift.extent c.in-Ok-pin.pinned c.enter-machine-in-Ok-pin.result c.lift.new.self c.fill-in-Ok-pin.new.slot
+    begun_pinned c.self.inside c.args.item c.in-Some.s_id c.in-Some-lift.extent c.in-Ok-pin.pinned (machine_of c.self.inside c.args.item) c.lift.new.self c.begin-in-Ok-pin.new.running
     (record { alone = c.rows_of_one_subscriber.ensures.alone; put = c.rows_of_one_subscriber.ensures.put_alone })
     c.self.invariant
     (at_fields c.self.inside c.args.self.now c.args.item c.self.view_is (may_begin c.args.self.now c.args.item c.in-Ok.ensures.value c.in-Ok.ensures.place c.in-Ok.ensures.stamp))
@@ -75,7 +75,7 @@ on_home c =
     c.in-Some.is
     (ap (slice_get c.self.inside.slots) (sym c.extent_of.ensures) ∙ c.in-Some-lift.ensures.found)
     (c.in-Some-lift.ensures.left ∙ ap (λ (k : ℕ). slice_set c.self.inside.slots k None) c.extent_of.ensures)
-    c.in-Ok-pin.ensures.pinned c.enter-machine-in-Ok-pin.ensures c.fill-in-Ok-pin.ensures
+    c.in-Ok-pin.ensures.pinned refl c.begin-in-Ok-pin.ensures
 
 pub invariant_of-self-in-Ok-pin : goal.invariant_of-self-in-Ok-pin
 invariant_of-self-in-Ok-pin c = (on_home c).sound

@@ -1,0 +1,54 @@
+-- A whole that was just opened.
+use Rattle.std.specs.Prelude.{◌≡◌, ◌==◌, ℕ, ◌+◌, Bool, false, List, [], length, filter, replicate, Some, None, slice_get}
+use Rattle.tatp_encoding.specs.Modules.{Procedure}
+use Rattle.tatp_tables.specs.Database.{Database, database_of}
+use Rattle.tatp_tables.specs.declared.row.Rows.{Rows}
+use Rattle.tatp_population.specs.Extents.{ExtentState}
+use Rattle.tatp_population.specs.Opening.{opened_extents, extent_count}
+use Rattle.tatp_partition.specs.Opening.{opened_site}
+use Rattle.tatp_partition.specs.Sites.{SiteState}
+use Rattle.tatp_partition.specs.Sound.{IsSite}
+use Rattle.tatp_move.specs.Routing.{opening_partition, opened_routes}
+use Rattle.tatp_dispatch.specs.declared.client.Client.{Client}
+use Rattle.tatp_dispatch.specs.Plain.{PlainWorld}
+use Rattle.tatp_dispatch.specs.Shown.{shown, set_back}
+use Rattle.tatp_dispatch.specs.Worlds.{WorldState}
+
+-- the plain world with this database in which no call runs and none was completed
+abbrev pub at_rest : Database → PlainWorld
+at_rest u = record { database = u; calls = λ client. None; completions = [] }
+
+-- whether an extent opens in partition p, of so many: the extents are dealt in turn
+abbrev pub opens_in : ℕ → ℕ → ExtentState → Bool
+opens_in partitions p x = opening_partition partitions x.number == p
+
+-- those of these extents that open in partition p
+abbrev pub dealt_to : ℕ → ℕ → List ExtentState → List ExtentState
+dealt_to partitions p extents = filter (opens_in partitions p) extents
+
+-- the site of partition p, just opened with those of the extents that were dealt to it
+pub record IsSiteOpened (procedures : List Procedure) (partitions p : ℕ) (extents : List ExtentState) (s : SiteState) : Type 0 where
+  pub site : IsSite s
+  pub fields : s ≡ opened_site procedures p (length extents) (dealt_to partitions p extents) s.standard
+
+-- the sites of all partitions, just opened with these extents
+pub record AreSitesOpened (procedures : List Procedure) (partitions : ℕ) (extents : List ExtentState) (sites : List SiteState) : Type 0 where
+  pub count : length sites ≡ partitions
+  pub each : (p : ℕ) (s : SiteState) → slice_get sites p ≡ Some s → IsSiteOpened procedures partitions p extents s
+
+-- a client that has asked nothing
+abbrev pub new_client : Client
+new_client = record { accepted = 0; refused = 0; busy = false; seen = 0 }
+
+-- a whole that was just opened with these rows in so many partitions and for so many clients:
+-- its database is that of the rows, no call runs or waits, none was completed, and each extent stands where its route says
+pub record IsOpened (procedures : List Procedure) (rows : Rows) (partitions client_count : ℕ) (w : WorldState) : Type 0 where
+  pub runs : w.procedures ≡ procedures
+  pub shows : shown w ≡ at_rest (database_of rows)
+  pub back : set_back w ≡ database_of rows
+  pub sites : AreSitesOpened procedures partitions (opened_extents (database_of rows) (length rows.subscribers)) w.sites
+  pub routes : w.routes ≡ opened_routes (length rows.subscribers) partitions
+  pub queues : w.queues ≡ replicate partitions []
+  pub clients : w.clients ≡ replicate client_count new_client
+  pub parcels : w.parcels ≡ replicate (extent_count (length rows.subscribers) + 1) None
+  pub landings : w.landings ≡ []

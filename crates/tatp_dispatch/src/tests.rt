@@ -1,0 +1,3 @@
+//! A population that is opened and gathered.
+mod fixture;
+mod opening;

@@ -1,0 +1,74 @@
+//! A call from its asking to its end.
+ghost use Rattle.std.specs.Prelude.{◌≡◌, IfSome};
+ghost use Rattle.tatp_procs.specs.declared.ask.Ask.{Ask};
+ghost use Rattle.tatp_partition.specs.Sites.{RunningCall};
+ghost use Rattle.tatp_dispatch.specs.Worlds.{WorldState};
+ghost use Rattle.tatp_dispatch.specs.Events.{QueuesCall};
+
+use super::{World, what_holds_of_every_world};
+use crate::Answer;
+use tatp_procs::{Ask, Reply};
+
+impl<'m> World<'m> {
+    ghost use Rattle.tatp_dispatch.specs.Placed.{RunsAt};
+    ghost use Rattle.tatp_dispatch.specs.Serving.{IsWorld};
+    ghost use Rattle.tatp_dispatch.specs.Calling.{CallsOnce, TransactsOnce};
+
+    /// The call that runs at a partition, to its end: its reply, or none where something stands
+    /// against a step.
+    fn finish(&mut self, p: u64) -> Option<Reply>
+        ensures call { (r : RunningCall) → RunsAt self.old.sites p r → CallsOnce self.old r.client r.ask result self.new }
+        ensures procedures { self.new.procedures ≡ self.old.procedures }
+        ensures world { IsWorld self.new }
+    {
+        'steps: loop {
+            match self.step(p) {
+                Err(_) => return None,
+                Ok(answer) => match answer {
+                    Answer::Moved => {}
+                    Answer::Ended(_, reply) => return Some(reply),
+                    _ => return None,
+                },
+            }
+        }
+    }
+
+    /// The front call of a partition, where it is this client's, from its beginning to its end.
+    fn begin_call(&mut self, client: u64, p: u64) -> Option<Reply>
+        ensures call { (asked : WorldState) (ask : Ask) → QueuesCall asked client ask p self.old → CallsOnce self.old client ask result self.new }
+        ensures procedures { self.new.procedures ≡ self.old.procedures }
+        ensures world { IsWorld self.new }
+    {
+        what_holds_of_every_world(self);
+        match self.begin(p) {
+            Err(_) => return None,
+            Ok(answer) => match answer {
+                Answer::Began(begun) => {
+                    if begun != client {
+                        return None;
+                    }
+                    return self.finish(p);
+                }
+                _ => return None,
+            },
+        }
+    }
+
+    /// A client's call, from its asking to its end with no other event between: its reply, or none
+    /// where something stands against one of these events.
+    pub fn call(&mut self, client: u64, ask: Ask) -> Option<Reply>
+        ensures call { CallsOnce self.old client ask result self.new }
+        ensures transaction { IfSome result (λ reply. TransactsOnce self.old ask reply self.new) }
+        ensures procedures { self.new.procedures ≡ self.old.procedures }
+        ensures world { IsWorld self.new }
+    {
+        what_holds_of_every_world(self);
+        match self.submit(client, ask) {
+            Err(_) => return None,
+            Ok(answer) => match answer {
+                Answer::Queued(p) => return self.begin_call(client, p as u64),
+                _ => return None,
+            },
+        }
+    }
+}

@@ -1,0 +1,133 @@
+//! A whole that is opened.
+ghost use Rattle.std.specs.Prelude.{◌≡◌, ◌≤◌, [], IfOk, IfErr, OnOk, length, replicate};
+ghost use Rattle.tatp_tables.specs.Clean.{IsClean};
+ghost use Rattle.tatp_population.specs.Opening.{most_subscribers, RefusesRows};
+ghost use Rattle.tatp_move.specs.Routing.{opened_routes};
+ghost use Rattle.tatp_dispatch.specs.Opened.{new_client};
+
+use super::World;
+use crate::client::Client;
+use crate::hand::{close_parcels, empty_hand};
+use crate::queue::Queue;
+use crate::sites::open_sites;
+use std::alloc::{AllocError, Global};
+use tatp_loader::Loaded;
+use tatp_move::Routes;
+use tatp_population::{OpenError, discard, open};
+use tatp_tables::Rows;
+
+/// Queues for so many partitions, all empty.
+fn empty_queues(alloc: Global, partitions: u8) -> Result<Vec<Queue>, AllocError>
+    ensures { IfOk result (λ queues. queues.items ≡ replicate partitions []) }
+{
+    let mut queues = Vec::with_capacity(alloc, partitions as usize)?;
+    for _ in 0..partitions {
+        queues.push_reserved(Queue::new(alloc)?);
+    }
+    Ok(queues)
+}
+
+/// So many clients that have asked nothing.
+fn new_clients(alloc: Global, clients: u8) -> Result<Vec<Client>, AllocError>
+    ensures { IfOk result (λ made. made.items ≡ replicate clients new_client) }
+{
+    let mut made = Vec::with_capacity(alloc, clients as usize)?;
+    for _ in 0..clients {
+        made.push_reserved(Client {
+            accepted: 0,
+            refused: 0,
+            busy: false,
+            seen: 0,
+        });
+    }
+    Ok(made)
+}
+
+/// The routes, the queues and the clients of a whole that is opened.
+#[derive(Drop)]
+struct Desk {
+    routes: Routes,
+    queues: Vec<Queue>,
+    clients: Vec<Client>,
+}
+
+impl Desk {
+    fn open(
+        alloc: Global,
+        subscribers: u64,
+        partitions: u8,
+        clients: u8,
+    ) -> Result<Desk, AllocError>
+        requires few { subscribers ≤ most_subscribers }
+        requires some { 1 ≤ partitions }
+        ensures routes { IfOk result (λ desk. desk.routes ≡ opened_routes subscribers partitions) }
+        ensures queues { IfOk result (λ desk. desk.queues.items ≡ replicate partitions []) }
+        ensures clients { IfOk result (λ desk. desk.clients.items ≡ replicate clients new_client) }
+    {
+        Ok(Desk {
+            routes: Routes::open(alloc, subscribers, partitions)?,
+            queues: empty_queues(alloc, partitions)?,
+            clients: new_clients(alloc, clients)?,
+        })
+    }
+}
+
+impl<'m> World<'m> {
+    ghost use Rattle.tatp_dispatch.specs.Opened.{IsOpened};
+    ghost use Rattle.tatp_dispatch.specs.Serving.{IsWorld};
+
+    /// The whole with these rows, in so many partitions and for so many clients. The rows are
+    /// consumed, on a refusal too.
+    pub fn open(
+        alloc: Global,
+        loaded: &'m Loaded,
+        rows: Rows,
+        partitions: u8,
+        clients: u8,
+    ) -> Result<World<'m>, OpenError>
+        requires some_partitions { 1 ≤ partitions }
+        requires few_partitions { partitions ≤ 8 }
+        requires few_clients { clients ≤ 64 }
+        ensures opened { IfOk result (IsOpened loaded.now rows partitions clients) }
+        ensures world { IfOk result IsWorld }
+        ensures few { OnOk result (length rows.subscribers ≤ most_subscribers) }
+        ensures clean { OnOk result (IsClean rows) }
+        ensures refusal { IfErr result (RefusesRows rows) }
+    {
+        let subscribers = rows.subscribers.len() as u64;
+        let (extents, directory) = open(alloc, rows, partitions)?;
+        let desk = match Desk::open(alloc, subscribers, partitions, clients) {
+            Ok(desk) => desk,
+            Err(_) => {
+                discard(extents);
+                return Err(OpenError::NoMemory);
+            }
+        };
+        let parcels = match empty_hand(alloc, extents.len() as u32) {
+            Ok(parcels) => parcels,
+            Err(_) => {
+                discard(extents);
+                return Err(OpenError::NoMemory);
+            }
+        };
+        let sites = match open_sites(alloc, loaded, partitions, extents) {
+            Ok(sites) => sites,
+            Err(_) => {
+                close_parcels(parcels);
+                return Err(OpenError::NoMemory);
+            }
+        };
+        let _module = loaded.module();
+        return Ok(World {
+            loaded,
+            directory,
+            sites,
+            queues: desk.queues,
+            routes: desk.routes,
+            parcels,
+            landings: Vec::new(alloc),
+            clients: desk.clients,
+            completions: Vec::new(alloc),
+        });
+    }
+}

@@ -1,6 +1,5 @@
 -- No extent that neither the population nor the closing has is a cause.
-use Rattle.std.proofs.Common.{◌≡◌, ℕ, ◌<◌, ◌≤◌, ◌+◌, ◌==◌, None, true, false, List, [], length, count_by, sum_by, All, Some, refl, sym, ◌∙◌, ap, subst, arith}
-use Rattle.std.specs.List.{list_any}
+use Rattle.std.proofs.Common.{◌≡◌, ℕ, ◌<◌, ◌≤◌, ◌==◌, None, true, false, [], All, Some, sym, ◌∙◌, ap, subst, arith}
 use Rattle.std.specs.Option.{is_some}
 use Rattle.std.proofs.lemmas.Bool.{eq-eqb}
 use Rattle.std.proofs.lemmas.List.Elements.{All-nil}
@@ -8,12 +7,12 @@ use Rattle.tatp_tables.specs.declared.row.Rows.{Rows}
 use Rattle.tatp_population.specs.Extents.{ExtentState}
 use Rattle.tatp_settle.specs.declared.extents.ExtentCause.{ExtentCause}
 use Rattle.tatp_settle.specs.declared.extents.ExtentCause.TheVariants.{OpenedElse, IsAsMixed, InParcel, StandsTwice}
-use Rattle.tatp_settle.specs.Closings.{ClosedState, ExtentLog, extents_of, logs_of, extents_numbered, times_standing, IsClosed}
+use Rattle.tatp_settle.specs.Closings.{ClosedState, ExtentLog, logs_of, extents_numbered, IsClosed}
 use Rattle.tatp_settle.specs.Runs.{extents_populated, homes_populated}
 use Rattle.tatp_settle.specs.ExtentTests.{IsExtentCause}
-use Rattle.tatp_settle.proofs.StandingLaws.{has_number, none_standing, times_standing_is, any_counted, standing_of}
+use Rattle.tatp_settle.proofs.StandingLaws.{has_number, none_standing, times_standing_is, any_counted}
 use Rattle.tatp_settle.proofs.TestLaws.{decides_passes}
-use Rattle.tatp_settle.proofs.OpenedLaws.{not_populated, not_opened_is}
+use Rattle.tatp_settle.proofs.OpenedLaws.{not_populated}
 use Rattle.tatp_settle.proofs.MixedLaws.{parcel_is}
 
 pub not_beyond : (cause : ExtentCause) (p : Rows) (c : ClosedState) (e : ℕ) → IsClosed c → 1 ≤ e → extents_populated p < e → extents_numbered c e ≡ [] → IsExtentCause cause p c e → ⊥

@@ -1,10 +1,8 @@
 -- Counting over lists of lists, element by element.
-use Rattle.std.proofs.Common.{◌≡◌, ℕ, zero, suc, ◌+◌, ◌<◌, ◌≤◌, ◌==◌, Bool, true, false, List, [], ◌∷◌, ◌++◌, length, map, take, count_by, Vec, Global, Some, None, slice_get, slice_set, slice_index_or, refl, sym, ◌∙◌, ap, arith, if◌then◌else◌}
-use Rattle.std.specs.List.{range_with_len, flat_map}
+use Rattle.std.proofs.Common.{◌≡◌, ℕ, zero, suc, ◌+◌, ◌<◌, ◌≤◌, Bool, List, [], ◌∷◌, ◌++◌, length, take, count_by, Vec, Global, Some, slice_get, slice_index_or, refl, sym, ◌∙◌, ap, arith, if◌then◌else◌}
 use Rattle.std.proofs.lemmas.Grind.{common_steps}
 use Rattle.std.proofs.lemmas.List.Sums.{count_by-le-length}
 use Rattle.tatp_settle.specs.Runs.{joined, lists_of}
-use Rattle.tatp_settle.proofs.TableLaws.{got_within}
 
 -- the elements before one of a list, with all of the lists before it
 abbrev pub seen : {A : Type 0} → List (List A) → ℕ → List A → ℕ → List A

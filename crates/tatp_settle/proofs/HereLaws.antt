@@ -1,11 +1,10 @@
 -- An extent stands in a site exactly where its first subscriber's home does.
-use Rattle.std.proofs.Common.{◌≡◌, ℕ, zero, suc, ◌+◌, ◌-◌, ◌*◌, ◌/◌, ◌<◌, ◌≤◌, ◌↔◌, ◌==◌, Bool, true, false, IsTrue, List, [], ◌∷◌, map, length, Option, Some, None, IsSome, slice_get, slice_set, refl, sym, ◌∙◌, ap, subst, arith, if◌then◌else◌, Bor}
+use Rattle.std.proofs.Common.{◌≡◌, ℕ, zero, suc, ◌+◌, ◌-◌, ◌*◌, ◌≤◌, ◌↔◌, ◌==◌, Bool, true, false, List, [], ◌∷◌, map, length, Option, Some, None, IsSome, slice_get, refl, sym, ◌∙◌, ap, arith, if◌then◌else◌, Bor}
 use Rattle.std.specs.Option.{option_map, option_and_then, option_copied, is_some}
 use Rattle.std.proofs.lemmas.List.{length-set}
 use Rattle.std.proofs.lemmas.Bool.{ne_eqb}
 use Rattle.tatp_tables.specs.Database.{Database}
-use Rattle.tatp_tables.specs.Home.{SubscriberRows}
-use Rattle.tatp_population.specs.Extents.{ExtentState, IsExtent, LiesIn, extent_of, home_at, with_home_at, place_in, first_subscriber}
+use Rattle.tatp_population.specs.Extents.{ExtentState, LiesIn, extent_of, home_at, with_home_at, place_in}
 use Rattle.tatp_partition.specs.Sites.{SiteState, RunningCall, slot, home_here}
 use Rattle.tatp_partition.specs.Sound.{IsSite, extent_set_back, with_entry_rows}
 use Rattle.tatp_settle.specs.Closings.{closed_site, is_here}

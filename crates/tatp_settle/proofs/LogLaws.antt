@@ -2,14 +2,13 @@
 use Rattle.std.proofs.Common.{◌≡◌, ◌≢◌, ℕ, zero, suc, ◌+◌, ◌<◌, ◌≤◌, ◌==◌, Bool, true, false, cond, List, [], ◌∷◌, ◌++◌, map, length, filter, find, All, Option, Some, None, slice_get, refl, sym, ◌∙◌, ap, subst, arith, drop, get_or}
 use Rattle.std.specs.List.{flat_map}
 use Rattle.std.specs.Option.{option_to_list, option_map, option_map_or, option_or}
-use Rattle.std.proofs.lemmas.Bool.{ne_eqb, eq-eqb}
+use Rattle.std.proofs.lemmas.Bool.{ne_eqb}
 use Rattle.std.proofs.lemmas.List.Elements.{All-head, All-tail, All-get_or}
 use Rattle.std.proofs.lemmas.List.{at_drop_more}
 use Rattle.std.proofs.lemmas.List.Folds.{find-append}
-use Rattle.tatp_procs.specs.declared.entry.Entry.{Entry}
 use Rattle.tatp_population.specs.Extents.{ExtentState, IsExtent}
 use Rattle.tatp_partition.specs.Sites.{slot}
-use Rattle.tatp_settle.specs.Closings.{ClosedSiteState, ClosedState, ExtentLog, extents_in_slots, extents_of, extents_numbered, extent_numbered, entries_numbered, logs_of, log_of_homeless, log_of_extent, IsClosedSite, IsClosed}
+use Rattle.tatp_settle.specs.Closings.{ClosedSiteState, ClosedState, ExtentLog, extents_in_slots, extents_of, extents_numbered, extent_numbered, entries_numbered, log_of_homeless, log_of_extent, IsClosedSite, IsClosed}
 use Rattle.tatp_settle.proofs.StandingLaws.{has_number, here, in_site, in_sites, none_at_zero}
 
 pub find_filtered : {A : Type 0} (p : A → Bool) (xs : List A) → find p xs ≡ slice_get (filter p xs) 0

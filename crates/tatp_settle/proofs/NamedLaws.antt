@@ -1,5 +1,5 @@
 -- The least call of a log whose key names a subscriber.
-use Rattle.std.proofs.Common.{◌≡◌, ◌<◌, ◌≤◌, ℕ, zero, suc, List, [], ◌∷◌, Option, Some, None, IsSome, refl, sym, subst, ap, ◌∙◌, slice_get, length, arith, inl, inr, ◌⊎◌}
+use Rattle.std.proofs.Common.{◌≡◌, ◌<◌, ◌≤◌, ℕ, zero, suc, List, [], ◌∷◌, Option, Some, None, IsSome, refl, sym, subst, slice_get, length, arith}
 use Rattle.tatp_tables.specs.Tuples.{Tuples}
 use Rattle.tatp_numbers.specs.Homes.{home_of_key}
 use Rattle.tatp_numbers.specs.Listing.{Listing, answer}
@@ -8,8 +8,7 @@ use Rattle.tatp_procs.specs.declared.entry.Entry.{Entry}
 use Rattle.tatp_partition.specs.Asks.{key_asked}
 use Rattle.tatp_settle.specs.declared.places.CallPlace.{CallPlace}
 use Rattle.tatp_settle.specs.Closings.{ClosedState, entries_numbered, StandsAt}
-use Rattle.tatp_settle.specs.Answering.{IsEntryOf, EntryFound}
-use Rattle.tatp_settle.specs.CallPlaces.{IsSooner, IsLeastCall, IsFirstCall}
+use Rattle.tatp_settle.specs.CallPlaces.{IsSooner, IsFirstCall}
 use Rattle.tatp_settle.specs.Causes.{NamesHome}
 use Rattle.tatp_settle.specs.Named.{IsNamedIn}
 use Rattle.tatp_settle.specs.Placing.{IsAtMost}

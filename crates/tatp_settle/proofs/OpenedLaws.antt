@@ -1,25 +1,24 @@
 -- Whether the extents of a number opened as the population has it.
-use Rattle.std.proofs.Common.{◌≡◌, ℕ, zero, suc, ◌+◌, ◌*◌, ◌-◌, ◌/◌, ◌<◌, ◌≤◌, ◌==◌, ◌&&◌, not, min, nat_le, Bool, true, false, cond, if◌then◌else◌, List, [], ◌∷◌, ◌++◌, map, length, filter, take, drop, All, Option, Some, None, IsSome, slice_get, refl, sym, ◌∙◌, ap, subst, arith}
+use Rattle.std.proofs.Common.{◌≡◌, ℕ, ◌+◌, ◌*◌, ◌-◌, ◌/◌, ◌≤◌, ◌&&◌, not, min, nat_le, Bool, true, false, cond, if◌then◌else◌, List, [], ◌∷◌, map, length, filter, take, drop, All, Option, Some, None, slice_get, refl, sym, ◌∙◌, ap, subst, arith}
 use Rattle.std.specs.Bool.{Decides}
 use Rattle.std.specs.List.{flat_map, list_all, range_with_len}
 use Rattle.std.specs.Option.{option_to_list, option_map_or, is_some}
-use Rattle.std.specs.Cmp.Lexicographic.{pointwise}
 use Rattle.std.proofs.lemmas.Bool.Decides.{Decides-like, Decides-by_and, Decides-and, nat_tests}
 use Rattle.std.proofs.lemmas.List.{take-map, drop-map, take_min, length-drop}
 use Rattle.std.proofs.lemmas.List.Folds.{list_all-append}
-use Rattle.std.proofs.lemmas.List.Elements.{All-head, All-tail, All-nil}
+use Rattle.std.proofs.lemmas.List.Elements.{All-head, All-nil}
 use Rattle.std.proofs.lemmas.Slice.Eq.{slice_eq-Decides}
 use Rattle.tatp_tables.specs.Database.{Database, database_of}
-use Rattle.tatp_tables.specs.Home.{SubscriberRows, same_home, home_in}
+use Rattle.tatp_tables.specs.Home.{SubscriberRows, home_in}
 use Rattle.tatp_tables.specs.Loading.{homes_in}
 use Rattle.tatp_tables.specs.declared.row.Rows.{Rows}
 use Rattle.tatp_tables.proofs.EqualityLaws.{Decides-same_home}
 use Rattle.tatp_tables.proofs.LoadingLaws.{length-homes_in}
 use Rattle.tatp_population.specs.Extents.{ExtentState, first_subscriber}
-use Rattle.tatp_population.specs.Opening.{homes_of_extent, last_subscriber, extent_count}
+use Rattle.tatp_population.specs.Opening.{homes_of_extent, last_subscriber}
 use Rattle.tatp_population.proofs.CutLaws.{drop-range, take-range}
 use Rattle.tatp_partition.specs.Sites.{slot}
-use Rattle.tatp_settle.specs.Closings.{ClosedSiteState, ClosedState, extents_of, extents_numbered, extent_numbered, IsClosedSite, IsClosed}
+use Rattle.tatp_settle.specs.Closings.{ClosedSiteState, ClosedState, extents_of, extents_numbered, extent_numbered, IsClosed}
 use Rattle.tatp_settle.specs.Runs.{extents_populated, homes_populated}
 use Rattle.tatp_settle.specs.Causes.{OpenedAsPopulated}
 use Rattle.tatp_settle.specs.ExtentTests.{opened_with, opened_here, opened_as}

@@ -6,9 +6,9 @@ use Rattle.tatp_settle.specs.declared.places.LogPlace.{LogPlace}
 use Rattle.tatp_settle.specs.declared.places.CallPlace.{CallPlace}
 use Rattle.tatp_settle.specs.Closings.{ClosedState, StandsAt, entries_numbered}
 use Rattle.tatp_settle.specs.Runs.{at_call}
-use Rattle.tatp_settle.specs.Answering.{IsEntryOf, EntryFound}
+use Rattle.tatp_settle.specs.Answering.{EntryFound}
 use Rattle.tatp_settle.specs.CallPlaces.{IsSooner, IsFirstCall}
-use Rattle.tatp_settle.specs.Causes.{HasEntryTooMany, LacksReceipt, HasTwoEntries}
+use Rattle.tatp_settle.specs.Causes.{HasEntryTooMany}
 use Rattle.tatp_settle.specs.Placing.{IsFresh, IsFreshCell, Puts, Points, AllPlaced, IsAtMost}
 use Rattle.tatp_settle.proofs.SearchLaws.{lt_or}
 

@@ -1,5 +1,5 @@
 -- Which extents and logs have a number.
-use Rattle.std.proofs.Common.{◌≡◌, ◌≢◌, ℕ, zero, suc, ◌+◌, ◌<◌, ◌≤◌, ◌==◌, Bool, true, false, cond, ◌||◌, List, [], ◌∷◌, ◌++◌, map, length, filter, count_by, sum_by, All, Option, Some, None, slice_get, refl, sym, ◌∙◌, ap, subst, arith, zero-add, add-zero, add-one}
+use Rattle.std.proofs.Common.{◌≡◌, ℕ, zero, suc, ◌+◌, ◌<◌, ◌≤◌, ◌==◌, Bool, true, false, cond, ◌||◌, List, [], ◌∷◌, ◌++◌, map, length, filter, count_by, sum_by, All, Option, Some, None, slice_get, refl, sym, ◌∙◌, ap, arith, zero-add, add-one}
 use Rattle.std.specs.List.{flat_map, list_any}
 use Rattle.std.specs.Option.{option_to_list, is_some}
 use Rattle.std.proofs.lemmas.Bool.{ne_eqb, eq-eqb}
@@ -10,7 +10,7 @@ use Rattle.std.proofs.lemmas.List.Concat.{length-flat_map}
 use Rattle.tatp_population.specs.Extents.{ExtentState}
 use Rattle.tatp_partition.specs.Sites.{SiteState, slot}
 use Rattle.tatp_partition.specs.Sound.{IsSite}
-use Rattle.tatp_settle.specs.Closings.{ClosedSiteState, ClosedState, ExtentLog, extents_in_slots, extents_of, logs_of, log_of_homeless, log_of_extent, times_standing, is_here, closed_site, closed_of, IsClosedSite}
+use Rattle.tatp_settle.specs.Closings.{ClosedSiteState, ClosedState, ExtentLog, extents_in_slots, extents_of, log_of_homeless, log_of_extent, times_standing, is_here, closed_site, closed_of, IsClosedSite}
 use Rattle.tatp_settle.proofs.ClosingLaws.{are_closed_sites}
 
 -- the extents in slots have the numbers of their slots, counted from k

@@ -1,7 +1,6 @@
 -- The table of calls: its cells, and how they are filled.
-use Rattle.std.proofs.Common.{◌≡◌, ℕ, zero, suc, ◌+◌, ◌<◌, ◌≤◌, ◌⊎◌, inl, inr, true, List, [], ◌∷◌, ◌++◌, length, map, take, replicate, Option, Some, None, Vec, Global, slice_get, slice_set, slice_index_or, refl, sym, ◌∙◌, ap, arith}
+use Rattle.std.proofs.Common.{◌≡◌, ℕ, zero, suc, ◌+◌, ◌<◌, ◌⊎◌, inl, inr, true, List, [], ◌∷◌, ◌++◌, length, map, take, replicate, Option, Some, None, Vec, Global, slice_get, slice_set, slice_index_or, refl, sym, ◌∙◌, ap, arith}
 use Rattle.std.specs.Option.{option_and_then}
-use Rattle.std.proofs.lemmas.Grind.{common_steps}
 use Rattle.tatp_settle.specs.declared.places.LogPlace.{LogPlace}
 use Rattle.tatp_settle.specs.Placing.{IsFresh, IsFreshCell, Puts}
 use Rattle.tatp_settle.specs.Runs.{at_call, lists_of}

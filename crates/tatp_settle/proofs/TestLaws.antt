@@ -1,7 +1,7 @@
 -- Tests of lists: what they decide.
-use Rattle.std.proofs.Common.{◌≡◌, ℕ, zero, suc, ◌+◌, ◌<◌, ◌≤◌, ◌==◌, ◌||◌, ◌&&◌, Bool, true, false, cond, List, [], ◌∷◌, ◌++◌, map, length, filter, All, Option, Some, None, slice_index_or, refl, sym, ◌∙◌, ap, subst, arith}
+use Rattle.std.proofs.Common.{◌≡◌, ℕ, zero, suc, ◌<◌, ◌||◌, ◌&&◌, Bool, true, false, cond, List, [], ◌∷◌, map, length, filter, Option, Some, None, slice_index_or, refl, ◌∙◌, ap, arith}
 use Rattle.std.specs.Bool.{Decides}
-use Rattle.std.specs.List.{flat_map, list_any, list_all, Contains}
+use Rattle.std.specs.List.{flat_map, list_any, Contains}
 use Rattle.std.specs.Option.{option_to_list, option_map_or}
 use Rattle.std.proofs.lemmas.List.Folds.{list_any-append}
 

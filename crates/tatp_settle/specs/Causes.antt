@@ -1,5 +1,5 @@
 -- Why a run isn't settled: each cause with its place, and their order.
-use Rattle.std.specs.Prelude.{◌≡◌, ◌≢◌, ℕ, ◌<◌, ◌≤◌, ◌==◌, ◌⊎◌, true, false, List, [], ◌∷◌, length, filter, Some, None, IsSome, All, Contains}
+use Rattle.std.specs.Prelude.{◌≡◌, ◌≢◌, ℕ, ◌<◌, ◌≤◌, ◌⊎◌, true, false, List, [], ◌∷◌, length, Some, None, IsSome, All, Contains}
 use Rattle.std.specs.Cmp.Lexicographic.{slice_cmp}
 use Rattle.std.specs.Ordering.{nat_cmp}
 use Rattle.std.specs.declared.cmp.Ordering.TheVariants.{Less}
@@ -16,7 +16,7 @@ use Rattle.tatp_settle.specs.declared.receipt.Receipt.{Receipt}
 use Rattle.tatp_settle.specs.declared.receipt.Receipt.TheVariants.{Done, Refused}
 use Rattle.tatp_settle.specs.declared.cause.Unsettled.{Unsettled}
 use Rattle.tatp_settle.specs.declared.cause.Unsettled.TheVariants.{Opening, Mixed, ParcelLeft, Doubled, CallMissing, ReceiptMissing, ReplyDiffers, StampOrder, HasHome, Audit}
-use Rattle.tatp_settle.specs.Closings.{ClosedState, ExtentLog, extents_numbered, extents_of, logs_of, times_standing, StandsAt}
+use Rattle.tatp_settle.specs.Closings.{ClosedState, ExtentLog, extents_numbered, logs_of, times_standing, StandsAt}
 use Rattle.tatp_settle.specs.Runs.{Run, homes_populated, rows_left, at_call}
 use Rattle.tatp_settle.specs.Answering.{AreMatched, EntryFound, receipt_of}
 use Rattle.tatp_settle.specs.Receipts.{IsLater}

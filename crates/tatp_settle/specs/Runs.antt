@@ -1,5 +1,5 @@
 -- A run that is to be settled: what it began with, and what it left.
-use Rattle.std.specs.Prelude.{◌≡◌, ℕ, ◌+◌, ◌&&◌, nat_le, if◌then◌else◌, List, [], map, length, Option, Some, None, slice_get, Vec}
+use Rattle.std.specs.Prelude.{ℕ, ◌+◌, ◌&&◌, nat_le, if◌then◌else◌, List, [], map, length, Option, Some, None, slice_get, Vec}
 use Rattle.std.specs.List.{flat_map, range_with_len}
 use Rattle.std.specs.Option.{option_map_or, option_and_then}
 use Rattle.std.specs.declared.alloc.Global.{Global}

@@ -1,4 +1,4 @@
-use Rattle.std.proofs.Common.{true, false, arith, sym, ◌∙◌}
+use Rattle.std.proofs.Common.{arith, sym, ◌∙◌}
 use Rattle.std.proofs.lemmas.Bool.{false≢true}
 use Rattle.tatp_settle.proofs.SearchLaws.{clear_step, clear_row, clear_all}
 use Rattle.tatp_settle.proofs.DifferLaws.{none_differs}

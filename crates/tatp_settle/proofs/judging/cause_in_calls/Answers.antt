@@ -1,4 +1,4 @@
-use Rattle.std.proofs.Common.{◌≡◌, ℕ, Option, Some, None, IfNone, subst}
+use Rattle.std.proofs.Common.{Option, IfNone, subst}
 use Rattle.tatp_settle.specs.declared.places.CallPlace.{CallPlace}
 use Rattle.tatp_settle.specs.CallPlaces.{IsFirstCall}
 use Rattle.tatp_settle.specs.Causes.{HasEntryTooMany}

@@ -1,15 +1,14 @@
-use Rattle.std.proofs.Common.{◌≡◌, ◌<◌, ℕ, Bool, true, false, Option, Some, None, IfNone, List, length, not, sym, ap, subst, arith, ◌∙◌}
+use Rattle.std.proofs.Common.{◌≡◌, Option, IfNone, sym, ap, subst, arith, ◌∙◌}
 use Rattle.tatp_tables.specs.Clean.{IsClean}
 use Rattle.tatp_tables.specs.declared.row.Rows.{Rows}
-use Rattle.tatp_audits.specs.Audits.{IsVerdict, says_clean, clean_of}
+use Rattle.tatp_audits.specs.Audits.{IsVerdict, clean_of}
 use Rattle.tatp_settle.specs.declared.cause.Unsettled.{Unsettled}
 use Rattle.tatp_settle.specs.declared.settled.Settled.{Settled}
 use Rattle.tatp_settle.specs.Runs.{Run, lists_of, rows_left}
 use Rattle.tatp_settle.specs.Placing.{ArePlaced}
-use Rattle.tatp_settle.specs.CauseOrder.{NoneOfFirst, IsFirstOf}
-use Rattle.tatp_settle.specs.Settlements.{IsOneHistory, IsSettled}
+use Rattle.tatp_settle.specs.CauseOrder.{NoneOfFirst}
+use Rattle.tatp_settle.specs.Settlements.{IsOneHistory}
 use Rattle.tatp_settle.proofs.CauseLaws.{first_audit}
-use Rattle.tatp_settle.proofs.ReceivedLaws.{population_once}
 use Rattle.tatp_settle.proofs.MovesLaws.{moves_by_number}
 use Rattle.tatp_settle.proofs.JudgeLaws.{as_many_receipts, matched_of, judged, none_found, cause_found}
 use Rattle.tatp_settle.proofs.judging.judge.Goals as goal

@@ -28,8 +28,6 @@ pub mod FrontLaws
 pub mod SubmitLaws
 pub mod CarryLaws
 pub mod LandingLaws
-pub mod DealLaws
-pub mod SiteLaws
 pub mod OpenLaws
 pub mod RowsLaws
 pub mod IdleLaws

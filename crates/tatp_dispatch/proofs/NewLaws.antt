@@ -30,7 +30,8 @@ use Rattle.tatp_move.specs.Routing.{opening_partition, opened_routes}
 use Rattle.tatp_move.specs.declared.route.Route.{Route}
 use Rattle.tatp_dispatch.specs.Counts.{one, one_if, total}
 use Rattle.tatp_dispatch.specs.Gathered.{gathered}
-use Rattle.tatp_dispatch.specs.Opened.{new_client, AreSitesOpened, IsOpened}
+use Rattle.tatp_move.specs.Dealing.{AreSitesOpened}
+use Rattle.tatp_dispatch.specs.Opened.{new_client, IsOpened}
 use Rattle.tatp_dispatch.specs.Placed.{extent_at, AreExtentsPlaced, WaitsIn, RunsIn, is_call_of, times_waiting, times_queued, times_running, IsClientInOrder, AreClientsInOrder}
 use Rattle.tatp_dispatch.specs.Populated.{IsPopulated}
 use Rattle.tatp_dispatch.specs.Routed.{extent_in, moves_of, stands_at, AreRoutesRight, NamePartitions}

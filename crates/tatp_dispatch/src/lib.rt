@@ -10,7 +10,6 @@ mod hand;
 mod laws;
 mod queue;
 mod running;
-mod sites;
 mod world;
 
 pub use benchmark::{every_run_is_the_benchmark, runs_go_on};

@@ -2,7 +2,7 @@
 
 use super::World;
 use crate::hand::{close_parcels, discard_landings};
-use crate::sites::close_sites;
+use tatp_move::close_sites;
 
 impl<'m> World<'m> {
     ghost use Rattle.tatp_dispatch.specs.Serving.{IsWorld};

@@ -9,10 +9,9 @@ use super::World;
 use crate::client::Client;
 use crate::hand::{close_parcels, empty_hand};
 use crate::queue::Queue;
-use crate::sites::open_sites;
 use std::alloc::{AllocError, Global};
 use tatp_loader::Loaded;
-use tatp_move::Routes;
+use tatp_move::{Routes, open_sites};
 use tatp_population::{OpenError, discard, open};
 use tatp_tables::Rows;
 

@@ -7,7 +7,8 @@ use Rattle.tatp_population.specs.Opening.{extent_count, opened_extents}
 use Rattle.tatp_partition.specs.Opening.{AreNumbered}
 use Rattle.tatp_move.specs.Routing.{opened_routes}
 use Rattle.tatp_dispatch.specs.Counts.{one, total}
-use Rattle.tatp_dispatch.specs.Opened.{AreSitesOpened, new_client, IsOpened}
+use Rattle.tatp_move.specs.Dealing.{AreSitesOpened}
+use Rattle.tatp_dispatch.specs.Opened.{new_client, IsOpened}
 use Rattle.tatp_dispatch.specs.Serving.{IsWorld}
 use Rattle.tatp_dispatch.specs.Worlds.{WorldState}
 use Rattle.tatp_dispatch.proofs.OpenLaws.{length-opened_extents, opened_are_numbered}

@@ -8,7 +8,7 @@ use Rattle.tatp_population.specs.Opening.{most_subscribers}
 use Rattle.tatp_commands.specs.declared.population.Population.{Population}
 use Rattle.tatp_commands.specs.declared.population.Population.TheVariants.{Read, Generated}
 use Rattle.tatp.specs.declared.command_line.Task.{Task}
-use Rattle.tatp.specs.declared.command_line.Task.TheVariants.{Call, Asm, Dis, Check, Audit}
+use Rattle.tatp.specs.declared.command_line.Task.TheVariants.{Call, Trace, Asm, Dis, Check, Audit}
 use Rattle.tatp_commands.specs.Populations.{IsPopulation}
 
 -- the text is digits alone, and their number lies in the range
@@ -35,14 +35,20 @@ population_asked found = population_by (first_value found (codes "gen")) (digits
 abbrev pub partitions_text : Found → List ℕ
 partitions_text found = unwrap_or (first_value found (codes "partitions")) (codes "2")
 
--- ---- the task can be done: where rows are drawn, so many can be; and there can be so many partitions
+-- ---- the option --clients
+abbrev pub clients_text : Found → List ℕ
+clients_text found = unwrap_or (first_value found (codes "clients")) (codes "4")
+
+-- ---- the task can be done: where rows are drawn, so many can be; and there can be so many partitions and clients
 abbrev pub IsTask : Task → Type 0
 IsTask (Call population partitions) = IsPopulation population × (1 ≤ partitions) × (partitions ≤ 8)
+IsTask (Trace population partitions clients) = IsPopulation population × (1 ≤ partitions) × (partitions ≤ 8) × (1 ≤ clients) × (clients ≤ 64)
 IsTask task = Unit {0}
 
 -- the command's name
 abbrev pub name_of : Task → List ℕ
 name_of (Call population partitions) = codes "call"
+name_of (Trace population partitions clients) = codes "trace"
 name_of Asm = codes "asm"
 name_of Dis = codes "dis"
 name_of Check = codes "check"

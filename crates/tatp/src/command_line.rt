@@ -3,7 +3,7 @@ ghost use Rattle.std.specs.Prelude.{◌≡◌, ◌==◌, Some, IfOk, IfSome, Som
 ghost use Rattle.std.specs.Str.Parse.{digits_value};
 ghost use Rattle.tatp_commands.specs.Populations.{IsPopulation};
 ghost use Rattle.clap.specs.Matches.{found_of, subcommand_name_of};
-ghost use Rattle.tatp.specs.Tasks.{IsTask, IsNumberIn, HasPlainNumbers, population_asked, partitions_text, name_of};
+ghost use Rattle.tatp.specs.Tasks.{IsTask, IsNumberIn, HasPlainNumbers, population_asked, partitions_text, clients_text, name_of};
 
 use clap::builder::ValueParser;
 use clap::error::ErrorKind;
@@ -17,10 +17,14 @@ const MOST_SUBSCRIBERS: u64 = 100_000;
 /// The most partitions.
 const MOST_PARTITIONS: u64 = 8;
 
+/// The most clients.
+const MOST_CLIENTS: u64 = 64;
+
 /// What the program is asked to do.
 #[derive(Clone, Copy, Debug, PartialEq, Eq)]
 pub enum Task {
     Call(Population, u8),
+    Trace(Population, u8, u8),
     Asm,
     Dis,
     Check,
@@ -69,8 +73,20 @@ fn population_of(options: &ArgMatches<'_>) -> Option<Population>
 fn partitions_of(options: &ArgMatches<'_>) -> Option<u8>
     ensures { SomeIff result (IsNumberIn 1 MOST_PARTITIONS (partitions_text (found_of options.now))) (digits_value 10 (partitions_text (found_of options.now))) }
 {
-    let partitions = number_in(options.get_str("partitions").unwrap_or("2"), 1, MOST_PARTITIONS)?;
+    let partitions = number_in(
+        options.get_str("partitions").unwrap_or("2"),
+        1,
+        MOST_PARTITIONS,
+    )?;
     Some(partitions as u8)
+}
+
+/// For how many clients the rows are opened; none where the option isn't a plain number in its range.
+fn clients_of(options: &ArgMatches<'_>) -> Option<u8>
+    ensures { SomeIff result (IsNumberIn 1 MOST_CLIENTS (clients_text (found_of options.now))) (digits_value 10 (clients_text (found_of options.now))) }
+{
+    let clients = number_in(options.get_str("clients").unwrap_or("4"), 1, MOST_CLIENTS)?;
+    Some(clients as u8)
 }
 
 /// An option that takes a number in a range.
@@ -80,13 +96,19 @@ fn option<'a>(alloc: Global, name: &'a str, least: u64, most: u64) -> Arg<'a> {
         .value_parser(ValueParser::Unsigned(least, most))
 }
 
-fn call<'a>(alloc: Global) -> Result<Command<'a>, AllocError> {
-    Command::new(alloc, "call")
-        .about("Answer calls of the seven transactions, one reply a line")
+/// A command with the options that tell where its rows come from.
+fn over_rows<'a>(
+    alloc: Global,
+    name: &'a str,
+    about: &'a str,
+    drawn: &'a str,
+) -> Result<Command<'a>, AllocError> {
+    Command::new(alloc, name)
+        .about(about)
         .arg(
             option(alloc, "gen", 1, MOST_SUBSCRIBERS)
                 .value_name("N")
-                .help("Draw the rows of N subscribers (1 to 100000); the input is calls alone"),
+                .help(drawn),
         )?
         .arg(
             option(alloc, "seed", 0, u64::MAX)
@@ -95,13 +117,43 @@ fn call<'a>(alloc: Global) -> Result<Command<'a>, AllocError> {
                 .help(
                     "Draw them from the random words of seed S; without --gen it changes nothing",
                 ),
-        )?
-        .arg(
-            option(alloc, "partitions", 1, MOST_PARTITIONS)
-                .value_name("P")
-                .default_value("2")
-                .help("Open the rows in P partitions (1 to 8); it changes no byte of the replies"),
         )
+}
+
+fn call<'a>(alloc: Global) -> Result<Command<'a>, AllocError> {
+    over_rows(
+        alloc,
+        "call",
+        "Answer calls of the seven transactions, one reply a line",
+        "Draw the rows of N subscribers (1 to 100000); the input is calls alone",
+    )?
+    .arg(
+        option(alloc, "partitions", 1, MOST_PARTITIONS)
+            .value_name("P")
+            .default_value("2")
+            .help("Open the rows in P partitions (1 to 8); it changes no byte of the replies"),
+    )
+}
+
+fn trace<'a>(alloc: Global) -> Result<Command<'a>, AllocError> {
+    over_rows(
+        alloc,
+        "trace",
+        "Step, stop and look at the machines of partitions, and move ranges between them",
+        "Draw the rows of N subscribers (1 to 100000); the input is events alone",
+    )?
+    .arg(
+        option(alloc, "partitions", 1, MOST_PARTITIONS)
+            .value_name("P")
+            .default_value("2")
+            .help("Open the rows in P partitions (1 to 8)"),
+    )?
+    .arg(
+        option(alloc, "clients", 1, MOST_CLIENTS)
+            .value_name("C")
+            .default_value("4")
+            .help("For C clients (1 to 64)"),
+    )
 }
 
 /// A command without options.
@@ -119,6 +171,7 @@ fn command<'a>(alloc: Global) -> Result<Command<'a>, AllocError> {
         .arg_required_else_help(true)
         .subcommand_required(true)
         .subcommand(call(alloc)?.after_help(CALL))?
+        .subcommand(trace(alloc)?.after_help(TRACE))?
         .subcommand(plain(
             alloc,
             "asm",
@@ -149,6 +202,45 @@ Examples:
   tatp call < examples/first-run.txt
   tatp call --gen 1000 --seed 7 < calls.txt";
 
+const TRACE: &str = "\
+The input is the rows of a population, a line with a dot, and events; a row or an event a line.
+Partitions and clients count from 0. Extent E has the subscribers 64 (E - 1) + 1 to 64 E and opens
+in partition (E - 1) mod P.
+
+Calls:
+  submit C CALL           client C asks for a call, as the command call reads it    QUEUED P
+  raw C PROC KIND KEY ARG..
+                          or for a procedure, 0 to 6, on the subscriber that the
+                          key names, of kind id or number; at most 8 arguments      QUEUED P
+  begin P                 the first call that waits at P begins     BEGAN C, AWAY P, DENIED C
+  deny P                  memory for it is refused                                  DENIED C
+Steps:
+  step P                  one instruction of P's call                 MOVED, ENDED C REPLY
+  steps P K               K times step, 1 to 256
+  one P                   one instruction, stopped or not, at a breakpoint or not
+Debugging:
+  stop P, resume P        P's machine                                                     OK
+  break P PROC PC         a breakpoint, at most 8; clear P PROC PC takes it away          OK
+  look P                  P's call: position, registers, current rows, outputs
+  home P S                the rows of subscriber S, where they are at P
+  audit                   the verdict on the rows of all partitions
+Moves:
+  take P E                extent E leaves P, after so many moves                  PARCEL E M
+  give P E                it lands at P                                           LANDED E M
+  route E M               calls follow its landing             SET E P, SUPERSEDED E
+
+What can't be done is answered REFUSED, a number and a name; it changes nothing.
+
+Subscriber 129 moves while a call waits for it (tatp trace --gen 130 < examples/live-move.txt):
+  submit 0 UPDATE_LOCATION 000000000000129 7      QUEUED 0
+  take 0 3                                        PARCEL 3 1
+  begin 0                                         AWAY 0
+  give 1 3                                        LANDED 3 1
+  route 3 1                                       SET 3 1
+  begin 0                                         AWAY 1
+  begin 1                                         BEGAN 0
+  steps 1 6                                       MOVED, five times; ENDED 0 OK";
+
 const ASM: &str = "\
 The module is tested as by check before it is written.
 
@@ -176,9 +268,11 @@ fn task_in(matches: &ArgMatches<'_>) -> Option<Task>
     ensures possible { IfSome result IsTask }
 {
     match matches.subcommand()? {
-        ("call", options) => Some(Task::Call(
+        ("call", options) => Some(Task::Call(population_of(options)?, partitions_of(options)?)),
+        ("trace", options) => Some(Task::Trace(
             population_of(options)?,
             partitions_of(options)?,
+            clients_of(options)?,
         )),
         ("asm", _) => Some(Task::Asm),
         ("dis", _) => Some(Task::Dis),

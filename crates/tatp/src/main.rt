@@ -13,7 +13,7 @@ use command_line::{Task, not_text, task_of};
 use std::alloc::Global;
 use std::process::ExitCode;
 use std::{env, io};
-use tatp_commands::{Fault, run_asm, run_audit, run_check, run_dis, serve};
+use tatp_commands::{Fault, run_asm, run_audit, run_check, run_dis, serve, trace};
 
 /// The status where a command stops, or answers that something isn't right.
 const STOPPED: u8 = 1;
@@ -81,6 +81,9 @@ fn run(rt: &(impl Input + Print), alloc: Global, task: Task) -> Result<bool, Fau
     match task {
         Task::Call(population, partitions) => {
             serve(alloc, reader, writer, population, partitions)?
+        }
+        Task::Trace(population, partitions, clients) => {
+            trace(alloc, reader, writer, population, partitions, clients)?
         }
         Task::Asm => run_asm(alloc, reader, writer)?,
         Task::Dis => run_dis(alloc, reader, writer)?,

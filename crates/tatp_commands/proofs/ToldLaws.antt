@@ -79,6 +79,13 @@ told_up_to w now all left old new then pending n g h = record {
 -- nothing of what is pending was written
 pub told_so_far : (w now : WorldState) (all left : List (List ℕ)) (old new : Option (List ℕ)) (pending : List ℕ) → GoesOnTelling w all old new pending left now → TellsUpTo w all old new
 told_so_far w now all left old new pending g = record {
-  first = g.first; later = left; after = now; answers = g.answers; front = g.written; rest = pending;
-  split = g.split; tells = g.tells; written = g.held;
+  first = g.first;
+  later = left;
+  after = now;
+  answers = g.answers;
+  front = g.written;
+  rest = pending;
+  split = g.split;
+  tells = g.tells;
+  written = g.held;
 }

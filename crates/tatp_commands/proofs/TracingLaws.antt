@@ -55,13 +55,17 @@ told_of_front : (population : Population) (partitions clients : ℕ) (input : Li
     → TellsUpTo opened work.calls old new → WritesFrontOfTold population partitions clients input old new
 told_of_front population partitions clients input old new work opened e few clean is good t = inr (
   t.front,
-  (work, e, record {
-    lines = t.first;
-    later = t.later;
-    rest = t.rest;
-    first = t.split;
-    tells = record { few = few; clean = clean; tells = record { opened = opened; after = t.after; answers = t.answers; is_opened = is; tells = t.tells; runs = lines_run opened t.after t.first t.answers (t.front ++ t.rest) good t.tells } };
-  }),
+  (
+    work,
+    e,
+    record {
+      lines = t.first;
+      later = t.later;
+      rest = t.rest;
+      first = t.split;
+      tells = record { few = few; clean = clean; tells = record { opened = opened; after = t.after; answers = t.answers; is_opened = is; tells = t.tells; runs = lines_run opened t.after t.first t.answers (t.front ++ t.rest) good t.tells } };
+    },
+  ),
   t.written,
 )
 

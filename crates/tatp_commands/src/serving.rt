@@ -104,7 +104,11 @@ fn answer_lines<W: Write>(
 
 /// The rows of a run, and the lines of its calls.
 #[tactic(auto, unfolding(crate::specs::Served::generated))]
-pub(crate) fn work_of(alloc: Global, population: Population, input: &[u8]) -> Result<(Rows, &[u8]), Fault>
+pub(crate) fn work_of(
+    alloc: Global,
+    population: Population,
+    input: &[u8],
+) -> Result<(Rows, &[u8]), Fault>
     requires input { length input.now ≤ MOST_BYTES }
     requires population { IsPopulation population }
     ensures work { IfOk result (λ work. work_of population input.now ≡ Ok (record { rows = work.0; calls = lines_of work.1.now })) }

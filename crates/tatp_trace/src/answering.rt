@@ -21,11 +21,7 @@ fn line_in(line: &[u8]) -> Option<TraceLine>
 
 /// An event happens, and its answer's line is appended.
 #[tactic(auto, using(crate::proofs::AnsweringLaws::event_appended))]
-fn answer_event(
-    world: &mut World<'_>,
-    event: Event,
-    pending: &mut String,
-) -> Result<(), AllocError>
+fn answer_event(world: &mut World<'_>, event: Event, pending: &mut String) -> Result<(), AllocError>
     ensures { OnOk result (AppendsEvent world.old event (string_bytes pending.old) (string_bytes pending.new) world.new) }
 {
     let answered = world.apply(event);

@@ -12,7 +12,6 @@ mod reading;
 
 pub use answering::answer_line;
 pub use answers::push_answer;
-
 pub use laws::{lines_are_read_as_printed, told_lines_are_a_run};
 pub use line::TraceLine;
 pub use looking::{home_lines, look_text};

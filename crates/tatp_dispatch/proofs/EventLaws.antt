@@ -3,7 +3,7 @@ use Rattle.std.proofs.Common.{◌≡◌, ◌≢◌, inl, inr, ℕ, zero, suc, �
 use Rattle.std.specs.Option.{option_map, option_map_or}
 use Rattle.std.proofs.Math.ListN.{set, length-set}
 use Rattle.std.proofs.Common.{Vec, Global}
-use Rattle.std.proofs.lemmas.Option.{slice_get_cases}
+use Rattle.std.proofs.lemmas.Option.{slice_get_cases, slice_get_past}
 use Rattle.tatp_tables.specs.Database.{Database}
 use Rattle.tatp_procs.specs.declared.entry.Entry.{Entry}
 use Rattle.tatp_procs.specs.declared.reply.Reply.{Reply}
@@ -44,6 +44,9 @@ set_as_it_is (a ∷ xs) (suc i) x h = ap (λ t. a ∷ t) (set_as_it_is xs i x h)
 
 pub obstacle_is : (w : WorldState) (p : ℕ) (s : SiteState) (obstacle : SiteState → Option SiteRefusal) (o : Option SiteRefusal) → slice_get w.sites p ≡ Some s → obstacle s ≡ o → at_site w p obstacle ≡ option_map Site o
 obstacle_is w p s obstacle o here e = ap (λ t. option_map_or (λ (x : SiteState). option_map Site (obstacle x)) t (Some NoPartition)) here ∙ ap (option_map Site) e
+
+pub no_site : (w : WorldState) (p : ℕ) (obstacle : SiteState → Option SiteRefusal) → length w.sites ≤ p → at_site w p obstacle ≡ Some NoPartition
+no_site w p obstacle past = rw (slice_get_past w.sites p past) refl
 
 pub refused_site : (w : WorldState) (p : ℕ) (s s' : SiteState) (obstacle : SiteState → Option SiteRefusal) (refusal : SiteRefusal) → slice_get w.sites p ≡ Some s → obstacle s ≡ Some refusal → s' ≡ s → IsRefused (at_site w p obstacle) (Site refusal) w (with_site w p s')
 refused_site w p s s' obstacle refusal here e same = (obstacle_is w p s obstacle (Some refusal) here e, ap (λ xs. record w { sites = xs }) (ap (set w.sites p) same ∙ set_as_it_is w.sites p s here))

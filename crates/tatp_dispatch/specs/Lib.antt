@@ -13,6 +13,7 @@ pub mod Serving
 pub mod Opened
 pub mod Appending
 pub mod Fields
+pub mod Advancing
 pub mod Calling
 pub mod Runs
 pub mod Benchmark

@@ -1,6 +1,7 @@
 //! The completed calls, in the order of their ends.
-ghost use Rattle.std.specs.Prelude.{◌≡◌, ◌<◌, ◌+◌, ◌∷◌, ◌++◌, [], vec_len};
+ghost use Rattle.std.specs.Prelude.{◌≡◌, ◌<◌, ◌+◌, ◌∷◌, ◌++◌, List, [], length, vec_len};
 ghost use Rattle.std.specs.Vec.{vec_capacity};
+ghost use Rattle.tatp_procs.specs.declared.entry.Entry.{Entry};
 
 use tatp_procs::{Entry, Reply};
 
@@ -13,4 +14,12 @@ pub fn complete(completions: &mut Vec<Entry>, entry: Entry)
 {
     let reply: Reply = entry.reply;
     completions.push_reserved(Entry { reply, ..entry });
+}
+
+/// The reply of the last of them.
+pub fn last_reply(completions: &[Entry]) -> Reply
+    requires { 0 < length completions.now }
+    ensures { (before : List Entry) (entry : Entry) → completions.now ≡ before ++ entry ∷ [] → result ≡ entry.reply }
+{
+    completions[completions.len() - 1].reply
 }

@@ -7,6 +7,7 @@ ghost use Rattle.tatp_dispatch.specs.Events.{QueuesCall};
 
 use super::{World, what_holds_of_every_world};
 use crate::Answer;
+use crate::completed::last_reply;
 use tatp_procs::{Ask, Reply};
 
 impl<'m> World<'m> {
@@ -22,13 +23,10 @@ impl<'m> World<'m> {
         ensures world { IsWorld self.new }
     {
         'steps: loop {
-            match self.step(p) {
+            match self.advance(p) {
                 Err(_) => return None,
-                Ok(answer) => match answer {
-                    Answer::Moved => {}
-                    Answer::Ended(_, reply) => return Some(reply),
-                    _ => return None,
-                },
+                Ok(None) => {}
+                Ok(Some(_)) => return Some(last_reply(&self.completions)),
             }
         }
     }

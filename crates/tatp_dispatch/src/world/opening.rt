@@ -45,26 +45,26 @@ fn new_clients(alloc: Global, clients: u8) -> Result<Vec<Client>, AllocError>
 
 /// The routes, the queues and the clients of a whole that is opened.
 #[derive(Drop)]
-struct Desk {
+struct Dispatcher {
     routes: Routes,
     queues: Vec<Queue>,
     clients: Vec<Client>,
 }
 
-impl Desk {
+impl Dispatcher {
     fn open(
         alloc: Global,
         subscribers: u64,
         partitions: u8,
         clients: u8,
-    ) -> Result<Desk, AllocError>
+    ) -> Result<Dispatcher, AllocError>
         requires few { subscribers ≤ most_subscribers }
         requires some { 1 ≤ partitions }
-        ensures routes { IfOk result (λ desk. desk.routes ≡ opened_routes subscribers partitions) }
-        ensures queues { IfOk result (λ desk. desk.queues.items ≡ replicate partitions []) }
-        ensures clients { IfOk result (λ desk. desk.clients.items ≡ replicate clients new_client) }
+        ensures routes { IfOk result (λ dispatcher. dispatcher.routes ≡ opened_routes subscribers partitions) }
+        ensures queues { IfOk result (λ dispatcher. dispatcher.queues.items ≡ replicate partitions []) }
+        ensures clients { IfOk result (λ dispatcher. dispatcher.clients.items ≡ replicate clients new_client) }
     {
-        Ok(Desk {
+        Ok(Dispatcher {
             routes: Routes::open(alloc, subscribers, partitions)?,
             queues: empty_queues(alloc, partitions)?,
             clients: new_clients(alloc, clients)?,
@@ -96,8 +96,8 @@ impl<'m> World<'m> {
     {
         let subscribers = rows.subscribers.len() as u64;
         let (extents, directory) = open(alloc, rows, partitions)?;
-        let desk = match Desk::open(alloc, subscribers, partitions, clients) {
-            Ok(desk) => desk,
+        let dispatcher = match Dispatcher::open(alloc, subscribers, partitions, clients) {
+            Ok(dispatcher) => dispatcher,
             Err(_) => {
                 discard(extents);
                 return Err(OpenError::NoMemory);
@@ -122,11 +122,11 @@ impl<'m> World<'m> {
             loaded,
             directory,
             sites,
-            queues: desk.queues,
-            routes: desk.routes,
+            queues: dispatcher.queues,
+            routes: dispatcher.routes,
             parcels,
             landings: Vec::new(alloc),
-            clients: desk.clients,
+            clients: dispatcher.clients,
             completions: Vec::new(alloc),
         });
     }

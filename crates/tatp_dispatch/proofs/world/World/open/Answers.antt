@@ -46,11 +46,11 @@ shown_as c = record {
   procedures = c.args.loaded.now;
   directory = c.in_ok-extents.directory;
   sites = c.in-Ok-open_sites.sites.items;
-  queues = c.in-Ok.desk.queues.items;
-  routes = c.in-Ok.desk.routes;
+  queues = c.in-Ok.dispatcher.queues.items;
+  routes = c.in-Ok.dispatcher.routes;
   parcels = c.in-Ok-empty_hand.parcels;
   landings = c.new.result.items;
-  clients = c.in-Ok.desk.clients.items;
+  clients = c.in-Ok.dispatcher.clients.items;
   completions = c.new-2.result.items;
 }
 

@@ -3,18 +3,21 @@ use Rattle.std.proofs.lemmas.Option.{slice_get_within}
 use Rattle.tatp_partition.specs.declared.item.Stepped.{Stepped}
 use Rattle.tatp_partition.specs.declared.item.Stepped.TheVariants.{Moved as Did_move, Ended as Did_end}
 use Rattle.tatp_partition.specs.Obstacles.{step_obstacle}
-use Rattle.tatp_dispatch.specs.declared.event.Refusal.TheVariants.{Site}
+use Rattle.tatp_dispatch.specs.declared.event.Refusal.TheVariants.{NoPartition, Site}
 use Rattle.tatp_dispatch.specs.Worlds.{WorldState}
 use Rattle.tatp_dispatch.specs.Fields.{world_of}
 use Rattle.tatp_dispatch.specs.Stepping.{StepsAt}
-use Rattle.tatp_dispatch.proofs.EventLaws.{told_same, sound_refused, refused_at, line_at, end_at, line_told, ending_client, room_to_end, EndedFields, end_told, end_happens}
-use Rattle.tatp_dispatch.proofs.world.World.step.Goals as goal
+use Rattle.tatp_dispatch.proofs.EventLaws.{no_site, told_same, sound_refused, refused_at, line_at, end_at, line_told, ending_client, room_to_end, EndedFields, end_told, end_happens}
+use Rattle.tatp_dispatch.proofs.world.World.advance.Goals as goal
 
-pub returns-in-Err-clause-happens : goal.returns-in-Err-clause-happens
-returns-in-Err-clause-happens c = rw (← c.self.view_is) (refused_at (world_of c.self.inside) c.args.p step_obstacle c.in-Err.refusal c.step_at.new.sites.items c.in-Err.ensures)
+pub returns-then-p-len : goal.returns-then-p-len
+returns-then-p-len c = rw (← c.self.view_is) ((no_site (world_of c.self.inside) c.args.p step_obstacle (omega arith), refl), told_same (world_of c.self.inside) (world_of c.self.inside) NoPartition c.self.invariant.world refl)
 
-pub returns-in-Err-clause-tells : goal.returns-in-Err-clause-tells
-returns-in-Err-clause-tells c = rw (← c.self.view_is) (told_same (world_of c.self.inside) (record (world_of c.self.inside) { sites = c.step_at.new.sites.items }) (Site c.in-Err.refusal) c.self.invariant.world (refused_at (world_of c.self.inside) c.args.p step_obstacle c.in-Err.refusal c.step_at.new.sites.items c.in-Err.ensures).1)
+pub returns-in-Err : goal.returns-in-Err
+returns-in-Err c = rw (← c.self.view_is) (
+  refused_at (world_of c.self.inside) c.args.p step_obstacle c.in-Err.refusal c.step_at.new.sites.items c.in-Err.ensures,
+  told_same (world_of c.self.inside) (record (world_of c.self.inside) { sites = c.step_at.new.sites.items }) (Site c.in-Err.refusal) c.self.invariant.world (refused_at (world_of c.self.inside) c.args.p step_obstacle c.in-Err.refusal c.step_at.new.sites.items c.in-Err.ensures).1,
+)
 
 pub invariant_of-self : goal.invariant_of-self
 invariant_of-self c = sound_refused c.self.inside c.step_at.new.sites c.self.invariant (refused_at (world_of c.self.inside) c.args.p step_obstacle c.in-Err.refusal c.step_at.new.sites.items c.in-Err.ensures).1
@@ -26,11 +29,11 @@ moved c = subst (λ (t : Stepped). StepsAt step_obstacle c.self.inside.sites.ite
 pub invariant_of-self-in-Ok-Moved : goal.invariant_of-self-in-Ok-Moved
 invariant_of-self-in-Ok-Moved c = let x = moved c in (line_told c.self.inside c.step_at.new.sites c.args.p x.before x.after_it c.self.invariant x.after x.site x.whole x.steps.1).0
 
-pub returns-in-Ok-Moved-clause-happens : goal.returns-in-Ok-Moved-clause-happens
-returns-in-Ok-Moved-clause-happens c = rw (← c.self.view_is) (line_at (world_of c.self.inside) c.args.p step_obstacle c.step_at.new.sites.items (moved c))
-
-pub returns-in-Ok-Moved-clause-tells : goal.returns-in-Ok-Moved-clause-tells
-returns-in-Ok-Moved-clause-tells c = let x = moved c in rw (← c.self.view_is) (line_told c.self.inside c.step_at.new.sites c.args.p x.before x.after_it c.self.invariant x.after x.site x.whole x.steps.1).1
+pub returns-in-Ok-Moved : goal.returns-in-Ok-Moved
+returns-in-Ok-Moved c = let x = moved c in rw (← c.self.view_is) (
+  line_at (world_of c.self.inside) c.args.p step_obstacle c.step_at.new.sites.items x,
+  (line_told c.self.inside c.step_at.new.sites c.args.p x.before x.after_it c.self.invariant x.after x.site x.whole x.steps.1).1,
+)
 
 -- ---- it ends
 pub complete-requires : goal.complete-requires
@@ -53,16 +56,17 @@ fields c = record { sites = (ended c).after; pushed = c.complete.ensures.items; 
 pub invariant_of-self-in-Ok-Ended : goal.invariant_of-self-in-Ok-Ended
 invariant_of-self-in-Ok-Ended c = (end_told c.self.inside c.step_at.new.sites c.complete.new.completions c.end_call.new.clients c.args.p (ended c).before (ended c).after_it c.in-Ok-Ended.completion c.self.invariant (fields c) (ended c).site (ended c).whole (ended c).steps.1).0
 
-pub returns-in-Ok-Ended-clause-happens : goal.returns-in-Ok-Ended-clause-happens
-returns-in-Ok-Ended-clause-happens c = rw (← c.self.view_is) (
-  end_at (world_of c.self.inside) c.args.p step_obstacle c.in-Ok-Ended.completion c.step_at.new.sites.items (ended c),
+pub returns-in-Ok-Ended : goal.returns-in-Ok-Ended
+returns-in-Ok-Ended c = rw (← c.self.view_is) (
+  c.in-Ok-Ended.completion.entry.reply,
   (
-    c.in-Ok-Ended.completion,
-    refl,
-    refl,
-    end_happens c.self.inside c.step_at.new.sites c.complete.new.completions c.end_call.new.clients c.args.p (ended c).before (ended c).after_it c.in-Ok-Ended.completion c.self.invariant (fields c) (ended c).site (ended c).steps.1,
+    end_at (world_of c.self.inside) c.args.p step_obstacle c.in-Ok-Ended.completion c.step_at.new.sites.items (ended c),
+    (
+      c.in-Ok-Ended.completion,
+      refl,
+      refl,
+      end_happens c.self.inside c.step_at.new.sites c.complete.new.completions c.end_call.new.clients c.args.p (ended c).before (ended c).after_it c.in-Ok-Ended.completion c.self.invariant (fields c) (ended c).site (ended c).steps.1,
+    ),
   ),
+  (end_told c.self.inside c.step_at.new.sites c.complete.new.completions c.end_call.new.clients c.args.p (ended c).before (ended c).after_it c.in-Ok-Ended.completion c.self.invariant (fields c) (ended c).site (ended c).whole (ended c).steps.1).1,
 )
-
-pub returns-in-Ok-Ended-clause-tells : goal.returns-in-Ok-Ended-clause-tells
-returns-in-Ok-Ended-clause-tells c = rw (← c.self.view_is) (end_told c.self.inside c.step_at.new.sites c.complete.new.completions c.end_call.new.clients c.args.p (ended c).before (ended c).after_it c.in-Ok-Ended.completion c.self.invariant (fields c) (ended c).site (ended c).whole (ended c).steps.1).1

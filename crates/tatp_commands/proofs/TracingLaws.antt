@@ -1,12 +1,18 @@
 -- What a run over event lines leaves where it is cut short.
-use Rattle.std.proofs.Common.{◌≡◌, ℕ, List, [], ◌++◌, ◌⊎◌, ◌≤◌, length, Option, Result, Ok, Err, OnErr, OnOk, IfErr, inl, inr, sym}
+use Rattle.std.proofs.Common.{◌≡◌, ℕ, List, [], ◌++◌, ◌⊎◌, ◌≤◌, length, Option, Result, Ok, Err, OnErr, OnOk, IfErr, inl, inr, sym, subst, ◌∙◌, Some, None}
+use Rattle.std.specs.Option.{IfSome}
 use Rattle.std.specs.Io.KnownBytes.{Appends}
 use Rattle.tatp_tables.specs.Clean.{IsClean}
 use Rattle.tatp_procs.specs.Standard.{standard_module}
 use Rattle.tatp_population.specs.Opening.{most_subscribers, RefusesRows}
 use Rattle.tatp_population.specs.declared.open_error.OpenError.{OpenError}
 use Rattle.tatp_population.specs.declared.open_error.OpenError.TheVariants.{TooMany as TooManyRows, NotClean as NotCleanRows, NoMemory as NoMemoryToOpen}
+use Rattle.tatp_tables.specs.declared.row.Rows.{Rows}
+use Rattle.tatp_dispatch.specs.declared.event.Answer.{Answer}
+use Rattle.tatp_dispatch.specs.declared.event.Refusal.{Refusal}
 use Rattle.tatp_dispatch.specs.Opened.{IsOpened}
+use Rattle.tatp_dispatch.proofs.BenchmarkLaws.{benchmark}
+use Rattle.tatp_trace.specs.Answering.{TellsLines, events_in}
 use Rattle.tatp_dispatch.specs.Serving.{IsWorld}
 use Rattle.tatp_dispatch.specs.Worlds.{WorldState}
 use Rattle.tatp_trace.proofs.LinesLaws.{lines_run}
@@ -39,13 +45,28 @@ told_unopened population partitions clients input old work TooManyRows e h = ((w
 told_unopened population partitions clients input old work (NotCleanRows verdict) e h = ((work, e, h), appends_none old)
 told_unopened population partitions clients input old work NoMemoryToOpen e h = inl (appends_none old)
 
+-- what is told of lines, from a whole that was just opened
+told_from : (partitions clients : ℕ) (rows : Rows) (lines : List (List ℕ)) (opened after : WorldState) (answers : List (Result Answer Refusal)) (told : List ℕ)
+    → IsOpened standard_module rows partitions clients opened → IsWorld opened → TellsLines opened lines answers told after → TellsFrom rows partitions clients lines told
+told_from partitions clients rows lines opened after answers told is good t =
+    let runs = lines_run opened after lines answers told good t in
+    record {
+      opened = opened;
+      after = after;
+      answers = answers;
+      is_opened = is;
+      tells = t;
+      runs = runs;
+      benchmark = benchmark standard_module rows partitions clients opened after (events_in lines) answers good is runs;
+    }
+
 -- all lines are told of
 pub told_of_all : (population : Population) (partitions clients : ℕ) (input : List ℕ) (old new : Option (List ℕ)) (work : Work) (opened : WorldState)
     → work_of population input ≡ Ok work → length work.rows.subscribers ≤ most_subscribers → IsClean work.rows → IsOpened standard_module work.rows partitions clients opened → IsWorld opened
     → TellsAll opened work.calls old new → WritesTold population partitions clients input old new
 told_of_all population partitions clients input old new work opened e few clean is good t = (
   t.told,
-  (work, e, record { few = few; clean = clean; tells = record { opened = opened; after = t.after; answers = t.answers; is_opened = is; tells = t.tells; runs = lines_run opened t.after work.calls t.answers t.told good t.tells } }),
+  (work, e, record { few = few; clean = clean; tells = told_from partitions clients work.rows work.calls opened t.after t.answers t.told is good t.tells }),
   t.written,
 )
 
@@ -63,7 +84,7 @@ told_of_front population partitions clients input old new work opened e few clea
       later = t.later;
       rest = t.rest;
       first = t.split;
-      tells = record { few = few; clean = clean; tells = record { opened = opened; after = t.after; answers = t.answers; is_opened = is; tells = t.tells; runs = lines_run opened t.after t.first t.answers (t.front ++ t.rest) good t.tells } };
+      tells = record { few = few; clean = clean; tells = told_from partitions clients work.rows t.first opened t.after t.answers (t.front ++ t.rest) is good t.tells };
     },
   ),
   t.written,
@@ -78,3 +99,8 @@ pub told_cut : (population : Population) (partitions clients : ℕ) (input : Lis
 told_cut population partitions clients input old new work opened (Ok done) e few clean is good front which = tt
 told_cut population partitions clients input old new work opened (Err fault) e few clean is good front which =
     told_cut_by population partitions clients input old new fault (told_of_front population partitions clients input old new work opened e few clean is good front) which
+
+-- of all that was read, which is the input where that is known
+pub of_input : (P : List ℕ → Type 0) (known : Option (List ℕ)) (all read : List ℕ) → IfSome known (λ input. all ≡ input) → read ≡ all → P read → IfSome known P
+of_input P None all read h e p = tt
+of_input P (Some input) all read h e p = subst P (e ∙ h) p

@@ -8,6 +8,7 @@ use Rattle.tatp_population.specs.Opening.{most_subscribers}
 use Rattle.tatp_population.specs.declared.open_error.OpenError.TheVariants.{TooMany as TooManyRows, NotClean as NotCleanRows}
 use Rattle.tatp_dispatch.specs.declared.event.Answer.{Answer}
 use Rattle.tatp_dispatch.specs.declared.event.Refusal.{Refusal}
+use Rattle.tatp_dispatch.specs.Benchmark.{IsTheBenchmark}
 use Rattle.tatp_dispatch.specs.Opened.{IsOpened}
 use Rattle.tatp_dispatch.specs.Runs.{Runs}
 use Rattle.tatp_dispatch.specs.Worlds.{WorldState}
@@ -19,7 +20,7 @@ use Rattle.tatp_commands.specs.RowLines.{Work}
 use Rattle.tatp_commands.specs.Served.{work_of}
 use Rattle.tatp_commands.specs.Serving.{RefusesWork}
 
--- told is what is told of the lines, from a whole that was just opened with the rows under the standard module; the answers are those of the lines' events, one after another
+-- told is what is told of the lines, from a whole that was just opened with the rows under the standard module; the answers are those of the lines' events, one after another, and are the benchmark's
 pub record TellsFrom (rows : Rows) (partitions clients : ℕ) (lines : List (List ℕ)) (told : List ℕ) : Type 0 where
   pub opened : WorldState
   pub after : WorldState
@@ -27,6 +28,7 @@ pub record TellsFrom (rows : Rows) (partitions clients : ℕ) (lines : List (Lis
   pub is_opened : IsOpened standard_module rows partitions clients opened
   pub tells : TellsLines opened lines answers told after
   pub runs : Runs opened (events_in lines) answers after
+  pub benchmark : IsTheBenchmark standard_module rows answers after
 
 -- told is what is told of all lines of the work, whose rows may be opened
 pub record TellsWork (partitions clients : ℕ) (work : Work) (told : List ℕ) : Type 0 where

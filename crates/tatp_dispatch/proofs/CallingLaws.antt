@@ -1,34 +1,30 @@
 -- A call from its asking to its end.
-use Rattle.std.proofs.Common.{◌≡◌, ℕ, zero, suc, ◌+◌, ◌-◌, ◌<◌, ◌≤◌, ◌==◌, Bool, true, false, List, [], ◌∷◌, ◌++◌, length, map, Option, Some, None, IfSome, Result, Ok, Err, slice_get, refl, sym, ◌∙◌, ap, subst, arith}
+use Rattle.std.proofs.Common.{◌≡◌, ℕ, ◌-◌, ◌<◌, ◌≤◌, ◌==◌, List, [], ◌∷◌, ◌++◌, length, map, Option, Some, None, IfSome, Result, Ok, Err, slice_get, refl, sym, ◌∙◌, ap, subst, arith}
 use Rattle.std.specs.Option.{option_map_or}
-use Rattle.std.proofs.Math.ListN.{set}
 use Rattle.std.proofs.lemmas.Bool.{eq-eqb}
 use Rattle.std.proofs.lemmas.List.{append-nil, append_cancel_left}
 use Rattle.tatp_encoding.specs.Modules.{Procedure}
 use Rattle.tatp_tables.specs.Database.{Database}
 use Rattle.tatp_procs.specs.declared.ask.Ask.{Ask}
 use Rattle.tatp_procs.specs.declared.ask.Ask.TheVariants.{Txn}
-use Rattle.tatp_procs.specs.declared.call.Call.{Call}
 use Rattle.tatp_procs.specs.declared.entry.Entry.{Entry}
 use Rattle.tatp_procs.specs.declared.reply.Reply.{Reply}
 use Rattle.tatp_procs.specs.Standard.{standard_module}
-use Rattle.tatp_procs.specs.Order.{in_order}
 use Rattle.tatp_procs.specs.Transactions.{transaction}
 use Rattle.tatp_partition.specs.declared.item.Item.{Item}
 use Rattle.tatp_partition.specs.declared.item.Completion.{Completion}
 use Rattle.tatp_numbers.specs.Listing.{answer}
 use Rattle.tatp_partition.specs.Asks.{key_asked}
-use Rattle.tatp_partition.specs.Running.{GoesOn, EndsCall, call_begun, begun}
+use Rattle.tatp_partition.specs.Running.{GoesOn, call_begun}
 use Rattle.tatp_partition.specs.Sites.{SiteState, RunningCall}
-use Rattle.tatp_dispatch.specs.declared.client.Client.{Client}
 use Rattle.tatp_dispatch.specs.declared.event.Answer.{Answer}
-use Rattle.tatp_dispatch.specs.declared.event.Answer.TheVariants.{Queued, Began, Away, Denied, Moved, Ended, Parcel, Landed, Set, Superseded, Done}
+use Rattle.tatp_dispatch.specs.declared.event.Answer.TheVariants.{Queued, Began, Away, Denied}
 use Rattle.tatp_dispatch.specs.declared.event.Refusal.{Refusal}
-use Rattle.tatp_dispatch.specs.Counts.{one_if, total}
+use Rattle.tatp_dispatch.specs.Counts.{one_if}
 use Rattle.tatp_dispatch.specs.Worlds.{WorldState}
-use Rattle.tatp_dispatch.specs.Placed.{RunsAt, times_waiting, times_queued, times_running, AllCalls, AreClientsInOrder}
+use Rattle.tatp_dispatch.specs.Placed.{RunsAt, times_waiting}
 use Rattle.tatp_dispatch.specs.Shown.{set_back}
-use Rattle.tatp_dispatch.specs.Events.{Submits, BeginsAt, AdvancesAt, MovesAt, EndsAt, BeginsFront, QueuesCall}
+use Rattle.tatp_dispatch.specs.Events.{Submits, BeginsAt, MovesAt, EndsAt, BeginsFront, QueuesCall}
 use Rattle.tatp_dispatch.specs.Serving.{AloneInOrder, Serves, IsWorld, calls_of}
 use Rattle.tatp_dispatch.specs.Calling.{CompletesCall, CompletesNone, CallsOnce, TransactsOnce}
 use Rattle.tatp_dispatch.proofs.CountLaws.{get_set_same, total_at}

@@ -1,1 +1,4 @@
 pub mod RouteLaws
+mod DealLaws
+mod NumberLaws
+mod SiteLaws

@@ -1,10 +1,9 @@
-use Rattle.std.proofs.Common.{◌≡◌, ◌<◌, Some, None, Ok, Err, length, slice_get, refl, sym, ◌∙◌, ap, subst, arith}
+use Rattle.std.proofs.Common.{Ok, refl, subst, arith}
 use Rattle.std.proofs.lemmas.Option.{slice_get_within}
 use Rattle.tatp_partition.specs.declared.item.Stepped.{Stepped}
 use Rattle.tatp_partition.specs.declared.item.Stepped.TheVariants.{Moved as Did_move, Ended as Did_end}
 use Rattle.tatp_partition.specs.Obstacles.{step_obstacle}
 use Rattle.tatp_dispatch.specs.declared.event.Refusal.TheVariants.{NoPartition, Site}
-use Rattle.tatp_dispatch.specs.Worlds.{WorldState}
 use Rattle.tatp_dispatch.specs.Fields.{world_of}
 use Rattle.tatp_dispatch.specs.Stepping.{StepsAt}
 use Rattle.tatp_dispatch.proofs.EventLaws.{no_site, told_same, sound_refused, refused_at, line_at, end_at, line_told, ending_client, room_to_end, EndedFields, end_told, end_happens}

@@ -1,9 +1,8 @@
-use Rattle.std.proofs.Common.{◌≡◌, ℕ, Ok, ap, subst, sym}
+use Rattle.std.proofs.Common.{◌≡◌, ℕ, Ok, subst}
 use Rattle.tatp_dispatch.specs.declared.event.Answer.{Answer}
-use Rattle.tatp_dispatch.specs.declared.event.Answer.TheVariants.{Began}
 use Rattle.tatp_dispatch.specs.Events.{BeginsAt, BeginsFront}
 use Rattle.tatp_dispatch.specs.Calling.{CompletesNone}
-use Rattle.tatp_dispatch.proofs.CallingLaws.{StillRuns, none_by, then_called, begin_completes_none, begins_ours, called_so}
+use Rattle.tatp_dispatch.proofs.CallingLaws.{none_by, then_called, begin_completes_none, begins_ours, called_so}
 use Rattle.tatp_dispatch.proofs.world.World.begin_call.Goals as goal
 
 pub returns-then-begun-client-clause-call : goal.returns-then-begun-client-clause-call

@@ -1,6 +1,5 @@
-use Rattle.std.proofs.Common.{◌≡◌, Ok, ap, subst, sym}
+use Rattle.std.proofs.Common.{Ok, subst}
 use Rattle.tatp_dispatch.specs.declared.event.Answer.{Answer}
-use Rattle.tatp_dispatch.specs.declared.event.Answer.TheVariants.{Queued}
 use Rattle.tatp_dispatch.specs.Events.{Submits, QueuesCall}
 use Rattle.tatp_dispatch.specs.Calling.{CallsOnce}
 use Rattle.tatp_dispatch.proofs.CallingLaws.{none_by, then_called, submit_completes_none, transacts_once}

@@ -1,5 +1,4 @@
-use Rattle.std.proofs.Common.{◌≡◌, ℕ, Option, Some, None, Ok, sym, ap, subst, ◌∙◌}
-use Rattle.tatp_procs.specs.declared.reply.Reply.{Reply}
+use Rattle.std.proofs.Common.{ℕ, Option, Some, None, Ok, ap, subst, ◌∙◌}
 use Rattle.tatp_dispatch.specs.Worlds.{WorldState}
 use Rattle.tatp_dispatch.specs.Obstacles.{step_obstacle_at}
 use Rattle.tatp_dispatch.specs.Advancing.{AdvancesBriefly}
@@ -28,4 +27,4 @@ returns-in-Ok-Some-clause-call c = λ r at.
     let e = h.1.1 in
     let last = c.last_reply.ensures c.steps.self.completions (e.0).entry (c.deref.ensures.value ∙ (ap (λ (t : WorldState). t.completions) c.self.view_is ∙ ap (λ (t : WorldState). t.completions) e.3.after)) in
     then_called c.args.self.now c.steps.self c.advance.new.self r.client r.ask (Some c.last_reply.result) c.steps.invariant.procedures c.steps.invariant.none
-        (ends_call c.steps.self c.advance.new.self c.args.p r.client r.ask e.0 c.last_reply.result h.2.serves e.3 last (c.steps.invariant.still r at))
+    (ends_call c.steps.self c.advance.new.self c.args.p r.client r.ask e.0 c.last_reply.result h.2.serves e.3 last (c.steps.invariant.still r at))

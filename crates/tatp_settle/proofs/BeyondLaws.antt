@@ -1,0 +1,34 @@
+-- No extent that neither the population nor the closing has is a cause.
+use Rattle.std.proofs.Common.{◌≡◌, ℕ, ◌<◌, ◌≤◌, ◌==◌, None, true, false, [], All, Some, sym, ◌∙◌, ap, subst, arith}
+use Rattle.std.specs.Option.{is_some}
+use Rattle.std.proofs.lemmas.Bool.{eq-eqb}
+use Rattle.std.proofs.lemmas.List.Elements.{All-nil}
+use Rattle.tatp_tables.specs.declared.row.Rows.{Rows}
+use Rattle.tatp_population.specs.Extents.{ExtentState}
+use Rattle.tatp_settle.specs.declared.extents.ExtentCause.{ExtentCause}
+use Rattle.tatp_settle.specs.declared.extents.ExtentCause.TheVariants.{OpenedElse, IsAsMixed, InParcel, StandsTwice}
+use Rattle.tatp_settle.specs.Closings.{ClosedState, ExtentLog, logs_of, extents_numbered, IsClosed}
+use Rattle.tatp_settle.specs.Runs.{extents_populated, homes_populated}
+use Rattle.tatp_settle.specs.ExtentTests.{IsExtentCause}
+use Rattle.tatp_settle.proofs.StandingLaws.{has_number, none_standing, times_standing_is, any_counted}
+use Rattle.tatp_settle.proofs.TestLaws.{decides_passes}
+use Rattle.tatp_settle.proofs.OpenedLaws.{not_populated}
+use Rattle.tatp_settle.proofs.MixedLaws.{parcel_is}
+
+pub not_beyond : (cause : ExtentCause) (p : Rows) (c : ClosedState) (e : ℕ) → IsClosed c → 1 ≤ e → extents_populated p < e → extents_numbered c e ≡ [] → IsExtentCause cause p c e → ⊥
+not_beyond OpenedElse p c e h l above none is =
+    let no : homes_populated p e ≡ None = not_populated p e (λ _ k. omega (arith, above, k)) in
+    is (record {
+      stands = λ s. absurd (let k : false ≡ true = ap is_some (sym no) ∙ s in cc);
+      homes = subst (All (λ (x : ExtentState). homes_populated p e ≡ Some x.opening)) (sym none) (All-nil (λ (x : ExtentState). homes_populated p e ≡ Some x.opening));
+    })
+not_beyond IsAsMixed p c e h l above none is =
+    let none = none_standing c e l none in
+    let some = (any_counted (λ (log : ExtentLog). log.extent == e) (logs_of c)).0 ((decides_passes (λ (log : ExtentLog). log.extent == e) (logs_of c)).1 (is.0, is.1, eq-eqb is.0.extent e is.2)) in
+    omega (arith, none, some)
+not_beyond InParcel p c e h l above none is =
+    let none = none_standing c e l none in
+    let some = (any_counted (has_number e) c.parcels).0 ((parcel_is c e).1 is) in
+    let times = times_standing_is c e h.sites in
+    omega (arith, none, some, times)
+not_beyond StandsTwice p c e h l above none is = let none = none_standing c e l none in omega (arith, none, is)

@@ -1,0 +1,86 @@
+-- The verdict on a run, from what each pass finds.
+use Rattle.std.proofs.Common.{◌≡◌, ℕ, suc, true, false, List, [], ◌∷◌, length, Option, Some, None, slice_get, refl, sym, subst, arith}
+use Rattle.std.specs.Option.{option_map, is_some}
+use Rattle.std.proofs.lemmas.List.{length-append}
+use Rattle.tatp_tables.specs.Clean.{IsClean}
+use Rattle.tatp_tables.specs.Database.{database_of}
+use Rattle.tatp_procs.specs.declared.ask.Ask.{Ask}
+use Rattle.tatp_settle.specs.declared.receipt.Receipt.{Receipt}
+use Rattle.tatp_settle.specs.declared.places.CallPlace.{CallPlace}
+use Rattle.tatp_settle.specs.declared.cause.Unsettled.{Unsettled}
+use Rattle.tatp_settle.specs.declared.cause.Unsettled.TheVariants.{Opening, Mixed, ParcelLeft, Doubled, CallMissing, ReplyDiffers, StampOrder, HasHome}
+use Rattle.tatp_settle.specs.Closings.{IsClosed}
+use Rattle.tatp_settle.specs.Runs.{Run, at_call, joined, rows_left}
+use Rattle.tatp_settle.specs.Answering.{AreMatched}
+use Rattle.tatp_settle.specs.Placing.{ArePlaced}
+use Rattle.tatp_settle.specs.Settlements.{IsOneHistory}
+use Rattle.tatp_settle.specs.CallPlaces.{IsFirstCall, HoldsNowhere}
+use Rattle.tatp_settle.specs.Causes.{NamesHome, IsUnmatched, IsFirstCause}
+use Rattle.tatp_settle.specs.CauseOrder.{NoneOfFirst, IsFirstOf}
+use Rattle.tatp_settle.proofs.CauseLaws.{none_named, first_named}
+use Rattle.tatp_settle.proofs.SettledLaws.{one_history}
+
+pub home_cause_is : (run : Run) (v : Option CallPlace) → IsFirstCall (NamesHome (database_of run.population).subscribers run.closed) v → NoneOfFirst 8 run
+    → IsFirstOf 9 run (option_map (λ (call : CallPlace). HasHome call.client call.number) v)
+home_cause_is run None first before = none_named run before first
+home_cause_is run (Some call) first before = first_named run call.client call.number before first
+
+-- ---- as many receipts as calls
+same_length : {A B : Type 0} (xs : List A) (ys : List B) → ((n : ℕ) → is_some (slice_get xs n) ≡ is_some (slice_get ys n)) → length xs ≡ length ys
+same_length [] [] h = refl
+same_length [] (y ∷ ys) h = absurd (let k : false ≡ true = h 0 in cc)
+same_length (x ∷ xs) [] h = absurd (let k : true ≡ false = h 0 in cc)
+same_length (x ∷ xs) (y ∷ ys) h = let rest = same_length xs ys (λ n. h (suc n)) in omega (arith, rest)
+
+none_listed : {A : Type 0} (xs : List A) → ((n : ℕ) → is_some (slice_get xs n) ≡ false) → length xs ≡ 0
+none_listed [] h = refl
+none_listed (x ∷ xs) h = absurd (let k : true ≡ false = h 0 in cc)
+
+same_count : {A B : Type 0} (xs : List (List A)) (ys : List (List B)) → ((c n : ℕ) → is_some (at_call xs c n) ≡ is_some (at_call ys c n)) → length (joined xs) ≡ length (joined ys)
+same_count {A} {B} [] [] h = refl
+same_count {A} {B} [] (y ∷ ys) h =
+    let first = none_listed y (λ n. sym (h 0 n)) in
+    let rest = same_count {A = A} {B = B} [] ys (λ c n. h (suc c) n) in
+    let all = length-append y (joined ys) in
+    omega (arith, first, rest, all)
+same_count {A} {B} (x ∷ xs) [] h =
+    let first = none_listed x (λ n. h 0 n) in
+    let rest = same_count {A = A} {B = B} xs [] (λ c n. h (suc c) n) in
+    let all = length-append x (joined xs) in
+    omega (arith, first, rest, all)
+same_count {A} {B} (x ∷ xs) (y ∷ ys) h =
+    let first = same_length x y (λ n. h 0 n) in
+    let rest = same_count xs ys (λ c n. h (suc c) n) in
+    let all = length-append x (joined xs) in
+    let others = length-append y (joined ys) in
+    omega (arith, first, rest, all, others)
+
+beside : (client number : ℕ) (ask : Option Ask) (receipt : Option Receipt) → ((AreMatched client number ask receipt → ⊥) → ⊥) → is_some receipt ≡ is_some ask
+beside client number None None h = refl
+beside client number None (Some receipt) h = absurd (h (λ x. x))
+beside client number (Some ask) None h = absurd (h (λ x. x))
+beside client number (Some ask) (Some receipt) h = refl
+
+-- where all calls have their receipts there are as many
+pub as_many_receipts : (calls : List (List Ask)) (receipts : List (List Receipt)) → HoldsNowhere (IsUnmatched calls receipts) → length (joined receipts) ≡ length (joined calls)
+as_many_receipts calls receipts h = same_count receipts calls (λ c n. beside c n (at_call calls c n) (at_call receipts c n) (h c n))
+
+-- ---- what kinds of causes don't hold
+pub matched_of : (run : Run) → NoneOfFirst 8 run → HoldsNowhere (IsUnmatched run.calls run.receipts)
+matched_of run none client number h = none (CallMissing client number) (omega arith) h
+
+-- a run in which no cause holds, and whose rows now are clean, is one history
+pub judged : (run : Run) → IsClean run.population → IsClosed run.closed → NoneOfFirst 9 run → ArePlaced run.closed run.receipts → IsClean (rows_left run) → IsOneHistory run
+judged run population closed none placed clean =
+    one_history run placed.0 population closed
+    (λ e h. none (Opening e) (omega arith) h) (λ e h. none (Mixed e) (omega arith) h) (λ e h. none (ParcelLeft e) (omega arith) h) (λ e h. none (Doubled e) (omega arith) h)
+    (λ c n h. none (CallMissing c n) (omega arith) h) placed.1 (λ c n h. none (ReplyDiffers c n) (omega arith) h) (λ c n h. none (StampOrder c n) (omega arith) h)
+    (λ c n h. none (HasHome c n) (omega arith) h) clean
+
+-- what a pass that found nothing says
+pub none_found : (kinds : ℕ) (run : Run) (v : Option Unsettled) → v ≡ None → IsFirstOf kinds run v → NoneOfFirst kinds run
+none_found kinds run v is first = subst (λ (w : Option Unsettled). IsFirstOf kinds run w) is first
+
+-- what a pass that found a cause says
+pub cause_found : (kinds : ℕ) (run : Run) (v : Option Unsettled) (cause : Unsettled) → v ≡ Some cause → IsFirstOf kinds run v → IsFirstCause run cause
+cause_found kinds run v cause is first = subst (λ (w : Option Unsettled). IsFirstOf kinds run w) is first

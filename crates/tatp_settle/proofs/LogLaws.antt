@@ -1,0 +1,135 @@
+-- The log of a number, and the extent.
+use Rattle.std.proofs.Common.{◌≡◌, ◌≢◌, ℕ, zero, suc, ◌+◌, ◌<◌, ◌≤◌, ◌==◌, Bool, true, false, cond, List, [], ◌∷◌, ◌++◌, map, length, filter, find, All, Option, Some, None, slice_get, refl, sym, ◌∙◌, ap, subst, arith, drop, get_or}
+use Rattle.std.specs.List.{flat_map}
+use Rattle.std.specs.Option.{option_to_list, option_map, option_map_or, option_or}
+use Rattle.std.proofs.lemmas.Bool.{ne_eqb}
+use Rattle.std.proofs.lemmas.List.Elements.{All-head, All-tail, All-get_or}
+use Rattle.std.proofs.lemmas.List.{at_drop_more}
+use Rattle.std.proofs.lemmas.List.Folds.{find-append}
+use Rattle.tatp_population.specs.Extents.{ExtentState, IsExtent}
+use Rattle.tatp_partition.specs.Sites.{slot}
+use Rattle.tatp_settle.specs.Closings.{ClosedSiteState, ClosedState, ExtentLog, extents_in_slots, extents_of, extents_numbered, extent_numbered, entries_numbered, log_of_homeless, log_of_extent, IsClosedSite, IsClosed}
+use Rattle.tatp_settle.proofs.StandingLaws.{has_number, here, in_site, in_sites, none_at_zero}
+
+pub find_filtered : {A : Type 0} (p : A → Bool) (xs : List A) → find p xs ≡ slice_get (filter p xs) 0
+find_filtered p [] = refl
+find_filtered p (x ∷ xs) = ap (λ v. cond (p x) (Some x) v) (find_filtered p xs) ∙ by (p x) (filter p xs)
+  where
+    by : (b : Bool) (ys : List _) → cond b (Some x) (slice_get ys 0) ≡ slice_get (cond b (x ∷ ys) ys) 0
+    by true ys = refl
+    by false ys = refl
+
+first_listed : {A : Type 0} (v : Option A) → slice_get (option_to_list v) 0 ≡ v
+first_listed None = refl
+first_listed (Some x) = refl
+
+-- ---- the extent of a number
+found_in_site : (s : ClosedSiteState) (e : ℕ) → IsClosedSite s → find (has_number e) (extents_in_slots s.slots) ≡ slot s.slots e
+found_in_site s e h = find_filtered (has_number e) (extents_in_slots s.slots) ∙ (ap (λ (xs : List ExtentState). slice_get xs 0) (in_site s e h) ∙ first_listed (slot s.slots e))
+
+abbrev pub found_in : List ClosedSiteState → ℕ → Option ExtentState
+found_in sites e = find (has_number e) (flat_map (λ (s : ClosedSiteState). extents_in_slots s.slots) sites)
+
+pub found_first : (s : ClosedSiteState) (sites : List ClosedSiteState) (e : ℕ) → IsClosedSite s → found_in (s ∷ sites) e ≡ option_or (slot s.slots e) (found_in sites e)
+found_first s sites e h =
+    find-append (has_number e) (extents_in_slots s.slots) (flat_map (λ (s : ClosedSiteState). extents_in_slots s.slots) sites)
+    ∙ ap (λ (v : Option ExtentState). option_or v (found_in sites e)) (found_in_site s e h)
+
+pub found_anywhere : (c : ClosedState) (e : ℕ) → extent_numbered c e ≡ option_or (found_in c.sites e) (find (has_number e) c.parcels)
+found_anywhere c e = find-append (has_number e) (flat_map (λ (s : ClosedSiteState). extents_in_slots s.slots) c.sites) c.parcels
+
+pub site_of : (sites : List ClosedSiteState) (i : ℕ) (s : ClosedSiteState) → i < length sites → s ≡ get_or sites i s → All IsClosedSite sites → IsClosedSite s
+site_of sites i s l is all = subst IsClosedSite (sym is) (All-get_or IsClosedSite sites i s l all)
+
+-- what is found in the sites from the i-th on
+pub found_step : (sites : List ClosedSiteState) (i : ℕ) (s : ClosedSiteState) (e : ℕ) → i < length sites → s ≡ get_or sites i s → All IsClosedSite sites → found_in (drop i sites) e ≡ option_or (slot s.slots e) (found_in (drop (i + 1) sites) e)
+found_step sites i s e l is all =
+    at_drop_more (λ (xs : List ClosedSiteState). found_in xs e) sites i s l
+    ∙ (ap (λ (x : ClosedSiteState). found_in (x ∷ drop (i + 1) sites) e) (sym is) ∙ found_first s (drop (i + 1) sites) e (site_of sites i s l is all))
+
+-- ---- the log of a number
+no_homeless : (sites : List ClosedSiteState) (e : ℕ) → e ≢ 0 → find (λ (log : ExtentLog). log.extent == e) (map log_of_homeless sites) ≡ None
+no_homeless [] e h = refl
+no_homeless (s ∷ sites) e h = ap (λ (b : Bool). cond b (Some (log_of_homeless s)) (find (λ (log : ExtentLog). log.extent == e) (map log_of_homeless sites))) (ne_eqb 0 e (λ z. h (sym z))) ∙ no_homeless sites e h
+
+one_log : (x : ExtentState) (v : Option ExtentState) (b : Bool) → cond b (Some (log_of_extent x)) (option_map log_of_extent v) ≡ option_map log_of_extent (cond b (Some x) v)
+one_log x v true = refl
+one_log x v false = refl
+
+log_found : (xs : List ExtentState) (e : ℕ) → find (λ (log : ExtentLog). log.extent == e) (map log_of_extent xs) ≡ option_map log_of_extent (find (has_number e) xs)
+log_found [] e = refl
+log_found (x ∷ xs) e = ap (λ (v : Option ExtentLog). cond (x.number == e) (Some (log_of_extent x)) v) (log_found xs e) ∙ one_log x (find (has_number e) xs) (x.number == e)
+
+entries_mapped : (v : Option ExtentState) → option_map_or (λ (log : ExtentLog). log.entries) (option_map log_of_extent v) [] ≡ option_map_or (λ (x : ExtentState). x.log) v []
+entries_mapped None = refl
+entries_mapped (Some x) = refl
+
+-- the log of an extent is that of its number
+pub entries_of_extent : (c : ClosedState) (e : ℕ) → e ≢ 0 → entries_numbered c e ≡ option_map_or (λ (x : ExtentState). x.log) (extent_numbered c e) []
+entries_of_extent c e h =
+    ap (λ (v : Option ExtentLog). option_map_or (λ (log : ExtentLog). log.entries) v [])
+    (find-append (λ (log : ExtentLog). log.extent == e) (map log_of_homeless (filter (λ (s : ClosedSiteState). s.partition == 0) c.sites)) (map log_of_extent (extents_of c))
+    ∙ ((λ i. option_or (no_homeless (filter (λ (s : ClosedSiteState). s.partition == 0) c.sites) e h i) (log_found (extents_of c) e i))))
+    ∙ entries_mapped (extent_numbered c e)
+
+-- no extent has the number 0
+none_zero : (xs : List ExtentState) → All IsExtent xs → find (has_number 0) xs ≡ None
+none_zero [] all = refl
+none_zero (x ∷ xs) all =
+    let least = (All-head IsExtent x xs all).of_extent.numbered in
+    ap (λ (b : Bool). cond b (Some x) (find (has_number 0) xs)) (ne_eqb x.number 0 (λ z. omega (arith, z, least))) ∙ none_zero xs (All-tail IsExtent x xs all)
+
+none_zero_at : (sites : List ClosedSiteState) → All IsClosedSite sites → found_in sites 0 ≡ None
+none_zero_at [] all = refl
+none_zero_at (s ∷ sites) all =
+    found_first s sites 0 (All-head IsClosedSite s sites all)
+    ∙ (λ i. option_or (none_at_zero s (All-head IsClosedSite s sites all) i) (none_zero_at sites (All-tail IsClosedSite s sites all) i))
+
+pub no_extent_zero : (c : ClosedState) → IsClosed c → extent_numbered c 0 ≡ None
+no_extent_zero c h = found_anywhere c 0 ∙ (λ i. option_or (none_zero_at c.sites h.sites i) (none_zero c.parcels h.parcels i))
+
+homeless_found : (sites : List ClosedSiteState) → find (λ (log : ExtentLog). log.extent == 0) (map log_of_homeless (filter (λ (s : ClosedSiteState). s.partition == 0) sites)) ≡ option_map log_of_homeless (find (λ (s : ClosedSiteState). s.partition == 0) sites)
+homeless_found sites = by (filter (λ (s : ClosedSiteState). s.partition == 0) sites) ∙ ap (option_map log_of_homeless) (sym (find_filtered (λ (s : ClosedSiteState). s.partition == 0) sites))
+  where
+    by : (xs : List ClosedSiteState) → find (λ (log : ExtentLog). log.extent == 0) (map log_of_homeless xs) ≡ option_map log_of_homeless (slice_get xs 0)
+    by [] = refl
+    by (x ∷ xs) = refl
+
+entries_homeless : (v : Option ClosedSiteState) → option_map_or (λ (log : ExtentLog). log.entries) (option_or (option_map log_of_homeless v) None) [] ≡ option_map_or (λ (s : ClosedSiteState). s.homeless.log) v []
+entries_homeless None = refl
+entries_homeless (Some s) = refl
+
+-- the log of the calls without a home is that of the number 0
+pub entries_of_homeless : (c : ClosedState) → IsClosed c → entries_numbered c 0 ≡ option_map_or (λ (s : ClosedSiteState). s.homeless.log) (find (λ (s : ClosedSiteState). s.partition == 0) c.sites) []
+entries_of_homeless c h =
+    ap (λ (v : Option ExtentLog). option_map_or (λ (log : ExtentLog). log.entries) v [])
+    (find-append (λ (log : ExtentLog). log.extent == 0) (map log_of_homeless (filter (λ (s : ClosedSiteState). s.partition == 0) c.sites)) (map log_of_extent (extents_of c))
+    ∙ ((λ i. option_or (homeless_found c.sites i) ((log_found (extents_of c) 0 ∙ ap (option_map log_of_extent) (no_extent_zero c h)) i))))
+    ∙ entries_homeless (find (λ (s : ClosedSiteState). s.partition == 0) c.sites)
+
+-- ---- numbers above all
+above_places : (slots : List (Option ExtentState)) (e : ℕ) → length slots ≤ e → slot slots e ≡ None
+above_places [] e l = refl
+above_places (v ∷ slots) zero l = absurd (omega (arith, l))
+above_places (v ∷ slots) (suc e) l = above_places slots e (omega (arith, l))
+
+none_above : (xs : List ExtentState) (n e : ℕ) → n ≤ e → All (λ (x : ExtentState). x.number < n) xs → filter (has_number e) xs ≡ []
+none_above [] n e l all = refl
+none_above (x ∷ xs) n e l all =
+    let below = All-head (λ (x : ExtentState). x.number < n) x xs all in
+    ap (λ (b : Bool). cond b (x ∷ filter (has_number e) xs) (filter (has_number e) xs)) (ne_eqb x.number e (λ z. omega (arith, z, l, below)))
+    ∙ none_above xs n e l (All-tail (λ (x : ExtentState). x.number < n) x xs all)
+
+none_above_at : (sites : List ClosedSiteState) (n e : ℕ) → n ≤ e → All (λ (s : ClosedSiteState). length s.slots ≤ n) sites → flat_map (here e) sites ≡ []
+none_above_at [] n e l all = refl
+none_above_at (s ∷ sites) n e l all =
+    let below = All-head (λ (s : ClosedSiteState). length s.slots ≤ n) s sites all in
+    (λ i. option_to_list (above_places s.slots e (omega (arith, l, below)) i) ++ none_above_at sites n e l (All-tail (λ (s : ClosedSiteState). length s.slots ≤ n) s sites all) i)
+
+pub no_extent_above : (c : ClosedState) (m n e : ℕ) → IsClosed c → All (λ (s : ClosedSiteState). length s.slots ≤ m) c.sites → All (λ (x : ExtentState). x.number < n) c.parcels → m ≤ e → n ≤ e → extents_numbered c e ≡ []
+no_extent_above c m n e h places numbers l k = in_sites c.sites c.parcels e h.sites ∙ (λ i. none_above_at c.sites m e l places i ++ none_above c.parcels n e k numbers i)
+
+pub no_entries_above : (c : ClosedState) (e : ℕ) → e ≢ 0 → extents_numbered c e ≡ [] → entries_numbered c e ≡ []
+no_entries_above c e h none =
+    entries_of_extent c e h
+    ∙ ap (λ (v : Option ExtentState). option_map_or (λ (x : ExtentState). x.log) v []) (find_filtered (has_number e) (extents_of c) ∙ ap (λ (xs : List ExtentState). slice_get xs 0) none)

@@ -1,0 +1,147 @@
+-- Moves counted number by number are those of all extents.
+use Rattle.std.proofs.Common.{◌≡◌, ℕ, zero, suc, ◌+◌, ◌<◌, ◌≤◌, ◌==◌, ◌&&◌, nat_le, Bool, true, false, cond, List, [], ◌∷◌, ◌++◌, map, length, filter, find, count_by, sum_by, All, Some, slice_index_or, zero-add, add-zero, refl, sym, ◌∙◌, ap, arith, inl, inr}
+use Rattle.std.specs.List.{range_with_len}
+use Rattle.std.specs.Option.{option_map_or}
+use Rattle.std.proofs.lemmas.Bool.{cases_eq, ne_eqb, eq-eqb, false≢true}
+use Rattle.std.proofs.lemmas.Bool.Decides.{nat_tests}
+use Rattle.std.proofs.lemmas.Option.{cond_some}
+use Rattle.std.proofs.lemmas.List.Elements.{All-nil, All-cons, All-head, All-tail}
+use Rattle.std.proofs.lemmas.List.Sums.{sum_by-cons}
+use Rattle.tatp_tables.specs.declared.row.Rows.{Rows}
+use Rattle.tatp_population.specs.Extents.{ExtentState}
+use Rattle.tatp_population.specs.Opening.{homes_of_extent}
+use Rattle.tatp_tables.specs.Database.{database_of}
+use Rattle.tatp_tables.specs.Home.{SubscriberRows}
+use Rattle.tatp_settle.specs.Closings.{ClosedSiteState, ExtentLog, extents_of, log_of_homeless, log_of_extent, extent_numbered, extents_numbered}
+use Rattle.tatp_settle.specs.Runs.{Run, extents_populated, homes_populated}
+use Rattle.tatp_settle.specs.Settlements.{IsPopulationOnce, moves_made}
+use Rattle.tatp_settle.proofs.StandingLaws.{count_cons}
+
+-- ---- sums over a range
+sum_same : (f g : ℕ → ℕ) (es : List ℕ) → ((e : ℕ) → f e ≡ g e) → sum_by f es ≡ sum_by g es
+sum_same f g [] same = refl
+sum_same f g (e ∷ es) same = sum_by-cons f e es ∙ (λ i. same e i + sum_same f g es same i) ∙ sym (sum_by-cons g e es)
+
+sum_both : (f g : ℕ → ℕ) (es : List ℕ) → sum_by (λ e. f e + g e) es ≡ sum_by f es + sum_by g es
+sum_both f g [] = refl
+sum_both f g (e ∷ es) =
+    let both = sum_by-cons (λ k. f k + g k) e es in
+    let one = sum_by-cons f e es in
+    let other = sum_by-cons g e es in
+    let rest = sum_both f g es in
+    omega (arith, both, one, other, rest)
+
+sum_nothing : (f : ℕ → ℕ) (a n : ℕ) → ((e : ℕ) → a ≤ e → f e ≡ 0) → sum_by f (range_with_len a n) ≡ 0
+sum_nothing f a zero none = refl
+sum_nothing f a (suc n) none = sum_by-cons f a (range_with_len (a + 1) n) ∙ (λ i. none a (omega arith) i + sum_nothing f (a + 1) n (λ e l. none e (omega (arith, l))) i)
+
+abbrev value_at : ℕ → ℕ → ℕ → ℕ
+value_at m v e = cond (m == e) v 0
+
+-- one number of a range has a value
+sum_one : (m v a n : ℕ) → a ≤ m → m < a + n → sum_by (value_at m v) (range_with_len a n) ≡ v
+sum_one m v a zero l k = absurd (omega (arith, l, k))
+sum_one m v a (suc n) l k = elim (cases_eq m a) [
+  | inl same ↦
+      let here : value_at m v a ≡ v = ap (λ b. cond b v 0) (eq-eqb m a same) in
+      let rest : sum_by (value_at m v) (range_with_len (a + 1) n) ≡ 0 = sum_nothing (value_at m v) (a + 1) n (λ e after. ap (λ b. cond b v 0) (ne_eqb m e (λ z. omega (arith, same, after, z)))) in
+      sum_by-cons (value_at m v) a (range_with_len (a + 1) n) ∙ (λ i. here i + rest i) ∙ add-zero v
+  | inr other ↦
+      let here : value_at m v a ≡ 0 = ap (λ b. cond b v 0) (ne_eqb m a other) in
+      let rest : sum_by (value_at m v) (range_with_len (a + 1) n) ≡ v = sum_one m v (a + 1) n (grind (arith, l, other)) (omega (arith, k)) in
+      sum_by-cons (value_at m v) a (range_with_len (a + 1) n) ∙ (λ i. here i + rest i) ∙ zero-add v
+]
+
+-- ---- extents by number
+abbrev is_numbered : ℕ → ExtentState → Bool
+is_numbered e x = x.number == e
+
+module _ (f : ExtentState → ℕ) where
+  one_more : (e : ℕ) (x : ExtentState) (xs : List ExtentState) → sum_by f (filter (is_numbered e) (x ∷ xs)) ≡ value_at x.number (f x) e + sum_by f (filter (is_numbered e) xs)
+  one_more e x xs = elim (x.number == e) as (λ b. sum_by f (cond b (x ∷ filter (is_numbered e) xs) (filter (is_numbered e) xs)) ≡ cond b (f x) 0 + sum_by f (filter (is_numbered e) xs)) [
+    | true ↦ sum_by-cons f x (filter (is_numbered e) xs)
+    | false ↦ sym (zero-add _)
+  ]
+
+  -- number by number, all of them are counted
+  by_number : (a n : ℕ) (xs : List ExtentState) → All (λ (x : ExtentState). (a ≤ x.number) × (x.number < a + n)) xs → sum_by (λ e. sum_by f (filter (is_numbered e) xs)) (range_with_len a n) ≡ sum_by f xs
+  by_number a n [] within = sum_nothing (λ e. 0) a n (λ e l. refl)
+  by_number a n (x ∷ xs) within =
+      let own = All-head (λ (y : ExtentState). (a ≤ y.number) × (y.number < a + n)) x xs within in
+      let rest = by_number a n xs (All-tail (λ (y : ExtentState). (a ≤ y.number) × (y.number < a + n)) x xs within) in
+      sum_same (λ e. sum_by f (filter (is_numbered e) (x ∷ xs))) (λ e. value_at x.number (f x) e + sum_by f (filter (is_numbered e) xs)) (range_with_len a n) (λ e. one_more e x xs)
+      ∙ sum_both (value_at x.number (f x)) (λ e. sum_by f (filter (is_numbered e) xs)) (range_with_len a n)
+      ∙ (λ i. sum_one x.number (f x) a n own.0 own.1 i + rest i)
+      ∙ sym (sum_by-cons f x xs)
+
+  none_pass : (p : ExtentState → Bool) (xs : List ExtentState) → length (filter p xs) ≡ 0 → sum_by f (filter p xs) ≡ 0
+  none_pass p xs = by (filter p xs)
+    where
+      by : (ys : List ExtentState) → length ys ≡ 0 → sum_by f ys ≡ 0
+      by [] h = refl
+      by (y ∷ ys) h = absurd (omega (arith, h))
+
+  -- where at most one passes, it is what is found
+  only_one : (p : ExtentState → Bool) (xs : List ExtentState) → length (filter p xs) ≤ 1 → sum_by f (filter p xs) ≡ option_map_or f (find p xs) 0
+  only_one p [] l = refl
+  only_one p (x ∷ xs) l =
+      elim (p x) as (λ b. length (cond b (x ∷ filter p xs) (filter p xs)) ≤ 1 → sum_by f (cond b (x ∷ filter p xs) (filter p xs)) ≡ option_map_or f (cond b (Some x) (find p xs)) 0) [
+        | true ↦ λ l. sum_by-cons f x (filter p xs) ∙ ap (λ n. f x + n) (none_pass p xs (omega (arith, l))) ∙ add-zero (f x)
+        | false ↦ λ l. only_one p xs l
+      ] l
+
+-- ---- the extents of a run
+abbrev log_has : ℕ → ExtentLog → Bool
+log_has e log = log.extent == e
+
+counted : (e : ℕ) (sites : List ClosedSiteState) (extents : List ExtentState) → length (filter (is_numbered e) extents) ≤ count_by (log_has e) (map log_of_homeless sites ++ map log_of_extent extents)
+counted e [] [] = omega arith
+counted e [] (x ∷ extents) =
+    let more = count_cons (log_has e) (log_of_extent x) (map log_of_extent extents) in
+    let rest = counted e [] extents in
+    let here : length (filter (is_numbered e) (x ∷ extents)) ≡ cond (x.number == e) 1 0 + length (filter (is_numbered e) extents) =
+    elim (x.number == e) as (λ b. length (cond b (x ∷ filter (is_numbered e) extents) (filter (is_numbered e) extents)) ≡ cond b 1 0 + length (filter (is_numbered e) extents)) [
+      | true ↦ omega arith
+      | false ↦ omega arith
+    ] in
+    omega (arith, more, rest, here)
+counted e (s ∷ sites) extents =
+    let more = count_cons (log_has e) (log_of_homeless s) (map log_of_homeless sites ++ map log_of_extent extents) in
+    let rest = counted e sites extents in
+    omega (arith, more, rest)
+
+-- what holds of those that pass
+of_passing : (P : ExtentState → Type 0) (p : ExtentState → Bool) (xs : List ExtentState) → All P (filter p xs) → All (λ (x : ExtentState). p x ≡ true → P x) xs
+of_passing P p [] all = All-nil (λ (x : ExtentState). p x ≡ true → P x)
+of_passing P p (x ∷ xs) all =
+    elim (p x) as (λ b. p x ≡ b → All P (cond b (x ∷ filter p xs) (filter p xs)) → All (λ (y : ExtentState). p y ≡ true → P y) (x ∷ xs)) [
+      | true ↦ λ is all. All-cons (λ (y : ExtentState). p y ≡ true → P y) x xs (λ _. All-head P x (filter p xs) all) (of_passing P p xs (All-tail P x (filter p xs) all))
+      | false ↦ λ is all. All-cons (λ (y : ExtentState). p y ≡ true → P y) x xs (λ passes. absurd (false≢true (sym is ∙ passes))) (of_passing P p xs all)
+    ] refl all
+
+passed_tests : (e n : ℕ) → (nat_le 1 e && nat_le e n) ≡ true → (1 ≤ e) × (e < 1 + n)
+passed_tests e n h = (grind (arith, nat_tests, h), grind (arith, nat_tests, h))
+
+within_populated : (population : Rows) (e : ℕ) (homes : List SubscriberRows) → homes_populated population e ≡ Some homes → (1 ≤ e) × (e < 1 + extents_populated population)
+within_populated population e homes h =
+    passed_tests e (extents_populated population) (cond_some (nat_le 1 e && nat_le e (extents_populated population)) (homes_of_extent (database_of population) (length population.subscribers) e) homes h).0
+
+are_within : (run : Run) → IsPopulationOnce run → All (λ (x : ExtentState). (1 ≤ x.number) × (x.number < 1 + extents_populated run.population)) (extents_of run.closed)
+are_within run once k d l =
+    let x : ExtentState = slice_index_or (extents_of run.closed) k d in
+    let opened : homes_populated run.population x.number ≡ Some x.opening =
+    of_passing (λ (y : ExtentState). homes_populated run.population x.number ≡ Some y.opening) (is_numbered x.number) (extents_of run.closed) (once.opened x.number).homes k d l (eq-eqb x.number x.number refl) in
+    within_populated run.population x.number x.opening opened
+
+-- each extent stands once: its moves are counted by its number
+pub moves_by_number : (run : Run) → IsPopulationOnce run → sum_by (λ e. option_map_or (λ (x : ExtentState). x.moves) (extent_numbered run.closed e) 0) (range_with_len 1 (extents_populated run.population)) ≡ moves_made run
+moves_by_number run once =
+    sum_same (λ e. option_map_or (λ (x : ExtentState). x.moves) (extent_numbered run.closed e) 0) (λ e. sum_by (λ (x : ExtentState). x.moves) (extents_numbered run.closed e)) (range_with_len 1 (extents_populated run.population)) (λ e.
+    sym (only_one (λ (x : ExtentState). x.moves) (is_numbered e) (extents_of run.closed) (at_most_once e)))
+    ∙ by_number (λ (x : ExtentState). x.moves) 1 (extents_populated run.population) (extents_of run.closed) (are_within run once)
+  where
+    at_most_once : (e : ℕ) → length (extents_numbered run.closed e) ≤ 1
+    at_most_once e =
+        let least = counted e (filter (λ (s : ClosedSiteState). s.partition == 0) run.closed.sites) (extents_of run.closed) in
+        let most = once.once e in
+        omega (arith, least, most)

@@ -1,0 +1,281 @@
+-- The logs that a run left are those of separate extents of its population, merged into one history of it.
+use Rattle.std.proofs.Common.{◌≡◌, ℕ, zero, suc, ◌+◌, ◌≤◌, ◌==◌, ◌&&◌, nat_le, Bool, true, false, cond, if◌then◌else◌, List, [], ◌∷◌, ◌++◌, map, length, filter, find, All, Contains, Option, Some, None, IsSome, is_some, slice_get, zero-add, refl, sym, ◌∙◌, ap, subst, arith}
+use Rattle.std.specs.List.{range_with_len, flat_map}
+use Rattle.std.specs.Option.{option_map, option_map_or}
+use Rattle.std.proofs.lemmas.Bool.Decides.{nat_tests}
+use Rattle.std.proofs.lemmas.Bool.{ne_eqb, eqb-true, false≢true}
+use Rattle.std.proofs.lemmas.Option.{slice_get-map, same_Some}
+use Rattle.std.proofs.lemmas.List.Elements.{All-nil, All-head, All-tail, All-append, All-filter, All-contains}
+use Rattle.tatp_tables.specs.Tuples.{Tuple, rows_of, no_rows}
+use Rattle.tatp_tables.specs.Keys.{has_key, has_number}
+use Rattle.tatp_tables.specs.Database.{Database, database_of, no_tables}
+use Rattle.tatp_tables.specs.Home.{SubscriberRows}
+use Rattle.tatp_tables.specs.Loading.{homes_in}
+use Rattle.tatp_tables.specs.Clean.{IsClean}
+use Rattle.tatp_tables.proofs.TupleLaws.{has-no_rows}
+use Rattle.tatp_tables.proofs.KeyLaws.{has-found}
+use Rattle.tatp_tables.proofs.ChangeLaws.{IsHome-none}
+use Rattle.tatp_numbers.specs.declared.key.Key.{Key}
+use Rattle.tatp_numbers.specs.declared.key.Key.TheVariants.{Id, Number}
+use Rattle.tatp_numbers.specs.Homes.{s_id_of, home_of_key}
+use Rattle.tatp_procs.specs.declared.entry.Entry.{Entry}
+use Rattle.tatp_procs.specs.Calls.{key_of_call}
+use Rattle.tatp_procs.specs.declared.call.Call.{Call}
+use Rattle.tatp_procs.specs.declared.reply.Reply.TheVariants.{Failed}
+use Rattle.tatp_procs.specs.Transactions.{Answer, transaction}
+use Rattle.tatp_procs.proofs.ConsistentLaws.{IsConsistent-home, IsConsistent-clean}
+use Rattle.tatp_procs.proofs.LocalityLaws.{fails_without_home}
+use Rattle.tatp_population.specs.Histories.{Leads, IsHistory}
+use Rattle.tatp_population.specs.Extents.{ExtentState, IsExtent}
+use Rattle.tatp_population.specs.HomelessLog.{RecordsHomeless, IsHomelessHistory}
+use Rattle.tatp_population.specs.Opening.{homes_of_extent}
+use Rattle.tatp_population.specs.HomeRows.{database_of_homes, AreRowsOf}
+use Rattle.tatp_population.proofs.HomeRowsLaws.{rows_are_the_database}
+use Rattle.tatp_population.proofs.CleanRowsLaws.{rows_of_clean}
+use Rattle.tatp_partition.specs.Asks.{key_asked}
+use Rattle.tatp_settle.specs.Closings.{ClosedSiteState, ClosedState, ExtentLog, extents_in_slots, extents_of, logs_of, log_of_homeless, log_of_extent, extent_numbered, extents_numbered, entries_numbered, IsClosedSite, IsClosed}
+use Rattle.tatp_settle.specs.Merging.{PlacedEntry, IsMergeable, IsAnsweredInOrder, OneHistory}
+use Rattle.tatp_settle.specs.Runs.{Run, extents_populated, homes_populated, logs_left, homes_left, rows_left}
+use Rattle.tatp_settle.specs.Answering.{HasReceipt}
+use Rattle.tatp_settle.specs.CallPlaces.{HoldsNowhere}
+use Rattle.tatp_settle.specs.Causes.{StampFalls, NamesHome}
+use Rattle.tatp_settle.specs.Settlements.{IsPopulationOnce, IsReceived}
+use Rattle.tatp_settle.specs.Separate.{Parts, AllFindNone, LogAt, LeadsToLast}
+use Rattle.tatp_settle.proofs.MergeLaws.{map_get, merged_logs_are_one_history}
+use Rattle.tatp_settle.proofs.TakingLaws.{logs_can_be_merged}
+use Rattle.tatp_settle.proofs.TurnLaws.{Rises, EachRises, StandsIn, clients_are_in_turn}
+use Rattle.tatp_settle.proofs.PartLaws.{range_got, range_gives, ids_of_extent, extents_are_separate, extents_joined, rows_stay}
+
+-- ---- finds
+-- what is found stands in the list, and passes
+found : {A : Type 0} (p : A → Bool) (xs : List A) (x : A) → find p xs ≡ Some x → Contains xs x × (p x ≡ true)
+found p [] x h = absurd cc
+found p (y ∷ ys) x h = elim (p y) as (λ b. p y ≡ b → cond b (Some y) (find p ys) ≡ Some x → Contains (y ∷ ys) x × (p x ≡ true)) [
+  | true ↦ λ is h. let same : y ≡ x = cc in ((0, omega arith, same), ap p (sym same) ∙ is)
+  | false ↦ λ is h. let rest = found p ys x h in ((suc rest.0.0, omega (arith, rest.0.1), rest.0.2), rest.1)
+] refl h
+
+-- where some pass, the first that does is found
+first_passing : {A : Type 0} (p : A → Bool) (xs : List A) → 1 ≤ length (filter p xs) → (x : A) × (find p xs ≡ Some x) × Contains (filter p xs) x
+first_passing p [] h = absurd (omega (arith, h))
+first_passing p (y ∷ ys) h =
+    elim (p y) as (λ b. 1 ≤ length (cond b (y ∷ filter p ys) (filter p ys)) → (x : _) × (cond b (Some y) (find p ys) ≡ Some x) × Contains (cond b (y ∷ filter p ys) (filter p ys)) x) [
+      | true ↦ λ _. (y, refl, (0, omega arith, refl))
+      | false ↦ λ h. first_passing p ys h
+    ] h
+
+-- ---- the extents of a closed database
+in_slots : (slots : List (Option ExtentState)) → ((e : ℕ) (x : ExtentState) → slice_get slots e ≡ Some (Some x) → IsExtent x) → All IsExtent (extents_in_slots slots)
+in_slots [] each = All-nil IsExtent
+in_slots (None ∷ slots) each = in_slots slots (λ e x h. each (suc e) x h)
+in_slots (Some x ∷ slots) each = All-append IsExtent (x ∷ []) (extents_in_slots slots) (one x (each 0 x refl)) (in_slots slots (λ e y h. each (suc e) y h))
+  where
+    one : (x : ExtentState) → IsExtent x → All IsExtent (x ∷ [])
+    one x h zero d l = h
+    one x h (suc i) d l = absurd (omega (arith, l))
+
+at_sites : (sites : List ClosedSiteState) → All IsClosedSite sites → All IsExtent (flat_map (λ (s : ClosedSiteState). extents_in_slots s.slots) sites)
+at_sites [] all = All-nil IsExtent
+at_sites (s ∷ sites) all =
+    All-append IsExtent (extents_in_slots s.slots) (flat_map (λ (s : ClosedSiteState). extents_in_slots s.slots) sites) (in_slots s.slots (All-head IsClosedSite s sites all).extents) (at_sites sites (All-tail IsClosedSite s sites all))
+
+are_extents : (c : ClosedState) → IsClosed c → All IsExtent (extents_of c)
+are_extents c closed = All-append IsExtent (flat_map (λ (s : ClosedSiteState). extents_in_slots s.slots) c.sites) c.parcels (at_sites c.sites closed.sites) closed.parcels
+
+-- ---- the log of a number
+abbrev log_has : ℕ → ExtentLog → Bool
+log_has e log = log.extent == e
+
+abbrev find_log : ℕ → List ClosedSiteState → List ExtentState → Option ExtentLog
+find_log e sites extents = find (log_has e) (map log_of_homeless sites ++ map log_of_extent extents)
+
+of_extents : (e : ℕ) (extents : List ExtentState) → find (log_has e) (map log_of_extent extents) ≡ option_map log_of_extent (find (λ (x : ExtentState). x.number == e) extents)
+of_extents e [] = refl
+of_extents e (x ∷ extents) =
+    elim (x.number == e) as (λ b. cond b (Some (log_of_extent x)) (find (log_has e) (map log_of_extent extents)) ≡ option_map log_of_extent (cond b (Some x) (find (λ (x : ExtentState). x.number == e) extents))) [
+      | true ↦ refl
+      | false ↦ of_extents e extents
+    ]
+
+-- that of an extent is no log of calls without a home
+of_an_extent : (e : ℕ) (sites : List ClosedSiteState) (extents : List ExtentState) → 1 ≤ e → find_log e sites extents ≡ option_map log_of_extent (find (λ (x : ExtentState). x.number == e) extents)
+of_an_extent e [] extents l = of_extents e extents
+of_an_extent e (s ∷ sites) extents l =
+    ap (λ b. cond b (Some (log_of_homeless s)) (find_log e sites extents)) (ne_eqb 0 e (λ z. omega (arith, l, z))) ∙ of_an_extent e sites extents l
+
+-- no extent has number 0
+none_at_zero : (extents : List ExtentState) → All IsExtent extents → find (λ (x : ExtentState). x.number == 0) extents ≡ None
+none_at_zero [] all = refl
+none_at_zero (x ∷ extents) all =
+    let least : 1 ≤ x.number = (All-head IsExtent x extents all).of_extent.numbered in
+    ap (λ b. cond b (Some x) (find (λ (x : ExtentState). x.number == 0) extents)) (ne_eqb x.number 0 (λ z. omega (arith, least, z))) ∙ none_at_zero extents (All-tail IsExtent x extents all)
+
+abbrev entries_in : Option ExtentLog → List Entry
+entries_in log = option_map_or (λ (log : ExtentLog). log.entries) log []
+
+not_true : (b : Bool) → (b ≡ true → ⊥) → b ≡ false
+not_true true h = absurd (h refl)
+not_true false h = refl
+
+-- the log of number 0 is that of the calls without a home
+homeless_log : (sites : List ClosedSiteState) (extents : List ExtentState) → All IsClosedSite sites → All IsExtent extents
+    → ((log : ExtentLog) → Contains (map log_of_homeless sites ++ map log_of_extent extents) log → log.extent ≡ 0 → log.mixed ≡ true → ⊥)
+    → IsHomelessHistory (entries_in (find_log 0 sites extents))
+homeless_log [] extents closed are unmixed =
+    let none : find_log 0 [] extents ≡ None = of_extents 0 extents ∙ ap (option_map log_of_extent) (none_at_zero extents are) in
+    subst (λ (log : Option ExtentLog). IsHomelessHistory (entries_in log)) (sym none) (record { entries = All-nil RecordsHomeless; rise = tt })
+homeless_log (s ∷ sites) extents closed are unmixed =
+    (All-head IsClosedSite s sites closed).homeless (not_true s.homeless.mixed (unmixed (log_of_homeless s) (0, omega arith, refl) refl))
+
+-- ---- the extents of a run
+abbrev homes_now : Run → ℕ → List SubscriberRows
+homes_now run e = option_map_or (λ (x : ExtentState). x.homes) (extent_numbered run.closed e) []
+
+abbrev homes_first : Run → ℕ → List SubscriberRows
+homes_first run e = homes_of_extent (database_of run.population) (length run.population.subscribers) e
+
+both_tests : (e n : ℕ) → 1 ≤ e → e ≤ n → (nat_le 1 e && nat_le e n) ≡ true
+both_tests e n l m = grind (arith, nat_tests, l, m)
+
+populated : (run : Run) (e : ℕ) → 1 ≤ e → e ≤ extents_populated run.population → homes_populated run.population e ≡ Some (homes_first run e)
+populated run e l m = ap (λ b. if b then Some (homes_first run e) else None) (both_tests e (extents_populated run.population) l m)
+
+-- an extent that stands in what the run left, with its history from the population's homes on
+record Stood (run : Run) (e : ℕ) : Type 0 where
+  pub extent : ExtentState
+  pub history : IsHistory extent.opening extent.log extent.homes
+  pub opening : extent.opening ≡ homes_first run e
+  pub entries : entries_numbered run.closed e ≡ extent.log
+  pub homes : homes_now run e ≡ extent.homes
+
+abbrev is_numbered : ℕ → ExtentState → Bool
+is_numbered e x = x.number == e
+
+abbrev of_partition_0 : ClosedSiteState → Bool
+of_partition_0 s = s.partition == 0
+
+stood : (run : Run) (e : ℕ) → IsClosed run.closed → IsPopulationOnce run → 1 ≤ e → e ≤ extents_populated run.population → Stood run e
+stood run e closed once l m =
+    let c : ClosedState = run.closed in
+    let there : homes_populated run.population e ≡ Some (homes_first run e) = populated run e l m in
+    let first = first_passing (is_numbered e) (extents_of c) ((once.opened e).stands (ap is_some there)) in
+    let x : ExtentState = first.0 in
+    let is : extent_numbered c e ≡ Some x = first.1 in
+    let opening : homes_populated run.population e ≡ Some x.opening = All-contains (λ (y : ExtentState). homes_populated run.population e ≡ Some y.opening) (extents_numbered c e) x (once.opened e).homes first.2 in
+    let extent : IsExtent x = All-contains IsExtent (extents_of c) x (are_extents c closed) (found (is_numbered e) (extents_of c) x is).0 in
+    let log : find (log_has e) (logs_of c) ≡ Some (log_of_extent x) = of_an_extent e (filter of_partition_0 c.sites) (extents_of c) l ∙ ap (option_map log_of_extent) is in
+    let placed = found (log_has e) (logs_of c) (log_of_extent x) log in
+    let unmixed : x.mixed ≡ false = not_true x.mixed (λ mixed. once.unmixed e (log_of_extent x, placed.0, eqb-true x.number e placed.1, mixed)) in
+    record {
+      extent = x;
+      history = extent.history unmixed;
+      opening = same_Some x.opening (homes_first run e) (sym opening ∙ there);
+      entries = ap entries_in log;
+      homes = ap (λ (v : Option ExtentState). option_map_or (λ (y : ExtentState). y.homes) v []) is;
+    }
+
+homeless_stood : (run : Run) → IsClosed run.closed → IsPopulationOnce run → IsHomelessHistory (entries_numbered run.closed 0)
+homeless_stood run closed once =
+    homeless_log (filter of_partition_0 run.closed.sites) (extents_of run.closed) (All-filter of_partition_0 IsClosedSite run.closed.sites closed.sites) (are_extents run.closed closed)
+    (λ log stands number mixed. once.unmixed 0 (log, stands, number, mixed))
+
+-- ---- calls without a home
+nothing_found : (p : Tuple → Bool) → find p (rows_of no_rows) ≡ None
+nothing_found p = by (find p (rows_of no_rows)) refl
+  where
+    by : (o : Option Tuple) → find p (rows_of no_rows) ≡ o → o ≡ None
+    by None h = refl
+    by (Some row) h = absurd (false≢true (sym (has-no_rows row) ∙ has-found p no_rows row h))
+
+names_none : (key : Key) → home_of_key no_rows key ≡ None
+names_none (Id s) = ap (option_map s_id_of) (nothing_found (has_key (s ∷ [])))
+names_none (Number n) = ap (option_map s_id_of) (nothing_found (has_number n))
+
+fails_on_nothing : (call : Call) → (transaction call no_tables).reply ≡ Failed 1
+fails_on_nothing call = ap (λ (a : Answer). a.reply) (fails_without_home call no_tables (IsConsistent-home (record { s_id = 0; tables = no_tables }) (IsHome-none 0)) (names_none (key_of_call call)))
+
+none_from : (o : Option ℕ) → (IsSome o → ⊥) → o ≡ None
+none_from None h = refl
+none_from (Some s) h = absurd (h refl)
+
+find_none : (u : Database) (log : List Entry) → All RecordsHomeless log → ((place : ℕ) (entry : Entry) → slice_get log place ≡ Some entry → home_of_key u.subscribers (key_asked entry.ask) ≡ None) → AllFindNone u log
+find_none u [] all none = tt
+find_none u (entry ∷ more) all none =
+    let r : RecordsHomeless entry = All-head RecordsHomeless entry more all in (
+      record { call = r.call; asked = r.asked; none = ap (λ a. home_of_key u.subscribers (key_asked a)) (sym r.asked) ∙ none 0 entry refl; reply = r.reply ∙ fails_on_nothing r.call },
+      find_none u more (All-tail RecordsHomeless entry more all) (λ place x h. none (suc place) x h),
+    )
+
+-- ---- the logs of a run
+left_at : (run : Run) (e : ℕ) (log : List Entry) → slice_get (logs_left run) e ≡ Some log → (e ≤ extents_populated run.population) × (entries_numbered run.closed e ≡ log)
+left_at run e log g =
+    let got = map_get (entries_numbered run.closed) (range_with_len 0 (extents_populated run.population + 1)) e log g in
+    let at = range_got 0 (extents_populated run.population + 1) e got.0 got.1 in
+    let same : e ≡ got.0 = omega (arith, at.1) in
+    (omega (arith, at.0), ap (entries_numbered run.closed) same ∙ got.2)
+
+left_gives : (run : Run) (e : ℕ) → e ≤ extents_populated run.population → slice_get (logs_left run) e ≡ Some (entries_numbered run.closed e)
+left_gives run e l =
+    slice_get-map (entries_numbered run.closed) (range_with_len 0 (extents_populated run.population + 1)) e
+    ∙ ap (option_map (entries_numbered run.closed)) (range_gives 0 (extents_populated run.population + 1) e (omega (arith, l)))
+    ∙ ap (λ n. Some (entries_numbered run.closed n)) (zero-add e)
+
+abbrev parts_of : Run → Parts
+parts_of run = record { ids = ids_of_extent (length run.population.subscribers); last = homes_now run }
+
+module _ (run : Run) (closed : IsClosed run.closed) (once : IsPopulationOnce run) where
+  each_rises : EachRises (logs_left run)
+  each_rises zero log g = subst Rises (left_at run 0 log g).1 (0, (homeless_stood run closed once).rise)
+  each_rises (suc e) log g =
+      let at = left_at run (suc e) log g in
+      let s : Stood run (suc e) = stood run (suc e) closed once (omega arith) at.0 in
+      subst Rises (sym s.entries ∙ at.1) (0, s.history.rise)
+
+  at_extent : HoldsNowhere (NamesHome (database_of run.population).subscribers run.closed) → (e : ℕ) (log : List Entry) → slice_get (logs_left run) e ≡ Some log → LogAt (parts_of run) (database_of run.population) e log
+  at_extent homeless zero log g =
+      let at = left_at run 0 log g in
+      subst (AllFindNone (database_of run.population)) at.1 (find_none (database_of run.population) (entries_numbered run.closed 0) (homeless_stood run closed once).entries (λ place entry here.
+      none_from (home_of_key (database_of run.population).subscribers (key_asked entry.ask)) (λ names. homeless entry.client entry.number (record {
+        found = record { extent = 0; place = place; entry = entry; stands = here; own = record { client = refl; number = refl } };
+        homeless = refl;
+        names = names;
+      }))))
+  at_extent homeless (suc e) log g =
+      let at = left_at run (suc e) log g in
+      let s : Stood run (suc e) = stood run (suc e) closed once (omega arith) at.0 in
+      let leads : Leads s.extent.opening s.extent.log s.extent.homes = s.history.leads in
+      let from_first : Leads (homes_first run (suc e)) s.extent.log s.extent.homes = subst (λ b. Leads b s.extent.log s.extent.homes) s.opening leads in
+      let to_now : Leads (homes_first run (suc e)) s.extent.log (homes_now run (suc e)) = subst (λ a. Leads (homes_first run (suc e)) s.extent.log a) (sym s.homes) from_first in
+      subst (λ l. Leads (homes_first run (suc e)) l (homes_now run (suc e))) (sym s.entries ∙ at.1) to_now
+
+  known : IsReceived run → (p : PlacedEntry) → StandsIn (logs_left run) p → HasReceipt run.receipts p
+  known received p s =
+      let at = left_at run p.extent s.log s.at_extent in
+      received.known p.extent s.place p.entry (ap (λ log. slice_get log s.place) at.1 ∙ s.at_place)
+
+-- the homes now are those of a database in which each extent has its last
+homes_are : (run : Run) (after : Database) → ((e : ℕ) (log : List Entry) → slice_get (logs_left run) (suc e) ≡ Some log → homes_now run (suc e) ≡ homes_of_extent after (length run.population.subscribers) (suc e))
+    → homes_left run ≡ homes_in after 1 (length run.population.subscribers)
+homes_are run after last = extents_joined after (length run.population.subscribers) (homes_now run) each
+  where
+    each : (e : ℕ) → 1 ≤ e → e ≤ extents_populated run.population → homes_now run e ≡ homes_of_extent after (length run.population.subscribers) e
+    each zero l m = absurd (omega (arith, l))
+    each (suc e) l m = last e (entries_numbered run.closed (suc e)) (left_gives run (suc e) m)
+
+-- THE LAW: the logs that a run left are one history, from the population to the rows that it left
+pub runs_are_one_history : (run : Run) → IsClean run.population → IsClosed run.closed → IsPopulationOnce run → IsReceived run → HoldsNowhere (StampFalls run.receipts) → HoldsNowhere (NamesHome (database_of run.population).subscribers run.closed)
+    → OneHistory (database_of run.population) (logs_left run) (database_of (rows_left run))
+runs_are_one_history run clean closed once received stamps homeless =
+    let n : ℕ = length run.population.subscribers in
+    let u : Database = database_of run.population in
+    let merged : IsMergeable (logs_left run) = logs_can_be_merged (logs_left run) in
+    let led : LeadsToLast (parts_of run) u (logs_left run) merged.0 =
+    merged_logs_are_one_history (parts_of run) (extents_are_separate n) merged.0 u (logs_left run) (IsConsistent-clean run.population clean) merged.1 (at_extent run closed once homeless) in
+    let rows : AreRowsOf (range_with_len 1 n) led.after = rows_stay (range_with_len 1 n) u led.after (rows_of_clean run.population clean) led.consistent led.keys in
+    let now : database_of (rows_left run) ≡ led.after = ap database_of_homes (homes_are run led.after led.homes) ∙ rows_are_the_database led.after (range_with_len 1 n) rows in
+    record {
+      history = merged.0;
+      merges = merged.1;
+      answered = subst (IsAnsweredInOrder u merged.0) (sym now) led.answered;
+      in_turn = clients_are_in_turn run.receipts (logs_left run) merged.0 (each_rises run closed once) stamps (known run closed once received) merged.1;
+    }

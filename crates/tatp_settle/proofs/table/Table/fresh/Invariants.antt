@@ -1,0 +1,7 @@
+use Rattle.std.proofs.Common.{◌≡◌, take}
+use Rattle.tatp_settle.specs.Runs.{lists_of}
+use Rattle.tatp_settle.proofs.TableLaws.{fresh_rows}
+use Rattle.tatp_settle.proofs.table.Table.fresh.Given as goal
+
+abbrev pub invariant-lists : goal.invariant-lists
+invariant-lists g l = lists_of l.rows.items ≡ fresh_rows (take l.i (lists_of l.lists))

@@ -1,0 +1,28 @@
+-- The kinds of causes, in their order.
+use Rattle.std.specs.Prelude.{ℕ, ◌<◌, Option, Some, None}
+use Rattle.tatp_settle.specs.declared.cause.Unsettled.{Unsettled}
+use Rattle.tatp_settle.specs.declared.cause.Unsettled.TheVariants.{Opening, Mixed, ParcelLeft, Doubled, CallMissing, ReceiptMissing, ReplyDiffers, StampOrder, HasHome, Audit}
+use Rattle.tatp_settle.specs.Runs.{Run}
+use Rattle.tatp_settle.specs.Causes.{Holds, IsFirstCause}
+
+-- which kind of cause it is, counted in their order
+abbrev pub kind_of : Unsettled → ℕ
+kind_of (Opening e) = 0
+kind_of (Mixed e) = 1
+kind_of (ParcelLeft e) = 2
+kind_of (Doubled e) = 3
+kind_of (CallMissing client number) = 4
+kind_of (ReceiptMissing client number) = 5
+kind_of (ReplyDiffers client number) = 6
+kind_of (StampOrder client number) = 7
+kind_of (HasHome client number) = 8
+kind_of (Audit verdict) = 9
+
+-- no cause of the first so many kinds holds
+abbrev pub NoneOfFirst : ℕ → Run → Type 0
+NoneOfFirst kinds run = (cause : Unsettled) → kind_of cause < kinds → Holds run cause → ⊥
+
+-- the first cause, if one of the first so many kinds holds
+abbrev pub IsFirstOf : ℕ → Run → Option Unsettled → Type 0
+IsFirstOf kinds run None = NoneOfFirst kinds run
+IsFirstOf kinds run (Some cause) = IsFirstCause run cause

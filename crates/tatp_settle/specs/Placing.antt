@@ -1,0 +1,50 @@
+-- A table with a cell for each call, in which the place of the call's entry is kept.
+use Rattle.std.specs.Prelude.{◌≡◌, ℕ, Bool, true, false, Option, Some, None, List}
+use Rattle.tatp_procs.specs.declared.entry.Entry.{Entry}
+use Rattle.tatp_settle.specs.declared.receipt.Receipt.{Receipt}
+use Rattle.tatp_settle.specs.declared.places.LogPlace.{LogPlace}
+use Rattle.tatp_settle.specs.declared.table.Table.{Table}
+use Rattle.tatp_settle.specs.Closings.{ClosedState, StandsAt}
+use Rattle.tatp_settle.specs.Runs.{at_call, lists_of}
+use Rattle.tatp_settle.specs.Answering.{IsEntryOf}
+use Rattle.tatp_settle.specs.declared.places.CallPlace.{CallPlace}
+use Rattle.tatp_settle.specs.CallPlaces.{IsSooner}
+
+-- the cell of a client's call; none where the table has no such cell
+abbrev pub cells_of : Table → ℕ → ℕ → Option (Option LogPlace)
+cells_of table client number = at_call (lists_of table.rows.items) client number
+
+-- there is an empty cell exactly where something stands
+abbrev pub IsFreshCell : {A : Type 0} → Option A → Option (Option LogPlace) → Type 0
+IsFreshCell None cell = cell ≡ None
+IsFreshCell (Some x) cell = cell ≡ Some None
+
+abbrev pub IsFresh : {A : Type 0} → (ℕ → ℕ → Option A) → (ℕ → ℕ → Option (Option LogPlace)) → Type 0
+IsFresh lists cells = (client number : ℕ) → IsFreshCell (lists client number) (cells client number)
+
+-- the cell was empty and has the place now, the others are kept; or it was filled or isn't there, and all are kept
+abbrev pub Puts : (ℕ → ℕ → Option (Option LogPlace)) → ℕ → ℕ → LogPlace → Bool → (ℕ → ℕ → Option (Option LogPlace)) → Type 0
+Puts before client number place true after = (before client number ≡ Some None) × (after client number ≡ Some (Some place)) × ((c n : ℕ) → (c ≡ client → n ≡ number → ⊥) → after c n ≡ before c n)
+Puts before client number place false after = (before client number ≡ Some None → ⊥) × ((c n : ℕ) → after c n ≡ before c n)
+
+-- an entry of the call stands at the place
+pub record Points (closed : ClosedState) (client number : ℕ) (place : LogPlace) : Type 0 where
+  pub entry : Entry
+  pub stands : StandsAt closed place.extent place.index entry
+  pub own : IsEntryOf client number entry
+
+-- each entry is in the cell of its call, and nothing else is; each call that has a receipt has a cell, and no other
+pub record AllPlaced (closed : ClosedState) (receipts : List (List Receipt)) (cells : ℕ → ℕ → Option (Option LogPlace)) : Type 0 where
+  pub some : (client number : ℕ) → cells client number ≡ None → at_call receipts client number ≡ None
+  pub none : (client number : ℕ) → at_call receipts client number ≡ None → cells client number ≡ None
+  pub points : (client number : ℕ) (place : LogPlace) → cells client number ≡ Some (Some place) → Points closed client number place
+  pub placed : (extent index : ℕ) (entry : Entry) → StandsAt closed extent index entry → cells entry.client entry.number ≡ Some (Some (record { extent = extent; index = index }))
+
+-- each entry has its place in some table of calls
+abbrev pub ArePlaced : ClosedState → List (List Receipt) → Type 0
+ArePlaced closed receipts = (cells : ℕ → ℕ → Option (Option LogPlace)) × AllPlaced closed receipts cells
+
+-- the call stands no sooner than the least one so far
+abbrev pub IsAtMost : Option CallPlace → ℕ → ℕ → Type 0
+IsAtMost None client number = ⊥
+IsAtMost (Some place) client number = IsSooner client number place.client place.number → ⊥

@@ -1,0 +1,56 @@
+-- A run that is to be settled: what it began with, and what it left.
+use Rattle.std.specs.Prelude.{ℕ, ◌+◌, ◌&&◌, nat_le, if◌then◌else◌, List, [], map, length, Option, Some, None, slice_get, Vec}
+use Rattle.std.specs.List.{flat_map, range_with_len}
+use Rattle.std.specs.Option.{option_map_or, option_and_then}
+use Rattle.std.specs.declared.alloc.Global.{Global}
+use Rattle.tatp_tables.specs.Database.{database_of}
+use Rattle.tatp_tables.specs.Home.{SubscriberRows}
+use Rattle.tatp_tables.specs.declared.row.Rows.{Rows}
+use Rattle.tatp_procs.specs.declared.ask.Ask.{Ask}
+use Rattle.tatp_procs.specs.declared.entry.Entry.{Entry}
+use Rattle.tatp_population.specs.Extents.{ExtentState}
+use Rattle.tatp_population.specs.Opening.{extent_count, homes_of_extent}
+use Rattle.tatp_population.specs.HomeRows.{rows_of_homes}
+use Rattle.tatp_settle.specs.declared.receipt.Receipt.{Receipt}
+use Rattle.tatp_settle.specs.Closings.{ClosedState, extent_numbered, entries_numbered}
+
+-- the population's rows, what sites and parcels left, and for each client its receipts and its calls
+pub record Run : Type 0 where
+  pub population : Rows
+  pub closed : ClosedState
+  pub receipts : List (List Receipt)
+  pub calls : List (List Ask)
+
+-- lists as contracts see them
+abbrev pub lists_of : {A : Type 0} → List (Vec A Global) → List (List A)
+lists_of lists = map (λ list. list.items) lists
+
+-- all elements of some lists
+abbrev pub joined : {A : Type 0} → List (List A) → List A
+joined lists = flat_map (λ list. list) lists
+
+-- what stands for a client and one of its call numbers; a list that is lacking counts as empty
+abbrev pub at_call : {A : Type 0} → List (List A) → ℕ → ℕ → Option A
+at_call lists client number = option_and_then (λ list. slice_get list number) (slice_get lists client)
+
+-- ---- the population
+-- how many extents it makes
+abbrev pub extents_populated : Rows → ℕ
+extents_populated population = extent_count (length population.subscribers)
+
+-- the homes of one of its extents; none where there is no such extent
+abbrev pub homes_populated : Rows → ℕ → Option (List SubscriberRows)
+homes_populated population e = if nat_le 1 e && nat_le e (extents_populated population) then Some (homes_of_extent (database_of population) (length population.subscribers) e) else None
+
+-- ---- what was left
+-- the logs of the extents 0, 1 and so on, as many as the population has; extent 0 is that of the calls without a home
+abbrev pub logs_left : Run → List (List Entry)
+logs_left run = map (entries_numbered run.closed) (range_with_len 0 (extents_populated run.population + 1))
+
+-- the homes now, extent by extent
+abbrev pub homes_left : Run → List SubscriberRows
+homes_left run = flat_map (λ e. option_map_or (λ (x : ExtentState). x.homes) (extent_numbered run.closed e) []) (range_with_len 1 (extents_populated run.population))
+
+-- the rows now
+abbrev pub rows_left : Run → Rows
+rows_left run = rows_of_homes (homes_left run)

@@ -1,0 +1,83 @@
+-- What a settled run is, and what it counts; what gathering and settling refuse.
+use Rattle.std.specs.Prelude.{◌≡◌, ℕ, ◌<◌, ◌≤◌, not, List, [], map, count_by, sum_by, Some}
+use Rattle.std.specs.List.{range_with_len}
+use Rattle.tatp_tables.specs.Clean.{IsClean}
+use Rattle.tatp_tables.specs.Database.{database_of}
+use Rattle.tatp_audits.specs.Audits.{clean_of}
+use Rattle.tatp_procs.specs.declared.ask.Ask.{Ask}
+use Rattle.tatp_procs.specs.declared.entry.Entry.{Entry}
+use Rattle.tatp_population.specs.Extents.{ExtentState}
+use Rattle.tatp_settle.specs.declared.receipt.Receipt.{Receipt}
+use Rattle.tatp_settle.specs.declared.settled.Settled.{Settled}
+use Rattle.tatp_settle.specs.declared.refusals.GatherError.{GatherError}
+use Rattle.tatp_settle.specs.declared.refusals.GatherError.TheVariants.{ExtentMissing, NoMemory as NoMemoryToGather}
+use Rattle.tatp_settle.specs.declared.refusals.SettleError.{SettleError}
+use Rattle.tatp_settle.specs.declared.refusals.SettleError.TheVariants.{Because, NoMemory}
+use Rattle.tatp_settle.specs.Closings.{ClosedState, IsMissing, extents_of, times_standing, StandsAt}
+use Rattle.tatp_settle.specs.Merging.{OneHistory}
+use Rattle.tatp_settle.specs.Runs.{Run, at_call, joined, logs_left, rows_left}
+use Rattle.tatp_settle.specs.Answering.{AreMatched, IsAnswered, HasReceipt, EntriesStandOnce, is_of_kind}
+use Rattle.tatp_settle.specs.Receipts.{is_done}
+use Rattle.tatp_settle.specs.Causes.{OpenedAsPopulated, IsMixed, IsFirstCause}
+
+-- each extent stands once, at a site, as the population opened it, and is unmixed
+pub record IsPopulationOnce (run : Run) : Type 0 where
+  pub opened : (e : ℕ) → OpenedAsPopulated run.population run.closed e
+  pub unmixed : (e : ℕ) → IsMixed run.closed e → ⊥
+  pub landed : run.closed.parcels ≡ []
+  pub once : (e : ℕ) → times_standing run.closed e ≤ 1
+
+-- each client's receipts are its calls in order, and each entry has its receipt
+pub record IsReceived (run : Run) : Type 0 where
+  pub matched : (client number : ℕ) → AreMatched client number (at_call run.calls client number) (at_call run.receipts client number)
+  pub answered : (client number : ℕ) (ask : Ask) (receipt : Receipt) → at_call run.calls client number ≡ Some ask → at_call run.receipts client number ≡ Some receipt → IsAnswered run.closed ask receipt
+  pub known : (e place : ℕ) (entry : Entry) → StandsAt run.closed e place entry → HasReceipt run.receipts (record { extent = e; entry = entry })
+  pub once : EntriesStandOnce run.closed
+
+-- the logs are one history of transactions, from the population to the rows now, which are clean; and it is what the clients received
+pub record IsOneHistory (run : Run) : Type 0 where
+  pub extents : IsPopulationOnce run
+  pub history : OneHistory (database_of run.population) (logs_left run) (database_of (rows_left run))
+  pub received : IsReceived run
+  pub clean : IsClean (rows_left run)
+
+-- ---- what is counted
+-- how many calls were completed, and to how many memory was refused
+abbrev pub completed : Run → ℕ
+completed run = count_by is_done (joined run.receipts)
+
+abbrev pub refused : Run → ℕ
+refused run = count_by (λ receipt. not (is_done receipt)) (joined run.receipts)
+
+-- how many calls there were of each kind, in the order of the mix
+abbrev pub calls_by_kind : Run → List ℕ
+calls_by_kind run = map (λ kind. count_by (is_of_kind kind) (joined run.calls)) (range_with_len 0 7)
+
+-- how often extents were moved
+abbrev pub moves_made : Run → ℕ
+moves_made run = sum_by (λ (x : ExtentState). x.moves) (extents_of run.closed)
+
+-- the run is one history, and these are its counts
+pub record IsSettled (run : Run) (settled : Settled) : Type 0 where
+  pub one_history : IsOneHistory run
+  pub completed : settled.completed ≡ completed run
+  pub refused : settled.refused ≡ refused run
+  pub kinds : settled.kinds ≡ calls_by_kind run
+  pub verdict : settled.verdict ≡ clean_of (rows_left run)
+  pub moves : settled.moves ≡ moves_made run
+
+-- ---- what is refused
+-- the extent is missing, and none before it is
+pub record IsLeastMissing (c : ClosedState) (e : ℕ) : Type 0 where
+  pub missing : IsMissing c e
+  pub least : (other : ℕ) → other < e → IsMissing c other → ⊥
+
+-- why nothing is gathered
+abbrev pub RefusesToGather : ClosedState → GatherError → Type 0
+RefusesToGather c (ExtentMissing e) = IsLeastMissing c e
+RefusesToGather c NoMemoryToGather = Unit {0}
+
+-- why a run isn't settled
+abbrev pub RefusesToSettle : Run → SettleError → Type 0
+RefusesToSettle run (Because cause) = IsFirstCause run cause
+RefusesToSettle run NoMemory = Unit {0}

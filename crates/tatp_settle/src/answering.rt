@@ -1,0 +1,97 @@
+//! Receipts beside the entries of their calls.
+ghost use Rattle.std.specs.Prelude.{◌↔◌, IsTrue};
+ghost use Rattle.tatp_settle.specs.Runs.{lists_of};
+ghost use Rattle.tatp_settle.specs.CallPlaces.{IsFirstCall, HoldsNowhere};
+ghost use Rattle.tatp_settle.specs.Causes.{Differs, IsUnmatched};
+ghost use Rattle.tatp_settle.specs.Placing.{cells_of, AllPlaced};
+ghost use Rattle.tatp_settle.specs.Agreeing.{Says, Agrees};
+
+use crate::comparing::{is_same_ask, is_same_reply};
+use crate::lists::{at, count_of, len_of};
+use crate::logs::log_of;
+use crate::places::{CallPlace, LogPlace};
+use crate::table::Table;
+use crate::{Closed, Receipt};
+use tatp_procs::{Ask, Entry};
+
+/// Whether the entry of a call is what its receipt and its client say.
+fn says(extent: u64, entry: &Entry, ask: &Ask, receipt: &Receipt) -> bool
+    ensures { IsTrue result ↔ Says extent entry.now ask.now receipt.now }
+{
+    match receipt {
+        Receipt::Refused { .. } => false,
+        Receipt::Done {
+            reply,
+            extent: of_extent,
+            stamp,
+            ..
+        } => {
+            entry.stamp == *stamp
+                && extent == *of_extent as u64
+                && is_same_ask(&entry.ask, ask)
+                && is_same_reply(&entry.reply, reply)
+        }
+    }
+}
+
+/// Whether the receipt and the ask of a call are what its entry says, or the call is refused and has none.
+fn agrees(closed: &Closed, cell: Option<LogPlace>, ask: &Ask, receipt: &Receipt) -> bool
+    ensures { IsTrue result ↔ Agrees closed.now cell ask.now receipt.now }
+{
+    match cell {
+        None => match receipt {
+            Receipt::Refused { .. } => true,
+            Receipt::Done { .. } => false,
+        },
+        Some(place) => match log_of(closed, place.extent).get(place.index) {
+            Some(entry) => says(place.extent, entry, ask, receipt),
+            None => false,
+        },
+    }
+}
+
+/// Whether the receipt or the ask of a call isn't what its entry says.
+fn differs_at(
+    closed: &Closed,
+    table: &Table,
+    receipts: &[Vec<Receipt>],
+    calls: &[Vec<Ask>],
+    client: u64,
+    number: u64,
+) -> bool
+    requires matched { HoldsNowhere (IsUnmatched (lists_of calls.now) (lists_of receipts.now)) }
+    requires placed { AllPlaced closed.now (lists_of receipts.now) (cells_of table.now) }
+    ensures { IsTrue result ↔ Differs closed.now (lists_of calls.now) (lists_of receipts.now) client number }
+{
+    let Some(receipt) = at(receipts, client, number) else {
+        return false;
+    };
+    let Some(ask) = at(calls, client, number) else {
+        return false;
+    };
+    let Some(cell) = table.cell(client, number) else {
+        return false;
+    };
+    !agrees(closed, cell, ask, receipt)
+}
+
+/// The first call whose receipt or ask isn't what its entry says.
+pub(crate) fn first_differing(
+    closed: &Closed,
+    table: &Table,
+    receipts: &[Vec<Receipt>],
+    calls: &[Vec<Ask>],
+) -> Option<CallPlace>
+    requires matched { HoldsNowhere (IsUnmatched (lists_of calls.now) (lists_of receipts.now)) }
+    requires placed { AllPlaced closed.now (lists_of receipts.now) (cells_of table.now) }
+    ensures { IsFirstCall (Differs closed.now (lists_of calls.now) (lists_of receipts.now)) result }
+{
+    'clients: for client in 0..count_of(receipts) {
+        'calls: for number in 0..len_of(receipts, client) {
+            if differs_at(closed, table, receipts, calls, client, number) {
+                return Some(CallPlace { client, number });
+            }
+        }
+    }
+    None
+}

@@ -1,0 +1,61 @@
+//! Calls without a home whose key names a subscriber.
+ghost use Rattle.std.specs.Prelude.{◌≡◌};
+ghost use Rattle.tatp_tables.specs.Tuples.{set_of};
+ghost use Rattle.tatp_tables.specs.Database.{database_of};
+ghost use Rattle.tatp_numbers.specs.Homes.{home_of_key};
+ghost use Rattle.tatp_numbers.specs.Listing.{answer};
+ghost use Rattle.tatp_numbers.specs.declared.key.Key.{Key};
+ghost use Rattle.tatp_partition.specs.Asks.{key_asked};
+ghost use Rattle.tatp_settle.specs.CallPlaces.{IsFirstCall};
+ghost use Rattle.tatp_settle.specs.Causes.{NamesHome};
+ghost use Rattle.tatp_settle.specs.Named.{IsNamedIn};
+
+use crate::Closed;
+use crate::logs::log_of;
+use crate::places::CallPlace;
+use crate::placing::lesser;
+use tatp_numbers::{Directory, Key};
+use tatp_procs::{Ask, Entry};
+use tatp_tables::Rows;
+
+/// The first call without a home whose key names a subscriber of the population.
+pub(crate) fn first_homed(
+    population: &Rows,
+    directory: &Directory,
+    closed: &Closed,
+) -> Option<CallPlace>
+    requires { (key : Key) → answer directory.now key ≡ home_of_key (set_of population.now.subscribers) key }
+    ensures { IsFirstCall (NamesHome (database_of population.now).subscribers closed.now) result }
+{
+    let _ = population;
+    first_named(log_of(closed, 0), directory)
+}
+
+/// The first call of a log whose key names a subscriber.
+fn first_named(log: &[Entry], directory: &Directory) -> Option<CallPlace>
+    ensures { IsFirstCall (IsNamedIn log.now directory.now) result }
+{
+    let mut least: Option<CallPlace> = None;
+    'entries: for entry in log {
+        if directory.home_of(key_of(&entry.ask)).is_some() {
+            least = lesser(
+                least,
+                CallPlace {
+                    client: entry.client,
+                    number: entry.number,
+                },
+            );
+        }
+    }
+    least
+}
+
+/// The key of the subscriber that is asked for.
+fn key_of(ask: &Ask) -> Key
+    ensures { result ≡ key_asked ask.now }
+{
+    match ask {
+        Ask::Txn(call) => call.key(),
+        Ask::Raw(raw) => raw.key(),
+    }
+}

@@ -1,0 +1,28 @@
+//! Lists of lists, by client and call number. A list that is lacking counts as empty.
+ghost use Rattle.std.specs.Prelude.{◌≡◌, ◌≤◌, ℕ, None};
+ghost use Rattle.std.specs.Option.{option_copied};
+ghost use Rattle.tatp_settle.specs.Runs.{at_call, lists_of};
+
+/// What stands for a client and one of its call numbers.
+pub(crate) fn at<T>(lists: &[Vec<T>], client: u64, number: u64) -> Option<&T>
+    ensures { option_copied result ≡ at_call (lists_of lists.now) client number }
+{
+    lists.get(client as usize)?.get(number as usize)
+}
+
+/// How many lists there are.
+pub(crate) fn count_of<T>(lists: &[Vec<T>]) -> u64
+    ensures { (client number : ℕ) → result ≤ client → at_call (lists_of lists.now) client number ≡ None }
+{
+    lists.len() as u64
+}
+
+/// How much stands for a client.
+pub(crate) fn len_of<T>(lists: &[Vec<T>], client: u64) -> u64
+    ensures { (number : ℕ) → result ≤ number → at_call (lists_of lists.now) client number ≡ None }
+{
+    match lists.get(client as usize) {
+        Some(list) => list.len() as u64,
+        None => 0,
+    }
+}

@@ -1,0 +1,107 @@
+//! What sites and parcels have under a number: extents and logs.
+ghost use Rattle.std.specs.Prelude.{◌≡◌, ◌<◌, ◌≤◌, ◌^◌, ◌==◌, ℕ, find, [], All, length};
+ghost use Rattle.std.specs.List.{flat_map};
+ghost use Rattle.std.specs.Option.{option_copied, option_map_or};
+ghost use Rattle.tatp_population.specs.Extents.{ExtentState};
+ghost use Rattle.tatp_settle.specs.Closings.{ClosedSiteState, extents_in_slots, extents_numbered, extent_numbered, entries_numbered, IsClosedSite};
+
+use crate::{Closed, ClosedSite};
+use tatp_population::Extent;
+use tatp_procs::Entry;
+
+/// The first of these extents that has a number.
+fn first_of(extents: &[Extent], number: u64) -> Option<&Extent>
+    ensures { option_copied result ≡ find (λ (x : ExtentState). x.number == number) extents.now }
+{
+    'extents: for extent in extents {
+        if extent.number() as u64 == number {
+            return Some(extent);
+        }
+    }
+    None
+}
+
+/// The first extent that stood in these sites under a number.
+fn extent_at(sites: &[ClosedSite], number: u64) -> Option<&Extent>
+    requires { All IsClosedSite sites.now }
+    ensures { option_copied result ≡ find (λ (x : ExtentState). x.number == number) (flat_map (λ (site : ClosedSiteState). extents_in_slots site.slots) sites.now) }
+{
+    'sites: for site in sites {
+        if let Some(extent) = site.extent(number) {
+            return Some(extent);
+        }
+    }
+    None
+}
+
+/// The first extent that has a number.
+pub(crate) fn extent_of(closed: &Closed, number: u64) -> Option<&Extent>
+    ensures { option_copied result ≡ extent_numbered closed.now number }
+{
+    closed.what_holds();
+    match extent_at(closed.sites(), number) {
+        Some(extent) => Some(extent),
+        None => first_of(closed.parcels(), number),
+    }
+}
+
+/// The first log of calls without a home.
+fn homeless_of(sites: &[ClosedSite]) -> &[Entry]
+    ensures { result.now ≡ option_map_or (λ (site : ClosedSiteState). site.homeless.log) (find (λ (site : ClosedSiteState). site.partition == 0) sites.now) [] }
+{
+    'sites: for site in sites {
+        if site.partition() == 0 {
+            return site.homeless_entries();
+        }
+    }
+    &[]
+}
+
+/// The entries of the first log that has a number; that of the calls without a home has the number 0.
+pub(crate) fn log_of(closed: &Closed, number: u64) -> &[Entry]
+    ensures { result.now ≡ entries_numbered closed.now number }
+{
+    closed.what_holds();
+    if number == 0 {
+        return homeless_of(closed.sites());
+    }
+    match extent_of(closed, number) {
+        Some(extent) => extent.log(),
+        None => &[],
+    }
+}
+
+/// A number above that of each extent that stood in these sites.
+fn places_of(sites: &[ClosedSite]) -> u64
+    ensures { All (λ (site : ClosedSiteState). length site.slots ≤ result) sites.now }
+{
+    let mut count = 0;
+    'sites: for site in sites {
+        count = site.places().max(count);
+    }
+    count
+}
+
+/// A number above those of these extents.
+fn numbers_of(extents: &[Extent]) -> u64
+    ensures numbers { All (λ (x : ExtentState). x.number < result) extents.now }
+    ensures most { result ≤ 2 ^ 32 }
+{
+    let mut count = 0;
+    'extents: for extent in extents {
+        count = (extent.number() as u64 + 1).max(count);
+    }
+    count
+}
+
+/// A number above that of each extent and log, and above 0.
+pub(crate) fn log_count(closed: &Closed) -> u64
+    ensures least { 1 ≤ result }
+    ensures entries { (e : ℕ) → result ≤ e → entries_numbered closed.now e ≡ [] }
+    ensures extents { (e : ℕ) → result ≤ e → extents_numbered closed.now e ≡ [] }
+{
+    closed.what_holds();
+    places_of(closed.sites())
+        .max(numbers_of(closed.parcels()))
+        .max(1)
+}

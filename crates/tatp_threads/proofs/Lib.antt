@@ -1,0 +1,5 @@
+pub mod DeedLaws
+pub mod InboxLaws
+pub mod RefusalLaws
+pub mod SliceLaws
+pub mod TalkLaws

@@ -1,0 +1,85 @@
+-- Why a run is refused.
+use Rattle.std.proofs.Common.{◌≡◌, ◌⊎◌, ℕ, ◌<◌, ◌≤◌, ◌^◌, Bool, true, false, cond, List, [], ◌∷◌, map, length, Option, Some, None, Result, Ok, Err, Vec, refl, sym, ap, ◌∙◌, subst, arith, inl, inr}
+use Rattle.std.specs.declared.alloc.Global.{Global}
+use Rattle.std.proofs.lemmas.List.FromFn.{length-map-range_with_len}
+use Rattle.tatp_encoding.specs.Modules.{Procedure}
+use Rattle.tatp_tables.specs.Database.{Database}
+use Rattle.tatp_tables.specs.declared.row.Rows.{Rows}
+use Rattle.tatp_procs.specs.declared.ask.Ask.{Ask}
+use Rattle.tatp_procs.specs.declared.ask.Ask.TheVariants.{Txn, Raw}
+use Rattle.tatp_procs.specs.declared.domains.BadArgument.{BadArgument as Bad}
+use Rattle.tatp_procs.specs.Arguments.{arguments_accepted}
+use Rattle.tatp_population.specs.Extents.{ExtentState}
+use Rattle.tatp_population.specs.Opening.{RefusesRows, extent_count, homes_of_extent, opened_extent, opened_extents}
+use Rattle.tatp_population.specs.declared.open_error.OpenError.{OpenError}
+use Rattle.tatp_population.specs.declared.open_error.OpenError.TheVariants as opening
+use Rattle.tatp_threads.specs.declared.refusal.RunRefusal.{RunRefusal}
+use Rattle.tatp_threads.specs.declared.refusal.RunRefusal.TheVariants.{TooMany, NotClean, NoProcedure, BadArgument, NoMemory, NoThread}
+use Rattle.tatp_threads.specs.Calls.{has_procedure, argument_obstacle, bad_argument_of, obstacle_to, first_of, obstacle_in, obstacle_among, opening_refusal, AreOpened, RefusesRun}
+
+-- ---- the rows
+pub opening_refused : (procedures : List Procedure) (rows : Rows) (lists : List (Vec Ask Global)) (error : OpenError) → RefusesRows rows error → RefusesRun procedures rows lists (opening_refusal error)
+opening_refused procedures rows lists opening.TooMany h = h
+opening_refused procedures rows lists (opening.NotClean verdict) h = h
+opening_refused procedures rows lists opening.NoMemory h = h
+
+pub few_extents : (u : Database) (n : ℕ) (extents : List ExtentState) → extents ≡ opened_extents u n → n ≤ 100000 → length extents < 2 ^ 32
+few_extents u n extents is few =
+    let count : length extents ≡ extent_count n = ap length is ∙ length-map-range_with_len (λ (e : ℕ). opened_extent e (homes_of_extent u n e)) 1 (extent_count n) in
+    omega arith
+
+-- ---- the calls
+-- the refusals that a call may meet
+abbrev IsOfCall : RunRefusal → Type 0
+IsOfCall TooMany = ⊥
+IsOfCall (NotClean verdict) = ⊥
+IsOfCall NoProcedure = Unit {0}
+IsOfCall (BadArgument bad) = Unit {0}
+IsOfCall NoMemory = ⊥
+IsOfCall NoThread = ⊥
+
+abbrev AreOfCalls : Option RunRefusal → Type 0
+AreOfCalls None = Unit {0}
+AreOfCalls (Some refusal) = IsOfCall refusal
+
+of_accepted : (r : Result (Unit {0}) Bad) → AreOfCalls (bad_argument_of r)
+of_accepted (Ok done) = tt
+of_accepted (Err bad) = tt
+
+of_arguments : (ask : Ask) → AreOfCalls (argument_obstacle ask)
+of_arguments (Txn call) = of_accepted (arguments_accepted call)
+of_arguments (Raw raw) = tt
+
+of_call : (procedures : List Procedure) (ask : Ask) → AreOfCalls (obstacle_to procedures ask)
+of_call procedures ask = by (has_procedure procedures ask)
+  where
+    by : (b : Bool) → AreOfCalls (cond b (argument_obstacle ask) (Some NoProcedure))
+    by true = of_arguments ask
+    by false = tt
+
+of_first : {A : Type 0} (f : A → Option RunRefusal) (xs : List A) → ((x : A) → AreOfCalls (f x)) → AreOfCalls (first_of (map f xs))
+of_first f [] each = tt
+of_first f (x ∷ xs) each = by (f x) (each x) (of_first f xs each)
+  where
+    by : (o : Option RunRefusal) → AreOfCalls o → AreOfCalls (first_of (map f xs)) → AreOfCalls (first_of (o ∷ map f xs))
+    by None h more = more
+    by (Some refusal) h more = h
+
+pub call_refused : (procedures : List Procedure) (rows : Rows) (lists : List (Vec Ask Global)) (refusal : RunRefusal) → AreOpened rows → obstacle_among procedures lists ≡ Some refusal → RefusesRun procedures rows lists refusal
+call_refused procedures rows lists refusal opened is =
+    by refusal (subst AreOfCalls is (of_first (λ (list : Vec Ask Global). obstacle_in procedures list.items) lists (λ list. of_first (obstacle_to procedures) list.items (of_call procedures)))) is
+  where
+    by : (refusal : RunRefusal) → IsOfCall refusal → obstacle_among procedures lists ≡ Some refusal → RefusesRun procedures rows lists refusal
+    by TooMany h is = absurd h
+    by (NotClean verdict) h is = absurd h
+    by NoProcedure h is = (opened, is)
+    by (BadArgument bad) h is = (opened, is)
+    by NoMemory h is = absurd h
+    by NoThread h is = absurd h
+
+-- ---- the run
+pub end_refused : (procedures : List Procedure) (rows : Rows) (lists : List (Vec Ask Global)) → AreOpened rows → obstacle_among procedures lists ≡ None → (refusal : RunRefusal) → (refusal ≡ NoMemory) ⊎ (refusal ≡ NoThread) → RefusesRun procedures rows lists refusal
+end_refused procedures rows lists opened none refusal h = elim h as (λ _. RefusesRun procedures rows lists refusal) [
+  | inl k ↦ subst (RefusesRun procedures rows lists) (sym k) opened.0
+  | inr k ↦ subst (RefusesRun procedures rows lists) (sym k) (opened, none)
+]

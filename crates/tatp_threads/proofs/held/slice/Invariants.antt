@@ -1,0 +1,5 @@
+use Rattle.tatp_threads.specs.Held.{GoesOnFor}
+use Rattle.tatp_threads.proofs.held.slice.Given as goal
+
+abbrev pub invariant-loop-made : goal.invariant-loop-made
+invariant-loop-made g l = GoesOnFor l._made l.initial.site l.site

@@ -1,0 +1,67 @@
+-- Which calls and rows a run refuses.
+use Rattle.std.specs.Prelude.{◌≡◌, ℕ, ◌==◌, ◌≤◌, Bool, false, if◌then◌else◌, List, [], ◌∷◌, map, length, Option, Some, None, Result, Ok, Err, slice_get, Vec}
+use Rattle.std.specs.Option.{option_map_or}
+use Rattle.std.specs.declared.alloc.Global.{Global}
+use Rattle.tatp_encoding.specs.Modules.{Procedure}
+use Rattle.tatp_tables.specs.Clean.{IsClean}
+use Rattle.tatp_tables.specs.declared.row.Rows.{Rows}
+use Rattle.tatp_procs.specs.declared.ask.Ask.{Ask}
+use Rattle.tatp_procs.specs.declared.ask.Ask.TheVariants.{Txn, Raw}
+use Rattle.tatp_procs.specs.declared.domains.BadArgument.{BadArgument as Bad}
+use Rattle.tatp_procs.specs.Arguments.{arguments_accepted}
+use Rattle.tatp_population.specs.Opening.{most_subscribers, RefusesRows}
+use Rattle.tatp_population.specs.declared.open_error.OpenError.{OpenError}
+use Rattle.tatp_population.specs.declared.open_error.OpenError.TheVariants as opening
+use Rattle.tatp_partition.specs.Asks.{procedure_asked, arguments_asked}
+use Rattle.tatp_threads.specs.declared.refusal.RunRefusal.{RunRefusal}
+use Rattle.tatp_threads.specs.declared.refusal.RunRefusal.TheVariants.{TooMany, NotClean, NoProcedure, BadArgument, NoMemory, NoThread}
+
+-- the module has the procedure that is asked, and it takes as many arguments
+abbrev pub has_procedure : List Procedure → Ask → Bool
+has_procedure procedures ask = option_map_or (λ (p : Procedure). p.arity == length (arguments_asked ask)) (slice_get procedures (procedure_asked ask)) false
+
+abbrev pub bad_argument_of : Result (Unit {0}) Bad → Option RunRefusal
+bad_argument_of (Ok done) = None
+bad_argument_of (Err bad) = Some (BadArgument bad)
+
+-- a transaction's first argument outside its domain; those of any other call may be any numbers
+abbrev pub argument_obstacle : Ask → Option RunRefusal
+argument_obstacle (Txn call) = bad_argument_of (arguments_accepted call)
+argument_obstacle (Raw raw) = None
+
+-- what stands against a call
+abbrev pub obstacle_to : List Procedure → Ask → Option RunRefusal
+obstacle_to procedures ask = if has_procedure procedures ask then argument_obstacle ask else Some NoProcedure
+
+-- the first obstacle of some
+abbrev pub first_of : List (Option RunRefusal) → Option RunRefusal
+first_of [] = None
+first_of (Some obstacle ∷ more) = Some obstacle
+first_of (None ∷ more) = first_of more
+
+-- what stands against the first call of a list that can't be run
+abbrev pub obstacle_in : List Procedure → List Ask → Option RunRefusal
+obstacle_in procedures asks = first_of (map (obstacle_to procedures) asks)
+
+-- what stands against the first call of the first client that can't be run
+abbrev pub obstacle_among : List Procedure → List (Vec Ask Global) → Option RunRefusal
+obstacle_among procedures lists = first_of (map (λ (list : Vec Ask Global). obstacle_in procedures list.items) lists)
+
+-- why a run is refused whose rows aren't opened
+abbrev pub opening_refusal : OpenError → RunRefusal
+opening_refusal opening.TooMany = TooMany
+opening_refusal (opening.NotClean verdict) = NotClean verdict
+opening_refusal opening.NoMemory = NoMemory
+
+-- these rows are opened
+abbrev pub AreOpened : Rows → Type 0
+AreOpened rows = (length rows.subscribers ≤ most_subscribers) × IsClean rows
+
+-- why a run of the clients' lists on these rows is refused: the rows first, then the first call that can't be run, then that a thread couldn't be started; memory may run out at any time
+abbrev pub RefusesRun : List Procedure → Rows → List (Vec Ask Global) → RunRefusal → Type 0
+RefusesRun procedures rows lists TooMany = RefusesRows rows opening.TooMany
+RefusesRun procedures rows lists (NotClean verdict) = RefusesRows rows (opening.NotClean verdict)
+RefusesRun procedures rows lists NoProcedure = AreOpened rows × (obstacle_among procedures lists ≡ Some NoProcedure)
+RefusesRun procedures rows lists (BadArgument bad) = AreOpened rows × (obstacle_among procedures lists ≡ Some (BadArgument bad))
+RefusesRun procedures rows lists NoMemory = RefusesRows rows opening.NoMemory
+RefusesRun procedures rows lists NoThread = AreOpened rows × (obstacle_among procedures lists ≡ None)

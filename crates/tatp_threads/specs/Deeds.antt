@@ -1,0 +1,37 @@
+-- What workers put and get, where that is known.
+use Rattle.std.specs.Prelude.{◌≡◌, ℕ, List, [], ◌∷◌, ◌++◌, Bool, true, false, Option, Some, None}
+use Rattle.tatp_procs.specs.declared.ask.Ask.{Ask}
+use Rattle.tatp_partition.specs.declared.item.Item.{Item}
+use Rattle.tatp_partition.specs.declared.item.Completion.{Completion}
+use Rattle.tatp_settle.specs.declared.receipt.Receipt.{Receipt}
+use Rattle.tatp_settle.specs.declared.receipt.Receipt.TheVariants.{Done, Refused}
+use Rattle.tatp_threads.specs.declared.slot.Answer.{Answer}
+use Rattle.tatp_threads.specs.declared.slot.Answer.TheVariants.{Got, Dropped}
+use Rattle.tatp_threads.specs.declared.office.Deed.{Deed}
+use Rattle.tatp_threads.specs.declared.office.Deed.TheVariants.{Sends, Answers}
+use Rattle.tatp_threads.specs.declared.held.Offered.{Offered}
+use Rattle.tatp_threads.specs.declared.held.Offered.TheVariants as offered
+
+-- a list grows at its end, where it is known afterwards; what wasn't known stays unknown
+abbrev pub Grows : {A : Type 0} → Option (List A) → Option (List A) → List A → Type 0
+Grows before None more = Unit {0}
+Grows None (Some after) more = ⊥
+Grows (Some before) (Some after) more = after ≡ before ++ more
+
+-- ---- executors
+-- the receipt of a completed call: what its entry says, and in which extent's log it stands
+abbrev pub receipt_of : Completion → Receipt
+receipt_of c = Done c.entry.client c.entry.number c.entry.reply c.extent c.entry.stamp
+
+-- a call is sent on; where it comes back, its client is told so
+abbrev pub deeds_of_sending : Item → Bool → List Deed
+deeds_of_sending item true = Sends item true ∷ []
+deeds_of_sending item false = Sends item false ∷ Answers item.client Dropped ∷ []
+
+-- what follows from what became of a call
+abbrev pub Follows : Offered → List Deed → Type 0
+Follows offered.Began deeds = deeds ≡ []
+Follows (offered.Again item) deeds = deeds ≡ []
+Follows (offered.Away item) deeds = (is_sent : Bool) × (deeds ≡ deeds_of_sending item is_sent)
+Follows (offered.Denied item) deeds = deeds ≡ Answers item.client (Got (Refused item.client item.number)) ∷ []
+Follows (offered.Dropped item) deeds = deeds ≡ Answers item.client Dropped ∷ []

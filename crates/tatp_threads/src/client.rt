@@ -1,0 +1,136 @@
+//! A client, which asks its calls one after another.
+ghost use Rattle.std.specs.Prelude.{◌≡◌, ◌+◌, ◌++◌, ◌∷◌, [], ◌≤◌, List, Option, None, length, vec_len, vec_capacity};
+ghost use Rattle.tatp_partition.specs.Asks.{key_asked};
+ghost use Rattle.tatp_threads.specs.Deeds.{Grows};
+ghost use Rattle.tatp_threads.specs.declared.client.Exchange.{Exchange};
+ghost use Rattle.tatp_threads.specs.Asking.{Converses, Talk, item_of, seen_after};
+
+use crate::floor::{Floor, send};
+use crate::ports::{Arities, Port};
+use crate::slot::{Answer, Slot};
+use std::sync::Wait;
+use tatp_numbers::{Directory, Key};
+use tatp_partition::Item;
+use tatp_procs::Ask;
+use tatp_settle::Receipt;
+
+/// A call that was asked, and what came of it: none where it came to nothing.
+#[derive(Clone, Copy, Debug)]
+pub(crate) struct Exchange {
+    pub(crate) item: Item,
+    pub(crate) receipt: Option<Receipt>,
+}
+
+/// Asks calls and waits for their receipts.
+pub(crate) trait Desk {
+    /// What was exchanged, where that is known.
+    ghost exchanges: { Self → Option (List Exchange) } = { λ _. None };
+
+    /// Puts a call into the inbox that its route names, and waits for its receipt. None where the call
+    /// came to nothing.
+    fn ask(&mut self, item: Item) -> Option<Receipt>
+        ensures { Grows (exchanges self.old) (exchanges self.new) (record { item = item; receipt = result } ∷ []) };
+}
+
+/// A client's ends at the inboxes, and its slot.
+#[derive(Drop)]
+struct Place<'c, 'f, 'a, 'm, R, G, A: Arities> {
+    rt: &'c R,
+    floor: &'c Floor<'a, 'm, G, A>,
+    ports: &'f mut [Port<A>],
+    slot: &'c Slot,
+}
+
+impl<R: Wait, G, A: Arities> Desk for Place<'_, '_, '_, '_, R, G, A> {
+    fn ask(&mut self, item: Item) -> Option<Receipt> {
+        if !send(self.rt, self.floor, self.ports, item) {
+            return None;
+        }
+        match self.slot.take(self.rt) {
+            Answer::Got(receipt) => Some(receipt),
+            Answer::Dropped => None,
+        }
+    }
+}
+
+/// The key of the subscriber whose rows a call may use.
+fn key_of(ask: &Ask) -> Key
+    ensures { result ≡ key_asked ask.now }
+{
+    match ask {
+        Ask::Txn(call) => call.key(),
+        Ask::Raw(raw) => raw.key(),
+    }
+}
+
+/// A client's next call.
+fn item_of(directory: &Directory, client: u64, number: u64, seen: u64, ask: &Ask) -> Item
+    ensures { result ≡ item_of directory.now client (record { number = number; seen = seen }) ask.now }
+{
+    Item {
+        client,
+        number,
+        seen,
+        ask: *ask,
+        home: directory.home_of(key_of(ask)),
+    }
+}
+
+/// The last stamp that a client has seen, after one more receipt.
+fn seen_after(seen: u64, receipt: &Receipt) -> u64
+    ensures { result ≡ seen_after seen receipt.now }
+{
+    match receipt {
+        Receipt::Done { stamp, .. } => *stamp,
+        Receipt::Refused { .. } => seen,
+    }
+}
+
+/// Asks the calls of one client, one after another, and keeps their receipts. It ends where a call came
+/// to nothing.
+fn ask_all<D: Desk>(
+    desk: &mut D,
+    directory: &Directory,
+    client: u64,
+    asks: &[Ask],
+    receipts: &mut Vec<Receipt>,
+)
+    requires room { vec_len receipts.old + length asks.now ≤ vec_capacity receipts.old }
+    ensures { (talk : Talk) × Converses directory.now client asks.now talk
+        × Grows (D.exchanges desk.old) (D.exchanges desk.new) talk.exchanges
+        × (receipts.new.items ≡ receipts.old.items ++ talk.receipts) }
+{
+    let mut seen = 0;
+    for number in 0..asks.len() {
+        let item = item_of(directory, client, number as u64, seen, &asks[number]);
+        match desk.ask(item) {
+            None => return,
+            Some(receipt) => {
+                receipts.push_reserved(receipt);
+                seen = seen_after(seen, &receipt);
+            }
+        }
+    }
+}
+
+/// Runs a client to its end. Without room for its receipts it asks nothing.
+pub(crate) fn serve<'t, R: Wait, G, A: Arities>(
+    rt: &'t R,
+    floor: &'t Floor<G, A>,
+    number: u64,
+    asks: &[Ask],
+    slot: &'t Slot,
+    ports: &mut [Port<A>],
+    receipts: &mut Vec<Receipt>,
+) {
+    if receipts.capacity() - receipts.len() < asks.len() {
+        return;
+    }
+    let mut desk = Place {
+        rt,
+        floor,
+        ports,
+        slot,
+    };
+    ask_all(&mut desk, floor.directory, number, asks, receipts);
+}

@@ -1,0 +1,45 @@
+//! What the threads share.
+
+use crate::ports::{Arities, Port, Post};
+use crate::slot::{Answer, Slot};
+use std::alloc::Global;
+use std::sync::atomic::AtomicU64;
+use std::sync::{Mutex, Wait};
+use tatp_move::Routes;
+use tatp_numbers::Directory;
+use tatp_partition::{Item, Site};
+
+/// What the threads share.
+#[derive(Drop)]
+pub(crate) struct Floor<'a, 'm, G, A: Arities> {
+    pub(crate) alloc: Global,
+    pub(crate) sites: &'a [Mutex<Site<'m>>],
+    /// For each partition, how many other threads want its lock.
+    pub(crate) wanted: &'a [AtomicU64],
+    pub(crate) routes: &'a Mutex<Routes>,
+    pub(crate) directory: &'a Directory,
+    pub(crate) post: &'a Post<A>,
+    pub(crate) slots: &'a [Slot],
+    pub(crate) gate: &'a G,
+}
+
+/// Puts a call into the inbox that the route of its home names. Whether it was put there.
+pub(crate) fn send<R: Wait, G, A: Arities>(
+    rt: &R,
+    floor: &Floor<G, A>,
+    ports: &mut [Port<A>],
+    item: Item,
+) -> bool {
+    let partition = floor.routes.lock(rt).route(item.home) as usize;
+    if partition >= ports.len() {
+        return false;
+    }
+    floor.post.put(rt, &mut ports[partition], item).is_ok()
+}
+
+/// Puts an answer into a client's slot.
+pub(crate) fn answer<R: Wait>(rt: &R, slots: &[Slot], client: u64, answer: Answer) {
+    if let Some(slot) = slots.get(client as usize) {
+        slot.put(rt, answer);
+    }
+}

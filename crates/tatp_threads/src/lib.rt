@@ -1,0 +1,30 @@
+//! Running threads: one executor a partition, clients, a mover and a debugger over locked sites, locked
+//! routes and ruled inboxes.
+#![tactic(auto)]
+
+mod calls;
+mod client;
+mod debugger;
+mod executor;
+mod floor;
+mod gate;
+mod held;
+mod message;
+mod mover;
+mod office;
+mod ports;
+mod ran;
+mod refusal;
+mod room;
+mod run;
+mod slot;
+mod starting;
+
+pub use gate::{Gate, NoGate};
+pub use message::Message;
+pub use ran::{Moves, Ran, RanParts};
+pub use refusal::RunRefusal;
+pub use run::run_calls;
+
+#[cfg(test)]
+mod tests;

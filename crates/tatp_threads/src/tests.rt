@@ -1,0 +1,6 @@
+use super::*;
+
+mod crowds;
+mod fixture;
+mod gates;
+mod moves;

@@ -1,0 +1,77 @@
+//! Executors under a gate.
+
+use super::fixture::{at_rest, clean_rows, reading, spend};
+use crate::{Gate, run_calls};
+use std::sync::atomic::{AtomicU64, Ordering};
+use std::test::*;
+use std::thread;
+use std::time::{Clock, Duration};
+use tatp_procs::standard;
+
+/// Holds client 0 before its second step until client 1 is answered.
+#[derive(Drop)]
+struct Hold<'a, R: Clock> {
+    clock: &'a R,
+    answered: AtomicU64,
+    late: AtomicU64,
+    ends: AtomicU64,
+}
+
+impl<R: Clock> Gate for Hold<'_, R> {
+    fn before_step(&self, _partition: u8, client: u64, pc: usize) {
+        if client != 0 || pc != 1 {
+            return;
+        }
+        for _ in 0..20_000 {
+            if self.answered.load(Ordering::SeqCst) == 1 {
+                return;
+            }
+            thread::sleep(self.clock, Duration::from_millis(1));
+        }
+        self.late.store(1, Ordering::SeqCst);
+    }
+
+    fn after_end(&self, _partition: u8, client: u64) {
+        self.ends.fetch_add(1, Ordering::SeqCst);
+        if client == 1 {
+            self.answered.store(1, Ordering::SeqCst);
+        }
+    }
+}
+
+// Two executors and two partitions at once: all calls by one thread, or under one lock, are late here.
+#[test]
+fn a_partition_goes_on_while_another_is_held(rt: HostRuntime) -> Result<(), Fail> {
+    let alloc = rt.alloc();
+    let loaded = standard(alloc)?;
+    let lists = vec![in alloc; reading(alloc, 1)?, reading(alloc, 65)?]?;
+    let gate = Hold {
+        clock: &rt,
+        answered: AtomicU64::new(0),
+        late: AtomicU64::new(0),
+        ends: AtomicU64::new(0),
+    };
+    let moves = at_rest(alloc);
+    let rows = clean_rows(alloc, 130)?;
+    match run_calls(
+        &rt,
+        alloc,
+        &loaded,
+        rows,
+        2,
+        lists.as_slice(),
+        &moves,
+        &gate,
+    ) {
+        Err(_) => return Err("no run".into()),
+        Ok(ran) => {
+            let left = spend(alloc, ran);
+            assert_eq!(rt; left.receipts.len(), 2);
+            assert_eq!(rt; left.receipts[0].len(), 1);
+            assert_eq!(rt; left.receipts[1].len(), 1);
+            assert_eq!(rt; gate.late.load(Ordering::SeqCst), 0);
+            assert_eq!(rt; gate.ends.load(Ordering::SeqCst), 2);
+            Ok(())
+        }
+    }
+}

@@ -32,7 +32,7 @@ fn lines_print_as_they_are_read(rt: HostRuntime) -> Result<(), Fail> {
             Some(read) => {
                 assert_eq!(rt; trace_line_text(rt.alloc(), &read)?.as_str(), line);
             }
-            None => assert!(rt; false, "{line:?}"),
+            None => assert!(rt; false),
         }
     }
     Ok(())

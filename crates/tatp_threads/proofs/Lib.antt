@@ -1,4 +1,4 @@
-pub mod DeedLaws
+pub mod EffectLaws
 pub mod InboxLaws
 pub mod RefusalLaws
 pub mod SliceLaws

@@ -6,9 +6,9 @@ use Rattle.tatp_numbers.specs.Listing.{Listing}
 use Rattle.tatp_partition.specs.declared.item.Item.{Item}
 use Rattle.tatp_settle.specs.declared.receipt.Receipt.{Receipt}
 use Rattle.tatp_threads.specs.declared.client.Exchange.{Exchange}
-use Rattle.tatp_threads.specs.Deeds.{Grows}
+use Rattle.tatp_threads.specs.Effects.{Grows}
 use Rattle.tatp_threads.specs.Asking.{Talk, Answered, Converses, item_of, seen_after, with_receipt}
-use Rattle.tatp_threads.proofs.DeedLaws.{grown_twice, not_grown}
+use Rattle.tatp_threads.proofs.EffectLaws.{grown_twice, not_grown}
 
 -- what a client has asked and got so far, from these exchanges and receipts to those
 abbrev pub Talked : Listing → ℕ → List Ask → ℕ → ℕ → Option (List Exchange) → Option (List Exchange) → List Receipt → List Receipt → Type 0

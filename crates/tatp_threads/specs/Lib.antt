@@ -1,5 +1,5 @@
 pub mod Inboxes
 pub mod Calls
 pub mod Held
-pub mod Deeds
+pub mod Effects
 pub mod Asking

@@ -1,12 +1,12 @@
 //! A client, which asks its calls one after another.
 ghost use Rattle.std.specs.Prelude.{◌≡◌, ◌+◌, ◌++◌, ◌∷◌, [], ◌≤◌, List, Option, None, length, vec_len, vec_capacity};
 ghost use Rattle.tatp_partition.specs.Asks.{key_asked};
-ghost use Rattle.tatp_threads.specs.Deeds.{Grows};
+ghost use Rattle.tatp_threads.specs.Effects.{Grows};
 ghost use Rattle.tatp_threads.specs.declared.client.Exchange.{Exchange};
 ghost use Rattle.tatp_threads.specs.Asking.{Converses, Talk, item_of, seen_after};
 
-use crate::floor::{Floor, send};
 use crate::ports::{Arities, Port};
+use crate::shared::{Shared, send};
 use crate::slot::{Answer, Slot};
 use std::sync::Wait;
 use tatp_numbers::{Directory, Key};
@@ -22,7 +22,7 @@ pub(crate) struct Exchange {
 }
 
 /// Asks calls and waits for their receipts.
-pub(crate) trait Desk {
+pub(crate) trait Requester {
     /// What was exchanged, where that is known.
     ghost exchanges: { Self → Option (List Exchange) } = { λ _. None };
 
@@ -36,14 +36,14 @@ pub(crate) trait Desk {
 #[derive(Drop)]
 struct Place<'c, 'f, 'a, 'm, R, G, A: Arities> {
     rt: &'c R,
-    floor: &'c Floor<'a, 'm, G, A>,
+    shared: &'c Shared<'a, 'm, G, A>,
     ports: &'f mut [Port<A>],
     slot: &'c Slot,
 }
 
-impl<R: Wait, G, A: Arities> Desk for Place<'_, '_, '_, '_, R, G, A> {
+impl<R: Wait, G, A: Arities> Requester for Place<'_, '_, '_, '_, R, G, A> {
     fn ask(&mut self, item: Item) -> Option<Receipt> {
-        if !send(self.rt, self.floor, self.ports, item) {
+        if !send(self.rt, self.shared, self.ports, item) {
             return None;
         }
         match self.slot.take(self.rt) {
@@ -88,8 +88,8 @@ fn seen_after(seen: u64, receipt: &Receipt) -> u64
 
 /// Asks the calls of one client, one after another, and keeps their receipts. It ends where a call came
 /// to nothing.
-fn ask_all<D: Desk>(
-    desk: &mut D,
+fn ask_all<D: Requester>(
+    requester: &mut D,
     directory: &Directory,
     client: u64,
     asks: &[Ask],
@@ -97,13 +97,13 @@ fn ask_all<D: Desk>(
 )
     requires room { vec_len receipts.old + length asks.now ≤ vec_capacity receipts.old }
     ensures { (talk : Talk) × Converses directory.now client asks.now talk
-        × Grows (D.exchanges desk.old) (D.exchanges desk.new) talk.exchanges
+        × Grows (D.exchanges requester.old) (D.exchanges requester.new) talk.exchanges
         × (receipts.new.items ≡ receipts.old.items ++ talk.receipts) }
 {
     let mut seen = 0;
     for number in 0..asks.len() {
         let item = item_of(directory, client, number as u64, seen, &asks[number]);
-        match desk.ask(item) {
+        match requester.ask(item) {
             None => return,
             Some(receipt) => {
                 receipts.push_reserved(receipt);
@@ -116,7 +116,7 @@ fn ask_all<D: Desk>(
 /// Runs a client to its end. Without room for its receipts it asks nothing.
 pub(crate) fn serve<'t, R: Wait, G, A: Arities>(
     rt: &'t R,
-    floor: &'t Floor<G, A>,
+    shared: &'t Shared<G, A>,
     number: u64,
     asks: &[Ask],
     slot: &'t Slot,
@@ -126,11 +126,11 @@ pub(crate) fn serve<'t, R: Wait, G, A: Arities>(
     if receipts.capacity() - receipts.len() < asks.len() {
         return;
     }
-    let mut desk = Place {
+    let mut requester = Place {
         rt,
-        floor,
+        shared,
         ports,
         slot,
     };
-    ask_all(&mut desk, floor.directory, number, asks, receipts);
+    ask_all(&mut requester, shared.directory, number, asks, receipts);
 }

@@ -2,9 +2,9 @@
 
 use crate::Gate;
 use crate::executor::Partition;
-use crate::floor::{Floor, answer};
-use crate::office::receipt_of;
+use crate::outgoing::receipt_of;
 use crate::ports::Arities;
+use crate::shared::{Shared, answer};
 use crate::slot::Answer;
 use std::sync::Wait;
 use std::sync::atomic::{AtomicU64, Ordering};
@@ -22,7 +22,7 @@ fn stop<R: Wait>(rt: &R, partition: Partition<'_, '_>) -> bool {
 /// Looks at a stopped site, has its call make one step, and resumes it.
 fn inspect<R: Wait, G: Gate, A: Arities>(
     rt: &R,
-    floor: &Floor<G, A>,
+    shared: &Shared<G, A>,
     partition: Partition<'_, '_>,
 ) {
     let _snapshot = look(&*partition.site.lock(rt));
@@ -31,11 +31,11 @@ fn inspect<R: Wait, G: Gate, A: Arities>(
         let receipt = receipt_of(&completion);
         answer(
             rt,
-            floor.slots,
+            shared.slots,
             completion.entry.client,
             Answer::Got(receipt),
         );
-        floor
+        shared
             .gate
             .after_end(partition.number, completion.entry.client);
     }
@@ -43,11 +43,11 @@ fn inspect<R: Wait, G: Gate, A: Arities>(
 }
 
 /// Makes one stop after another. What was stopped is resumed.
-pub(crate) fn debug_all<R: Wait, G: Gate, A: Arities>(rt: &R, floor: &Floor<G, A>, stops: &[u8]) {
+pub(crate) fn debug_all<R: Wait, G: Gate, A: Arities>(rt: &R, shared: &Shared<G, A>, stops: &[u8]) {
     for number in stops {
         let (Some(site), Some(wanted)) = (
-            floor.sites.get(*number as usize),
-            floor.wanted.get(*number as usize),
+            shared.sites.get(*number as usize),
+            shared.wanted.get(*number as usize),
         ) else {
             continue;
         };
@@ -57,7 +57,7 @@ pub(crate) fn debug_all<R: Wait, G: Gate, A: Arities>(rt: &R, floor: &Floor<G, A
             wanted,
         };
         if stop(rt, partition) {
-            inspect(rt, floor, partition);
+            inspect(rt, shared, partition);
         }
     }
 }

@@ -1,9 +1,9 @@
 //! The executor of one partition.
 
-use crate::floor::{Floor, answer, send};
 use crate::held::{Offered, is_wanted, offer, slice};
-use crate::office::{Office, conclude, follow};
+use crate::outgoing::{Outgoing, conclude, follow};
 use crate::ports::{Arities, Port, Reader};
+use crate::shared::{Shared, answer, send};
 use crate::slot::Answer;
 use crate::{Gate, Message};
 use std::sync::atomic::AtomicU64;
@@ -23,41 +23,41 @@ pub(crate) struct Partition<'a, 'm> {
 #[derive(Drop)]
 struct Counter<'c, 'f, 'a, 'm, R, G, A: Arities> {
     rt: &'c R,
-    floor: &'c Floor<'a, 'm, G, A>,
+    shared: &'c Shared<'a, 'm, G, A>,
     ports: &'f mut [Port<A>],
 }
 
-impl<R: Wait, G, A: Arities> Office for Counter<'_, '_, '_, '_, R, G, A> {
+impl<R: Wait, G, A: Arities> Outgoing for Counter<'_, '_, '_, '_, R, G, A> {
     fn send(&mut self, item: Item) -> bool {
-        send(self.rt, self.floor, self.ports, item)
+        send(self.rt, self.shared, self.ports, item)
     }
 
     fn answer(&mut self, client: u64, it: Answer) {
-        answer(self.rt, self.floor.slots, client, it);
+        answer(self.rt, self.shared.slots, client, it);
     }
 }
 
 /// Runs the calls of one partition until Quit.
 pub(crate) fn execute<'t, R: Wait, G: Gate, A: Arities>(
     rt: &'t R,
-    floor: &'t Floor<G, A>,
+    shared: &'t Shared<G, A>,
     partition: Partition<'_, '_>,
     mut reader: Reader<A>,
     mut ports: Vec<Port<A>>,
 ) {
-    let mut office = Counter {
+    let mut outgoing = Counter {
         rt,
-        floor,
+        shared,
         ports: ports.as_mut_slice(),
     };
-    take_calls(rt, floor, &mut office, partition, &mut reader);
+    take_calls(rt, shared, &mut outgoing, partition, &mut reader);
 }
 
 /// Takes one call after another out of an inbox and runs it, until Quit.
-fn take_calls<R: Wait, G: Gate, A: Arities, O: Office>(
+fn take_calls<R: Wait, G: Gate, A: Arities, O: Outgoing>(
     rt: &R,
-    floor: &Floor<G, A>,
-    office: &mut O,
+    shared: &Shared<G, A>,
+    outgoing: &mut O,
     partition: Partition<'_, '_>,
     reader: &mut Reader<A>,
 ) {
@@ -66,8 +66,8 @@ fn take_calls<R: Wait, G: Gate, A: Arities, O: Office>(
             None | Some(Message::Quit) => return,
             Some(Message::Call(item)) => {
                 let client = item.client;
-                if begin(rt, floor, office, partition, item) {
-                    run(rt, floor, office, partition, client);
+                if begin(rt, shared, outgoing, partition, item) {
+                    run(rt, shared, outgoing, partition, client);
                 }
             }
         }
@@ -75,19 +75,19 @@ fn take_calls<R: Wait, G: Gate, A: Arities, O: Office>(
 }
 
 /// Offers a call until it begins or can't. Whether it began.
-fn begin<R: Wait, G, A: Arities, O: Office>(
+fn begin<R: Wait, G, A: Arities, O: Outgoing>(
     rt: &R,
-    floor: &Floor<G, A>,
-    office: &mut O,
+    shared: &Shared<G, A>,
+    outgoing: &mut O,
     partition: Partition<'_, '_>,
     item: Item,
 ) -> bool {
     for _ in rt.forever() {
-        let offered = offer(&mut *partition.site.lock(rt), floor.alloc, &item);
+        let offered = offer(&mut *partition.site.lock(rt), shared.alloc, &item);
         if matches!(&offered, Offered::Again(_)) {
             thread::yield_now();
         } else {
-            follow(office, &offered);
+            follow(outgoing, &offered);
             return matches!(&offered, Offered::Began);
         }
     }
@@ -95,17 +95,17 @@ fn begin<R: Wait, G, A: Arities, O: Office>(
 }
 
 /// Runs the call that began to its end, unless the debugger ends it.
-fn run<R: Wait, G: Gate, A: Arities, O: Office>(
+fn run<R: Wait, G: Gate, A: Arities, O: Outgoing>(
     rt: &R,
-    floor: &Floor<G, A>,
-    office: &mut O,
+    shared: &Shared<G, A>,
+    outgoing: &mut O,
     partition: Partition<'_, '_>,
     client: u64,
 ) {
     for _ in rt.forever() {
         match slice(
             &mut *partition.site.lock(rt),
-            floor.gate,
+            shared.gate,
             client,
             partition.wanted,
         ) {
@@ -115,8 +115,8 @@ fn run<R: Wait, G: Gate, A: Arities, O: Office>(
                 }
             }
             Ok(Stepped::Ended(completion)) => {
-                conclude(office, &completion);
-                floor.gate.after_end(partition.number, client);
+                conclude(outgoing, &completion);
+                shared.gate.after_end(partition.number, client);
                 return;
             }
             Err(SiteRefusal::NotRunning) => return,

@@ -3,8 +3,8 @@ ghost use Rattle.std.specs.Prelude.{◌≡◌, ◌<◌, ◌*◌, ◌-◌, Some, 
 ghost use Rattle.tatp_move.specs.Routing.{route_of};
 ghost use Rattle.tatp_move.specs.Ranges.{plan_of};
 
-use crate::floor::Floor;
 use crate::ports::Arities;
+use crate::shared::Shared;
 use std::sync::atomic::{AtomicU64, Ordering};
 use std::sync::{Mutex, Wait};
 use tatp_move::{MoveRefusal, Plan, Routes};
@@ -50,7 +50,7 @@ fn give<R: Wait>(
 /// for stays in hand.
 fn carry_out<R: Wait, G, A: Arities>(
     rt: &R,
-    floor: &Floor<G, A>,
+    shared: &Shared<G, A>,
     plan: Plan,
     hand: &mut Vec<Parcel>,
 )
@@ -58,19 +58,19 @@ fn carry_out<R: Wait, G, A: Arities>(
 {
     let from = plan.from as usize;
     let to = plan.to as usize;
-    if from >= floor.sites.len()
-        || to >= floor.sites.len()
-        || from >= floor.wanted.len()
-        || to >= floor.wanted.len()
+    if from >= shared.sites.len()
+        || to >= shared.sites.len()
+        || from >= shared.wanted.len()
+        || to >= shared.wanted.len()
     {
         return;
     }
-    match take(rt, &floor.sites[from], &floor.wanted[from], plan.first) {
+    match take(rt, &shared.sites[from], &shared.wanted[from], plan.first) {
         Err(_) => {}
-        Ok(parcel) => match give(rt, &floor.sites[to], &floor.wanted[to], parcel) {
+        Ok(parcel) => match give(rt, &shared.sites[to], &shared.wanted[to], parcel) {
             Err(parcel) => hand.push_reserved(parcel),
             Ok(landed) => {
-                let _settled = floor.routes.lock(rt).settle_route(landed);
+                let _settled = shared.routes.lock(rt).settle_route(landed);
             }
         },
     }
@@ -79,7 +79,7 @@ fn carry_out<R: Wait, G, A: Arities>(
 /// Makes one move after another, until a parcel stays in hand.
 pub(crate) fn move_all<R: Wait, G, A: Arities>(
     rt: &R,
-    floor: &Floor<G, A>,
+    shared: &Shared<G, A>,
     moves: &[(u32, u8)],
     hand: &mut Vec<Parcel>,
 ) {
@@ -87,9 +87,9 @@ pub(crate) fn move_all<R: Wait, G, A: Arities>(
         if hand.len() >= hand.capacity() {
             return;
         }
-        let planned = plan(&*floor.routes.lock(rt), *extent, *to);
+        let planned = plan(&*shared.routes.lock(rt), *extent, *to);
         if let Ok(plan) = planned {
-            carry_out(rt, floor, plan, hand);
+            carry_out(rt, shared, plan, hand);
         }
     }
 }

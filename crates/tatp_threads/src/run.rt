@@ -6,9 +6,9 @@ ghost use Rattle.tatp_population.specs.Opening.{most_subscribers};
 ghost use Rattle.tatp_threads.specs.Calls.{obstacle_among, opening_refusal, AreOpened, RefusesRun};
 
 use crate::calls::obstacle_among;
-use crate::floor::Floor;
 use crate::ports::Arities;
 use crate::room::Room;
+use crate::shared::Shared;
 use crate::starting::{Work, run_threads};
 use crate::{Gate, Moves, Ran, RanParts, RunRefusal};
 use std::alloc::{AllocError, Global};
@@ -112,7 +112,7 @@ fn run_opened<'m, R: Threads + Wait + Sync, G: Gate + Sync, A: Arities + Send + 
     let routes = Mutex::new(routes);
     let locked = lock_all(sites, locked.into_vec());
     let mut hand = hand.into_vec();
-    let floor = Floor {
+    let shared = Shared {
         alloc,
         sites: locked.as_slice(),
         wanted: wanted.as_slice(),
@@ -122,7 +122,7 @@ fn run_opened<'m, R: Threads + Wait + Sync, G: Gate + Sync, A: Arities + Send + 
         slots: slots.as_slice(),
         gate,
     };
-    let started = run_threads(rt, &floor, work, ends, receipts.as_mut_slice(), &mut hand);
+    let started = run_threads(rt, &shared, work, ends, receipts.as_mut_slice(), &mut hand);
     let sites = unlock_all(locked, unlocked.into_vec());
     if !started {
         close_sites(sites);

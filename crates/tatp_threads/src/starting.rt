@@ -4,10 +4,10 @@ ghost use denote.Param.Send.{IsSend};
 use crate::client::serve;
 use crate::debugger::debug_all;
 use crate::executor::{Partition, execute};
-use crate::floor::Floor;
 use crate::mover::move_all;
 use crate::ports::{Arities, Port};
 use crate::room::Ends;
+use crate::shared::Shared;
 use crate::{Gate, Message, Moves};
 use std::sync::Wait;
 use std::thread;
@@ -27,7 +27,7 @@ pub(crate) struct Work<'w> {
 /// ended. Whether each thread could be started; where one couldn't, those that were run to their ends.
 pub(crate) fn run_threads<R: Threads + Wait + Sync, G: Gate + Sync, A: Arities + Send + Sync>(
     rt: &R,
-    floor: &Floor<G, A>,
+    shared: &Shared<G, A>,
     work: &Work<'_>,
     ends: Ends<A>,
     receipts: &mut [Vec<Receipt>],
@@ -49,10 +49,10 @@ pub(crate) fn run_threads<R: Threads + Wait + Sync, G: Gate + Sync, A: Arities +
         {
             let mut started = true;
             let mut number = 0u8;
-            for (((site, wanted), reader), ports) in floor
+            for (((site, wanted), reader), ports) in shared
                 .sites
                 .iter()
-                .zip(floor.wanted)
+                .zip(shared.wanted)
                 .zip(readers)
                 .zip(executors)
             {
@@ -63,7 +63,7 @@ pub(crate) fn run_threads<R: Threads + Wait + Sync, G: Gate + Sync, A: Arities +
                 };
                 if started
                     && outer
-                        .spawn(move || execute(rt, floor, partition, reader, ports))
+                        .spawn(move || execute(rt, shared, partition, reader, ports))
                         .is_err()
                 {
                     started = false;
@@ -71,7 +71,7 @@ pub(crate) fn run_threads<R: Threads + Wait + Sync, G: Gate + Sync, A: Arities +
                 number = number.saturating_add(1);
             }
             if started {
-                started = run_clients(rt, floor, work, clients, receipts, hand);
+                started = run_clients(rt, shared, work, clients, receipts, hand);
             }
             for port in quit.iter_mut() {
                 let _put = port.put(rt, Message::Quit);
@@ -84,7 +84,7 @@ pub(crate) fn run_threads<R: Threads + Wait + Sync, G: Gate + Sync, A: Arities +
 /// Runs the clients, the mover and the debugger to their ends. Whether each could be started.
 fn run_clients<R: Threads + Wait + Sync, G: Gate + Sync, A: Arities + Send + Sync>(
     rt: &R,
-    floor: &Floor<G, A>,
+    shared: &Shared<G, A>,
     work: &Work<'_>,
     clients: &mut [Vec<Port<A>>],
     receipts: &mut [Vec<Receipt>],
@@ -94,25 +94,25 @@ fn run_clients<R: Threads + Wait + Sync, G: Gate + Sync, A: Arities + Send + Syn
         let stops = work.moves.stops.as_slice();
         let moves = work.moves.moves.as_slice();
         if inner
-            .spawn(move || move_all(rt, floor, moves, hand))
+            .spawn(move || move_all(rt, shared, moves, hand))
             .is_err()
         {
             return false;
         }
-        if inner.spawn(move || debug_all(rt, floor, stops)).is_err() {
+        if inner.spawn(move || debug_all(rt, shared, stops)).is_err() {
             return false;
         }
         let mut number = 0u64;
         for (((list, slot), ports), out) in work
             .lists
             .iter()
-            .zip(floor.slots)
+            .zip(shared.slots)
             .zip(clients.iter_mut())
             .zip(receipts.iter_mut())
         {
             let asks = list.as_slice();
             if inner
-                .spawn(move || serve(rt, floor, number, asks, slot, ports.as_mut_slice(), out))
+                .spawn(move || serve(rt, shared, number, asks, slot, ports.as_mut_slice(), out))
                 .is_err()
             {
                 return false;

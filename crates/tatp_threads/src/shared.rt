@@ -11,7 +11,7 @@ use tatp_partition::{Item, Site};
 
 /// What the threads share.
 #[derive(Drop)]
-pub(crate) struct Floor<'a, 'm, G, A: Arities> {
+pub(crate) struct Shared<'a, 'm, G, A: Arities> {
     pub(crate) alloc: Global,
     pub(crate) sites: &'a [Mutex<Site<'m>>],
     /// For each partition, how many other threads want its lock.
@@ -26,15 +26,15 @@ pub(crate) struct Floor<'a, 'm, G, A: Arities> {
 /// Puts a call into the inbox that the route of its home names. Whether it was put there.
 pub(crate) fn send<R: Wait, G, A: Arities>(
     rt: &R,
-    floor: &Floor<G, A>,
+    shared: &Shared<G, A>,
     ports: &mut [Port<A>],
     item: Item,
 ) -> bool {
-    let partition = floor.routes.lock(rt).route(item.home) as usize;
+    let partition = shared.routes.lock(rt).route(item.home) as usize;
     if partition >= ports.len() {
         return false;
     }
-    floor.post.put(rt, &mut ports[partition], item).is_ok()
+    shared.post.put(rt, &mut ports[partition], item).is_ok()
 }
 
 /// Puts an answer into a client's slot.

@@ -1,8 +1,8 @@
 //! What an executor does besides its site.
 ghost use Rattle.std.specs.Prelude.{◌≡◌, List, Option, None, [], ◌∷◌};
-ghost use Rattle.tatp_threads.specs.Deeds.{Grows, Follows, receipt_of};
-ghost use Rattle.tatp_threads.specs.declared.office.Deed.{Deed};
-ghost use Rattle.tatp_threads.specs.declared.office.Deed.TheVariants.{Sends, Answers};
+ghost use Rattle.tatp_threads.specs.Effects.{Grows, Follows, receipt_of};
+ghost use Rattle.tatp_threads.specs.declared.outgoing.Effect.{Effect};
+ghost use Rattle.tatp_threads.specs.declared.outgoing.Effect.TheVariants.{Sends, Answers};
 ghost use Rattle.tatp_threads.specs.declared.slot.Answer.TheVariants.{Got};
 
 use crate::held::Offered;
@@ -12,7 +12,7 @@ use tatp_settle::Receipt;
 
 /// What an executor does besides its site.
 #[derive(Clone, Copy, Debug)]
-pub(crate) enum Deed {
+pub(crate) enum Effect {
     /// A call was sent on, and whether it was put into an inbox.
     Sends(Item, bool),
     /// A client was answered.
@@ -20,17 +20,17 @@ pub(crate) enum Deed {
 }
 
 /// Sends calls on, and answers clients.
-pub(crate) trait Office {
+pub(crate) trait Outgoing {
     /// What was done, where that is known.
-    ghost deeds: { Self → Option (List Deed) } = { λ _. None };
+    ghost effects: { Self → Option (List Effect) } = { λ _. None };
 
     /// Puts a call into the inbox that its route names. Whether it was put there.
     fn send(&mut self, item: Item) -> bool
-        ensures { Grows (deeds self.old) (deeds self.new) (Sends item result ∷ []) };
+        ensures { Grows (effects self.old) (effects self.new) (Sends item result ∷ []) };
 
     /// Puts an answer into a client's slot.
     fn answer(&mut self, client: u64, answer: Answer)
-        ensures { Grows (deeds self.old) (deeds self.new) (Answers client answer ∷ []) };
+        ensures { Grows (effects self.old) (effects self.new) (Answers client answer ∷ []) };
 }
 
 /// The receipt of a completed call.
@@ -47,23 +47,23 @@ pub(crate) fn receipt_of(completion: &Completion) -> Receipt
 }
 
 /// Gives a completed call's receipt to its client.
-pub(crate) fn conclude<O: Office>(office: &mut O, completion: &Completion)
-    ensures { Grows (O.deeds office.old) (O.deeds office.new) (Answers completion.now.entry.client (Got (receipt_of completion.now)) ∷ []) }
+pub(crate) fn conclude<O: Outgoing>(outgoing: &mut O, completion: &Completion)
+    ensures { Grows (O.effects outgoing.old) (O.effects outgoing.new) (Answers completion.now.entry.client (Got (receipt_of completion.now)) ∷ []) }
 {
-    office.answer(completion.entry.client, Answer::Got(receipt_of(completion)));
+    outgoing.answer(completion.entry.client, Answer::Got(receipt_of(completion)));
 }
 
 /// Does what follows from what became of a call.
-pub(crate) fn follow<O: Office>(office: &mut O, offered: &Offered)
-    ensures { (deeds : List Deed) × Follows offered.now deeds × Grows (O.deeds office.old) (O.deeds office.new) deeds }
+pub(crate) fn follow<O: Outgoing>(outgoing: &mut O, offered: &Offered)
+    ensures { (effects : List Effect) × Follows offered.now effects × Grows (O.effects outgoing.old) (O.effects outgoing.new) effects }
 {
     match offered {
         Offered::Began | Offered::Again(_) => {}
         Offered::Away(item) => {
             let item = *item;
             let client = item.client;
-            if !office.send(item) {
-                office.answer(client, Answer::Dropped);
+            if !outgoing.send(item) {
+                outgoing.answer(client, Answer::Dropped);
             }
         }
         Offered::Denied(item) => {
@@ -71,8 +71,8 @@ pub(crate) fn follow<O: Office>(office: &mut O, offered: &Offered)
                 client: item.client,
                 number: item.number,
             };
-            office.answer(item.client, Answer::Got(receipt));
+            outgoing.answer(item.client, Answer::Got(receipt));
         }
-        Offered::Dropped(item) => office.answer(item.client, Answer::Dropped),
+        Offered::Dropped(item) => outgoing.answer(item.client, Answer::Dropped),
     }
 }

@@ -1,7 +1,7 @@
 -- Lists that grow, where they are known.
 use Rattle.std.proofs.Common.{◌≡◌, List, [], ◌++◌, Option, Some, None, sym, ap, ◌∙◌, append_assoc}
 use Rattle.std.proofs.lemmas.List.{append-nil}
-use Rattle.tatp_threads.specs.Deeds.{Grows}
+use Rattle.tatp_threads.specs.Effects.{Grows}
 
 pub not_grown : {A : Type 0} (known : Option (List A)) → Grows known known []
 not_grown None = tt

@@ -7,8 +7,8 @@ use Rattle.tatp_settle.specs.declared.receipt.Receipt.{Receipt}
 use Rattle.tatp_settle.specs.declared.receipt.Receipt.TheVariants.{Done, Refused}
 use Rattle.tatp_threads.specs.declared.slot.Answer.{Answer}
 use Rattle.tatp_threads.specs.declared.slot.Answer.TheVariants.{Got, Dropped}
-use Rattle.tatp_threads.specs.declared.office.Deed.{Deed}
-use Rattle.tatp_threads.specs.declared.office.Deed.TheVariants.{Sends, Answers}
+use Rattle.tatp_threads.specs.declared.outgoing.Effect.{Effect}
+use Rattle.tatp_threads.specs.declared.outgoing.Effect.TheVariants.{Sends, Answers}
 use Rattle.tatp_threads.specs.declared.held.Offered.{Offered}
 use Rattle.tatp_threads.specs.declared.held.Offered.TheVariants as offered
 
@@ -24,14 +24,14 @@ abbrev pub receipt_of : Completion → Receipt
 receipt_of c = Done c.entry.client c.entry.number c.entry.reply c.extent c.entry.stamp
 
 -- a call is sent on; where it comes back, its client is told so
-abbrev pub deeds_of_sending : Item → Bool → List Deed
-deeds_of_sending item true = Sends item true ∷ []
-deeds_of_sending item false = Sends item false ∷ Answers item.client Dropped ∷ []
+abbrev pub effects_of_sending : Item → Bool → List Effect
+effects_of_sending item true = Sends item true ∷ []
+effects_of_sending item false = Sends item false ∷ Answers item.client Dropped ∷ []
 
 -- what follows from what became of a call
-abbrev pub Follows : Offered → List Deed → Type 0
-Follows offered.Began deeds = deeds ≡ []
-Follows (offered.Again item) deeds = deeds ≡ []
-Follows (offered.Away item) deeds = (is_sent : Bool) × (deeds ≡ deeds_of_sending item is_sent)
-Follows (offered.Denied item) deeds = deeds ≡ Answers item.client (Got (Refused item.client item.number)) ∷ []
-Follows (offered.Dropped item) deeds = deeds ≡ Answers item.client Dropped ∷ []
+abbrev pub Follows : Offered → List Effect → Type 0
+Follows offered.Began effects = effects ≡ []
+Follows (offered.Again item) effects = effects ≡ []
+Follows (offered.Away item) effects = (is_sent : Bool) × (effects ≡ effects_of_sending item is_sent)
+Follows (offered.Denied item) effects = effects ≡ Answers item.client (Got (Refused item.client item.number)) ∷ []
+Follows (offered.Dropped item) effects = effects ≡ Answers item.client Dropped ∷ []

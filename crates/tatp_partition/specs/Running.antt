@@ -109,6 +109,16 @@ abbrev pub AdvancesUnless : Option SiteRefusal → SiteState → Result Stepped 
 AdvancesUnless obstacle s (Ok stepped) s' = (obstacle ≡ None) × Advances s stepped s'
 AdvancesUnless obstacle s (Err refusal) s' = (obstacle ≡ Some refusal) × (s' ≡ s)
 
+-- a step that left this completion, or none
+abbrev pub stepped_of : Option Completion → Stepped
+stepped_of None = Moved
+stepped_of (Some completion) = Ended completion
+
+-- the answer of a step, told by whether it was refused and which completion it left
+abbrev pub told_in : Result (Unit {0}) SiteRefusal → Option Completion → Result Stepped SiteRefusal
+told_in (Ok done) ended = Ok (stepped_of ended)
+told_in (Err refusal) ended = Err refusal
+
 -- ---- a call on its way
 -- the running call came by lines from its entry, over the rows of its home
 pub record CameByLines (procedures : List Procedure) (r : RunningCall) (rows : Database) : Type 0 where

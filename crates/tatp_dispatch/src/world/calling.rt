@@ -22,8 +22,9 @@ impl<'m> World<'m> {
         ensures procedures { self.new.procedures ≡ self.old.procedures }
         ensures world { IsWorld self.new }
     {
+        let mut ended = None;
         'steps: loop {
-            match self.advance(p) {
+            match self.advance(p, &mut ended) {
                 Err(_) => return None,
                 Ok(None) => {}
                 Ok(Some(_)) => return Some(last_reply(&self.completions)),

@@ -1,20 +1,26 @@
 //! A running call goes on, and ends.
-ghost use Rattle.std.specs.Prelude.{◌<◌, length};
+ghost use Rattle.std.specs.Prelude.{◌≡◌, ◌<◌, length, None, OnOk};
 ghost use Rattle.tatp_partition.specs.Obstacles.{step_obstacle, one_obstacle};
+ghost use Rattle.tatp_partition.specs.Running.{told_in};
 ghost use Rattle.tatp_dispatch.specs.Stepping.{StepsAt};
 
 use super::World;
 use crate::client::end_call;
 use crate::completed::{complete, last_reply};
 use crate::{Answer, Refusal};
-use tatp_partition::{Site, SiteRefusal, Stepped};
+use tatp_partition::{Completion, Site, SiteRefusal, Stepped};
 
-/// The site of a partition makes a step.
-fn step_at(sites: &mut Vec<Site<'_>>, p: usize) -> Result<Stepped, SiteRefusal>
-    requires { p < length sites.old.items }
-    ensures { StepsAt step_obstacle sites.old.items p result sites.new.items }
+/// The site of a partition makes a step; the completion of a call that ends is left in its place.
+fn step_at(
+    sites: &mut Vec<Site<'_>>,
+    p: usize,
+    ended: &mut Option<Completion>,
+) -> Result<(), SiteRefusal>
+    requires place { p < length sites.old.items }
+    requires none { ended.old ≡ None }
+    ensures { StepsAt step_obstacle sites.old.items p (told_in result ended.new) sites.new.items }
 {
-    sites[p].step()
+    sites[p].step_into(ended)
 }
 
 /// The site of a partition makes a step, stopped or not, at a breakpoint or not.
@@ -32,24 +38,34 @@ impl<'m> World<'m> {
     ghost use Rattle.tatp_dispatch.specs.Serving.{Tells};
 
     /// A site makes a step: the client whose call has ended, if it has. Its reply stands in the last
-    /// completion, so that a step that goes on answers in a few bytes.
-    pub(super) fn advance(&mut self, p: u64) -> Result<Option<u64>, Refusal>
-        ensures { AdvancesBriefly (step_obstacle_at self.old p) self.old p result self.new }
+    /// completion, and a completion comes by a place that is empty before and after, so that a step
+    /// that goes on moves a few bytes.
+    pub(super) fn advance(
+        &mut self,
+        p: u64,
+        ended: &mut Option<Completion>,
+    ) -> Result<Option<u64>, Refusal>
+        requires { ended.old ≡ None }
+        ensures steps { AdvancesBriefly (step_obstacle_at self.old p) self.old p result self.new }
+        ensures none { OnOk result (ended.new ≡ None) }
     {
         if p >= self.sites.len() as u64 {
             return Err(Refusal::NoPartition);
         }
-        match step_at(&mut self.sites, p as usize) {
+        match step_at(&mut self.sites, p as usize, ended) {
             Err(refusal) => return Err(Refusal::Site(refusal)),
-            Ok(Stepped::Moved) => return Ok(None),
-            Ok(Stepped::Ended(completion)) => {
-                let entry = completion.entry;
-                let client = entry.client;
-                let stamp = entry.stamp;
-                complete(&mut self.completions, entry);
-                end_call(&mut self.clients, client, stamp);
-                return Ok(Some(client));
-            }
+            Ok(()) => match *ended {
+                None => return Ok(None),
+                Some(completion) => {
+                    *ended = None;
+                    let entry = completion.entry;
+                    let client = entry.client;
+                    let stamp = entry.stamp;
+                    complete(&mut self.completions, entry);
+                    end_call(&mut self.clients, client, stamp);
+                    return Ok(Some(client));
+                }
+            },
         }
     }
 
@@ -58,7 +74,8 @@ impl<'m> World<'m> {
         ensures happens { AdvancesAt (step_obstacle_at self.old p) self.old p result self.new }
         ensures tells { Tells self.old result self.new }
     {
-        match self.advance(p) {
+        let mut ended = None;
+        match self.advance(p, &mut ended) {
             Err(refusal) => return Err(refusal),
             Ok(None) => return Ok(Answer::Moved),
             Ok(Some(client)) => return Ok(Answer::Ended(client, last_reply(&self.completions))),

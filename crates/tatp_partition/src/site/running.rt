@@ -1,13 +1,14 @@
 //! A call that begins, goes on and ends.
 ghost use Rattle.std.specs.Prelude.{◌≡◌, None, Some};
 ghost use Rattle.tatp_partition.specs.Obstacles.{obstacle_to_step};
+ghost use Rattle.tatp_partition.specs.Running.{stepped_of};
 ghost use Rattle.tatp_partition.specs.Showing.{running_shown};
 
 use super::Site;
 use super::reading::extent_of;
 use super::stopping::is_break;
 use crate::runner::{Runner, begin, end_running, turn};
-use crate::{Breakpoint, Item, Offer, SiteRefusal, Stepped};
+use crate::{Breakpoint, Completion, Item, Offer, SiteRefusal, Stepped};
 use arrayvec::ArrayVec;
 use std::alloc::Global;
 use tatp_machine::{Progress, lines_then_an_end_are_a_run};
@@ -18,7 +19,7 @@ use tatp_tables::rows_of_one_subscriber;
 impl<'m> Site<'m> {
     ghost use Rattle.tatp_partition.specs.Asks.{Fits, arities_of};
     ghost use Rattle.tatp_partition.specs.Obstacles.{step_obstacle, one_obstacle};
-    ghost use Rattle.tatp_partition.specs.Running.{Begins, AdvancesUnless};
+    ghost use Rattle.tatp_partition.specs.Running.{Begins, AdvancesUnless, told_in};
     ghost use Rattle.tatp_partition.specs.Sound.{IsSite};
 
     /// Begins a call, unless its home isn't here.
@@ -58,21 +59,35 @@ impl<'m> Site<'m> {
         }
     }
 
+    /// One instruction of the running call, as `step`, but the completion of a call that ends is left in
+    /// its place, so that a step that goes on answers in a few bytes.
+    pub fn step_into(&mut self, ended: &mut Option<Completion>) -> Result<(), SiteRefusal>
+        requires { ended.old ≡ None }
+        ensures steps { AdvancesUnless (step_obstacle self.old) self.old (told_in result ended.new) self.new }
+        ensures site { IsSite self.new }
+    {
+        match step_refusal(&self.running, self.stopped, &self.breakpoints) {
+            Some(refusal) => return Err(refusal),
+            None => return self.one_into(ended),
+        }
+    }
+
     /// One instruction of the running call, unless the site is stopped or has a breakpoint there.
     pub fn step(&mut self) -> Result<Stepped, SiteRefusal>
         ensures steps { AdvancesUnless (step_obstacle self.old) self.old result self.new }
         ensures site { IsSite self.new }
     {
-        match step_refusal(&self.running, self.stopped, &self.breakpoints) {
-            Some(refusal) => return Err(refusal),
-            None => return self.one(),
+        let mut ended = None;
+        match self.step_into(&mut ended) {
+            Err(refusal) => return Err(refusal),
+            Ok(()) => return Ok(stepped(ended)),
         }
     }
 
-    /// One instruction of the running call, whether or not the site is stopped or has a breakpoint
-    /// there.
-    pub fn one(&mut self) -> Result<Stepped, SiteRefusal>
-        ensures steps { AdvancesUnless (one_obstacle self.old) self.old result self.new }
+    /// One instruction of the running call, as `one`, with the completion left in its place.
+    fn one_into(&mut self, ended: &mut Option<Completion>) -> Result<(), SiteRefusal>
+        requires { ended.old ≡ None }
+        ensures steps { AdvancesUnless (one_obstacle self.old) self.old (told_in result ended.new) self.new }
         ensures site { IsSite self.new }
     {
         if !self.running.is_some() {
@@ -83,7 +98,7 @@ impl<'m> Site<'m> {
         standard_procedures_are_transactions();
         clean_rows_and_homes_are_consistent();
         match turn(&mut self.running) {
-            Progress::Running => return Ok(Stepped::Moved),
+            Progress::Running => return Ok(()),
             Progress::Ended(end) => {
                 let completion = end_running(
                     &mut self.running,
@@ -92,9 +107,33 @@ impl<'m> Site<'m> {
                     &mut self.slots,
                     &mut self.homeless,
                 );
-                return Ok(Stepped::Ended(completion));
+                *ended = Some(completion);
+                return Ok(());
             }
         }
+    }
+
+    /// One instruction of the running call, whether or not the site is stopped or has a breakpoint
+    /// there.
+    pub fn one(&mut self) -> Result<Stepped, SiteRefusal>
+        ensures steps { AdvancesUnless (one_obstacle self.old) self.old result self.new }
+        ensures site { IsSite self.new }
+    {
+        let mut ended = None;
+        match self.one_into(&mut ended) {
+            Err(refusal) => return Err(refusal),
+            Ok(()) => return Ok(stepped(ended)),
+        }
+    }
+}
+
+/// What a step is that left this completion.
+fn stepped(ended: Option<Completion>) -> Stepped
+    ensures { result ≡ stepped_of ended }
+{
+    match ended {
+        None => Stepped::Moved,
+        Some(completion) => Stepped::Ended(completion),
     }
 }
 

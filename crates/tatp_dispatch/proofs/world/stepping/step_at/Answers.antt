@@ -5,9 +5,9 @@ use Rattle.tatp_dispatch.proofs.world.stepping.step_at.Goals as goal
 pub returns : goal.returns
 returns c = record {
   before = c.index_mut.result.now;
-  after_it = c.step.new.self;
-  site = slice_get_read c.args.sites.now.items (length c.args.sites.now.items) c.args.p c.index_mut.result.now refl c.requires c.index_mut.ensures.value;
-  steps = c.step.ensures.steps;
-  whole = c.step.ensures.site;
+  after_it = c.step_into.new.self;
+  site = slice_get_read c.args.sites.now.items (length c.args.sites.now.items) c.args.p c.index_mut.result.now refl c.requires.place c.index_mut.ensures.value;
+  steps = c.step_into.ensures.steps;
+  whole = c.step_into.ensures.site;
   after = refl;
 }

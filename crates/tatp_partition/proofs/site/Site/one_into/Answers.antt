@@ -1,7 +1,7 @@
 use Rattle.std.proofs.Common.{rules}
 use Rattle.tatp_partition.proofs.StepLaws.{may_turn, runs_free, HasMoved, has_moved}
 use Rattle.tatp_partition.proofs.CompletionLaws.{ready_to_end, HasEnded, has_ended}
-use Rattle.tatp_partition.proofs.site.Site.one.Goals as goal
+use Rattle.tatp_partition.proofs.site.Site.one_into.Goals as goal
 
 pub turn-requires : goal.turn-requires
 turn-requires c = may_turn c.self.inside c.self.invariant (search rules)
@@ -13,7 +13,7 @@ pub invariant_of-self : goal.invariant_of-self
 invariant_of-self c = (moved c).sound
 
 pub returns-in-Running-clause-steps : goal.returns-in-Running-clause-steps
-returns-in-Running-clause-steps c = rw (← c.self.view_is) (runs_free c.self.inside (search rules), (moved c).moves)
+returns-in-Running-clause-steps c = rw c.requires (rw (← c.self.view_is) (runs_free c.self.inside (search rules), (moved c).moves))
 
 pub returns-in-Running-clause-site : goal.returns-in-Running-clause-site
 returns-in-Running-clause-site c = (moved c).sound.site

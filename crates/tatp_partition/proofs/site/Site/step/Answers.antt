@@ -1,8 +1,0 @@
-use Rattle.std.proofs.Common.{◌≡◌, None, sym, subst}
-use Rattle.tatp_partition.specs.Obstacles.{step_obstacle}
-use Rattle.tatp_partition.specs.Sites.{SiteState}
-use Rattle.tatp_partition.proofs.StepLaws.{steps_as_one}
-use Rattle.tatp_partition.proofs.site.Site.step.Goals as goal
-
-pub returns-in-None-clause-steps : goal.returns-in-None-clause-steps
-returns-in-None-clause-steps c = steps_as_one c.args.self.now c.one.result c.one.new.self (subst (λ (s : SiteState). step_obstacle s ≡ None) c.self.view_is (sym c.in-None.ensures)) c.one.ensures.steps

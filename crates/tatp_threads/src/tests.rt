@@ -1,5 +1,6 @@
 use super::*;
 
+mod closing;
 mod crowds;
 mod fixture;
 mod gates;

@@ -81,7 +81,7 @@ fn spend_sites(alloc: Global, sites: Vec<Site<'_>>) -> Vec<(u8, u32, u16)> {
 }
 
 /// Spends landings.
-fn spend_landings(landings: Vec<Landed>) {
+pub fn spend_landings(landings: Vec<Landed>) {
     let mut rest = landings;
     while let Some(landed) = rest.pop() {
         landed.discard();

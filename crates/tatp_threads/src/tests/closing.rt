@@ -1,0 +1,95 @@
+//! What a run leaves, settled.
+ghost use Rattle.std.specs.Prelude.{◌<◌, ◌^◌, length};
+ghost use Rattle.tatp_tables.specs.Clean.{IsClean};
+ghost use Rattle.tatp_settle.specs.Runs.{joined, lists_of};
+
+use super::fixture::{clean_rows, reading, spend_landings};
+use crate::run::discard_parcels;
+use crate::{Moves, NoGate, Ran, RanParts, run_calls};
+use std::alloc::Global;
+use std::test::*;
+use tatp_audits::{Verdict, audit};
+use tatp_move::close_sites;
+use tatp_procs::{Ask, standard};
+use tatp_settle::{NotGathered, NotSettled, Settled, gather, settle};
+use tatp_tables::Rows;
+
+/// Gathers and settles what a run left.
+fn settled(alloc: Global, population: &Rows, ran: Ran<'_>, lists: &[Vec<Ask>]) -> Option<Settled>
+    requires clean { IsClean population.now }
+    requires few { length (joined (lists_of lists.now)) < 2 ^ 64 }
+{
+    let RanParts {
+        sites,
+        parcels,
+        landings,
+        receipts,
+    } = ran.parts();
+    spend_landings(landings);
+    match gather(alloc, sites, parcels) {
+        Err(
+            NotGathered {
+                error: _,
+                sites,
+                parcels,
+            },
+        ) => {
+            close_sites(sites);
+            discard_parcels(parcels);
+            None
+        }
+        Ok(closed) => match settle(alloc, population, closed, receipts.as_slice(), lists) {
+            Err(NotSettled { error: _, closed }) => {
+                closed.discard();
+                None
+            }
+            Ok(settled) => Some(settled),
+        },
+    }
+}
+
+#[test]
+fn a_run_is_settled(rt: HostRuntime) -> Result<(), Fail> {
+    let alloc = rt.alloc();
+    let loaded = standard(alloc)?;
+    let lists = vec![in alloc; reading(alloc, 65)?]?;
+    let moves = Moves {
+        moves: vec![in alloc; (3u32, 1u8), (3, 0)]?,
+        stops: vec![in alloc; 0u8]?,
+    };
+    let population = clean_rows(alloc, 130)?;
+    let rows = clean_rows(alloc, 130)?;
+    if !audit(alloc, &population)?.is_clean() {
+        return Err("unclean rows".into());
+    }
+    match run_calls(
+        &rt,
+        alloc,
+        &loaded,
+        rows,
+        2,
+        lists.as_slice(),
+        &moves,
+        &NoGate,
+    ) {
+        Err(_) => Err("no run".into()),
+        Ok(ran) => match settled(alloc, &population, ran, lists.as_slice()) {
+            None => Err("unsettled".into()),
+            Some(settled) => {
+                assert_eq!(rt;
+                    (settled.completed(), settled.refused(), settled.moves()),
+                    (1, 0, 2)
+                );
+                assert_eq!(rt; settled.kinds(), [1, 0, 0, 0, 0, 0, 0]);
+                let clean = Verdict::Clean {
+                    subscribers: 130,
+                    accesses: 130,
+                    facilities: 130,
+                    forwardings: 0,
+                };
+                assert_eq!(rt; settled.verdict(), clean);
+                Ok(())
+            }
+        },
+    }
+}

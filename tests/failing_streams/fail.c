@@ -11,6 +11,7 @@
 #include <fcntl.h>
 #include <stdio.h>
 #include <stdlib.h>
+#include <sys/syscall.h>
 #include <unistd.h>
 
 static ssize_t (*next_read)(int, void *, size_t);
@@ -42,7 +43,7 @@ __attribute__((destructor)) static void tell(void) {
         int length = snprintf(text, sizeof text, "%lu %lu %lu\n", reads, writes, failures);
         if (out >= 0) {
             if (next_write(out, text, (size_t)length) < 0) {
-                _exit(99);
+                syscall(SYS_exit_group, 99);
             }
             close(out);
         }
@@ -90,4 +91,11 @@ ssize_t write(int stream, const void *bytes, size_t count) {
 
 ssize_t __write(int stream, const void *bytes, size_t count) {
     return write(stream, bytes, count);
+}
+
+/* The program ends without the C library's own end, which would run the destructor. */
+void _exit(int status) {
+    tell();
+    syscall(SYS_exit_group, status);
+    __builtin_unreachable();
 }

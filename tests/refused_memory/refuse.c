@@ -9,6 +9,7 @@
 #include <stdio.h>
 #include <stdlib.h>
 #include <string.h>
+#include <sys/syscall.h>
 #include <unistd.h>
 
 static atomic_ulong growths;
@@ -57,7 +58,7 @@ __attribute__((destructor)) static void tell(void) {
         int length = snprintf(text, sizeof text, "%lu %lu\n", (unsigned long)growths, (unsigned long)refused);
         if (out >= 0) {
             if (write(out, text, (size_t)length) < 0) {
-                _exit(99);
+                syscall(SYS_exit_group, 99);
             }
             close(out);
         }
@@ -113,4 +114,11 @@ void free(void *block) {
     if (block != NULL && !is_early(block)) {
         next_free(block);
     }
+}
+
+/* The program ends without the C library's own end, which would run the destructor. */
+void _exit(int status) {
+    tell();
+    syscall(SYS_exit_group, status);
+    __builtin_unreachable();
 }

@@ -5,10 +5,11 @@ use Rattle.std.specs.Str.Parse.{IsNumeral, digits_value}
 use Rattle.clap.specs.Matches.{first_value}
 use Rattle.clap.specs.declared.parser.matches.Found.{Found}
 use Rattle.tatp_population.specs.Opening.{most_subscribers}
+use Rattle.tatp_bench.specs.Plans.{IsPlan}
 use Rattle.tatp_commands.specs.declared.population.Population.{Population}
 use Rattle.tatp_commands.specs.declared.population.Population.TheVariants.{Read, Generated}
 use Rattle.tatp.specs.declared.command_line.Task.{Task}
-use Rattle.tatp.specs.declared.command_line.Task.TheVariants.{Call, Trace, Asm, Dis, Check, Audit}
+use Rattle.tatp.specs.declared.command_line.Task.TheVariants.{Call, Trace, Asm, Dis, Check, Audit, Bench}
 use Rattle.tatp_commands.specs.Populations.{IsPopulation}
 
 -- the text is digits alone, and their number lies in the range
@@ -39,10 +40,11 @@ partitions_text found = unwrap_or (first_value found (codes "partitions")) (code
 abbrev pub clients_text : Found → List ℕ
 clients_text found = unwrap_or (first_value found (codes "clients")) (codes "4")
 
--- ---- the task can be done: where rows are drawn, so many can be; and there can be so many partitions and clients
+-- ---- the task can be done: where rows are drawn, so many can be; there can be so many partitions and clients; a run of the benchmark can be asked for
 abbrev pub IsTask : Task → Type 0
 IsTask (Call population partitions) = IsPopulation population × (1 ≤ partitions) × (partitions ≤ 8)
 IsTask (Trace population partitions clients) = IsPopulation population × (1 ≤ partitions) × (partitions ≤ 8) × (1 ≤ clients) × (clients ≤ 64)
+IsTask (Bench plan progress) = IsPlan plan
 IsTask task = Unit {0}
 
 -- the command's name
@@ -53,3 +55,4 @@ name_of Asm = codes "asm"
 name_of Dis = codes "dis"
 name_of Check = codes "check"
 name_of Audit = codes "audit"
+name_of (Bench plan progress) = codes "bench"

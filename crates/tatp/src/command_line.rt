@@ -1,15 +1,19 @@
 //! What the words of the command line ask for.
-ghost use Rattle.std.specs.Prelude.{◌≡◌, ◌==◌, Some, IfOk, IfSome, SomeIff, slice_index};
+ghost use Rattle.std.specs.Prelude.{◌≡◌, ◌==◌, Some, IfOk, IfSome, SomeIff, slice_index, codes};
 ghost use Rattle.std.specs.Str.Parse.{digits_value};
 ghost use Rattle.tatp_commands.specs.Populations.{IsPopulation};
 ghost use Rattle.clap.specs.Matches.{found_of, subcommand_name_of};
+ghost use Rattle.tatp_bench.specs.Plans.{IsPlan};
 ghost use Rattle.tatp.specs.Tasks.{IsTask, IsNumberIn, HasPlainNumbers, population_asked, partitions_text, clients_text, name_of};
+ghost use Rattle.tatp.specs.PlanOptions.{HasPlan, plan_asked, distribution_asked};
 
 use clap::builder::ValueParser;
 use clap::error::ErrorKind;
-use clap::{Arg, ArgMatches, Command, Error};
+use clap::{Arg, ArgAction, ArgMatches, Command, Error};
 use std::alloc::{AllocError, Global};
+use tatp_bench::BenchPlan;
 use tatp_commands::Population;
+use tatp_driver::Distribution;
 
 /// The most subscribers that are drawn.
 const MOST_SUBSCRIBERS: u64 = 100_000;
@@ -20,6 +24,12 @@ const MOST_PARTITIONS: u64 = 8;
 /// The most clients.
 const MOST_CLIENTS: u64 = 64;
 
+/// The most calls of one client.
+const MOST_CALLS: u64 = 100_000;
+
+/// The most moves, and the most stops, of one run.
+const MOST_MOVES: u64 = 100_000;
+
 /// What the program is asked to do.
 #[derive(Clone, Copy, Debug, PartialEq, Eq)]
 pub enum Task {
@@ -29,6 +39,8 @@ pub enum Task {
     Dis,
     Check,
     Audit,
+    /// A run of the benchmark, and whether it tells how it goes on.
+    Bench { plan: BenchPlan, progress: bool },
 }
 
 /// Whether a text begins with a plus sign, as a number of the command line may not.
@@ -87,6 +99,33 @@ fn clients_of(options: &ArgMatches<'_>) -> Option<u8>
 {
     let clients = number_in(options.get_str("clients").unwrap_or("4"), 1, MOST_CLIENTS)?;
     Some(clients as u8)
+}
+
+/// How calls are distributed over the subscribers.
+fn distribution_of(options: &ArgMatches<'_>) -> Distribution
+    ensures { result ≡ distribution_asked (found_of options.now) }
+{
+    match options.get_str("uniform") {
+        Some("true") => Distribution::Uniform,
+        _ => Distribution::Skewed,
+    }
+}
+
+/// The run of the benchmark that is asked for; none where an option isn't a plain number in its range.
+fn plan_of(options: &ArgMatches<'_>) -> Option<BenchPlan>
+    ensures asked { SomeIff result (HasPlan (found_of options.now)) (plan_asked (found_of options.now)) }
+    ensures possible { IfSome result IsPlan }
+{
+    Some(BenchPlan {
+        subscribers: number_in(options.get_str("subscribers")?, 1, MOST_SUBSCRIBERS)?,
+        partitions: partitions_of(options)?,
+        clients: clients_of(options)?,
+        calls: number_in(options.get_str("calls")?, 1, MOST_CALLS)?,
+        seed: number_in(options.get_str("seed").unwrap_or("1"), 0, u64::MAX)?,
+        distribution: distribution_of(options),
+        moves: number_in(options.get_str("moves").unwrap_or("0"), 0, MOST_MOVES)?,
+        stops: number_in(options.get_str("stops").unwrap_or("0"), 0, MOST_MOVES)?,
+    })
 }
 
 /// An option that takes a number in a range.
@@ -156,6 +195,77 @@ fn trace<'a>(alloc: Global) -> Result<Command<'a>, AllocError> {
     )
 }
 
+/// A switch: it is given, or it isn't.
+fn switch<'a>(alloc: Global, name: &'a str, help: &'a str) -> Arg<'a> {
+    Arg::new(alloc, name)
+        .long(name)
+        .action(ArgAction::SetTrue)
+        .help(help)
+}
+
+/// The options of a run of the benchmark that tell of its database and its clients.
+fn bench<'a>(alloc: Global) -> Result<Command<'a>, AllocError> {
+    Command::new(alloc, "bench")
+        .about("Run clients, moves and stops as threads at once, and settle what they leave")
+        .arg(
+            option(alloc, "subscribers", 1, MOST_SUBSCRIBERS)
+                .value_name("N")
+                .required(true)
+                .help("Draw the rows of N subscribers (1 to 100000)"),
+        )?
+        .arg(
+            option(alloc, "partitions", 1, MOST_PARTITIONS)
+                .value_name("P")
+                .default_value("2")
+                .help("Open the rows in P partitions (1 to 8)"),
+        )?
+        .arg(
+            option(alloc, "clients", 1, MOST_CLIENTS)
+                .value_name("C")
+                .default_value("4")
+                .help("Let C clients call at once (1 to 64)"),
+        )?
+        .arg(
+            option(alloc, "calls", 1, MOST_CALLS)
+                .value_name("K")
+                .required(true)
+                .help("Let each client make K calls, one after another (1 to 100000)"),
+        )?
+        .arg(
+            option(alloc, "seed", 0, u64::MAX)
+                .value_name("S")
+                .default_value("1")
+                .help("Draw rows, calls, moves and stops from the random words of seed S"),
+        )
+}
+
+/// The same, with the options that tell what happens beside the calls.
+fn bench_with_moves<'a>(alloc: Global) -> Result<Command<'a>, AllocError> {
+    bench(alloc)?
+        .arg(switch(
+            alloc,
+            "uniform",
+            "Call all subscribers about as often; without it some are called far oftener",
+        ))?
+        .arg(
+            option(alloc, "moves", 0, MOST_MOVES)
+                .value_name("M")
+                .default_value("0")
+                .help("Move M ranges of subscribers between partitions meanwhile (0 to 100000)"),
+        )?
+        .arg(
+            option(alloc, "stops", 0, MOST_MOVES)
+                .value_name("T")
+                .default_value("0")
+                .help("Stop, step and resume partitions T times meanwhile (0 to 100000)"),
+        )?
+        .arg(switch(
+            alloc,
+            "progress",
+            "Tell on standard error how the run goes on",
+        ))
+}
+
 /// A command without options.
 fn plain<'a>(alloc: Global, name: &'a str, about: &'a str, more: &'a str) -> Command<'a> {
     Command::new(alloc, name).about(about).after_help(more)
@@ -185,7 +295,8 @@ fn command<'a>(alloc: Global) -> Result<Command<'a>, AllocError> {
             "audit",
             "Test whether rows are a clean population",
             AUDIT,
-        ))
+        ))?
+        .subcommand(bench_with_moves(alloc)?.after_help(BENCH))
 }
 
 const PROGRAM: &str = "\
@@ -197,6 +308,9 @@ Example: tatp call < examples/first-run.txt";
 const CALL: &str = "\
 The input is the rows of a population, a line with a dot, and the calls; a row or a call a line.
 The reply to a call is OK and the values, FAILED and why, or REFUSED and why.
+
+A completed call is kept to the end, in the log of its subscriber's extent and among all completed
+calls: about 880 bytes of memory, so 1.2 million calls a GiB, besides the rows. Nothing else grows.
 
 Examples:
   tatp call < examples/first-run.txt
@@ -262,6 +376,18 @@ that fails and its key; then the status is 1.
 
 Example: tatp audit < rows.txt";
 
+const BENCH: &str = "\
+Nothing is read. Each partition has an executor, each client is a thread of its own, and two more
+threads move ranges of subscribers and stop machines. When all have ended, the logs, the replies
+that clients received and the rows are settled. Prints three lines: SETTLED, how many calls were
+completed and how many were refused memory; MIX and how many calls there were of each of the seven
+kinds; the verdict on the rows. A run that isn't one history of transactions is the fault 45.
+
+The first two lines depend on the clients, their calls, the subscribers, --uniform and the seed
+alone. With moves and stops, in 2 partitions and in 8:
+  tatp bench --subscribers 1000 --calls 5000 --moves 100 --stops 100
+  tatp bench --subscribers 1000 --calls 5000 --moves 100 --stops 100 --partitions 8 --progress";
+
 /// The task that the words were found to name; none where a number isn't plain, or no task is named.
 fn task_in(matches: &ArgMatches<'_>) -> Option<Task>
     ensures named { IfSome result (λ task. subcommand_name_of matches.now ≡ Some (name_of task)) }
@@ -278,6 +404,10 @@ fn task_in(matches: &ArgMatches<'_>) -> Option<Task>
         ("dis", _) => Some(Task::Dis),
         ("check", _) => Some(Task::Check),
         ("audit", _) => Some(Task::Audit),
+        ("bench", options) => Some(Task::Bench {
+            plan: plan_of(options)?,
+            progress: options.get_flag("progress"),
+        }),
         _ => None,
     }
 }

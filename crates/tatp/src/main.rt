@@ -12,8 +12,13 @@ use clap::error::ErrorKind;
 use command_line::{Task, not_text, task_of};
 use std::alloc::Global;
 use std::process::ExitCode;
+use std::sync::Wait;
+use std::thread::Threads;
 use std::{env, io};
-use tatp_commands::{Fault, run_asm, run_audit, run_check, run_dis, serve, trace};
+use tatp_commands::{
+    Fault, run_asm, run_audit, run_check, run_dis, serve, trace, write_bench,
+    write_bench_with_progress,
+};
 
 /// The status where a command stops, or answers that something isn't right.
 const STOPPED: u8 = 1;
@@ -37,7 +42,11 @@ fn main(rt: HostRuntime) -> ExitCode {
 }
 
 /// Does what was asked, and gives the status.
-fn answer(rt: &(impl Input + Print + Eprint), alloc: Global, asked: Result<Task, Error>) -> ExitCode
+fn answer<R: Input + Print + Eprint + Threads + Wait + Sync>(
+    rt: &R,
+    alloc: Global,
+    asked: Result<Task, Error>,
+) -> ExitCode
     requires { IfOk asked IsTask }
 {
     match asked {
@@ -73,7 +82,11 @@ fn tell(rt: &impl Eprint, fault: Fault) -> ExitCode {
 }
 
 /// Runs a command over the standard streams; whether it found nothing wrong.
-fn run(rt: &(impl Input + Print), alloc: Global, task: Task) -> Result<bool, Fault>
+fn run<R: Input + Print + Eprint + Threads + Wait + Sync>(
+    rt: &R,
+    alloc: Global,
+    task: Task,
+) -> Result<bool, Fault>
     requires { IsTask task }
 {
     let reader = &mut rt.reader();
@@ -89,6 +102,14 @@ fn run(rt: &(impl Input + Print), alloc: Global, task: Task) -> Result<bool, Fau
         Task::Dis => run_dis(alloc, reader, writer)?,
         Task::Check => run_check(alloc, reader, writer)?,
         Task::Audit => return run_audit(alloc, reader, writer),
+        Task::Bench {
+            plan,
+            progress: false,
+        } => write_bench(rt, alloc, writer, &plan)?,
+        Task::Bench {
+            plan,
+            progress: true,
+        } => write_bench_with_progress(rt, alloc, writer, &plan)?,
     }
     Ok(true)
 }

@@ -9,7 +9,7 @@ use Rattle.tatp_tables.specs.declared.row.Rows.{Rows}
 use Rattle.tatp_lines.specs.Lines.{lines_of}
 use Rattle.tatp_population.specs.PopulationText.{on_rows, row_first, in_tables}
 use Rattle.tatp_commands.specs.declared.fault.Fault.{Fault}
-use Rattle.tatp_commands.specs.declared.fault.Fault.TheVariants.{BadLine, NotClean, TooMany, NoMemory, ReadFault, WriteFault, Assembly, Module}
+use Rattle.tatp_commands.specs.declared.fault.Fault.TheVariants.{BadLine, NotClean, TooMany, NoMemory, ReadFault, WriteFault, Assembly, Module, ExtentMissing, Unsettled, NoThread}
 use Rattle.tatp_commands.specs.Refusing.{RefusesReading}
 use Rattle.tatp_commands.specs.RowLines.{row_in, rows_from, rows_of_lines, is_dot, before_dot, after_dot, brought}
 
@@ -97,6 +97,9 @@ refused_before lines (BadLine n) h = rows_failed lines n h
 refused_before lines NoMemory h = tt
 refused_before lines (NotClean verdict) h = absurd h
 refused_before lines TooMany h = absurd h
+refused_before lines (ExtentMissing e) h = absurd h
+refused_before lines (Unsettled cause) h = absurd h
+refused_before lines NoThread h = absurd h
 refused_before lines ReadFault h = absurd h
 refused_before lines WriteFault h = absurd h
 refused_before lines (Assembly fault) h = absurd h

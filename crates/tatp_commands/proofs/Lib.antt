@@ -8,3 +8,4 @@ pub mod WritingLaws
 pub mod OrderLaws
 pub mod ToldLaws
 pub mod TracingLaws
+pub mod BenchingLaws

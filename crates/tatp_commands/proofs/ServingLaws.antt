@@ -6,7 +6,7 @@ use Rattle.tatp_population.specs.Opening.{most_subscribers, RefusesRows}
 use Rattle.tatp_population.specs.declared.open_error.OpenError.{OpenError}
 use Rattle.tatp_population.specs.declared.open_error.OpenError.TheVariants.{TooMany as TooManyRows, NotClean as NotCleanRows, NoMemory as NoMemoryToOpen}
 use Rattle.tatp_commands.specs.declared.fault.Fault.{Fault}
-use Rattle.tatp_commands.specs.declared.fault.Fault.TheVariants.{BadLine, NotClean, TooMany, NoMemory, ReadFault, WriteFault, Assembly, Module}
+use Rattle.tatp_commands.specs.declared.fault.Fault.TheVariants.{BadLine, NotClean, TooMany, NoMemory, ReadFault, WriteFault, Assembly, Module, ExtentMissing, Unsettled, NoThread}
 use Rattle.tatp_commands.specs.declared.population.Population.{Population}
 use Rattle.tatp_commands.specs.RowLines.{Work}
 use Rattle.tatp_commands.specs.Refusing.{RefusesReading}
@@ -21,6 +21,9 @@ leaves_unread population input old (BadLine n) h = (h, appends_none old)
 leaves_unread population input old NoMemory h = inl (appends_none old)
 leaves_unread population input old (NotClean verdict) h = absurd h
 leaves_unread population input old TooMany h = absurd h
+leaves_unread population input old (ExtentMissing e) h = absurd h
+leaves_unread population input old (Unsettled cause) h = absurd h
+leaves_unread population input old NoThread h = absurd h
 leaves_unread population input old ReadFault h = absurd h
 leaves_unread population input old WriteFault h = absurd h
 leaves_unread population input old (Assembly fault) h = absurd h

@@ -17,7 +17,7 @@ use Rattle.tatp_dispatch.specs.Serving.{IsWorld}
 use Rattle.tatp_dispatch.specs.Worlds.{WorldState}
 use Rattle.tatp_trace.proofs.LinesLaws.{lines_run}
 use Rattle.tatp_commands.specs.declared.fault.Fault.{Fault}
-use Rattle.tatp_commands.specs.declared.fault.Fault.TheVariants.{BadLine, NotClean, TooMany, NoMemory, ReadFault, WriteFault, Assembly, Module}
+use Rattle.tatp_commands.specs.declared.fault.Fault.TheVariants.{BadLine, NotClean, TooMany, NoMemory, ReadFault, WriteFault, Assembly, Module, ExtentMissing, Unsettled, NoThread}
 use Rattle.tatp_commands.specs.declared.population.Population.{Population}
 use Rattle.tatp_commands.specs.RowLines.{Work}
 use Rattle.tatp_commands.specs.Refusing.{RefusesReading}
@@ -33,6 +33,9 @@ told_unread population partitions clients input old (BadLine n) h = (h, appends_
 told_unread population partitions clients input old NoMemory h = inl (appends_none old)
 told_unread population partitions clients input old (NotClean verdict) h = absurd h
 told_unread population partitions clients input old TooMany h = absurd h
+told_unread population partitions clients input old (ExtentMissing e) h = absurd h
+told_unread population partitions clients input old (Unsettled cause) h = absurd h
+told_unread population partitions clients input old NoThread h = absurd h
 told_unread population partitions clients input old ReadFault h = absurd h
 told_unread population partitions clients input old WriteFault h = absurd h
 told_unread population partitions clients input old (Assembly fault) h = absurd h

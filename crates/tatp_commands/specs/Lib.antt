@@ -11,3 +11,4 @@ pub mod Writing
 pub mod ModuleCommands
 pub mod AuditCommand
 pub mod AnsweredCalls
+pub mod Benching

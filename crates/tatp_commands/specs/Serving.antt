@@ -6,7 +6,7 @@ use Rattle.tatp_population.specs.Opening.{RefusesRows}
 use Rattle.tatp_population.specs.declared.open_error.OpenError.{OpenError}
 use Rattle.tatp_population.specs.declared.open_error.OpenError.TheVariants.{TooMany as TooManyRows, NotClean as NotCleanRows}
 use Rattle.tatp_commands.specs.declared.fault.Fault.{Fault}
-use Rattle.tatp_commands.specs.declared.fault.Fault.TheVariants.{BadLine, NotClean, TooMany, NoMemory, ReadFault, WriteFault, Assembly, Module}
+use Rattle.tatp_commands.specs.declared.fault.Fault.TheVariants.{BadLine, NotClean, TooMany, ExtentMissing, Unsettled, NoMemory, ReadFault, WriteFault, NoThread, Assembly, Module}
 use Rattle.tatp_commands.specs.declared.population.Population.{Population}
 use Rattle.tatp_commands.specs.RowLines.{Work}
 use Rattle.tatp_commands.specs.Served.{replies, work_of, Served}
@@ -42,3 +42,6 @@ Leaves population input old new WriteFault = WritesFront population input old ne
 Leaves population input old new ReadFault = Appends old new []
 Leaves population input old new (Assembly fault) = ⊥
 Leaves population input old new (Module fault) = ⊥
+Leaves population input old new (ExtentMissing e) = ⊥
+Leaves population input old new (Unsettled cause) = ⊥
+Leaves population input old new NoThread = ⊥

@@ -14,7 +14,7 @@ use Rattle.tatp_dispatch.specs.Runs.{Runs}
 use Rattle.tatp_dispatch.specs.Worlds.{WorldState}
 use Rattle.tatp_trace.specs.Answering.{TellsLines, events_in}
 use Rattle.tatp_commands.specs.declared.fault.Fault.{Fault}
-use Rattle.tatp_commands.specs.declared.fault.Fault.TheVariants.{BadLine, NotClean, TooMany, NoMemory, ReadFault, WriteFault, Assembly, Module}
+use Rattle.tatp_commands.specs.declared.fault.Fault.TheVariants.{BadLine, NotClean, TooMany, ExtentMissing, Unsettled, NoMemory, ReadFault, WriteFault, NoThread, Assembly, Module}
 use Rattle.tatp_commands.specs.declared.population.Population.{Population}
 use Rattle.tatp_commands.specs.RowLines.{Work}
 use Rattle.tatp_commands.specs.Served.{work_of}
@@ -67,3 +67,6 @@ LeavesTold population partitions clients input old new WriteFault = WritesFrontO
 LeavesTold population partitions clients input old new ReadFault = Appends old new []
 LeavesTold population partitions clients input old new (Assembly fault) = ⊥
 LeavesTold population partitions clients input old new (Module fault) = ⊥
+LeavesTold population partitions clients input old new (ExtentMissing e) = ⊥
+LeavesTold population partitions clients input old new (Unsettled cause) = ⊥
+LeavesTold population partitions clients input old new NoThread = ⊥

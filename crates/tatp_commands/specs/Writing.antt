@@ -2,7 +2,7 @@
 use Rattle.std.specs.Prelude.{ℕ, List, [], ◌++◌, Option}
 use Rattle.std.specs.Io.KnownBytes.{Appends}
 use Rattle.tatp_commands.specs.declared.fault.Fault.{Fault}
-use Rattle.tatp_commands.specs.declared.fault.Fault.TheVariants.{BadLine, NotClean, TooMany, NoMemory, ReadFault, WriteFault, Assembly, Module}
+use Rattle.tatp_commands.specs.declared.fault.Fault.TheVariants.{BadLine, NotClean, TooMany, ExtentMissing, Unsettled, NoMemory, ReadFault, WriteFault, NoThread, Assembly, Module}
 
 -- new has besides a text of which this holds
 abbrev pub WritesText : (List ℕ → Type 0) → Option (List ℕ) → Option (List ℕ) → Type 0
@@ -22,3 +22,6 @@ LeavesText Refuses IsText old new ReadFault = Appends old new []
 LeavesText Refuses IsText old new WriteFault = WritesFrontOfText IsText old new
 LeavesText Refuses IsText old new (Assembly fault) = Refuses (Assembly fault) × Appends old new []
 LeavesText Refuses IsText old new (Module fault) = Refuses (Module fault) × Appends old new []
+LeavesText Refuses IsText old new (ExtentMissing e) = Refuses (ExtentMissing e) × Appends old new []
+LeavesText Refuses IsText old new (Unsettled cause) = Refuses (Unsettled cause) × Appends old new []
+LeavesText Refuses IsText old new NoThread = Refuses NoThread × Appends old new []

@@ -1,13 +1,15 @@
 //! Why a command stops.
 ghost use Rattle.std.specs.Prelude.{◌≡◌};
-ghost use Rattle.tatp_commands.specs.Faults.{opening_fault, assembling_fault, loading_fault};
+ghost use Rattle.tatp_commands.specs.Faults.{opening_fault, assembling_fault, loading_fault, bench_fault};
 ghost use Rattle.tatp_commands.specs.declared.fault.Fault.TheVariants.{NoMemory, Module};
 
 use std::alloc::{AllocError, AllocFailed};
 use tatp_asm::{AsmError, AsmFault};
 use tatp_audits::Verdict;
+use tatp_bench::BenchFault;
 use tatp_loader::{LoadError, LoadFault};
 use tatp_population::OpenError;
+use tatp_settle::Unsettled;
 use thiserror::Error;
 
 /// Why a command stops. Its text is its number, its name and its details.
@@ -23,6 +25,12 @@ pub enum Fault {
     /// There are more subscribers than are opened.
     #[error("28 TooMany")]
     TooMany,
+    /// What a run left lacks the extent of this number.
+    #[error("44 ExtentMissing {0}")]
+    ExtentMissing(u64),
+    /// What a run left isn't one history of its calls.
+    #[error("45 Unsettled {0}")]
+    Unsettled(Unsettled),
     /// Memory ran out.
     #[error("46 NoMemory")]
     NoMemory,
@@ -32,6 +40,9 @@ pub enum Fault {
     /// The output could not be written.
     #[error("52 WriteFault")]
     WriteFault,
+    /// A thread couldn't be started.
+    #[error("57 NoThread")]
+    NoThread,
     /// The text is no module's.
     #[error("{0}")]
     Assembly(AsmFault),
@@ -94,6 +105,19 @@ impl From<LoadError> for Fault {
         match error {
             LoadError::NoMemory => Fault::NoMemory,
             LoadError::Fault(fault) => Fault::Module(fault),
+        }
+    }
+}
+
+impl From<BenchFault> for Fault {
+    ghost from_gives = { λ error fault. fault ≡ bench_fault error };
+
+    fn from(error: BenchFault) -> Fault {
+        match error {
+            BenchFault::ExtentMissing(extent) => Fault::ExtentMissing(extent),
+            BenchFault::Unsettled(cause) => Fault::Unsettled(cause),
+            BenchFault::NoMemory => Fault::NoMemory,
+            BenchFault::NoThread => Fault::NoThread,
         }
     }
 }

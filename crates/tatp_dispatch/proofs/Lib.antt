@@ -30,6 +30,7 @@ pub mod CarryLaws
 pub mod LandingLaws
 pub mod OpenLaws
 pub mod RowsLaws
+pub mod SeenLaws
 pub mod IdleLaws
 pub mod NewLaws
 pub mod RunningLaws

@@ -7,6 +7,7 @@ pub mod Plain
 pub mod Gathered
 pub mod Populated
 pub mod Shown
+pub mod Seen
 pub mod Obstacles
 pub mod Events
 pub mod Serving

@@ -12,5 +12,6 @@ pub mod StepLaws
 pub mod CompletionLaws
 pub mod CloseLaws
 pub mod OpenLaws
+pub mod RestLaws
 pub mod RunnerLaws
 pub mod FixtureLaws

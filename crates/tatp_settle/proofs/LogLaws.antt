@@ -48,15 +48,18 @@ found_step sites i s e l is all =
     ∙ (ap (λ (x : ClosedSiteState). found_in (x ∷ drop (i + 1) sites) e) (sym is) ∙ found_first s (drop (i + 1) sites) e (site_of sites i s l is all))
 
 -- ---- the log of a number
-no_homeless : (sites : List ClosedSiteState) (e : ℕ) → e ≢ 0 → find (λ (log : ExtentLog). log.extent == e) (map log_of_homeless sites) ≡ None
+abbrev pub log_has : ℕ → ExtentLog → Bool
+log_has e log = log.extent == e
+
+no_homeless : (sites : List ClosedSiteState) (e : ℕ) → e ≢ 0 → find (log_has e) (map log_of_homeless sites) ≡ None
 no_homeless [] e h = refl
-no_homeless (s ∷ sites) e h = ap (λ (b : Bool). cond b (Some (log_of_homeless s)) (find (λ (log : ExtentLog). log.extent == e) (map log_of_homeless sites))) (ne_eqb 0 e (λ z. h (sym z))) ∙ no_homeless sites e h
+no_homeless (s ∷ sites) e h = ap (λ (b : Bool). cond b (Some (log_of_homeless s)) (find (log_has e) (map log_of_homeless sites))) (ne_eqb 0 e (λ z. h (sym z))) ∙ no_homeless sites e h
 
 one_log : (x : ExtentState) (v : Option ExtentState) (b : Bool) → cond b (Some (log_of_extent x)) (option_map log_of_extent v) ≡ option_map log_of_extent (cond b (Some x) v)
 one_log x v true = refl
 one_log x v false = refl
 
-log_found : (xs : List ExtentState) (e : ℕ) → find (λ (log : ExtentLog). log.extent == e) (map log_of_extent xs) ≡ option_map log_of_extent (find (has_number e) xs)
+pub log_found : (xs : List ExtentState) (e : ℕ) → find (log_has e) (map log_of_extent xs) ≡ option_map log_of_extent (find (has_number e) xs)
 log_found [] e = refl
 log_found (x ∷ xs) e = ap (λ (v : Option ExtentLog). cond (x.number == e) (Some (log_of_extent x)) v) (log_found xs e) ∙ one_log x (find (has_number e) xs) (x.number == e)
 
@@ -64,16 +67,20 @@ entries_mapped : (v : Option ExtentState) → option_map_or (λ (log : ExtentLog
 entries_mapped None = refl
 entries_mapped (Some x) = refl
 
+-- that of an extent is no log of calls without a home
+pub log_of_number : (sites : List ClosedSiteState) (xs : List ExtentState) (e : ℕ) → e ≢ 0 → find (log_has e) (map log_of_homeless sites ++ map log_of_extent xs) ≡ option_map log_of_extent (find (has_number e) xs)
+log_of_number sites xs e h =
+    find-append (log_has e) (map log_of_homeless sites) (map log_of_extent xs)
+    ∙ (λ i. option_or (no_homeless sites e h i) (log_found xs e i))
+
 -- the log of an extent is that of its number
 pub entries_of_extent : (c : ClosedState) (e : ℕ) → e ≢ 0 → entries_numbered c e ≡ option_map_or (λ (x : ExtentState). x.log) (extent_numbered c e) []
 entries_of_extent c e h =
-    ap (λ (v : Option ExtentLog). option_map_or (λ (log : ExtentLog). log.entries) v [])
-    (find-append (λ (log : ExtentLog). log.extent == e) (map log_of_homeless (filter (λ (s : ClosedSiteState). s.partition == 0) c.sites)) (map log_of_extent (extents_of c))
-    ∙ ((λ i. option_or (no_homeless (filter (λ (s : ClosedSiteState). s.partition == 0) c.sites) e h i) (log_found (extents_of c) e i))))
+    ap (λ (v : Option ExtentLog). option_map_or (λ (log : ExtentLog). log.entries) v []) (log_of_number (filter (λ (s : ClosedSiteState). s.partition == 0) c.sites) (extents_of c) e h)
     ∙ entries_mapped (extent_numbered c e)
 
 -- no extent has the number 0
-none_zero : (xs : List ExtentState) → All IsExtent xs → find (has_number 0) xs ≡ None
+pub none_zero : (xs : List ExtentState) → All IsExtent xs → find (has_number 0) xs ≡ None
 none_zero [] all = refl
 none_zero (x ∷ xs) all =
     let least = (All-head IsExtent x xs all).of_extent.numbered in
@@ -88,10 +95,10 @@ none_zero_at (s ∷ sites) all =
 pub no_extent_zero : (c : ClosedState) → IsClosed c → extent_numbered c 0 ≡ None
 no_extent_zero c h = found_anywhere c 0 ∙ (λ i. option_or (none_zero_at c.sites h.sites i) (none_zero c.parcels h.parcels i))
 
-homeless_found : (sites : List ClosedSiteState) → find (λ (log : ExtentLog). log.extent == 0) (map log_of_homeless (filter (λ (s : ClosedSiteState). s.partition == 0) sites)) ≡ option_map log_of_homeless (find (λ (s : ClosedSiteState). s.partition == 0) sites)
+homeless_found : (sites : List ClosedSiteState) → find (log_has 0) (map log_of_homeless (filter (λ (s : ClosedSiteState). s.partition == 0) sites)) ≡ option_map log_of_homeless (find (λ (s : ClosedSiteState). s.partition == 0) sites)
 homeless_found sites = by (filter (λ (s : ClosedSiteState). s.partition == 0) sites) ∙ ap (option_map log_of_homeless) (sym (find_filtered (λ (s : ClosedSiteState). s.partition == 0) sites))
   where
-    by : (xs : List ClosedSiteState) → find (λ (log : ExtentLog). log.extent == 0) (map log_of_homeless xs) ≡ option_map log_of_homeless (slice_get xs 0)
+    by : (xs : List ClosedSiteState) → find (log_has 0) (map log_of_homeless xs) ≡ option_map log_of_homeless (slice_get xs 0)
     by [] = refl
     by (x ∷ xs) = refl
 
@@ -103,7 +110,7 @@ entries_homeless (Some s) = refl
 pub entries_of_homeless : (c : ClosedState) → IsClosed c → entries_numbered c 0 ≡ option_map_or (λ (s : ClosedSiteState). s.homeless.log) (find (λ (s : ClosedSiteState). s.partition == 0) c.sites) []
 entries_of_homeless c h =
     ap (λ (v : Option ExtentLog). option_map_or (λ (log : ExtentLog). log.entries) v [])
-    (find-append (λ (log : ExtentLog). log.extent == 0) (map log_of_homeless (filter (λ (s : ClosedSiteState). s.partition == 0) c.sites)) (map log_of_extent (extents_of c))
+    (find-append (log_has 0) (map log_of_homeless (filter (λ (s : ClosedSiteState). s.partition == 0) c.sites)) (map log_of_extent (extents_of c))
     ∙ ((λ i. option_or (homeless_found c.sites i) ((log_found (extents_of c) 0 ∙ ap (option_map log_of_extent) (no_extent_zero c h)) i))))
     ∙ entries_homeless (find (λ (s : ClosedSiteState). s.partition == 0) c.sites)
 

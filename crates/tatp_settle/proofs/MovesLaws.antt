@@ -12,10 +12,11 @@ use Rattle.tatp_population.specs.Extents.{ExtentState}
 use Rattle.tatp_population.specs.Opening.{homes_of_extent}
 use Rattle.tatp_tables.specs.Database.{database_of}
 use Rattle.tatp_tables.specs.Home.{SubscriberRows}
-use Rattle.tatp_settle.specs.Closings.{ClosedSiteState, ExtentLog, extents_of, log_of_homeless, log_of_extent, extent_numbered, extents_numbered}
+use Rattle.tatp_settle.specs.Closings.{ClosedSiteState, extents_of, log_of_homeless, log_of_extent, extent_numbered, extents_numbered}
 use Rattle.tatp_settle.specs.Runs.{Run, extents_populated, homes_populated}
 use Rattle.tatp_settle.specs.Settlements.{IsPopulationOnce, moves_made}
-use Rattle.tatp_settle.proofs.StandingLaws.{count_cons}
+use Rattle.tatp_settle.proofs.StandingLaws.{has_number, count_cons}
+use Rattle.tatp_settle.proofs.LogLaws.{log_has}
 
 -- ---- sums over a range
 sum_same : (f g : ℕ → ℕ) (es : List ℕ) → ((e : ℕ) → f e ≡ g e) → sum_by f es ≡ sum_by g es
@@ -53,24 +54,21 @@ sum_one m v a (suc n) l k = elim (cases_eq m a) [
 ]
 
 -- ---- extents by number
-abbrev is_numbered : ℕ → ExtentState → Bool
-is_numbered e x = x.number == e
-
 module _ (f : ExtentState → ℕ) where
-  one_more : (e : ℕ) (x : ExtentState) (xs : List ExtentState) → sum_by f (filter (is_numbered e) (x ∷ xs)) ≡ value_at x.number (f x) e + sum_by f (filter (is_numbered e) xs)
-  one_more e x xs = elim (x.number == e) as (λ b. sum_by f (cond b (x ∷ filter (is_numbered e) xs) (filter (is_numbered e) xs)) ≡ cond b (f x) 0 + sum_by f (filter (is_numbered e) xs)) [
-    | true ↦ sum_by-cons f x (filter (is_numbered e) xs)
+  one_more : (e : ℕ) (x : ExtentState) (xs : List ExtentState) → sum_by f (filter (has_number e) (x ∷ xs)) ≡ value_at x.number (f x) e + sum_by f (filter (has_number e) xs)
+  one_more e x xs = elim (x.number == e) as (λ b. sum_by f (cond b (x ∷ filter (has_number e) xs) (filter (has_number e) xs)) ≡ cond b (f x) 0 + sum_by f (filter (has_number e) xs)) [
+    | true ↦ sum_by-cons f x (filter (has_number e) xs)
     | false ↦ sym (zero-add _)
   ]
 
   -- number by number, all of them are counted
-  by_number : (a n : ℕ) (xs : List ExtentState) → All (λ (x : ExtentState). (a ≤ x.number) × (x.number < a + n)) xs → sum_by (λ e. sum_by f (filter (is_numbered e) xs)) (range_with_len a n) ≡ sum_by f xs
+  by_number : (a n : ℕ) (xs : List ExtentState) → All (λ (x : ExtentState). (a ≤ x.number) × (x.number < a + n)) xs → sum_by (λ e. sum_by f (filter (has_number e) xs)) (range_with_len a n) ≡ sum_by f xs
   by_number a n [] within = sum_nothing (λ e. 0) a n (λ e l. refl)
   by_number a n (x ∷ xs) within =
       let own = All-head (λ (y : ExtentState). (a ≤ y.number) × (y.number < a + n)) x xs within in
       let rest = by_number a n xs (All-tail (λ (y : ExtentState). (a ≤ y.number) × (y.number < a + n)) x xs within) in
-      sum_same (λ e. sum_by f (filter (is_numbered e) (x ∷ xs))) (λ e. value_at x.number (f x) e + sum_by f (filter (is_numbered e) xs)) (range_with_len a n) (λ e. one_more e x xs)
-      ∙ sum_both (value_at x.number (f x)) (λ e. sum_by f (filter (is_numbered e) xs)) (range_with_len a n)
+      sum_same (λ e. sum_by f (filter (has_number e) (x ∷ xs))) (λ e. value_at x.number (f x) e + sum_by f (filter (has_number e) xs)) (range_with_len a n) (λ e. one_more e x xs)
+      ∙ sum_both (value_at x.number (f x)) (λ e. sum_by f (filter (has_number e) xs)) (range_with_len a n)
       ∙ (λ i. sum_one x.number (f x) a n own.0 own.1 i + rest i)
       ∙ sym (sum_by-cons f x xs)
 
@@ -91,16 +89,13 @@ module _ (f : ExtentState → ℕ) where
       ] l
 
 -- ---- the extents of a run
-abbrev log_has : ℕ → ExtentLog → Bool
-log_has e log = log.extent == e
-
-counted : (e : ℕ) (sites : List ClosedSiteState) (extents : List ExtentState) → length (filter (is_numbered e) extents) ≤ count_by (log_has e) (map log_of_homeless sites ++ map log_of_extent extents)
+counted : (e : ℕ) (sites : List ClosedSiteState) (extents : List ExtentState) → length (filter (has_number e) extents) ≤ count_by (log_has e) (map log_of_homeless sites ++ map log_of_extent extents)
 counted e [] [] = omega arith
 counted e [] (x ∷ extents) =
     let more = count_cons (log_has e) (log_of_extent x) (map log_of_extent extents) in
     let rest = counted e [] extents in
-    let here : length (filter (is_numbered e) (x ∷ extents)) ≡ cond (x.number == e) 1 0 + length (filter (is_numbered e) extents) =
-    elim (x.number == e) as (λ b. length (cond b (x ∷ filter (is_numbered e) extents) (filter (is_numbered e) extents)) ≡ cond b 1 0 + length (filter (is_numbered e) extents)) [
+    let here : length (filter (has_number e) (x ∷ extents)) ≡ cond (x.number == e) 1 0 + length (filter (has_number e) extents) =
+    elim (x.number == e) as (λ b. length (cond b (x ∷ filter (has_number e) extents) (filter (has_number e) extents)) ≡ cond b 1 0 + length (filter (has_number e) extents)) [
       | true ↦ omega arith
       | false ↦ omega arith
     ] in
@@ -130,14 +125,14 @@ are_within : (run : Run) → IsPopulationOnce run → All (λ (x : ExtentState).
 are_within run once k d l =
     let x : ExtentState = slice_index_or (extents_of run.closed) k d in
     let opened : homes_populated run.population x.number ≡ Some x.opening =
-    of_passing (λ (y : ExtentState). homes_populated run.population x.number ≡ Some y.opening) (is_numbered x.number) (extents_of run.closed) (once.opened x.number).homes k d l (eq-eqb x.number x.number refl) in
+    of_passing (λ (y : ExtentState). homes_populated run.population x.number ≡ Some y.opening) (has_number x.number) (extents_of run.closed) (once.opened x.number).homes k d l (eq-eqb x.number x.number refl) in
     within_populated run.population x.number x.opening opened
 
 -- each extent stands once: its moves are counted by its number
 pub moves_by_number : (run : Run) → IsPopulationOnce run → sum_by (λ e. option_map_or (λ (x : ExtentState). x.moves) (extent_numbered run.closed e) 0) (range_with_len 1 (extents_populated run.population)) ≡ moves_made run
 moves_by_number run once =
     sum_same (λ e. option_map_or (λ (x : ExtentState). x.moves) (extent_numbered run.closed e) 0) (λ e. sum_by (λ (x : ExtentState). x.moves) (extents_numbered run.closed e)) (range_with_len 1 (extents_populated run.population)) (λ e.
-    sym (only_one (λ (x : ExtentState). x.moves) (is_numbered e) (extents_of run.closed) (at_most_once e)))
+    sym (only_one (λ (x : ExtentState). x.moves) (has_number e) (extents_of run.closed) (at_most_once e)))
     ∙ by_number (λ (x : ExtentState). x.moves) 1 (extents_populated run.population) (extents_of run.closed) (are_within run once)
   where
     at_most_once : (e : ℕ) → length (extents_numbered run.closed e) ≤ 1

@@ -1,16 +1,18 @@
 -- The entries of all logs, put into the table of calls one after another.
-use Rattle.std.proofs.Common.{◌≡◌, ℕ, ◌<◌, ◌≤◌, ◌+◌, ◌⊎◌, inl, inr, List, Option, Some, None, true, false, slice_get, refl, sym, ◌∙◌, ap, subst, arith}
+use Rattle.std.proofs.Common.{◌≡◌, ℕ, ◌<◌, ◌≤◌, ◌+◌, ◌⊎◌, inl, inr, List, Option, Some, None, true, false, refl, sym, ◌∙◌, ap, subst, arith}
+use Rattle.std.proofs.lemmas.Option.{same_Some, none-some}
 use Rattle.tatp_procs.specs.declared.entry.Entry.{Entry}
 use Rattle.tatp_settle.specs.declared.receipt.Receipt.{Receipt}
 use Rattle.tatp_settle.specs.declared.places.LogPlace.{LogPlace}
 use Rattle.tatp_settle.specs.declared.places.CallPlace.{CallPlace}
-use Rattle.tatp_settle.specs.Closings.{ClosedState, StandsAt, entries_numbered}
+use Rattle.tatp_settle.specs.Closings.{ClosedState, StandsAt}
 use Rattle.tatp_settle.specs.Runs.{at_call}
 use Rattle.tatp_settle.specs.Answering.{EntryFound}
 use Rattle.tatp_settle.specs.CallPlaces.{IsSooner, IsFirstCall}
 use Rattle.tatp_settle.specs.Causes.{HasEntryTooMany}
 use Rattle.tatp_settle.specs.Placing.{IsFresh, IsFreshCell, Puts, Points, AllPlaced, IsAtMost}
 use Rattle.tatp_settle.proofs.SearchLaws.{lt_or}
+use Rattle.tatp_settle.proofs.ReceivedLaws.{in_cell, one_place}
 
 -- the places before one, log by log
 abbrev pub IsVisited : ℕ → ℕ → ℕ → ℕ → Type 0
@@ -74,21 +76,6 @@ same_or a b c d = elim (eq_or a c) as (λ _. ((a ≡ c) × (b ≡ d)) ⊎ ((a �
     eq_or : (m n : ℕ) → (m ≡ n) ⊎ (m ≡ n → ⊥)
     eq_or m n = elim (order m n) as (λ _. (m ≡ n) ⊎ (m ≡ n → ⊥)) [ inl e ↦ inl e | inr l ↦ inr (λ e. apart m n l e) ]
 
-some_of : {A : Type 0} (x y : A) (o : Option A) → o ≡ Some x → o ≡ Some y → x ≡ y
-some_of x y o g h = cc
-
-place_of_cell : (p q : LogPlace) (o : Option (Option LogPlace)) → o ≡ Some (Some p) → o ≡ Some (Some q) → p ≡ q
-place_of_cell p q o g h = cc
-
-not_both : (p : LogPlace) (o : Option (Option LogPlace)) → o ≡ Some (Some p) → o ≡ Some None → ⊥
-not_both p o g h = cc
-
-not_filled_none : (p : LogPlace) (o : Option (Option LogPlace)) → o ≡ Some (Some p) → o ≡ None → ⊥
-not_filled_none p o g h = cc
-
-empty_none : (o : Option (Option LogPlace)) → o ≡ Some None → o ≡ None → ⊥
-empty_none o g h = cc
-
 abbrev place_at : ℕ → ℕ → LogPlace
 place_at extent index = record { extent = extent; index = index }
 
@@ -112,27 +99,27 @@ placed_log closed receipts cells least x count h past = record {
 pub placed_put : (closed : ClosedState) (receipts : List (List Receipt)) (cells cells' : ℕ → ℕ → Option (Option LogPlace)) (least : Option CallPlace) (x i : ℕ) (entry : Entry) → ArePlaced closed receipts cells least x i → StandsAt closed x i entry → Puts cells entry.client entry.number (record { extent = x; index = i }) true cells' → ArePlaced closed receipts cells' least x (i + 1)
 placed_put closed receipts cells cells' least x i entry h at q = record {
   none = λ c n e. elim (same_or c n entry.client entry.number) as (λ _. cells' c n ≡ None) [
-    | inl s ↦ absurd (empty_none (cells entry.client entry.number) q.0 (h.none entry.client entry.number (subst (λ (k : ℕ). at_call receipts k entry.number ≡ None) s.0 (subst (λ (k : ℕ). at_call receipts c k ≡ None) s.1 e))))
+    | inl s ↦ absurd (none-some None (sym (h.none entry.client entry.number (subst (λ (k : ℕ). at_call receipts k entry.number ≡ None) s.0 (subst (λ (k : ℕ). at_call receipts c k ≡ None) s.1 e))) ∙ q.0))
     | inr o ↦ q.2 c n o ∙ h.none c n e
   ];
   some = λ c n e. elim (same_or c n entry.client entry.number) as (λ _. at_call receipts c n ≡ None) [
-    | inl s ↦ absurd (not_filled_none here (cells' entry.client entry.number) q.1 (subst (λ (k : ℕ). cells' k entry.number ≡ None) s.0 (subst (λ (k : ℕ). cells' c k ≡ None) s.1 e)))
+    | inl s ↦ absurd (none-some (Some here) (sym (subst (λ (k : ℕ). cells' k entry.number ≡ None) s.0 (subst (λ (k : ℕ). cells' c k ≡ None) s.1 e)) ∙ q.1))
     | inr o ↦ h.some c n (sym (q.2 c n o) ∙ e)
   ];
   points = λ c n p g. elim (same_or c n entry.client entry.number) as (λ _. Points closed c n p × IsVisited x (i + 1) p.extent p.index) [
-    | inl s ↦ subst (λ (r : LogPlace). Points closed c n r × IsVisited x (i + 1) r.extent r.index) (place_of_cell here p (cells' entry.client entry.number) q.1 (subst (λ (k : ℕ). cells' k entry.number ≡ Some (Some p)) s.0 (subst (λ (k : ℕ). cells' c k ≡ Some (Some p)) s.1 g)))
+    | inl s ↦ subst (λ (r : LogPlace). Points closed c n r × IsVisited x (i + 1) r.extent r.index) (same_Some here p (same_Some (Some here) (Some p) (sym q.1 ∙ (subst (λ (k : ℕ). cells' k entry.number ≡ Some (Some p)) s.0 (subst (λ (k : ℕ). cells' c k ≡ Some (Some p)) s.1 g)))))
         (record { entry = entry; stands = at; own = record { client = sym s.0; number = sym s.1 } }, inr (refl, omega arith))
     | inr o ↦ (let old = h.points c n p (sym (q.2 c n o) ∙ g) in (old.0, visited_more x i p.extent p.index old.1))
   ];
   seen = λ e j f v g. elim (visited_step x i e j v) as (λ _. (cells' f.client f.number ≡ Some (Some (record { extent = e; index = j }))) ⊎ IsAtMost least f.client f.number) [
     | inl w ↦ (elim (h.seen e j f w g) as (λ _. (cells' f.client f.number ≡ Some (Some (record { extent = e; index = j }))) ⊎ IsAtMost least f.client f.number) [
       | inl a ↦ (elim (same_or f.client f.number entry.client entry.number) as (λ _. (cells' f.client f.number ≡ Some (Some (record { extent = e; index = j }))) ⊎ IsAtMost least f.client f.number) [
-        | inl s ↦ absurd (not_both (record { extent = e; index = j }) (cells entry.client entry.number) (subst (λ (k : ℕ). cells k entry.number ≡ Some (Some (record { extent = e; index = j }))) s.0 (subst (λ (k : ℕ). cells f.client k ≡ Some (Some (record { extent = e; index = j }))) s.1 a)) q.0)
+        | inl s ↦ absurd (none-some (record { extent = e; index = j }) (same_Some None (Some (record { extent = e; index = j })) (sym q.0 ∙ (subst (λ (k : ℕ). cells k entry.number ≡ Some (Some (record { extent = e; index = j }))) s.0 (subst (λ (k : ℕ). cells f.client k ≡ Some (Some (record { extent = e; index = j }))) s.1 a)))))
         | inr o ↦ inl (q.2 f.client f.number o ∙ a)
       ])
       | inr b ↦ inr b
     ])
-    | inr s ↦ inl (subst (λ (r : Entry). cells' r.client r.number ≡ Some (Some (record { extent = e; index = j }))) (some_of entry f (slice_get_at x i) at (subst (λ (d : ℕ). StandsAt closed x d f) s.1 (subst (λ (d : ℕ). StandsAt closed d j f) s.0 g)))
+    | inr s ↦ inl (subst (λ (r : Entry). cells' r.client r.number ≡ Some (Some (record { extent = e; index = j }))) (same_Some entry f (sym at ∙ (subst (λ (d : ℕ). StandsAt closed x d f) s.1 (subst (λ (d : ℕ). StandsAt closed d j f) s.0 g))))
         (q.1 ∙ ap (λ (r : LogPlace). Some (Some r)) (same_place e j s.0 s.1)))
   ];
   extra = h.extra;
@@ -144,9 +131,6 @@ placed_put closed receipts cells cells' least x i entry h at q = record {
     same_place : (e j : ℕ) → e ≡ x → j ≡ i → here ≡ place_at e j
     same_place e j s t = ap (λ (k : ℕ). place_at k i) (sym s) ∙ ap (λ (k : ℕ). place_at e k) (sym t)
 
-    slice_get_at : ℕ → ℕ → Option Entry
-    slice_get_at e j = slice_get (entries_numbered closed e) j
-
 -- the entry's cell was filled or isn't there: its call has an entry too many
 pub placed_kept : (closed : ClosedState) (receipts : List (List Receipt)) (cells cells' : ℕ → ℕ → Option (Option LogPlace)) (least least' : Option CallPlace) (x i : ℕ) (entry : Entry) → ArePlaced closed receipts cells least x i → StandsAt closed x i entry → Puts cells entry.client entry.number (record { extent = x; index = i }) false cells'
     → ((c n : ℕ) → IsAtMost least c n → IsAtMost least' c n) → IsAtMost least' entry.client entry.number → (least' ≡ least) ⊎ (least' ≡ Some (record { client = entry.client; number = entry.number })) → ArePlaced closed receipts cells' least' x (i + 1)
@@ -156,11 +140,11 @@ placed_kept closed receipts cells cells' least least' x i entry h at q keeps her
   points = λ c n p g. (let old = h.points c n p (sym (q.1 c n) ∙ g) in (old.0, visited_more x i p.extent p.index old.1));
   seen = λ e j f v g. elim (visited_step x i e j v) as (λ _. (cells' f.client f.number ≡ Some (Some (record { extent = e; index = j }))) ⊎ IsAtMost least' f.client f.number) [
     | inl w ↦ (elim (h.seen e j f w g) as (λ _. (cells' f.client f.number ≡ Some (Some (record { extent = e; index = j }))) ⊎ IsAtMost least' f.client f.number) [ inl a ↦ inl (q.1 f.client f.number ∙ a) | inr b ↦ inr (keeps f.client f.number b) ])
-    | inr s ↦ inr (subst (λ (r : Entry). IsAtMost least' r.client r.number) (some_of entry f (slice_get (entries_numbered closed x) i) at (subst (λ (d : ℕ). StandsAt closed x d f) s.1 (subst (λ (d : ℕ). StandsAt closed d j f) s.0 g))) here)
+    | inr s ↦ inr (subst (λ (r : Entry). IsAtMost least' r.client r.number) (same_Some entry f (sym at ∙ (subst (λ (d : ℕ). StandsAt closed x d f) s.1 (subst (λ (d : ℕ). StandsAt closed d j f) s.0 g)))) here)
   ];
   extra = λ place g. elim is as (λ _. HasEntryTooMany closed receipts place.client place.number) [
     | inl o ↦ h.extra place (sym o ∙ g)
-    | inr o ↦ subst (λ (r : CallPlace). HasEntryTooMany closed receipts r.client r.number) (some_of (record { client = entry.client; number = entry.number }) place least' o g) (why (cells entry.client entry.number) refl)
+    | inr o ↦ subst (λ (r : CallPlace). HasEntryTooMany closed receipts r.client r.number) (same_Some (record { client = entry.client; number = entry.number }) place (sym o ∙ g)) (why (cells entry.client entry.number) refl)
   ];
 }
   where
@@ -197,27 +181,16 @@ module _ (closed : ClosedState) (receipts : List (List Receipt)) (cells : ℕ �
   ]
 
   none_sooner : (place : CallPlace) → ArePlaced closed receipts cells (Some place) count 0 → (c n : ℕ) → IsSooner c n place.client place.number → HasEntryTooMany closed receipts c n → ⊥
-  none_sooner place h c n s (inl m) = not_filled_none (record { extent = m.found.extent; index = m.found.place }) (cells c n) (in_its_cell place h c n s m.found) (h.none c n m.lacks)
+  none_sooner place h c n s (inl m) = none-some (Some (record { extent = m.found.extent; index = m.found.place })) (sym (h.none c n m.lacks) ∙ (in_its_cell place h c n s m.found))
   none_sooner place h c n s (inr t) =
       let one : LogPlace = record { extent = t.one.extent; index = t.one.place } in
       let other : LogPlace = record { extent = t.other.extent; index = t.other.place } in
-      let same : one ≡ other = place_of_cell one other (cells c n) (in_its_cell place h c n s t.one) (in_its_cell place h c n s t.other) in
+      let same : one ≡ other = same_Some one other (same_Some (Some one) (Some other) (sym (in_its_cell place h c n s t.one) ∙ (in_its_cell place h c n s t.other))) in
       t.apart (ap (λ (r : LogPlace). r.extent) same) (ap (λ (r : LogPlace). r.index) same)
 
   none_extra : ArePlaced closed receipts cells None count 0 → (c n : ℕ) → HasEntryTooMany closed receipts c n → ⊥
-  none_extra h c n (inl m) = let p = placed_all h in
-      not_filled_none (record { extent = m.found.extent; index = m.found.place }) (cells c n) (its p c n m.found) (h.none c n m.lacks)
-    where
-      its : AllPlaced closed receipts cells → (c n : ℕ) (f : EntryFound closed c n) → cells c n ≡ Some (Some (record { extent = f.extent; index = f.place }))
-      its p c n f = subst (λ (k : ℕ). cells c k ≡ Some (Some (record { extent = f.extent; index = f.place }))) f.own.number (subst (λ (k : ℕ). cells k f.entry.number ≡ Some (Some (record { extent = f.extent; index = f.place }))) f.own.client (p.placed f.extent f.place f.entry f.stands))
-  none_extra h c n (inr t) =
-      let one : LogPlace = record { extent = t.one.extent; index = t.one.place } in
-      let other : LogPlace = record { extent = t.other.extent; index = t.other.place } in
-      let same : one ≡ other = place_of_cell one other (cells c n) (its (placed_all h) c n t.one) (its (placed_all h) c n t.other) in
-      t.apart (ap (λ (r : LogPlace). r.extent) same) (ap (λ (r : LogPlace). r.index) same)
-    where
-      its : AllPlaced closed receipts cells → (c n : ℕ) (f : EntryFound closed c n) → cells c n ≡ Some (Some (record { extent = f.extent; index = f.place }))
-      its p c n f = subst (λ (k : ℕ). cells c k ≡ Some (Some (record { extent = f.extent; index = f.place }))) f.own.number (subst (λ (k : ℕ). cells k f.entry.number ≡ Some (Some (record { extent = f.extent; index = f.place }))) f.own.client (p.placed f.extent f.place f.entry f.stands))
+  none_extra h c n (inl m) = none-some (Some (record { extent = m.found.extent; index = m.found.place })) (sym (h.none c n m.lacks) ∙ in_cell closed receipts cells (placed_all h) c n m.found)
+  none_extra h c n (inr t) = let same = one_place closed receipts cells (placed_all h) c n t.one t.other in t.apart same.0 same.1
 
   pub placed_end : (least : Option CallPlace) → ArePlaced closed receipts cells least count 0 → IsFirstCall (HasEntryTooMany closed receipts) least
   placed_end None h = none_extra h

@@ -3,7 +3,7 @@ use Rattle.std.proofs.Common.{◌≡◌, ℕ, zero, suc, ◌+◌, ◌≤◌, ◌
 use Rattle.std.specs.List.{range_with_len, flat_map}
 use Rattle.std.specs.Option.{option_map, option_map_or}
 use Rattle.std.proofs.lemmas.Bool.Decides.{nat_tests}
-use Rattle.std.proofs.lemmas.Bool.{ne_eqb, eqb-true, false≢true}
+use Rattle.std.proofs.lemmas.Bool.{eqb-true, false≢true}
 use Rattle.std.proofs.lemmas.Option.{slice_get-map, same_Some}
 use Rattle.std.proofs.lemmas.List.Elements.{All-nil, All-head, All-tail, All-append, All-filter, All-contains}
 use Rattle.tatp_tables.specs.Tuples.{Tuple, rows_of, no_rows}
@@ -41,6 +41,8 @@ use Rattle.tatp_settle.specs.CallPlaces.{HoldsNowhere}
 use Rattle.tatp_settle.specs.Causes.{StampFalls, NamesHome}
 use Rattle.tatp_settle.specs.Settlements.{IsPopulationOnce, IsReceived}
 use Rattle.tatp_settle.specs.Separate.{Parts, AllFindNone, LogAt, LeadsToLast}
+use Rattle.tatp_settle.proofs.StandingLaws.{has_number as is_numbered}
+use Rattle.tatp_settle.proofs.LogLaws.{log_has, log_found, log_of_number, none_zero}
 use Rattle.tatp_settle.proofs.MergeLaws.{map_get, merged_logs_are_one_history}
 use Rattle.tatp_settle.proofs.TakingLaws.{logs_can_be_merged}
 use Rattle.tatp_settle.proofs.TurnLaws.{Rises, EachRises, StandsIn, clients_are_in_turn}
@@ -83,32 +85,8 @@ are_extents : (c : ClosedState) → IsClosed c → All IsExtent (extents_of c)
 are_extents c closed = All-append IsExtent (flat_map (λ (s : ClosedSiteState). extents_in_slots s.slots) c.sites) c.parcels (at_sites c.sites closed.sites) closed.parcels
 
 -- ---- the log of a number
-abbrev log_has : ℕ → ExtentLog → Bool
-log_has e log = log.extent == e
-
 abbrev find_log : ℕ → List ClosedSiteState → List ExtentState → Option ExtentLog
 find_log e sites extents = find (log_has e) (map log_of_homeless sites ++ map log_of_extent extents)
-
-of_extents : (e : ℕ) (extents : List ExtentState) → find (log_has e) (map log_of_extent extents) ≡ option_map log_of_extent (find (λ (x : ExtentState). x.number == e) extents)
-of_extents e [] = refl
-of_extents e (x ∷ extents) =
-    elim (x.number == e) as (λ b. cond b (Some (log_of_extent x)) (find (log_has e) (map log_of_extent extents)) ≡ option_map log_of_extent (cond b (Some x) (find (λ (x : ExtentState). x.number == e) extents))) [
-      | true ↦ refl
-      | false ↦ of_extents e extents
-    ]
-
--- that of an extent is no log of calls without a home
-of_an_extent : (e : ℕ) (sites : List ClosedSiteState) (extents : List ExtentState) → 1 ≤ e → find_log e sites extents ≡ option_map log_of_extent (find (λ (x : ExtentState). x.number == e) extents)
-of_an_extent e [] extents l = of_extents e extents
-of_an_extent e (s ∷ sites) extents l =
-    ap (λ b. cond b (Some (log_of_homeless s)) (find_log e sites extents)) (ne_eqb 0 e (λ z. omega (arith, l, z))) ∙ of_an_extent e sites extents l
-
--- no extent has number 0
-none_at_zero : (extents : List ExtentState) → All IsExtent extents → find (λ (x : ExtentState). x.number == 0) extents ≡ None
-none_at_zero [] all = refl
-none_at_zero (x ∷ extents) all =
-    let least : 1 ≤ x.number = (All-head IsExtent x extents all).of_extent.numbered in
-    ap (λ b. cond b (Some x) (find (λ (x : ExtentState). x.number == 0) extents)) (ne_eqb x.number 0 (λ z. omega (arith, least, z))) ∙ none_at_zero extents (All-tail IsExtent x extents all)
 
 abbrev entries_in : Option ExtentLog → List Entry
 entries_in log = option_map_or (λ (log : ExtentLog). log.entries) log []
@@ -122,7 +100,7 @@ homeless_log : (sites : List ClosedSiteState) (extents : List ExtentState) → A
     → ((log : ExtentLog) → Contains (map log_of_homeless sites ++ map log_of_extent extents) log → log.extent ≡ 0 → log.mixed ≡ true → ⊥)
     → IsHomelessHistory (entries_in (find_log 0 sites extents))
 homeless_log [] extents closed are unmixed =
-    let none : find_log 0 [] extents ≡ None = of_extents 0 extents ∙ ap (option_map log_of_extent) (none_at_zero extents are) in
+    let none : find_log 0 [] extents ≡ None = log_found extents 0 ∙ ap (option_map log_of_extent) (none_zero extents are) in
     subst (λ (log : Option ExtentLog). IsHomelessHistory (entries_in log)) (sym none) (record { entries = All-nil RecordsHomeless; rise = tt })
 homeless_log (s ∷ sites) extents closed are unmixed =
     (All-head IsClosedSite s sites closed).homeless (not_true s.homeless.mixed (unmixed (log_of_homeless s) (0, omega arith, refl) refl))
@@ -148,9 +126,6 @@ record Stood (run : Run) (e : ℕ) : Type 0 where
   pub entries : entries_numbered run.closed e ≡ extent.log
   pub homes : homes_now run e ≡ extent.homes
 
-abbrev is_numbered : ℕ → ExtentState → Bool
-is_numbered e x = x.number == e
-
 abbrev of_partition_0 : ClosedSiteState → Bool
 of_partition_0 s = s.partition == 0
 
@@ -163,7 +138,7 @@ stood run e closed once l m =
     let is : extent_numbered c e ≡ Some x = first.1 in
     let opening : homes_populated run.population e ≡ Some x.opening = All-contains (λ (y : ExtentState). homes_populated run.population e ≡ Some y.opening) (extents_numbered c e) x (once.opened e).homes first.2 in
     let extent : IsExtent x = All-contains IsExtent (extents_of c) x (are_extents c closed) (found (is_numbered e) (extents_of c) x is).0 in
-    let log : find (log_has e) (logs_of c) ≡ Some (log_of_extent x) = of_an_extent e (filter of_partition_0 c.sites) (extents_of c) l ∙ ap (option_map log_of_extent) is in
+    let log : find (log_has e) (logs_of c) ≡ Some (log_of_extent x) = log_of_number (filter of_partition_0 c.sites) (extents_of c) e (λ z. omega (arith, l, z)) ∙ ap (option_map log_of_extent) is in
     let placed = found (log_has e) (logs_of c) (log_of_extent x) log in
     let unmixed : x.mixed ≡ false = not_true x.mixed (λ mixed. once.unmixed e (log_of_extent x, placed.0, eqb-true x.number e placed.1, mixed)) in
     record {

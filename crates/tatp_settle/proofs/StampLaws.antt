@@ -1,6 +1,7 @@
 -- The stamps of a client's receipts, one after another.
-use Rattle.std.proofs.Common.{◌≡◌, ℕ, ◌<◌, ◌≤◌, ◌+◌, true, false, List, Option, Some, None, refl, arith, subst, ◌⊎◌, inl, inr}
+use Rattle.std.proofs.Common.{◌≡◌, ℕ, ◌<◌, ◌≤◌, ◌+◌, true, false, List, Option, Some, None, refl, sym, ◌∙◌, arith, subst, ◌⊎◌, inl, inr}
 use Rattle.std.proofs.lemmas.Grind.{common_steps}
+use Rattle.std.proofs.lemmas.Option.{same_Some}
 use Rattle.tatp_procs.specs.declared.reply.Reply.{Reply}
 use Rattle.tatp_settle.specs.declared.receipt.Receipt.{Receipt}
 use Rattle.tatp_settle.specs.declared.receipt.Receipt.TheVariants.{Done, Refused}
@@ -32,9 +33,6 @@ pub record IsLast (receipts : List (List Receipt)) (client number : ℕ) (last :
   pub seen : (earlier : ℕ) (r : Receipt) → earlier < number → at_call receipts client earlier ≡ Some r → StampAtMost r last
   pub from : (stamp : ℕ) → last ≡ Some stamp → LastAt receipts client number stamp
 
-some_of : {A : Type 0} (x y : A) (o : Option A) → o ≡ Some x → o ≡ Some y → x ≡ y
-some_of x y o g h = cc
-
 pub last_start : (receipts : List (List Receipt)) (c : ℕ) → IsLast receipts c 0 None
 last_start receipts c = record { seen = λ j r l e. absurd (omega (arith, l)); from = λ t e. absurd cc }
 
@@ -47,7 +45,7 @@ later_refused (Refused a b) c n = tt
 
 pub falls_refused : (receipts : List (List Receipt)) (c n c' n' : ℕ) → at_call receipts c n ≡ Some (Refused c' n') → StampFalls receipts c n → ⊥
 falls_refused receipts c n c' n' is f =
-    f.falls (subst (λ (r : Receipt). IsLater f.first r) (some_of (Refused c' n') f.second (at_call receipts c n) is f.got_second) (later_refused f.first c' n'))
+    f.falls (subst (λ (r : Receipt). IsLater f.first r) (same_Some (Refused c' n') f.second (sym is ∙ f.got_second)) (later_refused f.first c' n'))
 
 later_above : (r : Receipt) (o : Option ℕ) (c n : ℕ) (y : Reply) (x s : ℕ) → StampAtMost r o → is_above o s ≡ true → IsLater r (Done c n y x s)
 later_above (Done a b d e f) (Some t) c n y x s m g = grind (arith, common_steps, m)
@@ -56,7 +54,7 @@ later_above (Refused a b) o c n y x s m g = tt
 
 pub falls_above : (receipts : List (List Receipt)) (c n c' n' : ℕ) (y : Reply) (x s : ℕ) (last : Option ℕ) → IsLast receipts c n last → at_call receipts c n ≡ Some (Done c' n' y x s) → is_above last s ≡ true → StampFalls receipts c n → ⊥
 falls_above receipts c n c' n' y x s last h is g f =
-    f.falls (subst (λ (r : Receipt). IsLater f.first r) (some_of (Done c' n' y x s) f.second (at_call receipts c n) is f.got_second) (later_above f.first last c' n' y x s (h.seen f.earlier f.first f.before f.got_first) g))
+    f.falls (subst (λ (r : Receipt). IsLater f.first r) (same_Some (Done c' n' y x s) f.second (sym is ∙ f.got_second)) (later_above f.first last c' n' y x s (h.seen f.earlier f.first f.before f.got_first) g))
 
 not_later : (r : Receipt) (t c n : ℕ) (y : Reply) (x s : ℕ) → HasStamp r t → s ≤ t → IsLater r (Done c n y x s) → ⊥
 not_later (Done a b d e f) t c n y x s h l g = let i : f ≡ t = h in let j : f < s = g in omega arith
@@ -80,7 +78,7 @@ pub last_done : (receipts : List (List Receipt)) (c n c' n' : ℕ) (y : Reply) (
 last_done receipts c n c' n' y x s last h is g = record {
   seen = λ j r l e. elim (below_or j n l) as (λ _. StampAtMost r (Some s)) [
     | inl m ↦ at_most_above r last s (h.seen j r m e) g
-    | inr m ↦ subst (λ (q : Receipt). StampAtMost q (Some s)) (some_of (Done c' n' y x s) r (at_call receipts c n) is (subst (λ (k : ℕ). at_call receipts c k ≡ Some r) m e)) same
+    | inr m ↦ subst (λ (q : Receipt). StampAtMost q (Some s)) (same_Some (Done c' n' y x s) r (sym is ∙ (subst (λ (k : ℕ). at_call receipts c k ≡ Some r) m e))) same
   ];
   from = λ t e. record { earlier = n; receipt = Done c' n' y x s; below = omega arith; at = is; stamp = (let i : s ≡ t = cc in i) };
 }
@@ -98,7 +96,7 @@ last_kept receipts c n last h new = record {
 }
 
 pub last_refused : (receipts : List (List Receipt)) (c n c' n' : ℕ) (last : Option ℕ) → IsLast receipts c n last → at_call receipts c n ≡ Some (Refused c' n') → IsLast receipts c (n + 1) last
-last_refused receipts c n c' n' last h is = last_kept receipts c n last h (λ r e. subst (λ (q : Receipt). StampAtMost q last) (some_of (Refused c' n') r (at_call receipts c n) is e) tt)
+last_refused receipts c n c' n' last h is = last_kept receipts c n last h (λ r e. subst (λ (q : Receipt). StampAtMost q last) (same_Some (Refused c' n') r (sym is ∙ e)) tt)
 
 pub last_none : (receipts : List (List Receipt)) (c n : ℕ) (last : Option ℕ) → IsLast receipts c n last → at_call receipts c n ≡ None → IsLast receipts c (n + 1) last
 last_none receipts c n last h none = last_kept receipts c n last h (λ r e. absurd (let t : at_call receipts c n ≡ Some r = e in cc))

@@ -24,6 +24,8 @@ mod settled;
 mod settling;
 mod stamping;
 mod table;
+#[cfg(test)]
+mod tests;
 
 pub use cause::Unsettled;
 pub use closed::{Closed, ClosedSite};

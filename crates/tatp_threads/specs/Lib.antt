@@ -3,3 +3,4 @@ pub mod Calls
 pub mod Held
 pub mod Effects
 pub mod Asking
+pub mod Copies

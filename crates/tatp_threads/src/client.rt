@@ -8,6 +8,7 @@ ghost use Rattle.tatp_threads.specs.Asking.{Converses, Talk, item_of, seen_after
 use crate::ports::{Arities, Port};
 use crate::shared::{Shared, send};
 use crate::slot::{Answer, Slot};
+use std::mem;
 use std::sync::Wait;
 use tatp_numbers::{Directory, Key};
 use tatp_partition::Item;
@@ -88,7 +89,7 @@ fn seen_after(seen: u64, receipt: &Receipt) -> u64
 
 /// Asks the calls of one client, one after another, and keeps their receipts. It ends where a call came
 /// to nothing.
-fn ask_all<D: Requester>(
+pub(crate) fn ask_all<D: Requester>(
     requester: &mut D,
     directory: &Directory,
     client: u64,
@@ -113,7 +114,8 @@ fn ask_all<D: Requester>(
     }
 }
 
-/// Runs a client to its end. Without room for its receipts it asks nothing.
+/// Runs a client to its end. Without room for its receipts it asks nothing. While it runs its list is its
+/// own: the lists of all clients stand side by side, where each thread's writes would slow the others.
 pub(crate) fn serve<'t, R: Wait, G, A: Arities>(
     rt: &'t R,
     shared: &'t Shared<G, A>,
@@ -123,14 +125,15 @@ pub(crate) fn serve<'t, R: Wait, G, A: Arities>(
     ports: &mut [Port<A>],
     receipts: &mut Vec<Receipt>,
 ) {
-    if receipts.capacity() - receipts.len() < asks.len() {
-        return;
+    let mut own = mem::replace(receipts, Vec::new(shared.alloc));
+    if own.capacity() - own.len() >= asks.len() {
+        let mut requester = Place {
+            rt,
+            shared,
+            ports,
+            slot,
+        };
+        ask_all(&mut requester, shared.directory, number, asks, &mut own);
     }
-    let mut requester = Place {
-        rt,
-        shared,
-        ports,
-        slot,
-    };
-    ask_all(&mut requester, shared.directory, number, asks, receipts);
+    *receipts = own;
 }

@@ -9,7 +9,7 @@ use crate::{Gate, Message};
 use std::sync::atomic::AtomicU64;
 use std::sync::{Mutex, Wait};
 use std::thread;
-use tatp_partition::{Item, Site, SiteRefusal, Stepped};
+use tatp_partition::{Item, Site, SiteRefusal};
 
 /// One partition: its site under its lock, and how many other threads want that lock.
 #[derive(Clone, Copy)]
@@ -103,21 +103,24 @@ fn run<R: Wait, G: Gate, A: Arities, O: Outgoing>(
     client: u64,
 ) {
     for _ in rt.forever() {
-        match slice(
+        let mut ended = None;
+        let made = slice(
             &mut *partition.site.lock(rt),
             shared.gate,
             client,
             partition.wanted,
-        ) {
-            Ok(Stepped::Moved) => {
+            &mut ended,
+        );
+        match made {
+            Ok(()) => {
+                if let Some(completion) = &ended {
+                    conclude(outgoing, completion);
+                    shared.gate.after_end(partition.number, client);
+                    return;
+                }
                 if is_wanted(partition.wanted) {
                     thread::yield_now();
                 }
-            }
-            Ok(Stepped::Ended(completion)) => {
-                conclude(outgoing, &completion);
-                shared.gate.after_end(partition.number, client);
-                return;
             }
             Err(SiteRefusal::NotRunning) => return,
             Err(_) => thread::yield_now(),

@@ -1,13 +1,13 @@
 //! What an executor does while it holds the lock of its partition.
-ghost use Rattle.std.specs.Prelude.{◌≡◌};
+ghost use Rattle.std.specs.Prelude.{◌≡◌, None};
 ghost use Rattle.tatp_partition.specs.Obstacles.{step_obstacle};
-ghost use Rattle.tatp_partition.specs.Running.{AdvancesUnless};
+ghost use Rattle.tatp_partition.specs.Running.{AdvancesUnless, told_in};
 ghost use Rattle.tatp_threads.specs.Held.{Offers, IsSlice};
 
 use crate::Gate;
 use std::alloc::Global;
 use std::sync::atomic::{AtomicU64, Ordering};
-use tatp_partition::{Item, Offer, Site, SiteRefusal, Stepped};
+use tatp_partition::{Completion, Item, Offer, Site, SiteRefusal};
 
 /// The most steps of one call under one hold of the lock.
 const MOST_STEPS: u32 = 16;
@@ -49,36 +49,43 @@ pub(crate) fn is_wanted(wanted: &AtomicU64) -> bool {
     wanted.load(Ordering::SeqCst) != 0
 }
 
-/// One step of a client's call, after the gate.
-fn gated_step(site: &mut Site<'_>, gate: &impl Gate, client: u64) -> Result<Stepped, SiteRefusal>
-    ensures { AdvancesUnless (step_obstacle site.old) site.old result site.new }
+/// One step of a client's call, after the gate. Where the call ends, its completion is left in its place.
+fn gated_step(
+    site: &mut Site<'_>,
+    gate: &impl Gate,
+    client: u64,
+    ended: &mut Option<Completion>,
+) -> Result<(), SiteRefusal>
+    requires { ended.old ≡ None }
+    ensures { AdvancesUnless (step_obstacle site.old) site.old (told_in result ended.new) site.new }
 {
     if let Some(machine) = site.machine() {
         gate.before_step(site.partition(), client, machine.pc());
     }
-    site.step()
+    site.step_into(ended)
 }
 
 /// Makes steps of a client's call at a site whose lock is held: up to the first that doesn't go on, and
-/// no more where another thread wants the lock.
+/// no more where another thread wants the lock. Where the call ends, its completion is left in its place.
 pub(crate) fn slice(
     site: &mut Site<'_>,
     gate: &impl Gate,
     client: u64,
     wanted: &AtomicU64,
-) -> Result<Stepped, SiteRefusal>
-    ensures { IsSlice site.old result site.new }
+    ended: &mut Option<Completion>,
+) -> Result<(), SiteRefusal>
+    requires { ended.old ≡ None }
+    ensures { IsSlice site.old (told_in result ended.new) site.new }
 {
     for _made in 0..MOST_STEPS - 1 {
-        let stepped = gated_step(site, gate, client);
-        match stepped {
-            Ok(Stepped::Moved) => {
-                if is_wanted(wanted) {
-                    return stepped;
+        match gated_step(site, gate, client, ended) {
+            Ok(()) => {
+                if ended.is_some() || is_wanted(wanted) {
+                    return Ok(());
                 }
             }
-            _ => return stepped,
+            Err(refusal) => return Err(refusal),
         }
     }
-    gated_step(site, gate, client)
+    gated_step(site, gate, client, ended)
 }

@@ -8,6 +8,7 @@ mod debugger;
 mod executor;
 mod gate;
 mod held;
+mod history;
 mod message;
 mod mover;
 mod outgoing;
@@ -21,6 +22,7 @@ mod slot;
 mod starting;
 
 pub use gate::{Gate, NoGate};
+pub use history::copy_extent;
 pub use message::Message;
 pub use ran::{Moves, Ran, RanParts};
 pub use refusal::RunRefusal;

@@ -2,6 +2,8 @@ use super::*;
 
 mod closing;
 mod crowds;
+mod fakes;
 mod fixture;
 mod gates;
+mod histories;
 mod moves;

@@ -5,6 +5,7 @@ ghost use Rattle.tatp_partition.specs.Sites.{RunningCall};
 ghost use Rattle.tatp_dispatch.specs.Worlds.{WorldState};
 ghost use Rattle.tatp_dispatch.specs.Events.{QueuesCall};
 
+use super::stepping::Turn;
 use super::{World, what_holds_of_every_world};
 use crate::Answer;
 use crate::completed::last_reply;
@@ -24,7 +25,7 @@ impl<'m> World<'m> {
     {
         let mut ended = None;
         'steps: loop {
-            match self.advance(p, &mut ended) {
+            match self.advance(p, Turn::Step, &mut ended) {
                 Err(_) => return None,
                 Ok(None) => {}
                 Ok(Some(_)) => return Some(last_reply(&self.completions)),

@@ -1,38 +1,43 @@
 //! A running call goes on, and ends.
 ghost use Rattle.std.specs.Prelude.{◌≡◌, ◌<◌, length, None, OnOk};
-ghost use Rattle.tatp_partition.specs.Obstacles.{step_obstacle, one_obstacle};
 ghost use Rattle.tatp_partition.specs.Running.{told_in};
-ghost use Rattle.tatp_dispatch.specs.Stepping.{StepsAt};
+ghost use Rattle.tatp_dispatch.specs.Stepping.{obstacle_to, StepsAt};
 
 use super::World;
 use crate::client::end_call;
 use crate::completed::{complete, last_reply};
 use crate::{Answer, Refusal};
-use tatp_partition::{Completion, Site, SiteRefusal, Stepped};
+use tatp_partition::{Completion, Site, SiteRefusal};
+
+/// How a site is asked for a step.
+#[derive(Clone, Copy)]
+pub enum Turn {
+    /// Unless it is stopped or has a breakpoint there.
+    Step,
+    /// Stopped or not, at a breakpoint or not.
+    One,
+}
 
 /// The site of a partition makes a step; the completion of a call that ends is left in its place.
 fn step_at(
     sites: &mut Vec<Site<'_>>,
     p: usize,
+    turn: Turn,
     ended: &mut Option<Completion>,
 ) -> Result<(), SiteRefusal>
     requires place { p < length sites.old.items }
     requires none { ended.old ≡ None }
-    ensures { StepsAt step_obstacle sites.old.items p (told_in result ended.new) sites.new.items }
+    ensures { StepsAt (obstacle_to turn) sites.old.items p (told_in result ended.new) sites.new.items }
 {
-    sites[p].step_into(ended)
-}
-
-/// The site of a partition makes a step, stopped or not, at a breakpoint or not.
-fn one_at(sites: &mut Vec<Site<'_>>, p: usize) -> Result<Stepped, SiteRefusal>
-    requires { p < length sites.old.items }
-    ensures { StepsAt one_obstacle sites.old.items p result sites.new.items }
-{
-    sites[p].one()
+    let site = &mut sites[p];
+    match turn {
+        Turn::Step => site.step_into(ended),
+        Turn::One => site.one_into(ended),
+    }
 }
 
 impl<'m> World<'m> {
-    ghost use Rattle.tatp_dispatch.specs.Obstacles.{step_obstacle_at, one_obstacle_at};
+    ghost use Rattle.tatp_dispatch.specs.Obstacles.{at_site, step_obstacle_at, one_obstacle_at};
     ghost use Rattle.tatp_dispatch.specs.Events.{AdvancesAt};
     ghost use Rattle.tatp_dispatch.specs.Advancing.{AdvancesBriefly};
     ghost use Rattle.tatp_dispatch.specs.Serving.{Tells};
@@ -43,16 +48,17 @@ impl<'m> World<'m> {
     pub(super) fn advance(
         &mut self,
         p: u64,
+        turn: Turn,
         ended: &mut Option<Completion>,
     ) -> Result<Option<u64>, Refusal>
         requires { ended.old ≡ None }
-        ensures steps { AdvancesBriefly (step_obstacle_at self.old p) self.old p result self.new }
+        ensures steps { AdvancesBriefly (at_site self.old p (obstacle_to turn)) self.old p result self.new }
         ensures none { OnOk result (ended.new ≡ None) }
     {
         if p >= self.sites.len() as u64 {
             return Err(Refusal::NoPartition);
         }
-        match step_at(&mut self.sites, p as usize, ended) {
+        match step_at(&mut self.sites, p as usize, turn, ended) {
             Err(refusal) => return Err(Refusal::Site(refusal)),
             Ok(()) => match *ended {
                 None => return Ok(None),
@@ -75,7 +81,7 @@ impl<'m> World<'m> {
         ensures tells { Tells self.old result self.new }
     {
         let mut ended = None;
-        match self.advance(p, &mut ended) {
+        match self.advance(p, Turn::Step, &mut ended) {
             Err(refusal) => return Err(refusal),
             Ok(None) => return Ok(Answer::Moved),
             Ok(Some(client)) => return Ok(Answer::Ended(client, last_reply(&self.completions))),
@@ -87,21 +93,11 @@ impl<'m> World<'m> {
         ensures happens { AdvancesAt (one_obstacle_at self.old p) self.old p result self.new }
         ensures tells { Tells self.old result self.new }
     {
-        if p >= self.sites.len() as u64 {
-            return Err(Refusal::NoPartition);
-        }
-        match one_at(&mut self.sites, p as usize) {
-            Err(refusal) => return Err(Refusal::Site(refusal)),
-            Ok(Stepped::Moved) => return Ok(Answer::Moved),
-            Ok(Stepped::Ended(completion)) => {
-                let entry = completion.entry;
-                let client = entry.client;
-                let reply = entry.reply;
-                let stamp = entry.stamp;
-                complete(&mut self.completions, entry);
-                end_call(&mut self.clients, client, stamp);
-                return Ok(Answer::Ended(client, reply));
-            }
+        let mut ended = None;
+        match self.advance(p, Turn::One, &mut ended) {
+            Err(refusal) => return Err(refusal),
+            Ok(None) => return Ok(Answer::Moved),
+            Ok(Some(client)) => return Ok(Answer::Ended(client, last_reply(&self.completions))),
         }
     }
 }

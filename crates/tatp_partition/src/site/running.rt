@@ -84,8 +84,9 @@ impl<'m> Site<'m> {
         }
     }
 
-    /// One instruction of the running call, as `one`, with the completion left in its place.
-    fn one_into(&mut self, ended: &mut Option<Completion>) -> Result<(), SiteRefusal>
+    /// One instruction of the running call, as `one`, but the completion of a call that ends is left in
+    /// its place.
+    pub fn one_into(&mut self, ended: &mut Option<Completion>) -> Result<(), SiteRefusal>
         requires { ended.old ≡ None }
         ensures steps { AdvancesUnless (one_obstacle self.old) self.old (told_in result ended.new) self.new }
         ensures site { IsSite self.new }

@@ -52,7 +52,7 @@ pub struct Left {
 }
 
 /// Spends a site, and adds which extents at it were moved.
-fn spend_site(site: Site<'_>, moves: &mut Vec<(u8, u32, u16)>) {
+pub fn spend_site(site: Site<'_>, moves: &mut Vec<(u8, u32, u16)>) {
     let partition = site.partition();
     let (mut slots, _homeless) = site.close();
     while let Some(slot) = slots.pop() {

@@ -1,0 +1,4 @@
+pub mod DrawingLaws
+pub mod CallLaws
+pub mod PlanLaws
+pub mod SettlingLaws

@@ -1,0 +1,61 @@
+-- What is drawn for a run from its seed: the population, the clients' calls, the moves and the stops.
+-- Each has a stream of words of its own. docs/FORMATS.md, "Moves and stops from random words", says it in words.
+use Rattle.std.specs.Prelude.{ℕ, zero, suc, ◌+◌, ◌-◌, List, [], ◌∷◌, ◌++◌, map}
+use Rattle.std.specs.List.{range_with_len}
+use Rattle.rand_core.specs.Stream.{Stream, next_u64}
+use Rattle.rand_pcg.specs.Lcg.{started, increment_of}
+use Rattle.rand_pcg.specs.Pcg.{multiplier_128}
+use Rattle.tatp_tables.specs.declared.row.Rows.{Rows}
+use Rattle.tatp_procs.specs.declared.ask.Ask.{Ask}
+use Rattle.tatp_procs.specs.declared.ask.Ask.TheVariants.{Txn}
+use Rattle.tatp_procs.specs.declared.call.Call.{Call}
+use Rattle.tatp_population.specs.Drawn.{choice, choices}
+use Rattle.tatp_population.specs.DrawnRows.{population}
+use Rattle.tatp_population.specs.Opening.{extent_count}
+use Rattle.tatp_driver.specs.declared.distribution.Distribution.{Distribution}
+use Rattle.tatp_driver.specs.DrawnCall.{drawn_call}
+use Rattle.tatp_driver.specs.DrawnWords.{next_words, words_of, client_generator}
+use Rattle.tatp_bench.specs.declared.plan.BenchPlan.{BenchPlan}
+
+-- the words of a seed's stream of this number
+abbrev pub stream_numbered : ℕ → ℕ → Stream
+stream_numbered seed number = words_of (started 128 multiplier_128 seed (increment_of 128 number))
+
+-- ---- the population, from stream 0
+abbrev pub rows_drawn : BenchPlan → Rows
+rows_drawn plan = (population next_u64 plan.subscribers (stream_numbered plan.seed 0)).0
+
+-- ---- the calls
+-- the next n calls on these subscribers, and the stream that is left after them: each takes seven words
+unfoldable pub next_calls : Distribution → ℕ → ℕ → Stream → List Call × Stream
+next_calls distribution subscribers zero stream = ([], stream)
+next_calls distribution subscribers (suc n) stream =
+    let before = next_calls distribution subscribers n stream in
+    let words = next_words 7 before.1 in
+    (before.0 ++ drawn_call distribution subscribers words.0 ∷ [], words.1)
+
+-- what a client asks, one call after another, from its own stream: 1 for client 0, and so on
+abbrev pub client_calls : BenchPlan → ℕ → List Ask
+client_calls plan client = map Txn (next_calls plan.distribution plan.subscribers plan.calls (words_of (client_generator plan.seed client))).0
+
+-- what each client asks: whatever the partitions, the moves and the stops
+abbrev pub calls_drawn : BenchPlan → List (List Ask)
+calls_drawn plan = map (client_calls plan) (range_with_len 0 plan.clients)
+
+-- ---- what the mover does, from the stream after those of the clients
+-- the next n moves, each of one of so many extents to one of so many partitions
+unfoldable pub next_moves : ℕ → ℕ → ℕ → Stream → List (ℕ × ℕ) × Stream
+next_moves extents partitions zero stream = ([], stream)
+next_moves extents partitions (suc n) stream =
+    let before = next_moves extents partitions n stream in
+    let extent = choice next_u64 1 extents before.1 in
+    let partition = choice next_u64 0 (partitions - 1) extent.1 in
+    (before.0 ++ (extent.0, partition.0) ∷ [], partition.1)
+
+abbrev pub moves_drawn : BenchPlan → List (ℕ × ℕ)
+moves_drawn plan = (next_moves (extent_count plan.subscribers) plan.partitions plan.moves (stream_numbered plan.seed (plan.clients + 1))).0
+
+-- ---- what the debugger does, from the next stream
+-- the partitions that it stops, one after another
+abbrev pub stops_drawn : BenchPlan → List ℕ
+stops_drawn plan = (choices next_u64 plan.stops 0 (plan.partitions - 1) (stream_numbered plan.seed (plan.clients + 2))).0

@@ -1,0 +1,78 @@
+//! A run of the benchmark.
+ghost use Rattle.std.specs.Prelude.{◌≡◌, ◌+◌, ◌*◌, ◌⊎◌, IfOk, IfErr};
+ghost use Rattle.tatp_bench.specs.Plans.{IsPlan};
+ghost use Rattle.tatp_bench.specs.Benching.{IsDrawn, SettlesPlan, RefusesBench, kinds_drawn};
+
+use crate::closing::settle_ran;
+use crate::{BenchFault, BenchPlan, Drawn, draw};
+use std::alloc::Global;
+use std::sync::Wait;
+use std::thread::Threads;
+use tatp_procs::standard;
+use tatp_settle::Settled;
+use tatp_threads::{Gate, RunRefusal, run_calls};
+
+/// Why a run isn't settled whose calls aren't run: drawn rows and calls are never refused.
+fn fault_of(refusal: RunRefusal) -> BenchFault
+    requires { (refusal ≡ RunRefusal.NoMemory) ⊎ (refusal ≡ RunRefusal.NoThread) }
+    ensures { ((refusal ≡ RunRefusal.NoMemory) × (result ≡ BenchFault.NoMemory)) ⊎ ((refusal ≡ RunRefusal.NoThread) × (result ≡ BenchFault.NoThread)) }
+{
+    match refusal {
+        RunRefusal::NoMemory => BenchFault::NoMemory,
+        RunRefusal::NoThread => BenchFault::NoThread,
+        _ => unreachable!(),
+    }
+}
+
+/// Runs what was drawn for a plan under the standard module, by threads that the gate watches, and
+/// settles what the run left.
+pub fn run_drawn<R: Threads + Wait + Sync, G: Gate + Sync>(
+    rt: &R,
+    alloc: Global,
+    plan: &BenchPlan,
+    drawn: Drawn,
+    gate: &G,
+) -> Result<Settled, BenchFault>
+    requires plan { IsPlan plan.now }
+    requires drawn { IsDrawn plan.now drawn }
+    ensures settled { IfOk result (SettlesPlan plan.now) }
+    ensures kinds { IfOk result (λ settled. settled.kinds ≡ kinds_drawn plan.now) }
+    ensures calls { IfOk result (λ settled. settled.completed + settled.refused ≡ plan.now.clients * plan.now.calls) }
+    ensures refusal { IfErr result (RefusesBench plan.now) }
+{
+    let loaded = standard(alloc)?;
+    let (population, rows, lists, moves) = drawn.parts();
+    let lists = lists.as_slice();
+    match run_calls(
+        rt,
+        alloc,
+        &loaded,
+        rows,
+        plan.partitions,
+        lists,
+        &moves,
+        gate,
+    ) {
+        Err(refusal) => Err(fault_of(refusal)),
+        Ok(ran) => settle_ran(alloc, plan, &population, ran, lists),
+    }
+}
+
+/// Runs the benchmark: draws the population and each client's calls from the plan's seed, runs the calls
+/// by threads while extents move and partitions stop, and settles what the run left. All draws are made
+/// before the first thread starts.
+pub fn run_bench<R: Threads + Wait + Sync, G: Gate + Sync>(
+    rt: &R,
+    alloc: Global,
+    plan: &BenchPlan,
+    gate: &G,
+) -> Result<Settled, BenchFault>
+    requires { IsPlan plan.now }
+    ensures settled { IfOk result (SettlesPlan plan.now) }
+    ensures kinds { IfOk result (λ settled. settled.kinds ≡ kinds_drawn plan.now) }
+    ensures calls { IfOk result (λ settled. settled.completed + settled.refused ≡ plan.now.clients * plan.now.calls) }
+    ensures refusal { IfErr result (RefusesBench plan.now) }
+{
+    let drawn = draw(alloc, plan)?;
+    run_drawn(rt, alloc, plan, drawn, gate)
+}

@@ -1,0 +1,33 @@
+//! Why a run of the benchmark isn't settled.
+ghost use Rattle.std.specs.Prelude.{◌≡◌};
+ghost use Rattle.tatp_bench.specs.declared.fault.BenchFault.TheVariants.{NoMemory};
+
+use std::alloc::AllocError;
+use tatp_settle::Unsettled;
+use thiserror::Error;
+
+/// Why a run of the benchmark isn't settled. Its text is its number and its name, and the extent or the
+/// cause where there is one.
+#[derive(Clone, Copy, Debug, PartialEq, Eq, Error)]
+pub enum BenchFault {
+    /// The run left an extent in no partition and on no way.
+    #[error("44 ExtentMissing {0}")]
+    ExtentMissing(u64),
+    /// What the run left isn't one history of its calls.
+    #[error("45 Unsettled {0}")]
+    Unsettled(Unsettled),
+    /// Memory ran out.
+    #[error("46 NoMemory")]
+    NoMemory,
+    /// A thread couldn't be started.
+    #[error("57 NoThread")]
+    NoThread,
+}
+
+impl From<AllocError> for BenchFault {
+    ghost from_gives = { λ _ e. e ≡ NoMemory };
+
+    fn from(_error: AllocError) -> BenchFault {
+        BenchFault::NoMemory
+    }
+}

@@ -1,0 +1,18 @@
+//! A concurrent run of the benchmark: what it is asked to do, what is drawn for it, and its settling.
+#![tactic(auto)]
+
+mod bench;
+mod calls;
+mod closing;
+mod drawing;
+mod fault;
+mod moves;
+mod plan;
+
+pub use bench::{run_bench, run_drawn};
+pub use drawing::{Drawn, draw};
+pub use fault::BenchFault;
+pub use plan::BenchPlan;
+
+#[cfg(test)]
+mod tests;

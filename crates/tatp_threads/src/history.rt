@@ -11,11 +11,7 @@ use tatp_partition::{Site, what_holds_of_every_site};
 use tatp_population::ExtentParts;
 
 /// A copy of the parts of an extent, where it is here and no call runs on one of its homes.
-fn copy_of(
-    alloc: Global,
-    site: &Site<'_>,
-    extent: u32,
-) -> Result<Option<ExtentParts>, AllocError>
+fn copy_of(alloc: Global, site: &Site<'_>, extent: u32) -> Result<Option<ExtentParts>, AllocError>
     ensures copy { IfOk result (λ copy. option_map state_of copy ≡ extent_at_rest site.now extent) }
     ensures parts { IfOk result (λ copy. IfSome copy (ArePartsOf extent)) }
 {

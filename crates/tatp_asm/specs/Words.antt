@@ -1,9 +1,9 @@
 -- The line that a text is, read field by field: docs/FORMATS.md, "Assembly text".
 use Rattle.std.specs.Prelude.{ℕ, ◌+◌, ◌^◌, ◌==◌, ◌&&◌, nat_lt, if◌then◌else◌, List, [], ◌∷◌, codes, bytes_eq, Option, Some, None}
-use Rattle.std.specs.List.{slice_split}
 use Rattle.std.specs.Option.{option_map, option_and_then}
 use Rattle.std.specs.Str.{is_utf8}
 use denote.Ref.{Bor}
+use Rattle.tatp_lines.specs.Fields.{fields_of}
 use Rattle.tatp_lines.specs.Numbers.{number_of}
 use Rattle.tatp_instr.specs.declared.instr.Instr.{Instr}
 use Rattle.tatp_instr.specs.declared.instr.Instr.TheVariants.{Ldi, Mov, Arg, Add, Sub, Eq, Lt, Jmp, Jz, Fsub, Fnum, Facc, Ffac, Fcfw, Get, Put, Ins, Del, Out, Done, Fail}
@@ -12,9 +12,6 @@ use Rattle.tatp_encoding.specs.declared.module.TheConstants.{MAX_ARGUMENTS}
 use Rattle.tatp_asm.specs.Lines.{Line, Opens, Names, Does, Closes, is_label}
 
 -- ---- fields
-abbrev pub fields_of : ℕ → List ℕ → List (List ℕ)
-fields_of separator text = slice_split (λ byte. byte == separator) text
-
 -- the fields of what is left of a text, if anything is
 abbrev pub fields_left : ℕ → Option (Bor (List ℕ)) → List (List ℕ)
 fields_left separator None = []

@@ -3,7 +3,8 @@ ghost use Rattle.std.specs.Prelude.{◌≡◌, ◌<◌, ◌∷◌, [], IfSome};
 ghost use Rattle.std.specs.List.{list_all};
 ghost use Rattle.tatp_encoding.specs.Modules.{is_name, is_name_byte};
 ghost use Rattle.tatp_asm.specs.Lines.{is_label, is_label_byte};
-ghost use Rattle.tatp_asm.specs.Words.{below, fields_of, fields_left};
+ghost use Rattle.tatp_asm.specs.Words.{below, fields_left};
+ghost use Rattle.tatp_lines.specs.Fields.{fields_of};
 ghost use Rattle.tatp_asm.specs.Views.{AreFields};
 
 use tatp_encoding::MAX_NAME_BYTES;

@@ -1,5 +1,6 @@
 -- The text of a verdict: docs/FORMATS.md, "Verdicts".
-use Rattle.std.specs.Prelude.{ℕ, ◌-◌, List, ◌++◌, length, replicate, slice_index, codes, decimal}
+use Rattle.std.specs.Prelude.{ℕ, List, ◌++◌, slice_index, codes, decimal}
+use Rattle.tatp_tables.specs.Text.{fifteen_digits}
 use Rattle.tatp_audits.specs.declared.verdict.FailedKey.{FailedKey}
 use Rattle.tatp_audits.specs.declared.verdict.FailedKey.TheVariants.{S, A, F, C}
 use Rattle.tatp_audits.specs.declared.verdict.Verdict.{Verdict}
@@ -8,10 +9,6 @@ use Rattle.tatp_audits.specs.declared.verdict.Verdict.TheVariants.{Clean, Ids, N
 -- a number behind a space
 abbrev pub field : ℕ → List ℕ
 field n = codes " " ++ decimal n
-
--- a number of fifteen digits; with all its digits where it has more
-abbrev pub fifteen_digits : ℕ → List ℕ
-fifteen_digits n = replicate (15 - length (decimal n)) 48 ++ decimal n
 
 -- the table's letter and the parts of the key
 abbrev pub key_text : FailedKey → List ℕ

@@ -46,10 +46,10 @@ pub(crate) fn judge(
     if let Some(cause) = cause_in_extents(alloc, population, closed)? {
         return Err(SettleError::Because(cause));
     }
-    if let Some(cause) = cause_in_calls(alloc, population, closed, receipts, calls)? {
+    if let Some(cause) = cause_in_calls(alloc, closed, receipts, calls)? {
         return Err(SettleError::Because(cause));
     }
-    if let Some(cause) = cause_without_home(alloc, population, closed, receipts, calls)? {
+    if let Some(cause) = cause_without_home(alloc, population, closed)? {
         return Err(SettleError::Because(cause));
     }
     let rows = rows_now(alloc, population, closed)?;
@@ -103,15 +103,13 @@ fn extent_cause(population: &Rows, homes: &[Home], closed: &Closed) -> Option<Un
 /// The first cause that a call is by its receipt and its entries, where no extent is a cause.
 fn cause_in_calls(
     alloc: Global,
-    population: &Rows,
     closed: &Closed,
     receipts: &[Vec<Receipt>],
     calls: &[Vec<Ask>],
 ) -> Result<Option<Unsettled>, AllocError>
-    ensures first { IfOk result (λ cause. NoneOfFirst 4 (record { population = population.now; closed = closed.now; receipts = lists_of receipts.now; calls = lists_of calls.now }) → IsFirstOf 8 (record { population = population.now; closed = closed.now; receipts = lists_of receipts.now; calls = lists_of calls.now }) cause) }
+    ensures first { IfOk result (λ cause. (population : Rows) → NoneOfFirst 4 (record { population = population; closed = closed.now; receipts = lists_of receipts.now; calls = lists_of calls.now }) → IsFirstOf 8 (record { population = population; closed = closed.now; receipts = lists_of receipts.now; calls = lists_of calls.now }) cause) }
     ensures placed { IfOk result (λ cause. IfNone cause (ArePlaced closed.now (lists_of receipts.now))) }
 {
-    let _ = population;
     if let Some(place) = first_unmatched(receipts, calls) {
         return Ok(Some(Unsettled::CallMissing {
             client: place.client,
@@ -145,14 +143,10 @@ fn cause_without_home(
     alloc: Global,
     population: &Rows,
     closed: &Closed,
-    receipts: &[Vec<Receipt>],
-    calls: &[Vec<Ask>],
 ) -> Result<Option<Unsettled>, AllocError>
     requires { IsClean population.now }
-    ensures { IfOk result (λ cause. NoneOfFirst 8 (record { population = population.now; closed = closed.now; receipts = lists_of receipts.now; calls = lists_of calls.now }) → IsFirstOf 9 (record { population = population.now; closed = closed.now; receipts = lists_of receipts.now; calls = lists_of calls.now }) cause) }
+    ensures { IfOk result (λ cause. (receipts : List (List Receipt)) (calls : List (List Ask)) → NoneOfFirst 8 (record { population = population.now; closed = closed.now; receipts = receipts; calls = calls }) → IsFirstOf 9 (record { population = population.now; closed = closed.now; receipts = receipts; calls = calls }) cause) }
 {
-    let _ = receipts;
-    let _ = calls;
     let directory = directory_of(alloc, population)?;
     Ok(home_cause(first_homed(population, &directory, closed)))
 }

@@ -8,13 +8,13 @@ use Rattle.tatp_settle.proofs.CauseLaws.{none_unmatched, none_too_many, none_dif
 use Rattle.tatp_settle.proofs.judging.cause_in_calls.Goals as goal
 
 pub returns-in-Some-clause-first : goal.returns-in-Some-clause-first
-returns-in-Some-clause-first c = λ before.
-    let run : Run = record { population = c.args.population.now; closed = c.args.closed.now; receipts = lists_of c.args.receipts.now; calls = lists_of c.args.calls.now } in
+returns-in-Some-clause-first c = λ population before.
+    let run : Run = record { population = population; closed = c.args.closed.now; receipts = lists_of c.args.receipts.now; calls = lists_of c.args.calls.now } in
     first_unmatched run c.in-Some.place.client c.in-Some.place.number before c.in-Some.ensures
 
 pub returns-in-Some-extra-clause-first : goal.returns-in-Some-extra-clause-first
-returns-in-Some-extra-clause-first c = λ before.
-    let run : Run = record { population = c.args.population.now; closed = c.args.closed.now; receipts = lists_of c.args.receipts.now; calls = lists_of c.args.calls.now } in
+returns-in-Some-extra-clause-first c = λ population before.
+    let run : Run = record { population = population; closed = c.args.closed.now; receipts = lists_of c.args.receipts.now; calls = lists_of c.args.calls.now } in
     first_too_many run c.in-Some-extra.place.client c.in-Some-extra.place.number (none_unmatched run before c.in_default.ensures)
     (subst (λ (v : Option CallPlace). IsFirstCall (HasEntryTooMany c.args.closed.now (lists_of c.args.receipts.now)) v) c.in-Some-extra.is c.in_ok-table.ensures.first)
 
@@ -26,16 +26,16 @@ first_differing-requires-clause-placed c =
     subst (λ (v : Option CallPlace). IfNone v (AllPlaced c.args.closed.now (lists_of c.args.receipts.now) (cells_of c.in_ok-table.table))) c.in_default-extra.is c.in_ok-table.ensures.placed
 
 pub returns-in-Some-first_differing-clause-first : goal.returns-in-Some-first_differing-clause-first
-returns-in-Some-first_differing-clause-first c = λ before.
-    let run : Run = record { population = c.args.population.now; closed = c.args.closed.now; receipts = lists_of c.args.receipts.now; calls = lists_of c.args.calls.now } in
+returns-in-Some-first_differing-clause-first c = λ population before.
+    let run : Run = record { population = population; closed = c.args.closed.now; receipts = lists_of c.args.receipts.now; calls = lists_of c.args.calls.now } in
     first_differing run c.in-Some-first_differing.place.client c.in-Some-first_differing.place.number
     (none_too_many run (none_unmatched run before c.in_default.ensures)
     (subst (λ (v : Option CallPlace). IsFirstCall (HasEntryTooMany c.args.closed.now (lists_of c.args.receipts.now)) v) c.in_default-extra.is c.in_ok-table.ensures.first))
     c.in-Some-first_differing.ensures
 
 pub returns-in-Some-first_falling-clause-first : goal.returns-in-Some-first_falling-clause-first
-returns-in-Some-first_falling-clause-first c = λ before.
-    let run : Run = record { population = c.args.population.now; closed = c.args.closed.now; receipts = lists_of c.args.receipts.now; calls = lists_of c.args.calls.now } in
+returns-in-Some-first_falling-clause-first c = λ population before.
+    let run : Run = record { population = population; closed = c.args.closed.now; receipts = lists_of c.args.receipts.now; calls = lists_of c.args.calls.now } in
     first_falling run c.in-Some-first_falling.place.client c.in-Some-first_falling.place.number
     (none_differing run (none_too_many run (none_unmatched run before c.in_default.ensures)
     (subst (λ (v : Option CallPlace). IsFirstCall (HasEntryTooMany c.args.closed.now (lists_of c.args.receipts.now)) v) c.in_default-extra.is c.in_ok-table.ensures.first))
@@ -43,8 +43,8 @@ returns-in-Some-first_falling-clause-first c = λ before.
     c.in-Some-first_falling.ensures
 
 pub returns-clause-first : goal.returns-clause-first
-returns-clause-first c = λ before.
-    let run : Run = record { population = c.args.population.now; closed = c.args.closed.now; receipts = lists_of c.args.receipts.now; calls = lists_of c.args.calls.now } in
+returns-clause-first c = λ population before.
+    let run : Run = record { population = population; closed = c.args.closed.now; receipts = lists_of c.args.receipts.now; calls = lists_of c.args.calls.now } in
     none_falling run
     (none_differing run (none_too_many run (none_unmatched run before c.in_default.ensures)
     (subst (λ (v : Option CallPlace). IsFirstCall (HasEntryTooMany c.args.closed.now (lists_of c.args.receipts.now)) v) c.in_default-extra.is c.in_ok-table.ensures.first))

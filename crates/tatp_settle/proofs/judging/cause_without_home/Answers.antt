@@ -1,11 +1,11 @@
 use Rattle.std.proofs.Common.{Option, subst, sym}
 use Rattle.tatp_settle.specs.declared.cause.Unsettled.{Unsettled}
-use Rattle.tatp_settle.specs.Runs.{Run, lists_of}
+use Rattle.tatp_settle.specs.Runs.{Run}
 use Rattle.tatp_settle.specs.CauseOrder.{IsFirstOf}
 use Rattle.tatp_settle.proofs.JudgeLaws.{home_cause_is}
 use Rattle.tatp_settle.proofs.judging.cause_without_home.Goals as goal
 
 pub returns : goal.returns
-returns c = λ before.
-    let run : Run = record { population = c.args.population.now; closed = c.args.closed.now; receipts = lists_of c.args.receipts.now; calls = lists_of c.args.calls.now } in
+returns c = λ receipts calls before.
+    let run : Run = record { population = c.args.population.now; closed = c.args.closed.now; receipts = receipts; calls = calls } in
     subst (λ (cause : Option Unsettled). IsFirstOf 9 run cause) (sym c.home_cause.ensures) (home_cause_is run c.first_homed.result c.first_homed.ensures before)

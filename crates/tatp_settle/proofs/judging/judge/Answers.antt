@@ -22,21 +22,21 @@ pub returns-in-Some-2-clause-refusal : goal.returns-in-Some-2-clause-refusal
 returns-in-Some-2-clause-refusal c =
     let run : Run = record { population = c.args.population.now; closed = c.args.closed.now; receipts = lists_of c.args.receipts.now; calls = lists_of c.args.calls.now } in
     let none4 : NoneOfFirst 4 run = none_found 4 run c.in_ok-cause.field-0 c.in_default.is (c.in_ok-cause.ensures run.receipts run.calls) in
-    cause_found 8 run c.in_ok-cause-2.field-0 c.in-Some-2.cause c.in-Some-2.is (c.in_ok-cause-2.ensures.first none4)
+    cause_found 8 run c.in_ok-cause-2.field-0 c.in-Some-2.cause c.in-Some-2.is (c.in_ok-cause-2.ensures.first run.population none4)
 
 pub returns-in-Some-3-clause-refusal : goal.returns-in-Some-3-clause-refusal
 returns-in-Some-3-clause-refusal c =
     let run : Run = record { population = c.args.population.now; closed = c.args.closed.now; receipts = lists_of c.args.receipts.now; calls = lists_of c.args.calls.now } in
     let none4 : NoneOfFirst 4 run = none_found 4 run c.in_ok-cause.field-0 c.in_default.is (c.in_ok-cause.ensures run.receipts run.calls) in
-    let none8 : NoneOfFirst 8 run = none_found 8 run c.in_ok-cause-2.field-0 c.in_default-2.is (c.in_ok-cause-2.ensures.first none4) in
-    cause_found 9 run c.in_ok-cause-3.field-0 c.in-Some-3.cause c.in-Some-3.is (c.in_ok-cause-3.ensures none8)
+    let none8 : NoneOfFirst 8 run = none_found 8 run c.in_ok-cause-2.field-0 c.in_default-2.is (c.in_ok-cause-2.ensures.first run.population none4) in
+    cause_found 9 run c.in_ok-cause-3.field-0 c.in-Some-3.cause c.in-Some-3.is (c.in_ok-cause-3.ensures run.receipts run.calls none8)
 
 pub returns-then-not-is_clean-clause-refusal : goal.returns-then-not-is_clean-clause-refusal
 returns-then-not-is_clean-clause-refusal c =
     let run : Run = record { population = c.args.population.now; closed = c.args.closed.now; receipts = lists_of c.args.receipts.now; calls = lists_of c.args.calls.now } in
     let none4 : NoneOfFirst 4 run = none_found 4 run c.in_ok-cause.field-0 c.in_default.is (c.in_ok-cause.ensures run.receipts run.calls) in
-    let none8 : NoneOfFirst 8 run = none_found 8 run c.in_ok-cause-2.field-0 c.in_default-2.is (c.in_ok-cause-2.ensures.first none4) in
-    let none9 : NoneOfFirst 9 run = none_found 9 run c.in_ok-cause-3.field-0 c.in_default-3.is (c.in_ok-cause-3.ensures none8) in
+    let none8 : NoneOfFirst 8 run = none_found 8 run c.in_ok-cause-2.field-0 c.in_default-2.is (c.in_ok-cause-2.ensures.first run.population none4) in
+    let none9 : NoneOfFirst 9 run = none_found 9 run c.in_ok-cause-3.field-0 c.in_default-3.is (c.in_ok-cause-3.ensures run.receipts run.calls none8) in
     let rows : c.in_ok-rows.rows ≡ rows_left run = c.in_ok-rows.ensures in
     first_audit run c.in_ok-verdict.verdict none9
     (subst (λ (r : Rows). IsVerdict r c.in_ok-verdict.verdict) rows c.in_ok-verdict.ensures.verdict, sym c.is_clean.ensures ∙ c.if-not-is_clean.true)
@@ -45,7 +45,7 @@ pub count_receipts-completed-requires : goal.count_receipts-completed-requires
 count_receipts-completed-requires c =
     let run : Run = record { population = c.args.population.now; closed = c.args.closed.now; receipts = lists_of c.args.receipts.now; calls = lists_of c.args.calls.now } in
     let none4 : NoneOfFirst 4 run = none_found 4 run c.in_ok-cause.field-0 c.in_default.is (c.in_ok-cause.ensures run.receipts run.calls) in
-    let none8 : NoneOfFirst 8 run = none_found 8 run c.in_ok-cause-2.field-0 c.in_default-2.is (c.in_ok-cause-2.ensures.first none4) in
+    let none8 : NoneOfFirst 8 run = none_found 8 run c.in_ok-cause-2.field-0 c.in_default-2.is (c.in_ok-cause-2.ensures.first run.population none4) in
     let many = as_many_receipts run.calls run.receipts (matched_of run none8) in
     let few = c.requires.few in
     record { few = omega (arith, many, few) }
@@ -54,8 +54,8 @@ pub returns-clause-settled : goal.returns-clause-settled
 returns-clause-settled c =
     let run : Run = record { population = c.args.population.now; closed = c.args.closed.now; receipts = lists_of c.args.receipts.now; calls = lists_of c.args.calls.now } in
     let none4 : NoneOfFirst 4 run = none_found 4 run c.in_ok-cause.field-0 c.in_default.is (c.in_ok-cause.ensures run.receipts run.calls) in
-    let none8 : NoneOfFirst 8 run = none_found 8 run c.in_ok-cause-2.field-0 c.in_default-2.is (c.in_ok-cause-2.ensures.first none4) in
-    let none9 : NoneOfFirst 9 run = none_found 9 run c.in_ok-cause-3.field-0 c.in_default-3.is (c.in_ok-cause-3.ensures none8) in
+    let none8 : NoneOfFirst 8 run = none_found 8 run c.in_ok-cause-2.field-0 c.in_default-2.is (c.in_ok-cause-2.ensures.first run.population none4) in
+    let none9 : NoneOfFirst 9 run = none_found 9 run c.in_ok-cause-3.field-0 c.in_default-3.is (c.in_ok-cause-3.ensures run.receipts run.calls none8) in
     let placed : ArePlaced run.closed run.receipts = subst (λ (v : Option Unsettled). IfNone v (ArePlaced run.closed run.receipts)) c.in_default-2.is c.in_ok-cause-2.ensures.placed in
     let rows : c.in_ok-rows.rows ≡ rows_left run = c.in_ok-rows.ensures in
     let clean : IsClean c.in_ok-rows.rows = c.in_ok-verdict.ensures.clean (sym c.is_clean.ensures ∙ c.if-not-is_clean.false) in

@@ -1,6 +1,6 @@
 //! Lists of lists, by client and call number. A list that is lacking counts as empty.
-ghost use Rattle.std.specs.Prelude.{◌≡◌, ◌≤◌, ℕ, None};
-ghost use Rattle.std.specs.Option.{option_copied};
+ghost use Rattle.std.specs.Prelude.{◌≡◌, ◌≤◌, ℕ, None, length, slice_get};
+ghost use Rattle.std.specs.Option.{option_copied, option_map_or};
 ghost use Rattle.tatp_settle.specs.Runs.{at_call, lists_of};
 
 /// What stands for a client and one of its call numbers.
@@ -12,14 +12,16 @@ pub(crate) fn at<T>(lists: &[Vec<T>], client: u64, number: u64) -> Option<&T>
 
 /// How many lists there are.
 pub(crate) fn count_of<T>(lists: &[Vec<T>]) -> u64
-    ensures { (client number : ℕ) → result ≤ client → at_call (lists_of lists.now) client number ≡ None }
+    ensures count { result ≡ length lists.now }
+    ensures beyond { (client number : ℕ) → result ≤ client → at_call (lists_of lists.now) client number ≡ None }
 {
     lists.len() as u64
 }
 
 /// How much stands for a client.
 pub(crate) fn len_of<T>(lists: &[Vec<T>], client: u64) -> u64
-    ensures { (number : ℕ) → result ≤ number → at_call (lists_of lists.now) client number ≡ None }
+    ensures count { result ≡ option_map_or length (slice_get (lists_of lists.now) client) 0 }
+    ensures beyond { (number : ℕ) → result ≤ number → at_call (lists_of lists.now) client number ≡ None }
 {
     match lists.get(client as usize) {
         Some(list) => list.len() as u64,

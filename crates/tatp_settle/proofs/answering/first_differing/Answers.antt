@@ -11,7 +11,7 @@ pub calls-preserved : goal.calls-preserved
 calls-preserved c = clear_step _ _ _ c.calls.invariant (λ d. false≢true (sym c.if-differs_at.false ∙ c.differs_at.ensures.1 d))
 
 pub clients-preserved : goal.clients-preserved
-clients-preserved c = clear_row _ _ c.calls.number c.calls.invariant (λ n h. none_differs _ _ _ _ c.requires.matched c.requires.placed _ _ (c.len_of-number-end.ensures n (omega (arith, h))))
+clients-preserved c = clear_row _ _ c.calls.number c.calls.invariant (λ n h. none_differs _ _ _ _ c.requires.matched c.requires.placed _ _ (c.len_of-number-end.ensures.beyond n (omega (arith, h))))
 
 pub returns : goal.returns
-returns c = clear_all _ c.clients.client c.clients.invariant (λ d n h. none_differs _ _ _ _ c.requires.matched c.requires.placed _ _ (c.count_of-client-end.ensures d n (omega (arith, h))))
+returns c = clear_all _ c.clients.client c.clients.invariant (λ d n h. none_differs _ _ _ _ c.requires.matched c.requires.placed _ _ (c.count_of-client-end.ensures.beyond d n (omega (arith, h))))

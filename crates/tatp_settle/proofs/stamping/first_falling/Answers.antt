@@ -22,7 +22,7 @@ calls-preserved c = elim c.match-at.branch [
 ]
 
 pub clients-preserved : goal.clients-preserved
-clients-preserved c = clear_row _ _ c.calls.number c.calls.invariant.clear (λ n h. falls_none _ _ _ (c.len_of-number-end.ensures n (omega (arith, h))))
+clients-preserved c = clear_row _ _ c.calls.number c.calls.invariant.clear (λ n h. falls_none _ _ _ (c.len_of-number-end.ensures.beyond n (omega (arith, h))))
 
 pub returns : goal.returns
-returns c = clear_all _ c.clients.client c.clients.invariant (λ d n h. falls_none _ _ _ (c.count_of-client-end.ensures d n (omega (arith, h))))
+returns c = clear_all _ c.clients.client c.clients.invariant (λ d n h. falls_none _ _ _ (c.count_of-client-end.ensures.beyond d n (omega (arith, h))))

@@ -1,7 +1,6 @@
 //! Calls without a home whose key names a subscriber.
 ghost use Rattle.std.specs.Prelude.{◌≡◌};
-ghost use Rattle.tatp_tables.specs.Tuples.{set_of};
-ghost use Rattle.tatp_tables.specs.Database.{database_of};
+ghost use Rattle.tatp_tables.specs.Tuples.{Tuples};
 ghost use Rattle.tatp_numbers.specs.Homes.{home_of_key};
 ghost use Rattle.tatp_numbers.specs.Listing.{answer};
 ghost use Rattle.tatp_numbers.specs.declared.key.Key.{Key};
@@ -16,18 +15,11 @@ use crate::places::CallPlace;
 use crate::placing::lesser;
 use tatp_numbers::{Directory, Key};
 use tatp_procs::{Ask, Entry};
-use tatp_tables::Rows;
 
-/// The first call without a home whose key names a subscriber of the population.
-pub(crate) fn first_homed(
-    population: &Rows,
-    directory: &Directory,
-    closed: &Closed,
-) -> Option<CallPlace>
-    requires { (key : Key) → answer directory.now key ≡ home_of_key (set_of population.now.subscribers) key }
-    ensures { IsFirstCall (NamesHome (database_of population.now).subscribers closed.now) result }
+/// The first call without a home whose key names a subscriber of the directory.
+pub(crate) fn first_homed(directory: &Directory, closed: &Closed) -> Option<CallPlace>
+    ensures { (subscribers : Tuples) → ((key : Key) → answer directory.now key ≡ home_of_key subscribers key) → IsFirstCall (NamesHome subscribers closed.now) result }
 {
-    let _ = population;
     first_named(log_of(closed, 0), directory)
 }
 

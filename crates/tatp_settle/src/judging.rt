@@ -148,7 +148,7 @@ fn cause_without_home(
     ensures { IfOk result (λ cause. (receipts : List (List Receipt)) (calls : List (List Ask)) → NoneOfFirst 8 (record { population = population.now; closed = closed.now; receipts = receipts; calls = calls }) → IsFirstOf 9 (record { population = population.now; closed = closed.now; receipts = receipts; calls = calls }) cause) }
 {
     let directory = directory_of(alloc, population)?;
-    Ok(home_cause(first_homed(population, &directory, closed)))
+    Ok(home_cause(first_homed(&directory, closed)))
 }
 
 /// That the call has a home.

@@ -1,5 +1,4 @@
 use Rattle.std.proofs.Common.{List, subst}
-use Rattle.tatp_tables.specs.Database.{database_of}
 use Rattle.tatp_procs.specs.declared.entry.Entry.{Entry}
 use Rattle.tatp_settle.specs.CallPlaces.{IsFirstCall}
 use Rattle.tatp_settle.specs.Named.{IsNamedIn}
@@ -7,5 +6,5 @@ use Rattle.tatp_settle.proofs.NamedLaws.{first_of_homes}
 use Rattle.tatp_settle.proofs.homed.first_homed.Goals as goal
 
 pub returns : goal.returns
-returns c = first_of_homes (database_of c.args.population.now).subscribers c.args.closed.now c.args.directory.now c.requires c.first_named.result
+returns c = λ subscribers is. first_of_homes subscribers c.args.closed.now c.args.directory.now is c.first_named.result
     (subst (λ (log : List Entry). IsFirstCall (IsNamedIn log c.args.directory.now) c.first_named.result) c.log_of.ensures c.first_named.ensures)

@@ -1,4 +1,5 @@
 use Rattle.std.proofs.Common.{Option, subst, sym}
+use Rattle.tatp_tables.specs.Database.{database_of}
 use Rattle.tatp_settle.specs.declared.cause.Unsettled.{Unsettled}
 use Rattle.tatp_settle.specs.Runs.{Run}
 use Rattle.tatp_settle.specs.CauseOrder.{IsFirstOf}
@@ -8,4 +9,4 @@ use Rattle.tatp_settle.proofs.judging.cause_without_home.Goals as goal
 pub returns : goal.returns
 returns c = λ receipts calls before.
     let run : Run = record { population = c.args.population.now; closed = c.args.closed.now; receipts = receipts; calls = calls } in
-    subst (λ (cause : Option Unsettled). IsFirstOf 9 run cause) (sym c.home_cause.ensures) (home_cause_is run c.first_homed.result c.first_homed.ensures before)
+    subst (λ (cause : Option Unsettled). IsFirstOf 9 run cause) (sym c.home_cause.ensures) (home_cause_is run c.first_homed.result (c.first_homed.ensures (database_of run.population).subscribers c.in_ok-directory.ensures) before)

@@ -1,8 +1,10 @@
 -- Drawn calls: how many there are, and that each can be run under the standard module.
-use Rattle.std.specs.Prelude.{◌≡◌, ℕ, zero, suc, ◌+◌, ◌*◌, ◌%◌, ◌≤◌, true, cond, List, [], ◌∷◌, ◌++◌, map, length, Option, Some, None, Ok, Vec}
+use Rattle.std.specs.Prelude.{◌≡◌, ℕ, zero, suc, ◌+◌, ◌*◌, ◌%◌, ◌≤◌, true, cond, List, [], ◌∷◌, ◌++◌, map, length, Option, Some, None, Result, Ok, Vec}
 use Rattle.std.proofs.Common.{refl, sym, ap, ◌∙◌, arith, length-append, suc-mul, zero-mul}
 use Rattle.std.specs.declared.alloc.Global.{Global}
 use Rattle.std.specs.List.{range_with_len}
+use Rattle.std.specs.Option.{option_map}
+use Rattle.std.specs.Result.{result_err}
 use Rattle.std.proofs.lemmas.List.{map-append}
 use Rattle.rand_core.specs.Stream.{Stream}
 use Rattle.tatp_encoding.specs.Modules.{Procedure}
@@ -10,6 +12,7 @@ use Rattle.tatp_procs.specs.declared.ask.Ask.{Ask}
 use Rattle.tatp_procs.specs.declared.ask.Ask.TheVariants.{Txn}
 use Rattle.tatp_procs.specs.declared.call.Call.{Call}
 use Rattle.tatp_procs.specs.declared.call.Call.TheVariants.{GetSubscriberData, GetNewDestination, GetAccessData, UpdateSubscriberData, UpdateLocation, InsertCallForwarding, DeleteCallForwarding}
+use Rattle.tatp_procs.specs.declared.domains.BadArgument.{BadArgument as Bad}
 use Rattle.tatp_procs.specs.Arguments.{arguments_accepted}
 use Rattle.tatp_procs.specs.Standard.{standard_module}
 use Rattle.tatp_driver.specs.declared.distribution.Distribution.{Distribution}
@@ -17,10 +20,11 @@ use Rattle.tatp_driver.specs.declared.distribution.Distribution.TheVariants.{Ske
 use Rattle.tatp_driver.specs.DrawnCall.{drawn_subscriber, drawn_call}
 use Rattle.tatp_driver.specs.DrawnWords.{next_words}
 use Rattle.tatp_driver.proofs.DrawnCallLaws.{call_on_accepted}
+use Rattle.tatp_partition.specs.Asks.{has_procedure, bad_argument}
 use Rattle.tatp_settle.specs.Runs.{joined, lists_of}
 use Rattle.tatp_threads.specs.declared.refusal.RunRefusal.{RunRefusal}
-use Rattle.tatp_threads.specs.declared.refusal.RunRefusal.TheVariants.{NoProcedure}
-use Rattle.tatp_threads.specs.Calls.{has_procedure, argument_obstacle, bad_argument_of, obstacle_to, first_of, obstacle_in, obstacle_among}
+use Rattle.tatp_threads.specs.declared.refusal.RunRefusal.TheVariants.{NoProcedure, BadArgument}
+use Rattle.tatp_threads.specs.Calls.{obstacle_to, first_of, obstacle_in, obstacle_among}
 use Rattle.tatp_bench.specs.Drawing.{next_calls}
 
 -- ---- how many
@@ -69,7 +73,7 @@ none_of_both (Some refusal ∷ xs) ys h k = h
 
 module _ (procedures : List Procedure) (has : (call : Call) → has_procedure procedures (Txn call) ≡ true) where
   no_obstacle : (call : Call) → arguments_accepted call ≡ Ok tt → obstacle_to procedures (Txn call) ≡ None
-  no_obstacle call fits = (λ i. cond (has call i) (argument_obstacle (Txn call)) (Some NoProcedure)) ∙ ap bad_argument_of fits
+  no_obstacle call fits = (λ i. cond (has call i) (option_map BadArgument (bad_argument (Txn call))) (Some NoProcedure)) ∙ ap (λ (r : Result (Unit {0}) Bad). option_map BadArgument (result_err r)) fits
 
   pub calls_run : (distribution : Distribution) (subscribers : ℕ) → 1 ≤ subscribers → subscribers ≤ 100000 → (n : ℕ) (stream : Stream)
       → obstacle_in procedures (map Txn (next_calls distribution subscribers n stream).0) ≡ None

@@ -1,6 +1,7 @@
 -- A call that a client asks goes to the back of the queue that the route names.
 use Rattle.std.proofs.Common.{◌≡◌, ◌≢◌, inl, inr, ℕ, zero, suc, ◌+◌, ◌-◌, ◌^◌, ◌<◌, ◌==◌, not, Bool, true, false, List, [], ◌∷◌, ◌++◌, length, Option, Some, None, Result, Ok, Err, slice_get, refl, sym, ◌∙◌, ap, subst, arith, Vec, Global}
-use Rattle.std.specs.Option.{option_map_or}
+use Rattle.std.specs.Option.{option_map, option_map_or}
+use Rattle.std.specs.Result.{result_err}
 use Rattle.std.proofs.Math.ListN.{set, length-set}
 use Rattle.std.proofs.lemmas.Bool.{eqb-true, eq-eqb}
 use Rattle.std.proofs.lemmas.Option.{slice_get_cases}
@@ -11,18 +12,18 @@ use Rattle.tatp_procs.specs.declared.ask.Ask.TheVariants.{Txn, Raw}
 use Rattle.tatp_procs.specs.declared.domains.BadArgument.{BadArgument as Bad}
 use Rattle.tatp_procs.specs.Arguments.{arguments_accepted}
 use Rattle.tatp_partition.specs.declared.item.Item.{Item}
-use Rattle.tatp_partition.specs.Asks.{procedure_asked, arguments_asked, key_asked, AreInDomains, Fits, arities_of}
+use Rattle.tatp_partition.specs.Asks.{procedure_asked, arguments_asked, key_asked, AreInDomains, Fits, arities_of, has_procedure, bad_argument}
 use Rattle.tatp_move.specs.Routing.{route_of}
 use Rattle.tatp_dispatch.specs.declared.client.Client.{Client}
 use Rattle.tatp_dispatch.specs.declared.event.Answer.TheVariants.{Queued}
 use Rattle.tatp_dispatch.specs.declared.event.Refusal.{Refusal}
-use Rattle.tatp_dispatch.specs.declared.event.Refusal.TheVariants.{ClientBusy, NoProcedure, NumbersFull}
+use Rattle.tatp_dispatch.specs.declared.event.Refusal.TheVariants.{ClientBusy, NoProcedure, NumbersFull, BadArgument}
 use Rattle.tatp_dispatch.specs.declared.world.World.TheInside.{Inside}
 use Rattle.tatp_dispatch.specs.Counts.{or_else}
 use Rattle.tatp_dispatch.specs.Queues.{most_clients}
 use Rattle.tatp_dispatch.specs.Worlds.{WorldState}
 use Rattle.tatp_dispatch.specs.Fields.{world_of, IsSound}
-use Rattle.tatp_dispatch.specs.Obstacles.{where_holds, has_procedure, bad_argument_of, argument_obstacle, call_obstacle, client_obstacle, submit_obstacle}
+use Rattle.tatp_dispatch.specs.Obstacles.{where_holds, argument_obstacle, call_obstacle, client_obstacle, submit_obstacle}
 use Rattle.tatp_dispatch.specs.Events.{QueuesCall}
 use Rattle.tatp_dispatch.specs.Placed.{IsItemRight, AreItemsRight}
 use Rattle.tatp_dispatch.specs.Serving.{calls_of}
@@ -76,7 +77,7 @@ arity_at [] i count h = absurd cc
 arity_at (p ∷ procedures) zero count h = ap Some (eqb-true p.arity count h)
 arity_at (p ∷ procedures) (suc i) count h = arity_at procedures i count h
 
-accepted : (r : Result (Unit {0}) Bad) → bad_argument_of r ≡ None → r ≡ Ok tt
+accepted : (r : Result (Unit {0}) Bad) → option_map BadArgument (result_err r) ≡ None → r ≡ Ok tt
 accepted (Ok tt) h = refl
 accepted (Err bad) h = absurd cc
 

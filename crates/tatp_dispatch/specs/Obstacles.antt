@@ -1,14 +1,11 @@
 -- Why an event is refused: the first obstacle that is there, in their order.
-use Rattle.std.specs.Prelude.{◌≡◌, ℕ, ◌-◌, ◌^◌, ◌==◌, not, nat_lt, Bool, false, if◌then◌else◌, List, [], ◌∷◌, length, is_none, Option, Some, None, Result, Ok, Err, slice_get}
+use Rattle.std.specs.Prelude.{◌≡◌, ℕ, ◌-◌, ◌^◌, ◌==◌, not, Bool, if◌then◌else◌, List, [], ◌∷◌, is_none, Option, Some, None, slice_get}
 use Rattle.std.specs.Option.{option_map, option_map_or, option_and_then}
 use Rattle.tatp_encoding.specs.Modules.{Procedure}
 use Rattle.tatp_procs.specs.declared.ask.Ask.{Ask}
-use Rattle.tatp_procs.specs.declared.ask.Ask.TheVariants.{Txn, Raw}
-use Rattle.tatp_procs.specs.declared.domains.BadArgument.{BadArgument as Bad}
-use Rattle.tatp_procs.specs.Arguments.{arguments_accepted}
 use Rattle.tatp_partition.specs.declared.item.Item.{Item}
 use Rattle.tatp_partition.specs.declared.refusal.SiteRefusal.{SiteRefusal}
-use Rattle.tatp_partition.specs.Asks.{procedure_asked, arguments_asked}
+use Rattle.tatp_partition.specs.Asks.{has_procedure, bad_argument}
 use Rattle.tatp_partition.specs.Moving.{LandedState}
 use Rattle.tatp_partition.specs.Sites.{SiteState, slot}
 use Rattle.tatp_partition.specs.Obstacles.{begin_obstacle, step_obstacle, one_obstacle, take_obstacle, stop_obstacle, resume_obstacle, break_obstacle}
@@ -22,16 +19,8 @@ abbrev pub where_holds : Bool → Refusal → Option Refusal
 where_holds holds refusal = if holds then Some refusal else None
 
 -- ---- a client asks
-abbrev pub has_procedure : List Procedure → Ask → Bool
-has_procedure procedures ask = option_map_or (λ (p : Procedure). p.arity == length (arguments_asked ask)) (slice_get procedures (procedure_asked ask)) false
-
-abbrev pub bad_argument_of : Result (Unit {0}) Bad → Option Refusal
-bad_argument_of (Ok done) = None
-bad_argument_of (Err bad) = Some (BadArgument bad)
-
 abbrev pub argument_obstacle : Ask → Option Refusal
-argument_obstacle (Txn call) = bad_argument_of (arguments_accepted call)
-argument_obstacle (Raw raw) = None
+argument_obstacle ask = option_map BadArgument (bad_argument ask)
 
 -- what stands against a call of this client
 abbrev pub call_obstacle : List Procedure → Ask → Client → Option Refusal

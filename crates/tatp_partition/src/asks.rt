@@ -2,13 +2,13 @@
 ghost use Rattle.std.specs.Prelude.{◌≡◌, ◌↔◌, IsTrue, Option, Some, None, is_some, length};
 ghost use Rattle.tatp_numbers.specs.Homes.{home_of_key};
 ghost use Rattle.tatp_machine.specs.Machines.{machine_at_entry};
-ghost use Rattle.tatp_partition.specs.Asks.{procedure_asked, arguments_asked, key_asked, is_transaction, AreInDomains, Fits, arities_of};
+ghost use Rattle.tatp_partition.specs.Asks.{procedure_asked, arguments_asked, key_asked, is_transaction, AreInDomains, Fits, arities_of, has_procedure, bad_argument};
 
 use crate::Item;
 use tatp_loader::Loaded;
 use tatp_machine::Machine;
 use tatp_numbers::Key;
-use tatp_procs::{Ask, args_ok};
+use tatp_procs::{Ask, BadArgument, args_ok};
 use tatp_tables::Home;
 
 /// Whether a transaction is asked.
@@ -31,13 +31,46 @@ fn procedure_of(ask: &Ask) -> u64
     }
 }
 
+/// How many arguments there are.
+fn argument_count(ask: &Ask) -> usize
+    ensures { result ≡ length (arguments_asked ask.now) }
+{
+    match ask {
+        Ask::Txn(call) => call.args().len(),
+        Ask::Raw(raw) => raw.args().len(),
+    }
+}
+
 /// The key of the subscriber.
-fn key_of(ask: &Ask) -> Key
+pub fn key_of(ask: &Ask) -> Key
     ensures { result ≡ key_asked ask.now }
 {
     match ask {
         Ask::Txn(call) => call.key(),
         Ask::Raw(raw) => raw.key(),
+    }
+}
+
+/// Whether a module has the procedure that is asked, with as many arguments.
+pub fn has_procedure(loaded: &Loaded, ask: &Ask) -> bool
+    ensures { result ≡ has_procedure loaded.now ask.now }
+{
+    let procs = loaded.module().procs();
+    let procedure = procedure_of(ask);
+    procedure < procs.len() as u64
+        && procs[procedure as usize].arity() as usize == argument_count(ask)
+}
+
+/// A transaction's first argument outside its domain.
+pub fn bad_argument(ask: &Ask) -> Option<BadArgument>
+    ensures { result ≡ bad_argument ask.now }
+{
+    match ask {
+        Ask::Txn(call) => match args_ok(call) {
+            Ok(()) => None,
+            Err(bad) => Some(bad),
+        },
+        Ask::Raw(_) => None,
     }
 }
 

@@ -10,7 +10,7 @@ mod runner;
 mod site;
 mod slots;
 
-pub use asks::item_ok;
+pub use asks::{bad_argument, has_procedure, item_ok, key_of};
 pub use item::{Breakpoint, Completion, Item, Offer, Stepped};
 pub use parcel::{Landed, Parcel, what_holds_of_every_parcel};
 pub use refusal::SiteRefusal;

@@ -4,7 +4,6 @@ ghost use Rattle.tatp_tables.specs.Tuples.{Tuples};
 ghost use Rattle.tatp_numbers.specs.Homes.{home_of_key};
 ghost use Rattle.tatp_numbers.specs.Listing.{answer};
 ghost use Rattle.tatp_numbers.specs.declared.key.Key.{Key};
-ghost use Rattle.tatp_partition.specs.Asks.{key_asked};
 ghost use Rattle.tatp_settle.specs.CallPlaces.{IsFirstCall};
 ghost use Rattle.tatp_settle.specs.Causes.{NamesHome};
 ghost use Rattle.tatp_settle.specs.Named.{IsNamedIn};
@@ -13,8 +12,9 @@ use crate::Closed;
 use crate::logs::log_of;
 use crate::places::CallPlace;
 use crate::placing::lesser;
-use tatp_numbers::{Directory, Key};
-use tatp_procs::{Ask, Entry};
+use tatp_numbers::Directory;
+use tatp_partition::key_of;
+use tatp_procs::Entry;
 
 /// The first call without a home whose key names a subscriber of the directory.
 pub(crate) fn first_homed(directory: &Directory, closed: &Closed) -> Option<CallPlace>
@@ -40,14 +40,4 @@ fn first_named(log: &[Entry], directory: &Directory) -> Option<CallPlace>
         }
     }
     least
-}
-
-/// The key of the subscriber that is asked for.
-fn key_of(ask: &Ask) -> Key
-    ensures { result ≡ key_asked ask.now }
-{
-    match ask {
-        Ask::Txn(call) => call.key(),
-        Ask::Raw(raw) => raw.key(),
-    }
 }

@@ -1,21 +1,21 @@
 -- Why a run is refused.
-use Rattle.std.proofs.Common.{◌≡◌, ◌⊎◌, ℕ, ◌<◌, ◌≤◌, ◌^◌, Bool, true, false, cond, List, [], ◌∷◌, map, length, Option, Some, None, Result, Ok, Err, Vec, refl, sym, ap, ◌∙◌, subst, arith, inl, inr}
+use Rattle.std.proofs.Common.{◌≡◌, ◌⊎◌, ℕ, ◌<◌, ◌≤◌, ◌^◌, Bool, true, false, cond, List, [], ◌∷◌, map, length, Option, Some, None, Vec, refl, sym, ap, ◌∙◌, subst, arith, inl, inr}
+use Rattle.std.specs.Option.{option_map}
 use Rattle.std.specs.declared.alloc.Global.{Global}
 use Rattle.std.proofs.lemmas.List.FromFn.{length-map-range_with_len}
 use Rattle.tatp_encoding.specs.Modules.{Procedure}
 use Rattle.tatp_tables.specs.Database.{Database}
 use Rattle.tatp_tables.specs.declared.row.Rows.{Rows}
 use Rattle.tatp_procs.specs.declared.ask.Ask.{Ask}
-use Rattle.tatp_procs.specs.declared.ask.Ask.TheVariants.{Txn, Raw}
 use Rattle.tatp_procs.specs.declared.domains.BadArgument.{BadArgument as Bad}
-use Rattle.tatp_procs.specs.Arguments.{arguments_accepted}
+use Rattle.tatp_partition.specs.Asks.{has_procedure, bad_argument}
 use Rattle.tatp_population.specs.Extents.{ExtentState}
 use Rattle.tatp_population.specs.Opening.{RefusesRows, extent_count, homes_of_extent, opened_extent, opened_extents}
 use Rattle.tatp_population.specs.declared.open_error.OpenError.{OpenError}
 use Rattle.tatp_population.specs.declared.open_error.OpenError.TheVariants as opening
 use Rattle.tatp_threads.specs.declared.refusal.RunRefusal.{RunRefusal}
 use Rattle.tatp_threads.specs.declared.refusal.RunRefusal.TheVariants.{TooMany, NotClean, NoProcedure, BadArgument, NoMemory, NoThread}
-use Rattle.tatp_threads.specs.Calls.{has_procedure, argument_obstacle, bad_argument_of, obstacle_to, first_of, obstacle_in, obstacle_among, opening_refusal, AreOpened, RefusesRun}
+use Rattle.tatp_threads.specs.Calls.{obstacle_to, first_of, obstacle_in, obstacle_among, opening_refusal, AreOpened, RefusesRun}
 
 -- ---- the rows
 pub opening_refused : (procedures : List Procedure) (rows : Rows) (lists : List (Vec Ask Global)) (error : OpenError) → RefusesRows rows error → RefusesRun procedures rows lists (opening_refusal error)
@@ -42,19 +42,15 @@ abbrev AreOfCalls : Option RunRefusal → Type 0
 AreOfCalls None = Unit {0}
 AreOfCalls (Some refusal) = IsOfCall refusal
 
-of_accepted : (r : Result (Unit {0}) Bad) → AreOfCalls (bad_argument_of r)
-of_accepted (Ok done) = tt
-of_accepted (Err bad) = tt
-
-of_arguments : (ask : Ask) → AreOfCalls (argument_obstacle ask)
-of_arguments (Txn call) = of_accepted (arguments_accepted call)
-of_arguments (Raw raw) = tt
+of_arguments : (bad : Option Bad) → AreOfCalls (option_map BadArgument bad)
+of_arguments None = tt
+of_arguments (Some bad) = tt
 
 of_call : (procedures : List Procedure) (ask : Ask) → AreOfCalls (obstacle_to procedures ask)
 of_call procedures ask = by (has_procedure procedures ask)
   where
-    by : (b : Bool) → AreOfCalls (cond b (argument_obstacle ask) (Some NoProcedure))
-    by true = of_arguments ask
+    by : (b : Bool) → AreOfCalls (cond b (option_map BadArgument (bad_argument ask)) (Some NoProcedure))
+    by true = of_arguments (bad_argument ask)
     by false = tt
 
 of_first : {A : Type 0} (f : A → Option RunRefusal) (xs : List A) → ((x : A) → AreOfCalls (f x)) → AreOfCalls (first_of (map f xs))

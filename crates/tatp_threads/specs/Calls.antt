@@ -1,37 +1,21 @@
 -- Which calls and rows a run refuses.
-use Rattle.std.specs.Prelude.{◌≡◌, ℕ, ◌==◌, ◌≤◌, Bool, false, if◌then◌else◌, List, [], ◌∷◌, map, length, Option, Some, None, Result, Ok, Err, slice_get, Vec}
-use Rattle.std.specs.Option.{option_map_or}
+use Rattle.std.specs.Prelude.{◌≡◌, ◌≤◌, if◌then◌else◌, List, [], ◌∷◌, map, length, Option, Some, None, Vec}
+use Rattle.std.specs.Option.{option_map}
 use Rattle.std.specs.declared.alloc.Global.{Global}
 use Rattle.tatp_encoding.specs.Modules.{Procedure}
 use Rattle.tatp_tables.specs.Clean.{IsClean}
 use Rattle.tatp_tables.specs.declared.row.Rows.{Rows}
 use Rattle.tatp_procs.specs.declared.ask.Ask.{Ask}
-use Rattle.tatp_procs.specs.declared.ask.Ask.TheVariants.{Txn, Raw}
-use Rattle.tatp_procs.specs.declared.domains.BadArgument.{BadArgument as Bad}
-use Rattle.tatp_procs.specs.Arguments.{arguments_accepted}
 use Rattle.tatp_population.specs.Opening.{most_subscribers, RefusesRows}
 use Rattle.tatp_population.specs.declared.open_error.OpenError.{OpenError}
 use Rattle.tatp_population.specs.declared.open_error.OpenError.TheVariants as opening
-use Rattle.tatp_partition.specs.Asks.{procedure_asked, arguments_asked}
+use Rattle.tatp_partition.specs.Asks.{has_procedure, bad_argument}
 use Rattle.tatp_threads.specs.declared.refusal.RunRefusal.{RunRefusal}
 use Rattle.tatp_threads.specs.declared.refusal.RunRefusal.TheVariants.{TooMany, NotClean, NoProcedure, BadArgument, NoMemory, NoThread}
 
--- the module has the procedure that is asked, and it takes as many arguments
-abbrev pub has_procedure : List Procedure → Ask → Bool
-has_procedure procedures ask = option_map_or (λ (p : Procedure). p.arity == length (arguments_asked ask)) (slice_get procedures (procedure_asked ask)) false
-
-abbrev pub bad_argument_of : Result (Unit {0}) Bad → Option RunRefusal
-bad_argument_of (Ok done) = None
-bad_argument_of (Err bad) = Some (BadArgument bad)
-
--- a transaction's first argument outside its domain; those of any other call may be any numbers
-abbrev pub argument_obstacle : Ask → Option RunRefusal
-argument_obstacle (Txn call) = bad_argument_of (arguments_accepted call)
-argument_obstacle (Raw raw) = None
-
 -- what stands against a call
 abbrev pub obstacle_to : List Procedure → Ask → Option RunRefusal
-obstacle_to procedures ask = if has_procedure procedures ask then argument_obstacle ask else Some NoProcedure
+obstacle_to procedures ask = if has_procedure procedures ask then option_map BadArgument (bad_argument ask) else Some NoProcedure
 
 -- the first obstacle of some
 abbrev pub first_of : List (Option RunRefusal) → Option RunRefusal

@@ -1,12 +1,13 @@
 //! Whether the calls of a run can be run.
-ghost use Rattle.std.specs.Prelude.{◌≡◌, IfOk, Some, None};
-ghost use Rattle.tatp_partition.specs.Asks.{procedure_asked, arguments_asked, arities_of};
-ghost use Rattle.tatp_threads.specs.Calls.{has_procedure, argument_obstacle, obstacle_to, obstacle_in, obstacle_among};
+ghost use Rattle.std.specs.Prelude.{◌≡◌, IfOk};
+ghost use Rattle.tatp_partition.specs.Asks.{arities_of};
+ghost use Rattle.tatp_threads.specs.Calls.{obstacle_to, obstacle_in, obstacle_among};
 
 use crate::RunRefusal;
 use std::alloc::{AllocError, Global};
 use tatp_loader::Loaded;
-use tatp_procs::{Ask, args_ok};
+use tatp_partition::{bad_argument, has_procedure};
+use tatp_procs::Ask;
 
 /// How many arguments each procedure of a module takes.
 pub(crate) fn arities_of(alloc: Global, loaded: &Loaded) -> Result<Vec<u8>, AllocError>
@@ -20,45 +21,16 @@ pub(crate) fn arities_of(alloc: Global, loaded: &Loaded) -> Result<Vec<u8>, Allo
     Ok(arities)
 }
 
-/// Whether a module has the procedure that is asked, with as many arguments.
-fn has_procedure(loaded: &Loaded, ask: &Ask) -> bool
-    ensures { result ≡ has_procedure loaded.now ask.now }
-{
-    let procs = loaded.module().procs();
-    match ask {
-        Ask::Txn(call) => {
-            let procedure = call.procedure();
-            procedure < procs.len() && procs[procedure].arity() as usize == call.args().len()
-        }
-        Ask::Raw(raw) => {
-            let procedure = raw.procedure();
-            procedure < procs.len() as u64
-                && procs[procedure as usize].arity() as usize == raw.args().len()
-        }
-    }
-}
-
-/// A transaction's first argument outside its domain.
-fn argument_obstacle(ask: &Ask) -> Option<RunRefusal>
-    ensures { result ≡ argument_obstacle ask.now }
-{
-    match ask {
-        Ask::Raw(_) => None,
-        Ask::Txn(call) => match args_ok(call) {
-            Ok(()) => None,
-            Err(bad) => Some(RunRefusal::BadArgument(bad)),
-        },
-    }
-}
-
 /// What stands against a call.
 fn obstacle_to(loaded: &Loaded, ask: &Ask) -> Option<RunRefusal>
     ensures { result ≡ obstacle_to loaded.now ask.now }
 {
-    if has_procedure(loaded, ask) {
-        argument_obstacle(ask)
-    } else {
-        Some(RunRefusal::NoProcedure)
+    if !has_procedure(loaded, ask) {
+        return Some(RunRefusal::NoProcedure);
+    }
+    match bad_argument(ask) {
+        None => None,
+        Some(bad) => Some(RunRefusal::BadArgument(bad)),
     }
 }
 

@@ -1,6 +1,5 @@
 //! A client, which asks its calls one after another.
 ghost use Rattle.std.specs.Prelude.{◌≡◌, ◌+◌, ◌++◌, ◌∷◌, [], ◌≤◌, List, Option, None, length, vec_len, vec_capacity};
-ghost use Rattle.tatp_partition.specs.Asks.{key_asked};
 ghost use Rattle.tatp_threads.specs.Effects.{Grows};
 ghost use Rattle.tatp_threads.specs.declared.client.Exchange.{Exchange};
 ghost use Rattle.tatp_threads.specs.Asking.{Converses, Talk, item_of, seen_after};
@@ -10,8 +9,8 @@ use crate::shared::{Shared, send};
 use crate::slot::{Answer, Slot};
 use std::mem;
 use std::sync::Wait;
-use tatp_numbers::{Directory, Key};
-use tatp_partition::Item;
+use tatp_numbers::Directory;
+use tatp_partition::{Item, key_of};
 use tatp_procs::Ask;
 use tatp_settle::Receipt;
 
@@ -51,16 +50,6 @@ impl<R: Wait, G, A: Arities> Requester for Place<'_, '_, '_, '_, R, G, A> {
             Answer::Got(receipt) => Some(receipt),
             Answer::Dropped => None,
         }
-    }
-}
-
-/// The key of the subscriber whose rows a call may use.
-fn key_of(ask: &Ask) -> Key
-    ensures { result ≡ key_asked ask.now }
-{
-    match ask {
-        Ask::Txn(call) => call.key(),
-        Ask::Raw(raw) => raw.key(),
     }
 }
 

@@ -75,7 +75,9 @@ impl<'m> World<'m> {
         }
     }
 
-    /// A site makes a step.
+    /// A site makes a step. It stands apart, so that no other event pays for
+    /// the size of a reply.
+    #[inline(never)]
     pub(crate) fn step(&mut self, p: u64) -> Result<Answer, Refusal>
         ensures happens { AdvancesAt (step_obstacle_at self.old p) self.old p result self.new }
         ensures tells { Tells self.old result self.new }
@@ -88,7 +90,9 @@ impl<'m> World<'m> {
         }
     }
 
-    /// A site makes a step, stopped or not, at a breakpoint or not.
+    /// A site makes a step, stopped or not, at a breakpoint or not. It stands apart, so that no other event pays for
+    /// the size of a reply.
+    #[inline(never)]
     pub(crate) fn one(&mut self, p: u64) -> Result<Answer, Refusal>
         ensures happens { AdvancesAt (one_obstacle_at self.old p) self.old p result self.new }
         ensures tells { Tells self.old result self.new }

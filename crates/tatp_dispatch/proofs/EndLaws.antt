@@ -29,7 +29,7 @@ use Rattle.tatp_dispatch.specs.Populated.{IsPopulated}
 use Rattle.tatp_dispatch.specs.Plain.{PlainCall, Completes}
 use Rattle.tatp_dispatch.specs.Shown.{call_here, running_calls, shown, set_back}
 use Rattle.tatp_dispatch.specs.Placed.{AreExtentsPlaced, IsSiteOf, RunsAt, RunsIn, times_queued, times_running, AllCalls, AreClientsInOrder}
-use Rattle.tatp_dispatch.specs.Routed.{extent_in, moves_of, stands_at, AreRoutesRight}
+use Rattle.tatp_dispatch.specs.Routed.{extent_in, moves_of, stands_at, AreRoutesRight, NamePartitions}
 use Rattle.tatp_dispatch.specs.Serving.{calls_of, AloneInOrder, IsWorld, Serves}
 use Rattle.tatp_dispatch.proofs.CountLaws.{same_or_not, get_set_same, first_set_same, first_at, first_none, total_set, set_set}
 use Rattle.tatp_dispatch.proofs.CollectLaws.{Collects, collected_of, collected_with, collected_same}
@@ -141,11 +141,7 @@ ended_good w p s s' r c entry q end good here site st of number is d =
         | inl old ↦ good.calls x old
         | inr new ↦ absurd (let f : None ≡ Some x = sym st.is ∙ new in cc)
       ];
-      partitions = record {
-        some = omega (arith, good.partitions.some, len);
-        of_routes = λ e route is. omega (arith, good.partitions.of_routes e route is, len);
-        of_landings = λ i t is. omega (arith, good.partitions.of_landings i t is, len);
-      };
+      partitions = subst (λ (count : ℕ). NamePartitions count w.routes.routes w.landings) (sym len) good.partitions;
       routes = d.routes;
       keys = d.now.keys;
       keys_back = d.back.keys;

@@ -119,21 +119,17 @@ lead_ends zero more q u q' u' o lead ends = (more, subst (λ (c : CallState). En
 lead_ends (suc lines) more q u q' u' o lead ends = lead_ends lines (suc more) q u lead.0 lead.1 o lead.2 (q', u', lead.3, ends)
 
 -- ---- what an end leaves of a home's rows
+-- rows that leave the database which the rows at entry leave are these
+put_back : (h : ℕ) (q : CallState) (u rows : Database) → q.frame.home ≡ Some h → HaveSId h rows → HaveSId h q.entry → with_home_rows u q.frame.home rows ≡ with_home_rows u q.frame.home q.entry → rows ≡ q.entry
+put_back h q u rows at own own' e =
+    let f : with_subscriber u h rows ≡ with_subscriber u h q.entry = ap (λ (o : Option ℕ). with_home_rows u o rows) (sym at) ∙ (e ∙ ap (λ (o : Option ℕ). with_home_rows u o q.entry) at) in
+    sym (of_subscriber-with_subscriber u h rows own) ∙ (ap (λ x. of_subscriber x h) f ∙ of_subscriber-with_subscriber u h q.entry own')
+
 pub end_rows : (end : End) (h : ℕ) (q : CallState) (u rows now : Database) → q.frame.home ≡ Some h → of_subscriber u h ≡ now → HaveSId h rows → HaveSId h q.entry → with_home_rows u q.frame.home rows ≡ left_by end q u → (rows ≡ now) ⊎ (rows ≡ q.entry)
 end_rows Done h q u rows now at is own own' e =
     inl (sym (of_subscriber-with_subscriber u h rows own) ∙ (ap (λ (o : Option ℕ). of_subscriber (with_home_rows u o rows) h) (sym at) ∙ (ap (λ x. of_subscriber x h) e ∙ is)))
-end_rows (Failed n) h q u rows now at is own own' e = inr (back h q u rows at own own' e)
-  where
-    back : (h : ℕ) (q : CallState) (u rows : Database) → q.frame.home ≡ Some h → HaveSId h rows → HaveSId h q.entry → with_home_rows u q.frame.home rows ≡ with_home_rows u q.frame.home q.entry → rows ≡ q.entry
-    back h q u rows at own own' e =
-        let f : with_subscriber u h rows ≡ with_subscriber u h q.entry = ap (λ (o : Option ℕ). with_home_rows u o rows) (sym at) ∙ (e ∙ ap (λ (o : Option ℕ). with_home_rows u o q.entry) at) in
-        sym (of_subscriber-with_subscriber u h rows own) ∙ (ap (λ x. of_subscriber x h) f ∙ of_subscriber-with_subscriber u h q.entry own')
-end_rows (Trapped trap) h q u rows now at is own own' e = inr (back h q u rows at own own' e)
-  where
-    back : (h : ℕ) (q : CallState) (u rows : Database) → q.frame.home ≡ Some h → HaveSId h rows → HaveSId h q.entry → with_home_rows u q.frame.home rows ≡ with_home_rows u q.frame.home q.entry → rows ≡ q.entry
-    back h q u rows at own own' e =
-        let f : with_subscriber u h rows ≡ with_subscriber u h q.entry = ap (λ (o : Option ℕ). with_home_rows u o rows) (sym at) ∙ (e ∙ ap (λ (o : Option ℕ). with_home_rows u o q.entry) at) in
-        sym (of_subscriber-with_subscriber u h rows own) ∙ (ap (λ x. of_subscriber x h) f ∙ of_subscriber-with_subscriber u h q.entry own')
+end_rows (Failed n) h q u rows now at is own own' e = inr (put_back h q u rows at own own' e)
+end_rows (Trapped trap) h q u rows now at is own own' e = inr (put_back h q u rows at own own' e)
 
 -- ---- the call run alone
 -- the database U has the call's entry as its home's rows, the call came by lines, and it ends on the rows it came to, which leaves these

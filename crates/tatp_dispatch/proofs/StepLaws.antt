@@ -40,7 +40,7 @@ use Rattle.tatp_dispatch.proofs.RowLaws.{ChangesRows, Replaced, replaced, rename
 use Rattle.tatp_dispatch.proofs.WorldLaws.{entries_are_homes, one_call, sites_after, Kept, keeps_quiet}
 use Rattle.tatp_dispatch.proofs.SlotLaws.{placed_same, extent_same, stands_same}
 use Rattle.tatp_dispatch.proofs.RouteLaws.{routes_kept}
-use Rattle.tatp_dispatch.specs.Routed.{extent_in, moves_of, stands_at, AreRoutesRight}
+use Rattle.tatp_dispatch.specs.Routed.{extent_in, moves_of, stands_at, AreRoutesRight, NamePartitions}
 use Rattle.tatp_dispatch.proofs.RunLaws.{plain, call_is, call_not, running_call, calls_after, saved_is, saved_not, saved_homeless, saved_most, OnHome, on_home}
 
 some_inj : {A : Type 0} (x y : A) → Some x ≡ Some y → x ≡ y
@@ -142,11 +142,7 @@ lined_world w p s s' r r' good here site c d =
             let is : r' ≡ x = some_inj r' x (sym c.is ∙ new) in
             sym (ap (λ t. t.call.frame.home) is) ∙ (c.home ∙ (good.calls r (p, record { s = s; at = here; runs = c.was }) ∙ ap (λ a. answer w.directory (key_asked a)) (sym c.ask ∙ ap (λ t. t.ask) is)))
       ];
-      partitions = record {
-        some = omega (arith, good.partitions.some, len);
-        of_routes = λ e route is. omega (arith, good.partitions.of_routes e route is, len);
-        of_landings = λ i t is. omega (arith, good.partitions.of_landings i t is, len);
-      };
+      partitions = subst (λ (count : ℕ). NamePartitions count w.routes.routes w.landings) (sym len) good.partitions;
       routes = d.routes;
       keys = d.keys;
       keys_back = subst (λ (u : Database). (key : Key) → answer w.directory key ≡ home_of_key u.subscribers key) (sym d.back) good.keys_back;

@@ -180,9 +180,7 @@ pub fn turn(running: &mut Runner<'_>) -> Progress
     }
 }
 
-/// The call that runs has ended so: its extent is set free, and it is logged. It stands apart, so that a
-/// step that goes on doesn't pay for the size of a completion.
-#[inline(never)]
+/// The call that runs has ended so: its extent is set free, and it is logged.
 pub fn end_running(
     running: &mut Runner<'_>,
     end: End,

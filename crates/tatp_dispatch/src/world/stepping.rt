@@ -75,9 +75,7 @@ impl<'m> World<'m> {
         }
     }
 
-    /// A site makes a step. It stands apart, so that no other event pays for
-    /// the size of a reply.
-    #[inline(never)]
+    /// A site makes a step.
     pub(crate) fn step(&mut self, p: u64) -> Result<Answer, Refusal>
         ensures happens { AdvancesAt (step_obstacle_at self.old p) self.old p result self.new }
         ensures tells { Tells self.old result self.new }
@@ -90,9 +88,7 @@ impl<'m> World<'m> {
         }
     }
 
-    /// A site makes a step, stopped or not, at a breakpoint or not. It stands apart, so that no other event pays for
-    /// the size of a reply.
-    #[inline(never)]
+    /// A site makes a step, stopped or not, at a breakpoint or not.
     pub(crate) fn one(&mut self, p: u64) -> Result<Answer, Refusal>
         ensures happens { AdvancesAt (one_obstacle_at self.old p) self.old p result self.new }
         ensures tells { Tells self.old result self.new }

@@ -5,6 +5,7 @@ ghost use Rattle.tatp_machine.specs.Machines.{machine_at_entry};
 ghost use Rattle.tatp_population.specs.Extents.{IsExtent, last_stamp_of};
 ghost use Rattle.tatp_population.specs.Pinning.{HasItsHome, Logs};
 ghost use Rattle.tatp_population.specs.HomelessLog.{IsHomeless, RecordsHomeless};
+ghost use Rattle.tatp_partition.specs.declared.item.Completion.{Completion};
 ghost use Rattle.tatp_partition.specs.Asks.{Fits, arities_of, procedure_asked, arguments_asked, is_transaction};
 ghost use Rattle.tatp_partition.specs.Showing.{pinned_of, pins_extent, homeless_shown, IsEmptyAt};
 ghost use Rattle.tatp_partition.specs.Runners.{OfRunning, MayStep, TurnsRunning, MayEnd, Completes, IsSetFree, logs_running, slots_after, homeless_after, MayBeSetBack, slots_without_call};
@@ -181,7 +182,7 @@ pub fn turn(running: &mut Runner<'_>) -> Progress
 }
 
 /// The call that runs has ended so: its extent is set free, and it is logged.
-pub fn end_running(
+fn end_running(
     running: &mut Runner<'_>,
     end: End,
     standard: bool,
@@ -225,6 +226,32 @@ pub fn end_running(
         },
     }
 }
+
+/// The call that runs has ended so, and its completion is left in its place, where none stands. It stands
+/// apart, since a function clears the room of its locals when it begins: so a step that goes on clears none
+/// for a completion.
+#[inline(never)]
+pub fn end_running_into(
+    running: &mut Runner<'_>,
+    end: End,
+    standard: bool,
+    slots: &mut Slots<Extent>,
+    homeless: &mut Homeless,
+    ended: &mut Option<Completion>,
+)
+    requires ready { OfRunning (MayEnd end standard homeless.old) running.old }
+    requires place { IsEmptyAt slots.old (pinned_of running.old) }
+    ensures running { running.new ≡ None }
+    ensures ended { (completion : Completion) × (ended.new ≡ Some completion)
+        × OfRunning (Completes end homeless.old completion) running.old
+        × (slots.new ≡ slots_after (logs_running standard running.old) completion.entry (pinned_of running.old) slots.old)
+        × (homeless_shown homeless.new ≡ homeless_after (logs_running standard running.old) completion.entry (pinned_of running.old) (homeless_shown homeless.old))
+        × IsSetFree (logs_running standard running.old) completion.entry (pinned_of running.old) }
+    ensures history { IsHomeless homeless.new.mixed homeless.new.log }
+{
+    *ended = Some(end_running(running, end, standard, slots, homeless));
+}
+
 /// Whether a call is logged: where it is a transaction and the module is the standard one.
 fn is_logged(standard: bool, ask: &Ask) -> bool
     ensures { result ≡ (standard && is_transaction ask.now) }

@@ -7,7 +7,7 @@ ghost use Rattle.tatp_partition.specs.Showing.{running_shown};
 use super::Site;
 use super::reading::extent_of;
 use super::stopping::is_break;
-use crate::runner::{Runner, begin, end_running, turn};
+use crate::runner::{Runner, begin, end_running_into, turn};
 use crate::{Breakpoint, Completion, Item, Offer, SiteRefusal, Stepped};
 use arrayvec::ArrayVec;
 use std::alloc::Global;
@@ -101,14 +101,14 @@ impl<'m> Site<'m> {
         match turn(&mut self.running) {
             Progress::Running => return Ok(()),
             Progress::Ended(end) => {
-                let completion = end_running(
+                end_running_into(
                     &mut self.running,
                     end,
                     self.standard,
                     &mut self.slots,
                     &mut self.homeless,
+                    ended,
                 );
-                *ended = Some(completion);
                 return Ok(());
             }
         }

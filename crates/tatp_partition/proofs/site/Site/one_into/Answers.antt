@@ -18,22 +18,23 @@ returns-in-Running-clause-steps c = rw c.requires (rw (← c.self.view_is) (runs
 pub returns-in-Running-clause-site : goal.returns-in-Running-clause-site
 returns-in-Running-clause-site c = (moved c).sound.site
 
-pub end_running-completion-requires-clause-ready : goal.end_running-completion-requires-clause-ready
-end_running-completion-requires-clause-ready c =
+pub end_running_into-requires-clause-ready : goal.end_running_into-requires-clause-ready
+end_running_into-requires-clause-ready c =
     ready_to_end (record { alone = c.rows_of_one_subscriber.ensures.alone; put = c.rows_of_one_subscriber.ensures.put_alone })
     (record { run = c.lines_then_an_end_are_a_run.ensures.ends; performs = c.standard_procedures_are_transactions.ensures.performs; consistent = c.clean_rows_and_homes_are_consistent.ensures.homes })
     c.self.inside c.turn.new.running c.in-Ended.end c.self.invariant c.in-Ended.ensures
 
-ended : (c : goal.After-end_running-completion) → HasEnded c.self.inside c.end_running-completion.new.slots c.end_running-completion.new.running c.end_running-completion.new.homeless c.end_running-completion.result
+ended : (c : goal.After-end_running_into) → HasEnded c.self.inside c.end_running_into.new.slots c.end_running_into.new.running c.end_running_into.new.homeless c.end_running_into.ensures.ended.0
 ended c =
-    let e = c.end_running-completion in
-    has_ended c.self.inside c.turn.new.running e.new.running c.in-Ended.end e.new.slots e.new.homeless e.result c.self.invariant c.in-Ended.ensures e.ensures.running e.ensures.completes e.ensures.slots e.ensures.homeless e.ensures.free e.ensures.history
+    let e = c.end_running_into in
+    let left = e.ensures.ended in
+    has_ended c.self.inside c.turn.new.running e.new.running c.in-Ended.end e.new.slots e.new.homeless left.0 c.self.invariant c.in-Ended.ensures e.ensures.running left.2 left.3 left.4 left.5 e.ensures.history
 
 pub invariant_of-self-in-Ended : goal.invariant_of-self-in-Ended
 invariant_of-self-in-Ended c = (ended c).sound
 
 pub returns-in-Ended-clause-steps : goal.returns-in-Ended-clause-steps
-returns-in-Ended-clause-steps c = rw (← c.self.view_is) (runs_free c.self.inside (search rules), (ended c).ends)
+returns-in-Ended-clause-steps c = rw c.end_running_into.ensures.ended.1 (rw (← c.self.view_is) (runs_free c.self.inside (search rules), (ended c).ends))
 
 pub returns-in-Ended-clause-site : goal.returns-in-Ended-clause-site
 returns-in-Ended-clause-site c = (ended c).sound.site

@@ -1,5 +1,5 @@
 //! A call that begins, goes on and ends.
-ghost use Rattle.std.specs.Prelude.{◌≡◌, None, Some};
+ghost use Rattle.std.specs.Prelude.{◌≡◌, None, Some, OnErr};
 ghost use Rattle.tatp_partition.specs.Obstacles.{obstacle_to_step};
 ghost use Rattle.tatp_partition.specs.Running.{stepped_of};
 ghost use Rattle.tatp_partition.specs.Showing.{running_shown};
@@ -64,6 +64,7 @@ impl<'m> Site<'m> {
     pub fn step_into(&mut self, ended: &mut Option<Completion>) -> Result<(), SiteRefusal>
         requires { ended.old ≡ None }
         ensures steps { AdvancesUnless (step_obstacle self.old) self.old (told_in result ended.new) self.new }
+        ensures refused { OnErr result (ended.new ≡ None) }
         ensures site { IsSite self.new }
     {
         match step_refusal(&self.running, self.stopped, &self.breakpoints) {
@@ -89,6 +90,7 @@ impl<'m> Site<'m> {
     pub fn one_into(&mut self, ended: &mut Option<Completion>) -> Result<(), SiteRefusal>
         requires { ended.old ≡ None }
         ensures steps { AdvancesUnless (one_obstacle self.old) self.old (told_in result ended.new) self.new }
+        ensures refused { OnErr result (ended.new ≡ None) }
         ensures site { IsSite self.new }
     {
         if !self.running.is_some() {

@@ -39,7 +39,7 @@ take_refused_sound a v l p e refusal h x items len capacity =
     let same : record w { sites = v.items } ≡ w = (take_refused w p e refusal v.items x).1 in
     let sites : v.items ≡ a.sites.items = ap (λ t. t.sites) same in
     let whole : record w { sites = v.items; landings = l.items } ≡ w = ap (λ xs. record w { sites = v.items; landings = xs }) items ∙ same in
-    (record { world = subst IsWorld (sym whole) h.world; room = record { completions = omega (arith, h.room.completions, ap (total (λ (t : SiteState). one t.running)) sites); landings = omega (arith, h.room.landings, len, capacity); clients = h.room.clients } }, whole)
+    (record { world = subst IsWorld (sym whole) h.world; room = record { completions = omega (arith, h.room.completions, ap (total (λ (t : SiteState). one t.running)) sites); landings = omega (arith, h.room.landings, len, capacity); clients = h.room.clients }; empty = h.empty }, whole)
 
 -- ---- taken
 pub take_free : (a : Inside) (v : Vec SiteState Global) (p e : ℕ) (parcel : ExtentState) → IsSound a → TakesFrom a.sites.items p e (Ok parcel) v.items → slice_get a.parcels e ≡ Some None
@@ -59,7 +59,7 @@ take_done a v ps l p e number moves parcel h x put items len capacity =
     let k : Kept w (record w { sites = v.items; parcels = ps; landings = l.items }) = subst (Kept w) (sym same) (keeps_carried w p x.before x.after_it (set a.parcels e (Some parcel)) a.landings.items h.world c) in
     let held : total (λ t. one t) ps ≤ length ps = total_most (λ (t : Option ExtentState). one t) ps (λ t. one_most t) in
     let long : length ps ≡ length a.parcels = ap length put ∙ length-set a.parcels e (Some parcel) in (
-      record { world = k.world; room = record { completions = omega (arith, h.room.completions, ap (total (λ (t : SiteState). one t.running)) x.after, total_set_same (λ (t : SiteState). one t.running) a.sites.items p x.before x.after_it x.site (ap one running)); landings = omega (arith, held, long, len, capacity); clients = h.room.clients } },
+      record { world = k.world; room = record { completions = omega (arith, h.room.completions, ap (total (λ (t : SiteState). one t.running)) x.after, total_set_same (λ (t : SiteState). one t.running) a.sites.items p x.before x.after_it x.site (ap one running)); landings = omega (arith, held, long, len, capacity); clients = h.room.clients }; empty = h.empty },
       record { goes = k.stays; serves = serves_kept w (record w { sites = v.items; parcels = ps; landings = l.items }) k.back k.completions; world = k.world; procedures = refl },
     )
 
@@ -82,7 +82,7 @@ give_done a v ps l p e number moves x t h hand g put items len capacity =
     ap (λ xs. record w { sites = xs; parcels = ps; landings = l.items }) g.after
     ∙ (ap (λ xs. record w { sites = set a.sites.items p g.after_it; parcels = xs; landings = l.items }) put ∙ ap (λ xs. record w { sites = set a.sites.items p g.after_it; parcels = set a.parcels e None; landings = xs }) items) in
     let k : Kept w (record w { sites = v.items; parcels = ps; landings = l.items }) = subst (Kept w) (sym same) (keeps_carried w p g.before g.after_it (set a.parcels e None) (a.landings.items ++ t ∷ []) h.world c) in (
-      record { world = k.world; room = record { completions = omega (arith, h.room.completions, ap (total (λ (t : SiteState). one t.running)) g.after, total_set_same (λ (t : SiteState). one t.running) a.sites.items p g.before g.after_it g.site (ap one running)); landings = omega (arith, h.room.landings, len, capacity, ap (total (λ (t : Option ExtentState). one t)) put, total_set (λ (t : Option ExtentState). one t) a.parcels e (Some x) None hand); clients = h.room.clients } },
+      record { world = k.world; room = record { completions = omega (arith, h.room.completions, ap (total (λ (t : SiteState). one t.running)) g.after, total_set_same (λ (t : SiteState). one t.running) a.sites.items p g.before g.after_it g.site (ap one running)); landings = omega (arith, h.room.landings, len, capacity, ap (total (λ (t : Option ExtentState). one t)) put, total_set (λ (t : Option ExtentState). one t) a.parcels e (Some x) None hand); clients = h.room.clients }; empty = h.empty },
       record { goes = k.stays; serves = serves_kept w (record w { sites = v.items; parcels = ps; landings = l.items }) k.back k.completions; world = k.world; procedures = refl },
     )
 

@@ -62,6 +62,13 @@ with_sites a v = record a { sites = v }
 abbrev pub Done_so : Inside → Result Answer Refusal → Inside → Type 0
 Done_so a answered a' = IsSound a' × Tells (world_of a) answered (world_of a')
 
+-- the place for a completion, empty again
+abbrev pub with_place : Inside → Option Completion → Inside
+with_place a ended = record a { ended = ended }
+
+pub sound_with_place : (a : Inside) (ended : Option Completion) → IsSound a → ended ≡ None → IsSound (with_place a ended)
+sound_with_place a ended h empty = record { world = h.world; room = record { completions = h.room.completions; landings = h.room.landings; clients = h.room.clients }; empty = empty }
+
 room_same : (a : Inside) (v : Vec SiteState Global) (p : ℕ) (s s' : SiteState) → v.items ≡ set a.sites.items p s' → slice_get a.sites.items p ≡ Some s → one s'.running ≡ one s.running → HasRoom a → HasRoom (with_sites a v)
 room_same a v p s s' is here same h = record { completions = omega (arith, h.completions, ap (total (λ (t : SiteState). one t.running)) is, total_set_same (λ (t : SiteState). one t.running) a.sites.items p s s' here same); landings = h.landings; clients = h.clients }
 
@@ -69,7 +76,7 @@ pub done_quiet : (a : Inside) (v : Vec SiteState Global) (p : ℕ) (s s' : SiteS
 done_quiet a v p s s' h is here site q =
     let w : WorldState = world_of a in
     let k : Kept w (record w { sites = v.items }) = subst (λ xs. Kept w (record w { sites = xs })) (sym is) (keeps_quiet w p s s' h.world here site q) in (
-      record { world = k.world; room = room_same a v p s s' is here (ap one q.running) h.room },
+      record { world = k.world; room = room_same a v p s s' is here (ap one q.running) h.room; empty = h.empty },
       record { goes = k.stays; serves = serves_kept w (record w { sites = v.items }) k.back k.completions; world = k.world; procedures = refl },
     )
 
@@ -77,7 +84,7 @@ pub done_line : (a : Inside) (v : Vec SiteState Global) (p : ℕ) (s s' : SiteSt
 done_line a v p s s' h is here site g same =
     let w : WorldState = world_of a in
     let k = subst (λ xs. Lined w (record w { sites = xs })) (sym is) (lined w p s s' h.world here site g) in (
-      record { world = k.world; room = room_same a v p s s' is here same h.room },
+      record { world = k.world; room = room_same a v p s s' is here same h.room; empty = h.empty },
       record { goes = k.line; serves = serves_kept w (record w { sites = v.items }) k.back k.completions; world = k.world; procedures = refl },
     )
 
@@ -92,7 +99,7 @@ done_end a v entries clients p s s' completion c h is pushed set_to len capacity
     ap (λ xs. record w { sites = xs; completions = entries.items; clients = clients.items }) is
     ∙ (ap (λ xs. record w { sites = set a.sites.items p s'; completions = xs; clients = clients.items }) pushed ∙ ap (λ xs. record w { sites = set a.sites.items p s'; completions = a.completions.items ++ completion.entry ∷ []; clients = xs }) set_to) in
     let k = subst (λ (t : WorldState). Ended w t completion.entry.client completion.entry.reply) (sym same) (ended w p s s' completion c h.world here site at g) in (
-      record { world = k.world; room = record { completions = omega (arith, h.room.completions, ap (total (λ (t : SiteState). one t.running)) is, total_set (λ (t : SiteState). one t.running) a.sites.items p s s' here, len, capacity, ran, idle); landings = h.room.landings; clients = omega (arith, h.room.clients, ap length set_to, length-set a.clients.items completion.entry.client (record c { busy = false; seen = completion.entry.stamp })) } },
+      record { world = k.world; room = record { completions = omega (arith, h.room.completions, ap (total (λ (t : SiteState). one t.running)) is, total_set (λ (t : SiteState). one t.running) a.sites.items p s s' here, len, capacity, ran, idle); landings = h.room.landings; clients = omega (arith, h.room.clients, ap length set_to, length-set a.clients.items completion.entry.client (record c { busy = false; seen = completion.entry.stamp })) }; empty = h.empty },
       record { goes = k.completes; serves = k.serves; world = k.world; procedures = refl },
     )
 
@@ -172,4 +179,4 @@ end_at w p obstacle completion sites x = obstacle_is w p x.before obstacle None 
 pub sound_refused : (a : Inside) (v : Vec SiteState Global) → IsSound a → record (world_of a) { sites = v.items } ≡ world_of a → IsSound (with_sites a v)
 sound_refused a v h same =
     let items : v.items ≡ a.sites.items = ap (λ t. t.sites) same in
-    record { world = subst IsWorld (sym same) h.world; room = record { completions = omega (arith, h.room.completions, ap (total (λ (t : SiteState). one t.running)) items); landings = h.room.landings; clients = h.room.clients } }
+    record { world = subst IsWorld (sym same) h.world; room = record { completions = omega (arith, h.room.completions, ap (total (λ (t : SiteState). one t.running)) items); landings = h.room.landings; clients = h.room.clients }; empty = h.empty }

@@ -36,7 +36,7 @@ pub route_done : (a : Inside) (l : Vec LandedState Global) (routes : RoutesState
 route_done a l routes i t settled h at st items len capacity =
     let w : WorldState = world_of a in
     let k : Kept w (record w { routes = routes; landings = l.items }) = subst (λ xs. Kept w (record w { routes = routes; landings = xs })) (sym items) (route_keeps w i t settled routes h.world at st) in
-    (record { world = k.world; room = record { completions = h.room.completions; landings = omega (arith, h.room.landings, len, capacity); clients = h.room.clients } }, k)
+    (record { world = k.world; room = record { completions = h.room.completions; landings = omega (arith, h.room.landings, len, capacity); clients = h.room.clients }; empty = h.empty }, k)
 
 pub route_happens : (a : Inside) (l : Vec LandedState Global) (routes : RoutesState) (i e moves : ℕ) (t : LandedState) (settled : Settled) → IsFound a.landings.items i e moves t → Settles a.routes t settled routes → l.items ≡ remove a.landings.items i → RoutesLanding (world_of a) e moves settled t (world_of (routed a routes l))
 route_happens a l routes i e moves t settled f st items = record { i = i; routes = routes; in_hand = f.there; of_number = f.number; of_moves = f.many; settles = st; after = ap (λ xs. record (world_of a) { routes = routes; landings = xs }) items }

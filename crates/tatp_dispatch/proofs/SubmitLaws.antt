@@ -144,6 +144,6 @@ submit_done a queues clients client ask c p item h f =
     (calls_submitted (calls_of w) client p x.c new x.before x.c.seen x.of_client clear.idle refl refl x.queue h.world.clients)
     right
     ) in (
-      record { world = kept.world; room = record { completions = h.room.completions; landings = h.room.landings; clients = omega (arith, h.room.clients, ap length (f.counted c f.of_client), length-set a.clients.items client (record c { accepted = c.accepted + 1; busy = true })) } },
+      record { world = kept.world; room = record { completions = h.room.completions; landings = h.room.landings; clients = omega (arith, h.room.clients, ap length (f.counted c f.of_client), length-set a.clients.items client (record c { accepted = c.accepted + 1; busy = true })) }; empty = h.empty },
       record { goes = kept.stays; serves = serves_kept w (world_of (submitted a queues clients)) kept.back kept.completions; world = kept.world; procedures = refl },
     )

@@ -1,5 +1,5 @@
 -- How the fields of the whole show it, and what holds of them.
-use Rattle.std.specs.Prelude.{ℕ, ◌+◌, ◌≤◌, length, vec_len}
+use Rattle.std.specs.Prelude.{◌≡◌, ℕ, ◌+◌, ◌≤◌, length, vec_len, None}
 use Rattle.std.specs.Vec.{vec_capacity}
 use Rattle.tatp_partition.specs.Sites.{SiteState}
 use Rattle.tatp_dispatch.specs.declared.world.World.TheInside.{Inside}
@@ -30,3 +30,4 @@ pub record HasRoom (a : Inside) : Type 0 where
 pub record IsSound (a : Inside) : Type 0 where
   pub world : IsWorld (world_of a)
   pub room : HasRoom a
+  pub empty : a.ended ≡ None

@@ -20,7 +20,7 @@ use std::marker::Model;
 use tatp_loader::Loaded;
 use tatp_move::Routes;
 use tatp_numbers::Directory;
-use tatp_partition::{Landed, Parcel, Site, Slots};
+use tatp_partition::{Completion, Landed, Parcel, Site, Slots};
 use tatp_procs::Entry;
 
 /// All sites, with what is under way between them. It can be neither copied nor dropped.
@@ -34,6 +34,9 @@ pub struct World<'m> {
     landings: Vec<Landed>,
     clients: Vec<Client>,
     completions: Vec<Entry>,
+    /// Where a site leaves the completion of a call that ends: empty between events. It stands here,
+    /// since a function clears the room of its locals when it begins.
+    ended: Option<Completion>,
 }
 
 impl<'m> Model for World<'m> {

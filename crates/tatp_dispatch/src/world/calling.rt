@@ -23,9 +23,8 @@ impl<'m> World<'m> {
         ensures procedures { self.new.procedures ≡ self.old.procedures }
         ensures world { IsWorld self.new }
     {
-        let mut ended = None;
         'steps: loop {
-            match self.advance(p, Turn::Step, &mut ended) {
+            match self.advance(p, Turn::Step) {
                 Err(_) => return None,
                 Ok(None) => {}
                 Ok(Some(_)) => return Some(last_reply(&self.completions)),

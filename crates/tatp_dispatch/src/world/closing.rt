@@ -21,6 +21,7 @@ impl<'m> World<'m> {
             landings,
             clients: _,
             completions: _,
+            ended: _,
         } = self;
         close_sites(sites);
         close_parcels(parcels);

@@ -127,6 +127,7 @@ impl<'m> World<'m> {
             landings: Vec::new(alloc),
             clients: dispatcher.clients,
             completions: Vec::new(alloc),
+            ended: None,
         });
     }
 }

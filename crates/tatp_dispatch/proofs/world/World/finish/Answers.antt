@@ -6,7 +6,7 @@ use Rattle.tatp_dispatch.proofs.CallingLaws.{none_by, none_more, then_called, st
 use Rattle.tatp_dispatch.proofs.world.World.finish.Goals as goal
 
 moved : (c : goal.In-Ok-None) → AdvancesBriefly (step_obstacle_at c.steps.self c.args.p) c.steps.self c.args.p (Ok None) c.advance.new.self
-moved c = subst (λ (t : Option ℕ). AdvancesBriefly (step_obstacle_at c.steps.self c.args.p) c.steps.self c.args.p (Ok t) c.advance.new.self) c.in-Ok-None.field-0-is c.in-Ok-None.ensures.steps
+moved c = subst (λ (t : Option ℕ). AdvancesBriefly (step_obstacle_at c.steps.self c.args.p) c.steps.self c.args.p (Ok t) c.advance.new.self) c.in-Ok-None.field-0-is c.in-Ok-None.ensures
 
 pub steps-preserved : goal.steps-preserved
 steps-preserved c =
@@ -15,7 +15,6 @@ steps-preserved c =
     record {
       still = λ r at. still_runs c.steps.self c.advance.new.self c.args.p r.client r.ask m (c.steps.invariant.still r at);
       none = none_more c.args.self.now c.steps.self c.advance.new.self c.steps.invariant.none (none_by c.steps.self c.advance.new.self tells.serves (ap (λ t. t.completions) m.after));
-      empty = c.in-Ok-None.ensures.none;
       procedures = tells.procedures ∙ c.steps.invariant.procedures;
     }
 
@@ -24,7 +23,7 @@ steps-smaller c = fewer_left c.steps.self c.advance.new.self c.args.p (moved c).
 
 pub returns-in-Ok-Some-clause-call : goal.returns-in-Ok-Some-clause-call
 returns-in-Ok-Some-clause-call c = λ r at.
-    let h = subst (λ (t : Option ℕ). AdvancesBriefly (step_obstacle_at c.steps.self c.args.p) c.steps.self c.args.p (Ok t) c.advance.new.self) c.in-Ok-Some.field-0-is c.in-Ok-Some.ensures.steps in
+    let h = subst (λ (t : Option ℕ). AdvancesBriefly (step_obstacle_at c.steps.self c.args.p) c.steps.self c.args.p (Ok t) c.advance.new.self) c.in-Ok-Some.field-0-is c.in-Ok-Some.ensures in
     let e = h.1.1 in
     let last = c.last_reply.ensures c.steps.self.completions (e.0).entry (c.deref.ensures.value ∙ (ap (λ (t : WorldState). t.completions) c.self.view_is ∙ ap (λ (t : WorldState). t.completions) e.3.after)) in
     then_called c.args.self.now c.steps.self c.advance.new.self r.client r.ask (Some c.last_reply.result) c.steps.invariant.procedures c.steps.invariant.none

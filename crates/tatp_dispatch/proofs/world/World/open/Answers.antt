@@ -1,4 +1,4 @@
-use Rattle.std.proofs.Common.{ℕ, ◌≡◌, ◌+◌, ◌<◌, List, Option, None, length, replicate, rules, arith, sym, ◌∙◌, ap, subst}
+use Rattle.std.proofs.Common.{ℕ, ◌≡◌, ◌+◌, ◌<◌, List, Option, None, length, replicate, rules, arith, refl, sym, ◌∙◌, ap, subst}
 use Rattle.std.proofs.lemmas.List.{length-replicate}
 use Rattle.tatp_tables.specs.Database.{database_of}
 use Rattle.tatp_tables.specs.declared.row.Rows.{Rows}
@@ -87,6 +87,7 @@ invariant_of-result c = record {
     landings = let none = ap (λ (t : List (Option ExtentState)). total (λ x. one x) t) (none_held c) ∙ none_under_way (length c.args.rows.subscribers) in omega (arith, c.new.ensures.len, none);
     clients = let count = ap length c.in-Ok.ensures.clients ∙ length-replicate c.args.clients new_client in omega (arith, count, c.requires.few_clients);
   };
+  empty = refl;
 }
 
 pub returns-clause-opened : goal.returns-clause-opened

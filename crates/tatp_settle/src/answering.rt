@@ -26,10 +26,12 @@ fn says(extent: u64, entry: &Entry, ask: &Ask, receipt: &Receipt) -> bool
             stamp,
             ..
         } => {
+            // The client's own words come first, and so decide the branches: an entry may stand anywhere
+            // in memory, and is waited for.
             entry.stamp == *stamp
                 && extent == *of_extent as u64
-                && is_same_ask(&entry.ask, ask)
-                && is_same_reply(&entry.reply, reply)
+                && is_same_ask(ask, &entry.ask)
+                && is_same_reply(reply, &entry.reply)
         }
     }
 }

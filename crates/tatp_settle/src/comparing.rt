@@ -13,14 +13,14 @@ fn is_same_key(key: Key, other: Key) -> bool
 
 /// Whether two transactions are one, with the same arguments.
 fn is_same_call(call: &Call, other: &Call) -> bool
-    ensures { IsTrue result ↔ (call.now ≡ other.now) }
+    ensures { IsTrue result ↔ (other.now ≡ call.now) }
 {
     call == other
 }
 
 /// Whether two calls of any procedure are one, with the same arguments and the same key.
 fn is_same_raw(raw: &Raw, other: &Raw) -> bool
-    ensures { IsTrue result ↔ (raw.now ≡ other.now) }
+    ensures { IsTrue result ↔ (other.now ≡ raw.now) }
 {
     raw.procedure() == other.procedure()
         && raw.args() == other.args()
@@ -29,7 +29,7 @@ fn is_same_raw(raw: &Raw, other: &Raw) -> bool
 
 /// Whether two asks are one.
 pub(crate) fn is_same_ask(ask: &Ask, other: &Ask) -> bool
-    ensures { IsTrue result ↔ (ask.now ≡ other.now) }
+    ensures { IsTrue result ↔ (other.now ≡ ask.now) }
 {
     match (ask, other) {
         (Ask::Txn(call), Ask::Txn(other)) => is_same_call(call, other),
@@ -41,7 +41,7 @@ pub(crate) fn is_same_ask(ask: &Ask, other: &Ask) -> bool
 
 /// Whether two replies are one.
 pub(crate) fn is_same_reply(reply: &Reply, other: &Reply) -> bool
-    ensures { IsTrue result ↔ (reply.now ≡ other.now) }
+    ensures { IsTrue result ↔ (other.now ≡ reply.now) }
 {
     reply == other
 }

@@ -60,7 +60,7 @@ impl<'m> Site<'m> {
     }
 
     /// One instruction of the running call, as `step`, but the completion of a call that ends is left in
-    /// its place, so that a step that goes on answers in a few bytes.
+    /// its place, so that a step that goes on answers in a few bytes. A refused step leaves none.
     pub fn step_into(&mut self, ended: &mut Option<Completion>) -> Result<(), SiteRefusal>
         requires { ended.old ≡ None }
         ensures steps { AdvancesUnless (step_obstacle self.old) self.old (told_in result ended.new) self.new }

@@ -8,9 +8,9 @@ use super::fixture::{
 };
 use crate::{Closed, NotGathered, NotSettled, Receipt, Settled, gather, settle};
 use std::alloc::{AllocError, Global};
+use std::process::Abort;
 use std::test::Fail;
 use tatp_audits::{Verdict, audit};
-use tatp_loader::Loaded;
 use tatp_procs::{Ask, standard};
 use tatp_tables::Rows;
 
@@ -44,23 +44,18 @@ fn told(
     }
 }
 
-/// What is told of a run from these rows. None where one of its events did not happen, an extent is missing,
-/// or the rows aren't clean.
-fn told_of(
+/// What a run at the sites of these partitions leaves, gathered. None where one of its events did not happen, or
+/// an extent is missing.
+fn closed(
     alloc: Global,
-    loaded: &Loaded,
-    population: &Rows,
-    run: Run<'_>,
-) -> Result<Option<Result<Settled, String>>, AllocError> {
-    let calls = readings(alloc, run.calls)?;
-    let receipts = receipts(alloc, run.got)?;
-    if !are_few(&calls) || !audit(alloc, population)?.is_clean() {
-        return Ok(None);
-    }
-    match left(alloc, loaded, run.partitions, run.events)? {
+    partitions: &[u8],
+    events: &[Event],
+) -> Result<Option<Closed>, AllocError> {
+    let loaded = standard(alloc)?;
+    match left(alloc, &loaded, partitions, events)? {
         None => Ok(None),
         Some((sites, parcels)) => match gather(alloc, sites, parcels) {
-            Ok(closed) => Ok(Some(told(alloc, population, closed, &receipts, &calls)?)),
+            Ok(closed) => Ok(Some(closed)),
             Err(
                 NotGathered {
                     error: _,
@@ -76,68 +71,105 @@ fn told_of(
     }
 }
 
-// In each row later causes hold too, for one that no client's call has a receipt.
+/// What is told of a run from these rows. None where nothing is gathered of it, or the rows aren't clean.
+fn told_of(
+    alloc: Global,
+    population: &Rows,
+    run: Run<'_>,
+) -> Result<Option<Result<Settled, String>>, AllocError> {
+    let calls = readings(alloc, run.calls)?;
+    let receipts = receipts(alloc, run.got)?;
+    if !are_few(&calls) || !audit(alloc, population)?.is_clean() {
+        return Ok(None);
+    }
+    match closed(alloc, run.partitions, run.events)? {
+        None => Ok(None),
+        Some(closed) => Ok(Some(told(alloc, population, closed, &receipts, &calls)?)),
+    }
+}
+
+/// Subscribers, those elsewhere, the partitions, the events, and the text of the cause.
+type ExtentCase<'a> = (u64, &'a [u64], &'a [u8], &'a [Event], &'a str);
+
+/// In each row later causes hold too, for one that no client's call has a receipt.
+static EXTENTS: [ExtentCase<'static>; 9] = [
+    (128, &[], &[0], &[], "45 Unsettled Opening 3"),
+    (194, &[], &[0], &[], "45 Unsettled Opening 4"),
+    (
+        192,
+        &[129, 65],
+        &[0],
+        &[Event::Raw(129), Event::Raw(65), Event::Taken(1)],
+        "45 Unsettled Opening 2",
+    ),
+    (
+        192,
+        &[],
+        &[0],
+        &[Event::Raw(129), Event::Raw(65), Event::Taken(1)],
+        "45 Unsettled Mixed 2",
+    ),
+    (
+        192,
+        &[],
+        &[0],
+        &[Event::Raw(65), Event::RawHomeless],
+        "45 Unsettled Mixed 0",
+    ),
+    (
+        192,
+        &[],
+        &[0, 0],
+        &[Event::Taken(3), Event::Taken(2)],
+        "45 Unsettled ParcelLeft 2",
+    ),
+    (192, &[], &[0, 0], &[], "45 Unsettled Doubled 0"),
+    (
+        192,
+        &[],
+        &[0, 1],
+        &[Event::Lost(1)],
+        "45 Unsettled Doubled 2",
+    ),
+    (192, &[], &[0], &[], "45 Unsettled CallMissing 0 0"),
+];
+
+/// What is told of a run in which the first client asked one subscriber, and got nothing.
+fn told_of_extents(
+    alloc: Global,
+    case: &ExtentCase<'_>,
+) -> Result<Option<Result<Settled, String>>, AllocError> {
+    let (subscribers, elsewhere, partitions, events, _) = *case;
+    let population = clean_rows(alloc, subscribers, elsewhere)?;
+    let run = Run {
+        partitions,
+        events,
+        calls: &[&[1]],
+        got: &[],
+    };
+    told_of(alloc, &population, run)
+}
+
+/// The run isn't settled, and this is the text of why.
+fn expect_cause(
+    rt: &impl Abort,
+    told: Option<Result<Settled, String>>,
+    text: &str,
+) -> Result<(), Fail> {
+    match told {
+        None => Err("no run".into()),
+        Some(Ok(_)) => Err("settled".into()),
+        Some(Err(said)) => {
+            assert_eq!(rt; said.as_str(), text);
+            Ok(())
+        }
+    }
+}
+
 #[test]
 fn extents_that_are_causes(rt: HostRuntime) -> Result<(), Fail> {
-    let alloc = rt.alloc();
-    let loaded = standard(alloc)?;
-    let raws = [Event::Raw(129), Event::Raw(65), Event::Taken(1)];
-    let homeless = [Event::Raw(65), Event::RawHomeless];
-    let taken = [Event::Taken(3), Event::Taken(2)];
-    let lost = [Event::Lost(1)];
-    for (subscribers, elsewhere, partitions, events, text) in [
-        (128, &[][..], &[0][..], &[][..], "45 Unsettled Opening 3"),
-        (194, &[][..], &[0][..], &[][..], "45 Unsettled Opening 4"),
-        (
-            192,
-            &[129, 65][..],
-            &[0][..],
-            &raws[..],
-            "45 Unsettled Opening 2",
-        ),
-        (192, &[][..], &[0][..], &raws[..], "45 Unsettled Mixed 2"),
-        (
-            192,
-            &[][..],
-            &[0][..],
-            &homeless[..],
-            "45 Unsettled Mixed 0",
-        ),
-        (
-            192,
-            &[][..],
-            &[0, 0][..],
-            &taken[..],
-            "45 Unsettled ParcelLeft 2",
-        ),
-        (192, &[][..], &[0, 0][..], &[][..], "45 Unsettled Doubled 0"),
-        (
-            192,
-            &[][..],
-            &[0, 1][..],
-            &lost[..],
-            "45 Unsettled Doubled 2",
-        ),
-        (
-            192,
-            &[][..],
-            &[0][..],
-            &[][..],
-            "45 Unsettled CallMissing 0 0",
-        ),
-    ] {
-        let population = clean_rows(alloc, subscribers, elsewhere)?;
-        let run = Run {
-            partitions,
-            events,
-            calls: &[&[1]],
-            got: &[],
-        };
-        match told_of(alloc, &loaded, &population, run)? {
-            None => return Err("no run".into()),
-            Some(Ok(_)) => return Err("settled".into()),
-            Some(Err(said)) => assert_eq!(rt; said.as_str(), text),
-        }
+    for case in &EXTENTS {
+        expect_cause(&rt, told_of_extents(rt.alloc(), case)?, case.4)?;
     }
     Ok(())
 }
@@ -145,7 +177,6 @@ fn extents_that_are_causes(rt: HostRuntime) -> Result<(), Fail> {
 /// What is told of a run at one site, on the rows of 192 subscribers.
 fn told_of_calls(
     alloc: Global,
-    loaded: &Loaded,
     events: &[Event],
     calls: &[&[u64]],
     got: &[&[Got]],
@@ -157,14 +188,14 @@ fn told_of_calls(
         calls,
         got,
     };
-    told_of(alloc, loaded, &population, run)
+    told_of(alloc, &population, run)
 }
 
 /// Events, calls, receipts, and the text of the cause.
 type Case<'a> = (&'a [Event], &'a [&'a [u64]], &'a [&'a [Got]], &'a str);
 
 /// Calls without their receipts, entries without theirs, and two entries of one call.
-const LACKING: [Case<'static>; 8] = [
+static LACKING: [Case<'static>; 8] = [
     (
         &[],
         &[&[1, 1], &[1]],
@@ -216,7 +247,7 @@ const LACKING: [Case<'static>; 8] = [
 ];
 
 /// Receipts and asks that aren't those of the call's entry.
-const DIFFERING: [Case<'static>; 7] = [
+static DIFFERING: [Case<'static>; 7] = [
     (
         &[Event::Call(0, 0, 1)],
         &[&[1]],
@@ -271,7 +302,7 @@ const DIFFERING: [Case<'static>; 7] = [
 ];
 
 /// Stamps that don't rise, and calls without a home whose key names a subscriber.
-const STAMPED: [Case<'static>; 4] = [
+static STAMPED: [Case<'static>; 4] = [
     (
         &[Event::Late(0, 0, 65, 6), Event::Call(0, 1, 1)],
         &[&[65, 1]],
@@ -320,56 +351,60 @@ const STAMPED: [Case<'static>; 4] = [
 
 #[test]
 fn calls_that_are_causes(rt: HostRuntime) -> Result<(), Fail> {
-    let alloc = rt.alloc();
-    let loaded = standard(alloc)?;
     for cases in [&LACKING[..], &DIFFERING[..], &STAMPED[..]] {
         for (events, calls, got, text) in cases {
-            match told_of_calls(alloc, &loaded, *events, *calls, *got)? {
-                None => return Err("no run".into()),
-                Some(Ok(_)) => return Err("settled".into()),
-                Some(Err(said)) => assert_eq!(rt; said.as_str(), *text),
-            }
+            let told = told_of_calls(rt.alloc(), events, calls, got)?;
+            expect_cause(&rt, told, text)?;
         }
     }
     Ok(())
 }
 
-#[test]
-fn a_settled_run(rt: HostRuntime) -> Result<(), Fail> {
-    let loaded = standard(rt.alloc())?;
-    let events = [
+/// Events, calls and receipts of a run that is settled.
+static SETTLED: (&[Event], &[&[u64]], &[&[Got]]) = (
+    &[
         Event::Call(0, 0, 1),
         Event::Moved(1),
         Event::Moved(3),
         Event::Moved(3),
         Event::Homeless(1, 0, 193),
         Event::Late(1, 2, 65, 1),
-    ];
-    let calls: [&[u64]; 2] = [&[1], &[193, 7, 65]];
-    let got: [&[Got]; 2] = [
+    ],
+    &[&[1], &[193, 7, 65]],
+    &[
         &[Got::Failed(0, 0, 1, 1, 1)],
         &[
             Got::Failed(1, 0, 1, 0, 1),
             Got::Refused(1, 1),
             Got::Failed(1, 2, 1, 2, 2),
         ],
-    ];
-    match told_of_calls(rt.alloc(), &loaded, &events, &calls, &got)? {
+    ],
+);
+
+/// What a settled run counts: three calls that read nothing and one refused, of one kind, and three moves.
+fn expect_counts(rt: &impl Abort, settled: &Settled) {
+    assert_eq!(rt;
+        (settled.completed(), settled.refused(), settled.moves()),
+        (3, 1, 3)
+    );
+    assert_eq!(rt; settled.kinds(), [0, 0, 4, 0, 0, 0, 0]);
+    let clean = Verdict::Clean {
+        subscribers: 192,
+        accesses: 192,
+        facilities: 192,
+        forwardings: 0,
+    };
+    assert_eq!(rt; settled.verdict(), clean);
+}
+
+#[test]
+fn a_settled_run(rt: HostRuntime) -> Result<(), Fail> {
+    let (events, calls, got) = &SETTLED;
+    match told_of_calls(rt.alloc(), events, calls, got)? {
         None => Err("no run".into()),
         Some(Err(_)) => Err("not settled".into()),
         Some(Ok(settled)) => {
-            assert_eq!(rt;
-                (settled.completed(), settled.refused(), settled.moves()),
-                (3, 1, 3)
-            );
-            assert_eq!(rt; settled.kinds(), [0, 0, 4, 0, 0, 0, 0]);
-            let clean = Verdict::Clean {
-                subscribers: 192,
-                accesses: 192,
-                facilities: 192,
-                forwardings: 0,
-            };
-            assert_eq!(rt; settled.verdict(), clean);
+            expect_counts(&rt, &settled);
             Ok(())
         }
     }

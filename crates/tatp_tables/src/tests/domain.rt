@@ -51,16 +51,27 @@ const REFUSED: &str = "\
 49: 0 25 26 256 18446744073709551615
 ";
 
+/// The column accepts each of the values, or refuses it.
+fn try_values(
+    rt: &impl Abort,
+    column: u8,
+    values: &str,
+    accepts: bool,
+) -> Result<(), &'static str> {
+    for value in values.split_whitespace() {
+        let value = read_number(value).ok_or("a value")?;
+        assert_eq!(rt; in_domain(column, value), accepts, "{column} {value}");
+    }
+    Ok(())
+}
+
 /// Each column of a line accepts each value, or refuses it.
 fn try_lines(rt: &impl Abort, lines: &str, accepts: bool) -> Result<(), &'static str> {
     for line in lines.lines() {
         let (columns, values) = line.split_once(": ").ok_or("columns and values")?;
         for column in columns.split_whitespace() {
             let column = column.parse::<u8>().map_err(|_| "a column")?;
-            for value in values.split_whitespace() {
-                let value = read_number(value).ok_or("a value")?;
-                assert_eq!(rt; in_domain(column, value), accepts, "{column} {value}");
-            }
+            try_values(rt, column, values, accepts)?;
         }
     }
     Ok(())

@@ -102,20 +102,29 @@ fn answer(home: &mut Home, call: &str, parts: [u64; 34]) -> Result<u64, Refusal>
     }
 }
 
+/// An answer, and 0 or the number of the refusal after 0.
+fn wanted_answer(text: &str) -> Option<(u64, u64)> {
+    match text.strip_prefix("refused ") {
+        Some(number) => Some((0, numbers(number)?[0])),
+        None => Some((numbers(text)?[0], 0)),
+    }
+}
+
+/// What the home answers to a call, in the same form.
+fn given_answer(home: &mut Home, call: &str) -> Option<(u64, u64)> {
+    let (call, parts) = call.split_once(' ')?;
+    match answer(home, call, numbers(parts)?) {
+        Ok(value) => Some((value, 0)),
+        Err(refusal) => Some((0, refusal as u64)),
+    }
+}
+
 /// Makes the calls, and compares their answers.
 fn try_calls(rt: &impl Abort, home: &mut Home, calls: &str) -> Result<(), &'static str> {
     for line in calls.lines() {
         let (call, wanted) = line.split_once(" = ").ok_or("a call and an answer")?;
-        let (call, parts) = call.split_once(' ').ok_or("a call")?;
-        let parts = numbers(parts).ok_or("the parts of a call")?;
-        let wanted = match wanted.strip_prefix("refused ") {
-            Some(number) => (0, numbers(number).ok_or("a number")?[0]),
-            None => (numbers(wanted).ok_or("a number")?[0], 0),
-        };
-        let given = match answer(home, call, parts) {
-            Ok(value) => (value, 0),
-            Err(refusal) => (0, refusal as u64),
-        };
+        let wanted = wanted_answer(wanted).ok_or("an answer")?;
+        let given = given_answer(home, call).ok_or("a call")?;
         assert_eq!(rt; given, wanted, "{line}");
     }
     Ok(())
@@ -125,24 +134,18 @@ fn try_calls(rt: &impl Abort, home: &mut Home, calls: &str) -> Result<(), &'stat
 fn homes_of_rows(rt: HostRuntime) -> Result<(), Fail> {
     let rows = one_subscriber(rt.alloc())?;
     let homes = homes(rt.alloc(), &rows)?;
-    assert_eq!(rt; homes.len(), 1);
-    assert_eq!(rt; homes[0].s_id(), 1);
+    let [home] = homes.as_slice() else {
+        return Err("one home".into());
+    };
     let mut none = Home::of(&rows, 2);
-    assert_eq!(rt; none.s_id(), 2);
-    assert!(rt; homes[0] == Home::of(&rows, 1) && homes[0] != none);
+    assert_eq!(rt; (home.s_id(), none.s_id()), (1, 2));
+    assert!(rt; *home == Home::of(&rows, 1) && *home != none);
     try_calls(&rt, &mut none, CALLS_WITHOUT_ROWS)?;
     Ok(())
 }
 
-#[test]
-fn calls_of_a_home(rt: HostRuntime) -> Result<(), Fail> {
-    let mut home = Home::of(&one_subscriber(rt.alloc())?, 1);
-    let before = home.copy();
-    try_calls(&rt, &mut home, CALLS)?;
-    assert!(rt; before != home);
-    let mut rows = Rows::new(rt.alloc());
-    rows.push(Row::C([9, 1, 0, 1, 1]))?;
-    home.add_rows(&mut rows)?;
+/// The rows are those of the home after its calls, and the one before them.
+fn expect_rows(rt: &impl Abort, rows: &Rows) {
     assert_eq!(rt; rows.subscribers.len(), 1);
     assert_eq!(rt;
         rows.accesses.as_slice(),
@@ -158,19 +161,34 @@ fn calls_of_a_home(rt: HostRuntime) -> Result<(), Fail> {
         [1, 1, 16, 24, 999999999999999],
     ];
     assert_eq!(rt; rows.forwardings.as_slice(), forwardings.as_slice());
-    Ok(())
 }
 
 #[test]
+fn calls_of_a_home(rt: HostRuntime) -> Result<(), Fail> {
+    let mut home = Home::of(&one_subscriber(rt.alloc())?, 1);
+    let before = home.copy();
+    try_calls(&rt, &mut home, CALLS)?;
+    assert!(rt; before != home);
+    let mut rows = Rows::new(rt.alloc());
+    rows.push(Row::C([9, 1, 0, 1, 1]))?;
+    home.add_rows(&mut rows)?;
+    expect_rows(&rt, &rows);
+    Ok(())
+}
+
+/// Each refusal, its number, and its text.
+static REFUSALS: [(Refusal, u8, &str); 4] = [
+    (Refusal::NoCurrent, 1, "1 NoCurrent"),
+    (Refusal::Domain, 2, "2 Domain"),
+    (Refusal::KeyExists, 3, "3 KeyExists"),
+    (Refusal::NoParent, 4, "4 NoParent"),
+];
+
+#[test]
 fn refusals_and_sizes(rt: HostRuntime) -> Result<(), Fail> {
-    for (refusal, number, text) in [
-        (Refusal::NoCurrent, 1, "1 NoCurrent"),
-        (Refusal::Domain, 2, "2 Domain"),
-        (Refusal::KeyExists, 3, "3 KeyExists"),
-        (Refusal::NoParent, 4, "4 NoParent"),
-    ] {
-        assert_eq!(rt; refusal as u8, number);
-        assert_eq!(rt; format!(in rt.alloc(); "{refusal}")?.as_str(), text);
+    for (refusal, number, text) in &REFUSALS {
+        let given = format!(in rt.alloc(); "{refusal}")?;
+        assert_eq!(rt; (*refusal as u8, given.as_str()), (*number, *text));
     }
     assert!(rt; size_of::<Home>() <= 1536);
     Ok(())

@@ -1,6 +1,8 @@
 //! Rows as lines, and values as text.
 use super::numbers;
 use crate::{Row, push_value, read_row, read_value, row_text};
+use std::alloc::{AllocError, Global};
+use std::process::Abort;
 use std::test::Fail;
 
 /// Lines, and the columns of the row that each is: of each kind of row the least values, the greatest
@@ -77,7 +79,7 @@ S 1 1 0 0 0 0 0 0 0 0 0 0 0 0 0 0 0 0 0 0 0 0 0 0 0 0 0 0 0 0 0 0 1 1
 ";
 
 /// Others, with white space at their ends or in the place of a space.
-const WITH_OTHER_SPACE: [&str; 7] = [
+static WITH_OTHER_SPACE: [&str; 7] = [
     " ",
     "A ",
     "A 1 1 0 0 AAA AAAAA ",
@@ -101,17 +103,28 @@ fn case(text: &str) -> Option<(&str, Row)> {
     Some((line, row))
 }
 
+/// The row prints as this line.
+fn expect_line(rt: &impl Abort, alloc: Global, row: &Row, line: &str) -> Result<(), AllocError> {
+    assert_eq!(rt; row_text(alloc, row)?.as_str(), line);
+    Ok(())
+}
+
+/// The line is this row, or none.
+fn expect_row(rt: &impl Abort, line: &str, row: Option<Row>) {
+    assert_eq!(rt; read_row(line), row, "{line:?}");
+}
+
 #[test]
 fn rows_as_lines(rt: HostRuntime) -> Result<(), Fail> {
     for text in READ.lines() {
         let (line, row) = case(text).ok_or("a line and columns")?;
-        assert_eq!(rt; read_row(line), Some(row));
-        assert_eq!(rt; row_text(rt.alloc(), &row)?.as_str(), line);
+        expect_row(&rt, line, Some(row));
+        expect_line(&rt, rt.alloc(), &row, line)?;
     }
     for text in PRINTED.lines() {
         let (line, row) = case(text).ok_or("a line and columns")?;
-        assert_eq!(rt; read_row(line), None);
-        assert_eq!(rt; row_text(rt.alloc(), &row)?.as_str(), line);
+        expect_row(&rt, line, None);
+        expect_line(&rt, rt.alloc(), &row, line)?;
     }
     Ok(())
 }
@@ -119,12 +132,24 @@ fn rows_as_lines(rt: HostRuntime) -> Result<(), Fail> {
 #[test]
 fn other_lines(rt: HostRuntime) {
     for line in OTHER.lines() {
-        assert_eq!(rt; read_row(line), None, "{line:?}");
+        expect_row(&rt, line, None);
     }
-    for line in WITH_OTHER_SPACE {
-        assert_eq!(rt; read_row(line), None, "{line:?}");
+    for line in &WITH_OTHER_SPACE {
+        expect_row(&rt, line, None);
     }
 }
+
+/// A column, a text, and the value that it is there.
+static VALUES: [(u8, &str, Option<u64>); 8] = [
+    (0, "10", Some(10)),
+    (0, "000000000000010", None),
+    (1, "000000000000010", Some(10)),
+    (1, "10", None),
+    (38, "AAB", Some(4276546)),
+    (38, "AAAAA", None),
+    (45, "AAAAB", Some(280267669826)),
+    (45, "AAA", None),
+];
 
 #[test]
 fn values_as_text(rt: HostRuntime) -> Result<(), Fail> {
@@ -133,21 +158,14 @@ fn values_as_text(rt: HostRuntime) -> Result<(), Fail> {
         text.push_str(" ")?;
         push_value(&mut text, column, value)?;
     }
-    assert_eq!(rt;
-        text.as_str(),
-        "numbers: 10 000000000000010 ZNK 000000000000000 7"
-    );
-    for (column, text, value) in [
-        (0, "10", Some(10)),
-        (0, "000000000000010", None),
-        (1, "000000000000010", Some(10)),
-        (1, "10", None),
-        (38, "AAB", Some(4276546)),
-        (38, "AAAAA", None),
-        (45, "AAAAB", Some(280267669826)),
-        (45, "AAA", None),
-    ] {
-        assert_eq!(rt; read_value(column, text), value);
-    }
+    let wanted = "numbers: 10 000000000000010 ZNK 000000000000000 7";
+    assert_eq!(rt; text.as_str(), wanted);
     Ok(())
+}
+
+#[test]
+fn texts_as_values(rt: HostRuntime) {
+    for (column, text, value) in &VALUES {
+        assert_eq!(rt; read_value(*column, text), *value);
+    }
 }

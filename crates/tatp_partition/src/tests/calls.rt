@@ -54,13 +54,15 @@ fn a_call_is_logged(rt: HostRuntime) -> Result<(), Fail> {
     let again = begins(&mut site, rt.alloc(), reading(130, Some(130), 0));
     let next = ended(&mut site, &access);
     close(site);
-    assert_eq!(rt; began, Ok(true));
-    assert_eq!(rt; running, Err(SiteRefusal::Running));
-    assert_eq!(rt; pinned, Some(SiteRefusal::Pinned));
-    assert!(rt; home);
-    assert_eq!(rt; first, Some((3, 4, 9, 7, true)));
-    assert_eq!(rt; again, Ok(true));
-    assert_eq!(rt; next, Some((3, 4, 9, 8, true)));
+    assert_eq!(rt;
+        (began, running, again),
+        (Ok(true), Err(SiteRefusal::Running), Ok(true))
+    );
+    assert_eq!(rt; (pinned, home), (Some(SiteRefusal::Pinned), true));
+    assert_eq!(rt;
+        (first, next),
+        (Some((3, 4, 9, 7, true)), Some((3, 4, 9, 8, true)))
+    );
     Ok(())
 }
 
@@ -74,10 +76,15 @@ fn calls_that_do_not_begin(rt: HostRuntime) -> Result<(), Fail> {
     let homeless = begins(&mut site, rt.alloc(), reading(131, None, 0));
     let found_nothing = ended(&mut site, &Reply::Failed(1));
     close(site);
-    assert_eq!(rt; away, Ok(false));
-    assert_eq!(rt; wrong_home, Err(SiteRefusal::WrongHome));
-    assert_eq!(rt; stamp_full, Err(SiteRefusal::StampFull));
-    assert_eq!(rt; homeless, Ok(true));
+    assert_eq!(rt;
+        (away, wrong_home, stamp_full, homeless),
+        (
+            Ok(false),
+            Err(SiteRefusal::WrongHome),
+            Err(SiteRefusal::StampFull),
+            Ok(true)
+        )
+    );
     assert_eq!(rt; found_nothing, Some((0, 4, 9, 1, true)));
     Ok(())
 }

@@ -59,11 +59,11 @@ fn moves_are_counted(rt: HostRuntime) -> Result<(), Fail> {
     let none = refused_take(&mut site, 4);
     let places = site.slots();
     close(site);
-    assert_eq!(rt; often, 65535);
-    assert_eq!(rt; full, Some(SiteRefusal::MoveCountFull));
-    assert!(rt; there);
-    assert_eq!(rt; none, Some(SiteRefusal::NotHere));
-    assert_eq!(rt; places, 3);
+    assert_eq!(rt; (often, there, places), (65535, true, 3));
+    assert_eq!(rt;
+        (full, none),
+        (Some(SiteRefusal::MoveCountFull), Some(SiteRefusal::NotHere))
+    );
     Ok(())
 }
 

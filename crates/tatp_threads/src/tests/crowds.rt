@@ -1,11 +1,12 @@
 //! Many clients, with moves and stops.
 
-use super::fixture::{clean_rows, spend};
-use crate::{Gate, Moves, run_calls};
+use super::fixture::{Left, left_by};
+use crate::{Gate, Moves};
 use std::alloc::{AllocError, Global};
+use std::process::Abort;
 use std::sync::atomic::{AtomicU64, Ordering};
 use std::test::*;
-use tatp_procs::{Ask, Call, standard};
+use tatp_procs::{Ask, Call};
 use tatp_settle::Receipt;
 
 /// Counts the ends.
@@ -83,36 +84,37 @@ fn are_in_turn(client: u64, receipts: &[Receipt]) -> bool {
     true
 }
 
-#[test]
-fn no_receipt_is_lost(rt: HostRuntime) -> Result<(), Fail> {
-    let alloc = rt.alloc();
-    let loaded = standard(alloc)?;
+/// The calls of 64 clients, 20 of each.
+fn all_calls(alloc: Global) -> Result<Vec<Vec<Ask>>, AllocError> {
     let mut lists = Vec::new(alloc);
     for client in 0..64u64 {
         lists.push(calls(alloc, client, 20)?)?;
     }
+    Ok(lists)
+}
+
+/// Each of 64 clients has the receipts of its 20 calls, in their order, and no extent is under way.
+fn expect_left(rt: &impl Abort, left: &Left) {
+    assert_eq!(rt; (left.parcels, left.receipts.len()), (0, 64));
+    for client in 0..left.receipts.len() {
+        assert_eq!(rt; left.receipts[client].len(), 20);
+        assert!(rt; are_in_turn(client as u64, left.receipts[client].as_slice()));
+    }
+}
+
+#[test]
+fn no_receipt_is_lost(rt: HostRuntime) -> Result<(), Fail> {
+    let alloc = rt.alloc();
+    let lists = all_calls(alloc)?;
     if lists.len() != 64 {
         return Err("no clients".into());
     }
+    let gate = Count {
+        ends: AtomicU64::new(0),
+    };
     let plan = moves(alloc, 40)?;
-    for _ in 0..1u32 {
-        let gate = Count {
-            ends: AtomicU64::new(0),
-        };
-        let rows = clean_rows(alloc, 640)?;
-        match run_calls(&rt, alloc, &loaded, rows, 8, lists.as_slice(), &plan, &gate) {
-            Err(_) => return Err("no run".into()),
-            Ok(ran) => {
-                let left = spend(alloc, ran);
-                assert_eq!(rt; left.parcels, 0);
-                assert_eq!(rt; left.receipts.len(), 64);
-                for client in 0..left.receipts.len() {
-                    assert_eq!(rt; left.receipts[client].len(), 20);
-                    assert!(rt; are_in_turn(client as u64, left.receipts[client].as_slice()));
-                }
-                assert_eq!(rt; gate.ends.load(Ordering::SeqCst), 1280);
-            }
-        }
-    }
+    let left = left_by(&rt, alloc, 640, 8, lists.as_slice(), &plan, &gate)?;
+    expect_left(&rt, &left);
+    assert_eq!(rt; gate.ends.load(Ordering::SeqCst), 1280);
     Ok(())
 }

@@ -5,6 +5,7 @@ ghost use Rattle.tatp_threads.specs.Effects.{Grows, known_unless};
 use crate::held::Offered;
 use crate::outgoing::{Effect, Outgoing, conclude, follow};
 use crate::slot::Answer;
+use std::alloc::Global;
 use std::marker::PhantomData;
 use std::test::*;
 use tatp_partition::{Completion, Item};
@@ -56,10 +57,11 @@ fn item(client: u64, number: u64) -> Item {
     }
 }
 
-#[test]
-fn executors_do_what_follows(rt: HostRuntime) -> Result<(), Fail> {
+/// What follows on a call that began, one that is sent on, one that can't be, one that was denied, and one that
+/// ended.
+fn followed(alloc: Global) -> Effects {
     let mut outgoing = Effects {
-        effects: Vec::new(rt.alloc()),
+        effects: Vec::new(alloc),
         lost: false,
         of: PhantomData,
     };
@@ -75,19 +77,27 @@ fn executors_do_what_follows(rt: HostRuntime) -> Result<(), Fail> {
         stamp: 11,
     };
     conclude(&mut outgoing, &Completion { extent: 1, entry });
-    assert_eq!(rt; outgoing.effects.len(), 5);
-    assert!(rt; matches!(&outgoing.effects[0], Effect::Sends(_, true)));
-    assert!(rt; matches!(&outgoing.effects[1], Effect::Sends(_, false)));
-    assert!(rt; matches!(&outgoing.effects[2], Effect::Answers(9, Answer::Dropped)));
+    outgoing
+}
+
+#[test]
+fn executors_do_what_follows(rt: HostRuntime) -> Result<(), Fail> {
+    let outgoing = followed(rt.alloc());
+    let [sent, unsent, dropped, denied, done] = outgoing.effects.as_slice() else {
+        return Err("other effects".into());
+    };
+    assert!(rt; matches!(sent, Effect::Sends(_, true)));
+    assert!(rt; matches!(unsent, Effect::Sends(_, false)));
+    assert!(rt; matches!(dropped, Effect::Answers(9, Answer::Dropped)));
     assert!(rt;
         matches!(
-            &outgoing.effects[3],
+            denied,
             Effect::Answers(4, Answer::Got(Receipt::Refused { number: 7, .. }))
         )
     );
     assert!(rt;
         matches!(
-            &outgoing.effects[4],
+            done,
             Effect::Answers(2, Answer::Got(Receipt::Done { stamp: 11, .. }))
         )
     );

@@ -1,10 +1,15 @@
-//! Rows of subscribers, calls, and what a run leaves.
+//! Rows of subscribers, calls, runs, and what they leave.
+ghost use Rattle.std.specs.Prelude.{◌≤◌, length};
 
 use crate::run::discard_parcels;
-use crate::{Moves, Ran, RanParts};
+use crate::{Gate, Moves, Ran, RanParts, run_calls};
 use std::alloc::{AllocError, Global};
+use std::sync::Wait;
+use std::test::Fail;
+use std::thread::Threads;
+use tatp_loader::Loaded;
 use tatp_partition::{Landed, Site};
-use tatp_procs::{Ask, Call};
+use tatp_procs::{Ask, Call, standard};
 use tatp_settle::Receipt;
 use tatp_tables::{Row, Rows};
 
@@ -114,4 +119,61 @@ pub fn spend(alloc: Global, ran: Ran<'_>) -> Left {
         landings: landed,
         receipts,
     }
+}
+
+/// The standard module, of which no test here has to know more.
+pub fn module(alloc: Global) -> Result<Loaded, AllocError> {
+    standard(alloc)
+}
+
+/// A run on the rows of so many subscribers, over so many partitions.
+pub fn run<'m, R: Threads + Wait + Sync, G: Gate + Sync>(
+    rt: &R,
+    alloc: Global,
+    loaded: &'m Loaded,
+    subscribers: u64,
+    partitions: u8,
+    lists: &[Vec<Ask>],
+    moves: &Moves,
+    gate: &G,
+) -> Result<Ran<'m>, Fail>
+    requires some_partitions { 1 ≤ partitions }
+    requires few_partitions { partitions ≤ 8 }
+    requires some_clients { 1 ≤ length lists.now }
+    requires few_clients { length lists.now ≤ 64 }
+{
+    let rows = clean_rows(alloc, subscribers)?;
+    match run_calls(rt, alloc, loaded, rows, partitions, lists, moves, gate) {
+        Err(_) => Err("no run".into()),
+        Ok(ran) => Ok(ran),
+    }
+}
+
+/// What such a run leaves.
+pub fn left_by<R: Threads + Wait + Sync, G: Gate + Sync>(
+    rt: &R,
+    alloc: Global,
+    subscribers: u64,
+    partitions: u8,
+    lists: &[Vec<Ask>],
+    moves: &Moves,
+    gate: &G,
+) -> Result<Left, Fail>
+    requires some_partitions { 1 ≤ partitions }
+    requires few_partitions { partitions ≤ 8 }
+    requires some_clients { 1 ≤ length lists.now }
+    requires few_clients { length lists.now ≤ 64 }
+{
+    let loaded = module(alloc)?;
+    let ran = run(
+        rt,
+        alloc,
+        &loaded,
+        subscribers,
+        partitions,
+        lists,
+        moves,
+        gate,
+    )?;
+    Ok(spend(alloc, ran))
 }

@@ -1,12 +1,12 @@
 //! Executors under a gate.
 
-use super::fixture::{at_rest, clean_rows, reading, spend};
-use crate::{Gate, run_calls};
+use super::fixture::{Left, at_rest, left_by, reading};
+use crate::Gate;
+use std::process::Abort;
 use std::sync::atomic::{AtomicU64, Ordering};
 use std::test::*;
 use std::thread;
 use std::time::{Clock, Duration};
-use tatp_procs::standard;
 
 /// Holds client 0 before its second step until client 1 is answered.
 #[derive(Drop)]
@@ -39,11 +39,17 @@ impl<R: Clock> Gate for Hold<'_, R> {
     }
 }
 
+/// Both clients have their receipt.
+fn expect_left(rt: &impl Abort, left: &Left) {
+    assert_eq!(rt; left.receipts.len(), 2);
+    assert_eq!(rt; left.receipts[0].len(), 1);
+    assert_eq!(rt; left.receipts[1].len(), 1);
+}
+
 // Two executors and two partitions at once: all calls by one thread, or under one lock, are late here.
 #[test]
 fn a_partition_goes_on_while_another_is_held(rt: HostRuntime) -> Result<(), Fail> {
     let alloc = rt.alloc();
-    let loaded = standard(alloc)?;
     let lists = vec![in alloc; reading(alloc, 1)?, reading(alloc, 65)?]?;
     let gate = Hold {
         clock: &rt,
@@ -51,27 +57,10 @@ fn a_partition_goes_on_while_another_is_held(rt: HostRuntime) -> Result<(), Fail
         late: AtomicU64::new(0),
         ends: AtomicU64::new(0),
     };
-    let moves = at_rest(alloc);
-    let rows = clean_rows(alloc, 130)?;
-    match run_calls(
-        &rt,
-        alloc,
-        &loaded,
-        rows,
-        2,
-        lists.as_slice(),
-        &moves,
-        &gate,
-    ) {
-        Err(_) => return Err("no run".into()),
-        Ok(ran) => {
-            let left = spend(alloc, ran);
-            assert_eq!(rt; left.receipts.len(), 2);
-            assert_eq!(rt; left.receipts[0].len(), 1);
-            assert_eq!(rt; left.receipts[1].len(), 1);
-            assert_eq!(rt; gate.late.load(Ordering::SeqCst), 0);
-            assert_eq!(rt; gate.ends.load(Ordering::SeqCst), 2);
-            Ok(())
-        }
-    }
+    let left = left_by(&rt, alloc, 130, 2, lists.as_slice(), &at_rest(alloc), &gate)?;
+    expect_left(&rt, &left);
+    let late = gate.late.load(Ordering::SeqCst);
+    let ends = gate.ends.load(Ordering::SeqCst);
+    assert_eq!(rt; (late, ends), (0, 2));
+    Ok(())
 }

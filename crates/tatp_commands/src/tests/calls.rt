@@ -1,7 +1,8 @@
 use crate::fault::Fault;
 use crate::population::Population;
 use crate::serving::serve;
-use crate::tests::streams::{Narrow, Slow};
+use crate::tests::streams::{Narrow, Slow, expect_run};
+use std::process::Abort;
 use std::test::Fail;
 
 /// The rows of one subscriber, and the line after them.
@@ -36,16 +37,23 @@ fn writes_nothing_where_a_read_fails(rt: HostRuntime) -> Result<(), Fail> {
         };
         let mut written = Vec::new(rt.alloc());
         let outcome = serve(rt.alloc(), &mut reader, &mut written, Population::Read, 2);
-        if left == 8 {
-            assert_eq!(rt; outcome, Ok(()));
-            assert_eq!(rt; written.as_slice(), REPLIES.as_bytes());
-        } else {
-            assert_eq!(rt; outcome, Err(Fault::ReadFault));
-            assert!(rt; written.is_empty());
-        }
+        let wanted = match left {
+            8 => (Ok(()), REPLIES.as_bytes()),
+            _ => (Err(Fault::ReadFault), &[][..]),
+        };
+        expect_run(&rt, (outcome, written.as_slice()), wanted);
     }
     Ok(())
 }
+
+/// So many bytes were taken, the first of all.
+fn expect_front(rt: &impl Abort, taken: &[u8], count: usize, all: &[u8]) {
+    assert_eq!(rt; taken.len(), count);
+    assert!(rt; all.starts_with(taken));
+}
+
+/// How many writes until one fails, and how many bytes were taken then.
+static FRONTS: [(u32, usize); 5] = [(0, 0), (1, 30_000), (2, 60_000), (3, 65_620), (4, 85_000)];
 
 /// A thousand replies are 85,000 bytes. They are written in two parts, and a writer that takes 30,000
 /// bytes at a time takes the first in three pieces, the second in one.
@@ -57,22 +65,21 @@ fn writes_the_front_where_a_write_fails(rt: HostRuntime) -> Result<(), Fail> {
         "OK 1 000000000000001 0 0 0 0 0 0 0 0 0 0 0 0 0 0 0 0 0 0 0 0 0 0 0 0 0 0 0 0 0 0 1 1\n";
     let replies = reply.repeat(rt.alloc(), 1000)?;
     for fails in [false, true] {
-        for (left, count) in [(0, 0), (1, 30_000), (2, 60_000), (3, 65_620), (4, 85_000)] {
+        for (left, count) in &FRONTS {
             let mut writer = Narrow {
                 taken: Vec::new(rt.alloc()),
                 step: 30_000,
-                left,
+                left: *left,
                 fails,
             };
             let mut reader = input.as_bytes();
             let outcome = serve(rt.alloc(), &mut reader, &mut writer, Population::Read, 2);
-            assert_eq!(rt; writer.taken.len(), count);
-            assert!(rt; replies.as_bytes().starts_with(&writer.taken));
-            if left == 4 {
-                assert_eq!(rt; outcome, Ok(()));
-            } else {
-                assert_eq!(rt; outcome, Err(Fault::WriteFault));
-            }
+            let wanted = match *left {
+                4 => Ok(()),
+                _ => Err(Fault::WriteFault),
+            };
+            assert_eq!(rt; outcome, wanted);
+            expect_front(&rt, &writer.taken, *count, replies.as_bytes());
         }
     }
     Ok(())

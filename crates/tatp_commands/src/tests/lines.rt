@@ -2,7 +2,7 @@ use std::test::Fail;
 use tatp_trace::{read_trace_line, trace_line_text};
 
 /// One of each kind, and those at their bounds.
-const LINES: [&str; 20] = [
+static LINES: [&str; 20] = [
     "submit 3 UPDATE_LOCATION 000000000000129 7",
     "submit 0 GET_ACCESS_DATA 1 5",
     "raw 0 4 id 2 2 7",
@@ -27,10 +27,10 @@ const LINES: [&str; 20] = [
 
 #[test]
 fn lines_print_as_they_are_read(rt: HostRuntime) -> Result<(), Fail> {
-    for line in LINES {
+    for line in &LINES {
         match read_trace_line(line) {
             Some(read) => {
-                assert_eq!(rt; trace_line_text(rt.alloc(), &read)?.as_str(), line);
+                assert_eq!(rt; trace_line_text(rt.alloc(), &read)?.as_str(), *line);
             }
             None => assert!(rt; false),
         }

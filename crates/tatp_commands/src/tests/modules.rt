@@ -1,6 +1,6 @@
 use crate::fault::Fault;
 use crate::modules::run_asm;
-use crate::tests::streams::{Narrow, Slow};
+use crate::tests::streams::{Narrow, Slow, expect_run};
 use std::alloc::Global;
 use std::test::Fail;
 use tatp_loader::save;
@@ -38,13 +38,11 @@ fn stops_where_a_read_fails(rt: HostRuntime) -> Result<(), Fail> {
         };
         let mut written = Vec::new(rt.alloc());
         let outcome = run_asm(rt.alloc(), &mut reader, &mut written);
-        if left == 6 {
-            assert_eq!(rt; outcome, Ok(()));
-            assert_eq!(rt; written.as_slice(), ALONE_BYTES);
-        } else {
-            assert_eq!(rt; outcome, Err(Fault::ReadFault));
-            assert!(rt; written.is_empty());
-        }
+        let wanted = match left {
+            6 => (Ok(()), ALONE_BYTES),
+            _ => (Err(Fault::ReadFault), &[][..]),
+        };
+        expect_run(&rt, (outcome, written.as_slice()), wanted);
     }
     Ok(())
 }
@@ -62,12 +60,15 @@ fn stops_where_a_write_fails(rt: HostRuntime) -> Result<(), Fail> {
             let mut reader = ALONE.as_bytes();
             let outcome = run_asm(rt.alloc(), &mut reader, &mut writer);
             let count = ALONE_BYTES.len().min(left as usize * 7);
-            assert_eq!(rt; writer.taken.as_slice(), &ALONE_BYTES[..count]);
-            if left == 3 {
-                assert_eq!(rt; outcome, Ok(()));
-            } else {
-                assert_eq!(rt; outcome, Err(Fault::WriteFault));
-            }
+            let wanted = match left {
+                3 => Ok(()),
+                _ => Err(Fault::WriteFault),
+            };
+            expect_run(
+                &rt,
+                (outcome, writer.taken.as_slice()),
+                (wanted, &ALONE_BYTES[..count]),
+            );
         }
     }
     Ok(())

@@ -1,7 +1,18 @@
 //! Readers and writers that give and take little, and fail.
 
+use crate::fault::Fault;
 use std::io;
 use std::io::{ErrorKind, Read, Write};
+use std::process::Abort;
+
+/// How a command ended, and what it wrote.
+pub type Run<'a> = (Result<(), Fault>, &'a [u8]);
+
+/// The command ended so, and wrote this.
+pub fn expect_run(rt: &impl Abort, given: Run<'_>, wanted: Run<'_>) {
+    assert_eq!(rt; given.0, wanted.0);
+    assert_eq!(rt; given.1, wanted.1);
+}
 
 /// Gives a few bytes at a time, and fails at one read.
 #[derive(Drop)]

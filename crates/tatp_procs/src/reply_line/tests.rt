@@ -70,6 +70,7 @@ fn expect_line(
     let alloc = *text.allocator();
     assert_eq!(rt; reply_text(alloc, ask, reply)?.as_str(), line);
     push_reply(text, ask, reply)?;
+    assert!(rt; text.as_str().ends_with(line));
     text.push_str("\n")
 }
 

@@ -4,6 +4,7 @@ pub mod StandingLaws
 pub mod ClosingLaws
 pub mod HereLaws
 pub mod LogLaws
+pub mod LogTableLaws
 pub mod TestLaws
 pub mod MixedLaws
 pub mod TurnLaws

@@ -1,14 +1,14 @@
 -- The log of a number, and the extent.
-use Rattle.std.proofs.Common.{◌≡◌, ◌≢◌, ℕ, zero, suc, ◌+◌, ◌<◌, ◌≤◌, ◌==◌, Bool, true, false, cond, List, [], ◌∷◌, ◌++◌, map, length, filter, find, All, Option, Some, None, slice_get, refl, sym, ◌∙◌, ap, subst, arith, drop, get_or}
-use Rattle.std.specs.List.{flat_map}
+use Rattle.std.proofs.Common.{◌≡◌, ◌≢◌, ℕ, zero, suc, ◌+◌, ◌<◌, ◌≤◌, ◌==◌, Bool, true, false, cond, List, [], ◌∷◌, ◌++◌, map, length, filter, find, All, max, Option, Some, None, slice_get, refl, sym, ◌∙◌, ap, subst, arith, drop, get_or}
+use Rattle.std.specs.List.{fold, flat_map}
 use Rattle.std.specs.Option.{option_to_list, option_map, option_map_or, option_or}
 use Rattle.std.proofs.lemmas.Bool.{ne_eqb}
-use Rattle.std.proofs.lemmas.List.Elements.{All-head, All-tail, All-get_or}
+use Rattle.std.proofs.lemmas.List.Elements.{All-nil, All-cons, All-head, All-tail, All-get_or}
 use Rattle.std.proofs.lemmas.List.{at_drop_more}
 use Rattle.std.proofs.lemmas.List.Folds.{find-append}
 use Rattle.tatp_population.specs.Extents.{ExtentState, IsExtent}
 use Rattle.tatp_partition.specs.Sites.{slot}
-use Rattle.tatp_settle.specs.Closings.{ClosedSiteState, ClosedState, ExtentLog, extents_in_slots, extents_of, extents_numbered, extent_numbered, entries_numbered, log_of_homeless, log_of_extent, IsClosedSite, IsClosed}
+use Rattle.tatp_settle.specs.Closings.{ClosedSiteState, ClosedState, ExtentLog, extents_in_slots, extents_of, extents_numbered, extent_numbered, entries_numbered, most_places, above_all, log_of_homeless, log_of_extent, IsClosedSite, IsClosed}
 use Rattle.tatp_settle.proofs.StandingLaws.{has_number, here, in_site, in_sites, none_at_zero}
 
 pub find_filtered : {A : Type 0} (p : A → Bool) (xs : List A) → find p xs ≡ slice_get (filter p xs) 0
@@ -140,3 +140,42 @@ pub no_entries_above : (c : ClosedState) (e : ℕ) → e ≢ 0 → extents_numbe
 no_entries_above c e h none =
     entries_of_extent c e h
     ∙ ap (λ (v : Option ExtentState). option_map_or (λ (x : ExtentState). x.log) v []) (find_filtered (has_number e) (extents_of c) ∙ ap (λ (xs : List ExtentState). slice_get xs 0) none)
+
+-- what is the most, or above all, is so of each
+most_from : List ClosedSiteState → ℕ → ℕ
+most_from sites most = fold (λ most (s : ClosedSiteState). max most (length s.slots)) most sites
+
+no_less : (sites : List ClosedSiteState) (most : ℕ) → most ≤ most_from sites most
+unfolding most_from
+no_less [] most = omega arith
+no_less (s ∷ sites) most = let more = no_less sites (max most (length s.slots)) in omega (arith, more)
+
+places_from : (sites : List ClosedSiteState) (most : ℕ) → All (λ (s : ClosedSiteState). length s.slots ≤ most_from sites most) sites
+unfolding most_from
+places_from [] most = All-nil (λ (s : ClosedSiteState). length s.slots ≤ most)
+places_from (s ∷ sites) most =
+    let more = no_less sites (max most (length s.slots)) in
+    All-cons (λ (t : ClosedSiteState). length t.slots ≤ most_from (s ∷ sites) most) s sites (omega (arith, more)) (places_from sites (max most (length s.slots)))
+
+pub places_within : (sites : List ClosedSiteState) → All (λ (s : ClosedSiteState). length s.slots ≤ most_places sites) sites
+unfolding most_from
+places_within sites = places_from sites 0
+
+above_from : List ExtentState → ℕ → ℕ
+above_from xs most = fold (λ most (x : ExtentState). max most (x.number + 1)) most xs
+
+no_lower : (xs : List ExtentState) (most : ℕ) → most ≤ above_from xs most
+unfolding above_from
+no_lower [] most = omega arith
+no_lower (x ∷ xs) most = let more = no_lower xs (max most (x.number + 1)) in omega (arith, more)
+
+numbers_from : (xs : List ExtentState) (most : ℕ) → All (λ (x : ExtentState). x.number < above_from xs most) xs
+unfolding above_from
+numbers_from [] most = All-nil (λ (x : ExtentState). x.number < most)
+numbers_from (x ∷ xs) most =
+    let more = no_lower xs (max most (x.number + 1)) in
+    All-cons (λ (y : ExtentState). y.number < above_from (x ∷ xs) most) x xs (omega (arith, more)) (numbers_from xs (max most (x.number + 1)))
+
+pub numbers_within : (xs : List ExtentState) → All (λ (x : ExtentState). x.number < above_all xs) xs
+unfolding above_from
+numbers_within xs = numbers_from xs 0

@@ -6,12 +6,12 @@ ghost use Rattle.tatp_settle.specs.Causes.{Differs, IsUnmatched};
 ghost use Rattle.tatp_settle.specs.Placing.{cells_of, AllPlaced};
 ghost use Rattle.tatp_settle.specs.Agreeing.{Says, Agrees};
 
+use crate::Receipt;
 use crate::comparing::{is_same_ask, is_same_reply};
 use crate::lists::{at, count_of, len_of};
-use crate::logs::log_of;
+use crate::log_table::LogTable;
 use crate::places::{CallPlace, LogPlace};
 use crate::table::Table;
-use crate::{Closed, Receipt};
 use tatp_procs::{Ask, Entry};
 
 /// Whether the entry of a call is what its receipt and its client say.
@@ -37,15 +37,15 @@ fn says(extent: u64, entry: &Entry, ask: &Ask, receipt: &Receipt) -> bool
 }
 
 /// Whether the receipt and the ask of a call are what its entry says, or the call is refused and has none.
-fn agrees(closed: &Closed, cell: Option<LogPlace>, ask: &Ask, receipt: &Receipt) -> bool
-    ensures { IsTrue result ↔ Agrees closed.now cell ask.now receipt.now }
+fn agrees(logs: &LogTable<'_>, cell: Option<LogPlace>, ask: &Ask, receipt: &Receipt) -> bool
+    ensures { IsTrue result ↔ Agrees logs.now cell ask.now receipt.now }
 {
     match cell {
         None => match receipt {
             Receipt::Refused { .. } => true,
             Receipt::Done { .. } => false,
         },
-        Some(place) => match log_of(closed, place.extent).get(place.index) {
+        Some(place) => match logs.log(place.extent).get(place.index) {
             Some(entry) => says(place.extent, entry, ask, receipt),
             None => false,
         },
@@ -54,7 +54,7 @@ fn agrees(closed: &Closed, cell: Option<LogPlace>, ask: &Ask, receipt: &Receipt)
 
 /// Whether the receipt or the ask of a call isn't what its entry says.
 fn differs_at(
-    closed: &Closed,
+    logs: &LogTable<'_>,
     table: &Table,
     receipts: &[Vec<Receipt>],
     calls: &[Vec<Ask>],
@@ -62,8 +62,8 @@ fn differs_at(
     number: u64,
 ) -> bool
     requires matched { HoldsNowhere (IsUnmatched (lists_of calls.now) (lists_of receipts.now)) }
-    requires placed { AllPlaced closed.now (lists_of receipts.now) (cells_of table.now) }
-    ensures { IsTrue result ↔ Differs closed.now (lists_of calls.now) (lists_of receipts.now) client number }
+    requires placed { AllPlaced logs.now (lists_of receipts.now) (cells_of table.now) }
+    ensures { IsTrue result ↔ Differs logs.now (lists_of calls.now) (lists_of receipts.now) client number }
 {
     let Some(receipt) = at(receipts, client, number) else {
         return false;
@@ -74,23 +74,23 @@ fn differs_at(
     let Some(cell) = table.cell(client, number) else {
         return false;
     };
-    !agrees(closed, cell, ask, receipt)
+    !agrees(logs, cell, ask, receipt)
 }
 
 /// The first call whose receipt or ask isn't what its entry says.
 pub(crate) fn first_differing(
-    closed: &Closed,
+    logs: &LogTable<'_>,
     table: &Table,
     receipts: &[Vec<Receipt>],
     calls: &[Vec<Ask>],
 ) -> Option<CallPlace>
     requires matched { HoldsNowhere (IsUnmatched (lists_of calls.now) (lists_of receipts.now)) }
-    requires placed { AllPlaced closed.now (lists_of receipts.now) (cells_of table.now) }
-    ensures { IsFirstCall (Differs closed.now (lists_of calls.now) (lists_of receipts.now)) result }
+    requires placed { AllPlaced logs.now (lists_of receipts.now) (cells_of table.now) }
+    ensures { IsFirstCall (Differs logs.now (lists_of calls.now) (lists_of receipts.now)) result }
 {
     'clients: for client in 0..count_of(receipts) {
         'calls: for number in 0..len_of(receipts, client) {
-            if differs_at(closed, table, receipts, calls, client, number) {
+            if differs_at(logs, table, receipts, calls, client, number) {
                 return Some(CallPlace { client, number });
             }
         }

@@ -71,6 +71,7 @@ fn is_opened(population: &Rows, homes: &[Home], closed: &Closed, number: u64) ->
     ensures { IsTrue result ↔ OpenedAsPopulated population.now closed.now number }
 {
     closed.what_holds();
+    // The clauses speak of the population; the homes are all of it that is read.
     let _ = population;
     let stands = extent_of(closed, number).is_some();
     if number == 0 || number - 1 >= (homes.len() as u64 + 63) / 64 {

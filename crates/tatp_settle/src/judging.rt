@@ -17,6 +17,7 @@ use crate::answering::first_differing;
 use crate::counting::{count_kinds, count_receipts};
 use crate::extents::{ExtentCause, first_extent};
 use crate::homed::first_homed;
+use crate::log_table::LogTable;
 use crate::matching::first_unmatched;
 use crate::places::CallPlace;
 use crate::placing::place_entries;
@@ -116,14 +117,15 @@ fn cause_in_calls(
             number: place.number,
         }));
     }
-    let (table, extra) = place_entries(alloc, closed, receipts)?;
+    let logs = LogTable::new(alloc, closed)?;
+    let (table, extra) = place_entries(alloc, &logs, receipts)?;
     if let Some(place) = extra {
         return Ok(Some(Unsettled::ReceiptMissing {
             client: place.client,
             number: place.number,
         }));
     }
-    if let Some(place) = first_differing(closed, &table, receipts, calls) {
+    if let Some(place) = first_differing(&logs, &table, receipts, calls) {
         return Ok(Some(Unsettled::ReplyDiffers {
             client: place.client,
             number: place.number,

@@ -13,6 +13,7 @@ mod homed;
 mod judging;
 mod laws;
 mod lists;
+mod log_table;
 mod logs;
 mod matching;
 mod places;

@@ -1,9 +1,9 @@
 //! What sites and parcels have under a number: extents and logs.
-ghost use Rattle.std.specs.Prelude.{◌≡◌, ◌<◌, ◌≤◌, ◌^◌, ◌==◌, ℕ, find, [], All, length};
+ghost use Rattle.std.specs.Prelude.{◌≡◌, ◌≤◌, ◌^◌, ◌==◌, ℕ, find, [], All};
 ghost use Rattle.std.specs.List.{flat_map};
 ghost use Rattle.std.specs.Option.{option_copied, option_map_or};
 ghost use Rattle.tatp_population.specs.Extents.{ExtentState};
-ghost use Rattle.tatp_settle.specs.Closings.{ClosedSiteState, extents_in_slots, extents_numbered, extent_numbered, entries_numbered, IsClosedSite};
+ghost use Rattle.tatp_settle.specs.Closings.{ClosedSiteState, extents_in_slots, extents_numbered, extent_numbered, entries_numbered, most_places, above_all, least_above, IsClosedSite};
 
 use crate::{Closed, ClosedSite};
 use tatp_population::Extent;
@@ -71,9 +71,9 @@ pub(crate) fn log_of(closed: &Closed, number: u64) -> &[Entry]
     }
 }
 
-/// A number above that of each extent that stood in these sites.
+/// How many places the site has that has the most: a number above that of each extent that stood there.
 fn places_of(sites: &[ClosedSite]) -> u64
-    ensures { All (λ (site : ClosedSiteState). length site.slots ≤ result) sites.now }
+    ensures { result ≡ most_places sites.now }
 {
     let mut count = 0;
     'sites: for site in sites {
@@ -82,9 +82,9 @@ fn places_of(sites: &[ClosedSite]) -> u64
     count
 }
 
-/// A number above those of these extents.
+/// The least number above those of these extents.
 fn numbers_of(extents: &[Extent]) -> u64
-    ensures numbers { All (λ (x : ExtentState). x.number < result) extents.now }
+    ensures value { result ≡ above_all extents.now }
     ensures most { result ≤ 2 ^ 32 }
 {
     let mut count = 0;
@@ -96,6 +96,7 @@ fn numbers_of(extents: &[Extent]) -> u64
 
 /// A number above that of each extent and log, and above 0.
 pub(crate) fn log_count(closed: &Closed) -> u64
+    ensures value { result ≡ least_above closed.now }
     ensures least { 1 ≤ result }
     ensures entries { (e : ℕ) → result ≤ e → entries_numbered closed.now e ≡ [] }
     ensures extents { (e : ℕ) → result ≤ e → extents_numbered closed.now e ≡ [] }

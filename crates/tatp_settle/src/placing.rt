@@ -5,10 +5,10 @@ ghost use Rattle.tatp_settle.specs.CallPlaces.{IsFirstCall};
 ghost use Rattle.tatp_settle.specs.Causes.{HasEntryTooMany};
 ghost use Rattle.tatp_settle.specs.Placing.{cells_of, AllPlaced, IsAtMost};
 
-use crate::logs::{log_count, log_of};
+use crate::Receipt;
+use crate::log_table::LogTable;
 use crate::places::{CallPlace, LogPlace};
 use crate::table::Table;
-use crate::{Closed, Receipt};
 use std::alloc::{AllocError, Global};
 
 /// The lesser of two calls.
@@ -34,16 +34,16 @@ pub(crate) fn lesser(least: Option<CallPlace>, other: CallPlace) -> Option<CallP
 /// The table of the entries' places, and the first call with an entry too many.
 pub(crate) fn place_entries(
     alloc: Global,
-    closed: &Closed,
+    logs: &LogTable<'_>,
     receipts: &[Vec<Receipt>],
 ) -> Result<(Table, Option<CallPlace>), AllocError>
-    ensures first { IfOk result (λ made. IsFirstCall (HasEntryTooMany closed.now (lists_of receipts.now)) made.1) }
-    ensures placed { IfOk result (λ made. IfNone made.1 (AllPlaced closed.now (lists_of receipts.now) (cells_of made.0))) }
+    ensures first { IfOk result (λ made. IsFirstCall (HasEntryTooMany logs.now (lists_of receipts.now)) made.1) }
+    ensures placed { IfOk result (λ made. IfNone made.1 (AllPlaced logs.now (lists_of receipts.now) (cells_of made.0))) }
 {
     let mut table = Table::fresh(alloc, receipts)?;
     let mut least: Option<CallPlace> = None;
-    'logs: for extent in 0..log_count(closed) {
-        let log = log_of(closed, extent);
+    'logs: for extent in 0..logs.count() {
+        let log = logs.log(extent);
         'entries: for index in 0..log.len() {
             let entry = &log[index];
             if !table.put(entry.client, entry.number, LogPlace { extent, index }) {

@@ -4,7 +4,7 @@ use Rattle.tatp_settle.proofs.SearchLaws.{Clear}
 use Rattle.tatp_settle.proofs.answering.first_differing.Given as goal
 
 abbrev pub invariant-calls : goal.invariant-calls
-invariant-calls l = Clear (Differs l.closed (lists_of l.calls) (lists_of l.receipts)) l.client l.number
+invariant-calls l = Clear (Differs l.logs (lists_of l.calls) (lists_of l.receipts)) l.client l.number
 
 abbrev pub invariant-clients : goal.invariant-clients
-invariant-clients l = Clear (Differs l.closed (lists_of l.calls) (lists_of l.receipts)) l.client 0
+invariant-clients l = Clear (Differs l.logs (lists_of l.calls) (lists_of l.receipts)) l.client 0

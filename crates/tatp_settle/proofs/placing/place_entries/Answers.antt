@@ -22,23 +22,23 @@ stands closed log e i entry is within at = subst (λ (xs : List Entry). slice_ge
 
 pub entries-preserved : goal.entries-preserved
 entries-preserved c = elim c.if-not-put.branch [
-  | then-not-put w ↦ rw w.least-is (placed_kept c.args.closed.now (lists_of c.args.receipts.now) (cells_of c.entries.table) (cells_of c.put.new.self) c.entries.least w.lesser-least.result c.logs.extent c.entries.index c.index-log-index.result c.entries.invariant (stands c.args.closed.now c.log_of-log.result.now c.logs.extent c.entries.index c.index-log-index.result c.log_of-log.ensures c.entries-test.true c.index-log-index.is) w.if-not-put.ensures w.lesser-least.ensures.keeps w.lesser-least.ensures.at w.lesser-least.ensures.is)
-  | else-not-put w ↦ rw w.least-is (placed_put c.args.closed.now (lists_of c.args.receipts.now) (cells_of c.entries.table) (cells_of c.put.new.self) c.entries.least c.logs.extent c.entries.index c.index-log-index.result c.entries.invariant (stands c.args.closed.now c.log_of-log.result.now c.logs.extent c.entries.index c.index-log-index.result c.log_of-log.ensures c.entries-test.true c.index-log-index.is) w.if-not-put.ensures)
+  | then-not-put w ↦ rw w.least-is (placed_kept c.args.logs.now (lists_of c.args.receipts.now) (cells_of c.entries.table) (cells_of c.put.new.self) c.entries.least w.lesser-least.result c.logs.extent c.entries.index c.index-log-index.result c.entries.invariant (stands c.args.logs.now c.log-log.result.now c.logs.extent c.entries.index c.index-log-index.result c.log-log.ensures c.entries-test.true c.index-log-index.is) w.if-not-put.ensures w.lesser-least.ensures.keeps w.lesser-least.ensures.at w.lesser-least.ensures.is)
+  | else-not-put w ↦ rw w.least-is (placed_put c.args.logs.now (lists_of c.args.receipts.now) (cells_of c.entries.table) (cells_of c.put.new.self) c.entries.least c.logs.extent c.entries.index c.index-log-index.result c.entries.invariant (stands c.args.logs.now c.log-log.result.now c.logs.extent c.entries.index c.index-log-index.result c.log-log.ensures c.entries-test.true c.index-log-index.is) w.if-not-put.ensures)
 ]
 
 pub logs-preserved : goal.logs-preserved
-logs-preserved c = placed_log c.args.closed.now (lists_of c.args.receipts.now) (cells_of c.entries.table) c.entries.least c.logs.extent c.entries.index c.entries.invariant
-    (none_past c.args.closed.now c.log_of-log.result.now c.logs.extent c.entries.index c.log_of-log.ensures c.entries-test.false)
+logs-preserved c = placed_log c.args.logs.now (lists_of c.args.receipts.now) (cells_of c.entries.table) c.entries.least c.logs.extent c.entries.index c.entries.invariant
+    (none_past c.args.logs.now c.log-log.result.now c.logs.extent c.entries.index c.log-log.ensures c.entries-test.false)
 
-past : (c : After-logs) → (e i : ℕ) (entry : Entry) → c.logs.extent ≤ e → StandsAt c.args.closed.now e i entry → ⊥
-past c e i entry l = none_after c.args.closed.now c.log_count-extent-end.result c.log_count-extent-end.ensures.entries e i entry (omega (arith, l, c.logs-test.false))
+past : (c : After-logs) → (e i : ℕ) (entry : Entry) → c.logs.extent ≤ e → StandsAt c.args.logs.now e i entry → ⊥
+past c e i entry l = none_after c.args.logs.now c.count-extent-end.result c.count-extent-end.ensures e i entry (omega (arith, l, c.logs-test.false))
 
 pub returns-clause-first : goal.returns-clause-first
-returns-clause-first c = placed_end c.args.closed.now (lists_of c.args.receipts.now) (cells_of c.logs.table) c.logs.extent (past c) c.logs.least c.logs.invariant
+returns-clause-first c = placed_end c.args.logs.now (lists_of c.args.receipts.now) (cells_of c.logs.table) c.logs.extent (past c) c.logs.least c.logs.invariant
 
 pub returns-clause-placed : goal.returns-clause-placed
 returns-clause-placed c = by_cases c.logs.least c.logs.invariant
   where
-    by_cases : (least : Option CallPlace) → ArePlaced c.args.closed.now (lists_of c.args.receipts.now) (cells_of c.logs.table) least c.logs.extent 0 → IfNone least (AllPlaced c.args.closed.now (lists_of c.args.receipts.now) (cells_of c.logs.table))
-    by_cases None h = placed_all c.args.closed.now (lists_of c.args.receipts.now) (cells_of c.logs.table) c.logs.extent (past c) h
+    by_cases : (least : Option CallPlace) → ArePlaced c.args.logs.now (lists_of c.args.receipts.now) (cells_of c.logs.table) least c.logs.extent 0 → IfNone least (AllPlaced c.args.logs.now (lists_of c.args.receipts.now) (cells_of c.logs.table))
+    by_cases None h = placed_all c.args.logs.now (lists_of c.args.receipts.now) (cells_of c.logs.table) c.logs.extent (past c) h
     by_cases (Some p) h = tt

@@ -8,8 +8,23 @@ impl<'m> World<'m> {
     ghost use Rattle.tatp_dispatch.specs.Events.{Happens};
     ghost use Rattle.tatp_dispatch.specs.Serving.{Tells};
 
-    /// One event.
+    /// One event. A step, of which most runs consist, is made here, so that a caller who makes one doesn't
+    /// pay for the room of an answer; any other event is a function of its own.
+    #[inline(always)]
     pub fn apply(&mut self, event: Event) -> Result<Answer, Refusal>
+        ensures happens { Happens self.old event result self.new }
+        ensures tells { Tells self.old result self.new }
+        ensures refused { OnErr result (self.new ≡ self.old) }
+    {
+        match event {
+            Event::Step(p) => return self.step(p),
+            _ => return self.apply_any(event),
+        }
+    }
+
+    /// One event of any kind.
+    #[inline(never)]
+    fn apply_any(&mut self, event: Event) -> Result<Answer, Refusal>
         ensures happens { Happens self.old event result self.new }
         ensures tells { Tells self.old result self.new }
         ensures refused { OnErr result (self.new ≡ self.old) }

@@ -103,6 +103,7 @@ impl<'m> World<'m> {
     }
 
     /// A site makes a step.
+    #[inline(always)]
     pub(crate) fn step(&mut self, p: u64) -> Result<Answer, Refusal>
         ensures happens { AdvancesAt (step_obstacle_at self.old p) self.old p result self.new }
         ensures tells { Tells self.old result self.new }

@@ -54,7 +54,7 @@ pub fn run_drawn<R: Threads + Wait + Sync, G: Gate + Sync>(
         gate,
     ) {
         Err(refusal) => Err(fault_of(refusal)),
-        Ok(ran) => settle_ran(alloc, plan, &population, ran, lists),
+        Ok(ran) => settle_ran(rt, alloc, plan, &population, ran, lists),
     }
 }
 

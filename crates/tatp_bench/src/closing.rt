@@ -8,6 +8,7 @@ ghost use Rattle.tatp_bench.specs.Benching.{SettlesPlan, RefusesBench};
 
 use crate::{BenchFault, BenchPlan};
 use std::alloc::Global;
+use std::thread::Threads;
 use tatp_move::close_sites;
 use tatp_partition::Parcel;
 use tatp_procs::Ask;
@@ -27,7 +28,8 @@ fn discard_parcels(parcels: Vec<Parcel>) {
 }
 
 /// Settles what was gathered of a run.
-fn settle_closed(
+fn settle_closed<R: Threads + Sync>(
+    rt: &R,
     alloc: Global,
     plan: &BenchPlan,
     population: &Rows,
@@ -44,7 +46,7 @@ fn settle_closed(
     ensures settled { IfOk result (SettlesPlan plan.now) }
     ensures refusal { IfErr result (RefusesBench plan.now) }
 {
-    match settle(alloc, population, closed, receipts, lists) {
+    match settle(rt, alloc, population, closed, receipts, lists) {
         Ok(settled) => Ok(settled),
         Err(NotSettled { error, closed }) => {
             closed.discard();
@@ -57,7 +59,8 @@ fn settle_closed(
 }
 
 /// Gathers and settles what a run of a plan left.
-pub(crate) fn settle_ran(
+pub(crate) fn settle_ran<R: Threads + Sync>(
+    rt: &R,
     alloc: Global,
     plan: &BenchPlan,
     population: &Rows,
@@ -82,7 +85,7 @@ pub(crate) fn settle_ran(
     } = ran.parts();
     landings.destroy_empty();
     match gather(alloc, sites, parcels) {
-        Ok(closed) => settle_closed(alloc, plan, population, closed, receipts.as_slice(), lists),
+        Ok(closed) => settle_closed(rt, alloc, plan, population, closed, receipts.as_slice(), lists),
         Err(
             NotGathered {
                 error,

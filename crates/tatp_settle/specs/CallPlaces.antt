@@ -1,5 +1,5 @@
 -- The order of clients and call numbers.
-use Rattle.std.specs.Prelude.{◌≡◌, ℕ, ◌<◌, ◌⊎◌, Option, Some, None}
+use Rattle.std.specs.Prelude.{◌≡◌, ℕ, ◌<◌, ◌≤◌, ◌⊎◌, Option, Some, None}
 use Rattle.tatp_settle.specs.declared.places.CallPlace.{CallPlace}
 
 -- the first call stands before the second: by client, and then by call number
@@ -19,3 +19,20 @@ HoldsNowhere P = (client number : ℕ) → P client number → ⊥
 abbrev pub IsFirstCall : (ℕ → ℕ → Type 0) → Option CallPlace → Type 0
 IsFirstCall P None = HoldsNowhere P
 IsFirstCall P (Some place) = IsLeastCall P place.client place.number
+
+-- the least number of which it holds, if it holds of any
+abbrev pub IsFirstNumber : (ℕ → Type 0) → Option ℕ → Type 0
+IsFirstNumber P None = (number : ℕ) → P number → ⊥
+IsFirstNumber P (Some number) = P number × ((n : ℕ) → n < number → P n → ⊥)
+
+-- it holds of the call, which is one of these clients', and of none of theirs before it
+pub record IsLeastAmong (P : ℕ → ℕ → Type 0) (from to client number : ℕ) : Type 0 where
+  pub first : from ≤ client
+  pub last : client < to
+  pub holds : P client number
+  pub least : (c n : ℕ) → from ≤ c → IsSooner c n client number → P c n → ⊥
+
+-- the least call of these clients of which it holds, if it holds of any
+abbrev pub IsFirstAmong : (ℕ → ℕ → Type 0) → ℕ → ℕ → Option CallPlace → Type 0
+IsFirstAmong P from to None = (client number : ℕ) → from ≤ client → client < to → P client number → ⊥
+IsFirstAmong P from to (Some place) = IsLeastAmong P from to place.client place.number

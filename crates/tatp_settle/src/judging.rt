@@ -25,13 +25,15 @@ use crate::rows::{count_moves, rows_now};
 use crate::stamping::first_falling;
 use crate::{Closed, Receipt, SettleError, Settled, Unsettled};
 use std::alloc::{AllocError, Global};
+use std::thread::Threads;
 use tatp_audits::audit;
 use tatp_numbers::{BuildError, Directory, clean_rows_make_a_directory};
 use tatp_procs::Ask;
 use tatp_tables::{Home, Rows, homes};
 
 /// What a settled run counts, or why the run isn't settled.
-pub(crate) fn judge(
+pub(crate) fn judge<R: Threads + Sync>(
+    rt: &R,
     alloc: Global,
     population: &Rows,
     closed: &Closed,
@@ -47,7 +49,7 @@ pub(crate) fn judge(
     if let Some(cause) = cause_in_extents(alloc, population, closed)? {
         return Err(SettleError::Because(cause));
     }
-    if let Some(cause) = cause_in_calls(alloc, closed, receipts, calls)? {
+    if let Some(cause) = cause_in_calls(rt, alloc, closed, receipts, calls)? {
         return Err(SettleError::Because(cause));
     }
     if let Some(cause) = cause_without_home(alloc, population, closed)? {
@@ -102,7 +104,8 @@ fn extent_cause(population: &Rows, homes: &[Home], closed: &Closed) -> Option<Un
 }
 
 /// The first cause that a call is by its receipt and its entries, where no extent is a cause.
-fn cause_in_calls(
+fn cause_in_calls<R: Threads + Sync>(
+    rt: &R,
     alloc: Global,
     closed: &Closed,
     receipts: &[Vec<Receipt>],
@@ -111,7 +114,7 @@ fn cause_in_calls(
     ensures first { IfOk result (λ cause. (population : Rows) → NoneOfFirst 4 (record { population = population; closed = closed.now; receipts = lists_of receipts.now; calls = lists_of calls.now }) → IsFirstOf 8 (record { population = population; closed = closed.now; receipts = lists_of receipts.now; calls = lists_of calls.now }) cause) }
     ensures placed { IfOk result (λ cause. IfNone cause (ArePlaced closed.now (lists_of receipts.now))) }
 {
-    if let Some(place) = first_unmatched(receipts, calls) {
+    if let Some(place) = first_unmatched(rt, receipts, calls) {
         return Ok(Some(Unsettled::CallMissing {
             client: place.client,
             number: place.number,
@@ -125,13 +128,13 @@ fn cause_in_calls(
             number: place.number,
         }));
     }
-    if let Some(place) = first_differing(&logs, &table, receipts, calls) {
+    if let Some(place) = first_differing(rt, &logs, &table, receipts, calls) {
         return Ok(Some(Unsettled::ReplyDiffers {
             client: place.client,
             number: place.number,
         }));
     }
-    if let Some(place) = first_falling(receipts) {
+    if let Some(place) = first_falling(rt, receipts) {
         return Ok(Some(Unsettled::StampOrder {
             client: place.client,
             number: place.number,

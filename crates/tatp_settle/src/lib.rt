@@ -21,6 +21,7 @@ mod placing;
 mod receipt;
 mod refusals;
 mod rows;
+mod searching;
 mod settled;
 mod settling;
 mod stamping;

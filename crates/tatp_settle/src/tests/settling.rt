@@ -10,6 +10,7 @@ use crate::{Closed, NotGathered, NotSettled, Receipt, Settled, gather, settle};
 use std::alloc::{AllocError, Global};
 use std::process::Abort;
 use std::test::Fail;
+use std::thread::Threads;
 use tatp_audits::{Verdict, audit};
 use tatp_procs::{Ask, standard};
 use tatp_tables::Rows;
@@ -25,7 +26,8 @@ struct Run<'a> {
 }
 
 /// What a settled run counts, or the text of why it isn't settled.
-fn told(
+fn told<R: Threads + Sync>(
+    rt: &R,
     alloc: Global,
     population: &Rows,
     closed: Closed,
@@ -35,7 +37,7 @@ fn told(
     requires clean { IsClean population.now }
     requires few { length (joined (lists_of calls.now)) < 2 ^ 64 }
 {
-    match settle(alloc, population, closed, receipts, calls) {
+    match settle(rt, alloc, population, closed, receipts, calls) {
         Ok(settled) => Ok(Ok(settled)),
         Err(NotSettled { error, closed }) => {
             closed.discard();
@@ -72,7 +74,8 @@ fn closed(
 }
 
 /// What is told of a run from these rows. None where nothing is gathered of it, or the rows aren't clean.
-fn told_of(
+fn told_of<R: Threads + Sync>(
+    rt: &R,
     alloc: Global,
     population: &Rows,
     run: Run<'_>,
@@ -84,7 +87,7 @@ fn told_of(
     }
     match closed(alloc, run.partitions, run.events)? {
         None => Ok(None),
-        Some(closed) => Ok(Some(told(alloc, population, closed, &receipts, &calls)?)),
+        Some(closed) => Ok(Some(told(rt, alloc, population, closed, &receipts, &calls)?)),
     }
 }
 
@@ -135,7 +138,8 @@ static EXTENTS: [ExtentCase<'static>; 9] = [
 ];
 
 /// What is told of a run in which the first client asked one subscriber, and got nothing.
-fn told_of_extents(
+fn told_of_extents<R: Threads + Sync>(
+    rt: &R,
     alloc: Global,
     case: &ExtentCase<'_>,
 ) -> Result<Option<Result<Settled, String>>, AllocError> {
@@ -147,7 +151,7 @@ fn told_of_extents(
         calls: &[&[1]],
         got: &[],
     };
-    told_of(alloc, &population, run)
+    told_of(rt, alloc, &population, run)
 }
 
 /// The run isn't settled, and this is the text of why.
@@ -169,13 +173,14 @@ fn expect_cause(
 #[test]
 fn extents_that_are_causes(rt: HostRuntime) -> Result<(), Fail> {
     for case in &EXTENTS {
-        expect_cause(&rt, told_of_extents(rt.alloc(), case)?, case.4)?;
+        expect_cause(&rt, told_of_extents(&rt, rt.alloc(), case)?, case.4)?;
     }
     Ok(())
 }
 
 /// What is told of a run at one site, on the rows of 192 subscribers.
-fn told_of_calls(
+fn told_of_calls<R: Threads + Sync>(
+    rt: &R,
     alloc: Global,
     events: &[Event],
     calls: &[&[u64]],
@@ -188,7 +193,7 @@ fn told_of_calls(
         calls,
         got,
     };
-    told_of(alloc, &population, run)
+    told_of(rt, alloc, &population, run)
 }
 
 /// Events, calls, receipts, and the text of the cause.
@@ -353,7 +358,7 @@ static STAMPED: [Case<'static>; 4] = [
 fn calls_that_are_causes(rt: HostRuntime) -> Result<(), Fail> {
     for cases in [&LACKING[..], &DIFFERING[..], &STAMPED[..]] {
         for (events, calls, got, text) in cases {
-            let told = told_of_calls(rt.alloc(), events, calls, got)?;
+            let told = told_of_calls(&rt, rt.alloc(), events, calls, got)?;
             expect_cause(&rt, told, text)?;
         }
     }
@@ -400,7 +405,7 @@ fn expect_counts(rt: &impl Abort, settled: &Settled) {
 #[test]
 fn a_settled_run(rt: HostRuntime) -> Result<(), Fail> {
     let (events, calls, got) = &SETTLED;
-    match told_of_calls(rt.alloc(), events, calls, got)? {
+    match told_of_calls(&rt, rt.alloc(), events, calls, got)? {
         None => Err("no run".into()),
         Some(Err(_)) => Err("not settled".into()),
         Some(Ok(settled)) => {

@@ -18,7 +18,13 @@ use tatp_settle::{NotGathered, NotSettled, Settled, gather, settle};
 use tatp_tables::Rows;
 
 /// Gathers and settles what a run left.
-fn settled(alloc: Global, population: &Rows, ran: Ran<'_>, lists: &[Vec<Ask>]) -> Option<Settled>
+fn settled<R: Threads + Sync>(
+    rt: &R,
+    alloc: Global,
+    population: &Rows,
+    ran: Ran<'_>,
+    lists: &[Vec<Ask>],
+) -> Option<Settled>
     requires clean { IsClean population.now }
     requires few { length (joined (lists_of lists.now)) < 2 ^ 64 }
 {
@@ -41,7 +47,7 @@ fn settled(alloc: Global, population: &Rows, ran: Ran<'_>, lists: &[Vec<Ask>]) -
             discard_parcels(parcels);
             None
         }
-        Ok(closed) => match settle(alloc, population, closed, receipts.as_slice(), lists) {
+        Ok(closed) => match settle(rt, alloc, population, closed, receipts.as_slice(), lists) {
             Err(NotSettled { error: _, closed }) => {
                 closed.discard();
                 None
@@ -68,7 +74,7 @@ fn settled_run<R: Threads + Wait + Sync>(
     }
     let loaded = module(alloc)?;
     let ran = run(rt, alloc, &loaded, 130, 2, lists, moves, &NoGate)?;
-    Ok(settled(alloc, &population, ran, lists))
+    Ok(settled(rt, alloc, &population, ran, lists))
 }
 
 /// One call that was completed, and two moves; the audit is that of the rows.

@@ -14,25 +14,25 @@ use Rattle.tatp_settle.proofs.JudgeLaws.{as_many_receipts, matched_of, judged, n
 use Rattle.tatp_settle.proofs.judging.judge.Goals as goal
 
 pub returns-in-Some-clause-refusal : goal.returns-in-Some-clause-refusal
-returns-in-Some-clause-refusal c =
+returns-in-Some-clause-refusal g c =
     let run : Run = record { population = c.args.population.now; closed = c.args.closed.now; receipts = lists_of c.args.receipts.now; calls = lists_of c.args.calls.now } in
     cause_found 4 run c.in_ok-cause.field-0 c.in-Some.cause c.in-Some.is (c.in_ok-cause.ensures run.receipts run.calls)
 
 pub returns-in-Some-2-clause-refusal : goal.returns-in-Some-2-clause-refusal
-returns-in-Some-2-clause-refusal c =
+returns-in-Some-2-clause-refusal g c =
     let run : Run = record { population = c.args.population.now; closed = c.args.closed.now; receipts = lists_of c.args.receipts.now; calls = lists_of c.args.calls.now } in
     let none4 : NoneOfFirst 4 run = none_found 4 run c.in_ok-cause.field-0 c.in_default.is (c.in_ok-cause.ensures run.receipts run.calls) in
     cause_found 8 run c.in_ok-cause-2.field-0 c.in-Some-2.cause c.in-Some-2.is (c.in_ok-cause-2.ensures.first run.population none4)
 
 pub returns-in-Some-3-clause-refusal : goal.returns-in-Some-3-clause-refusal
-returns-in-Some-3-clause-refusal c =
+returns-in-Some-3-clause-refusal g c =
     let run : Run = record { population = c.args.population.now; closed = c.args.closed.now; receipts = lists_of c.args.receipts.now; calls = lists_of c.args.calls.now } in
     let none4 : NoneOfFirst 4 run = none_found 4 run c.in_ok-cause.field-0 c.in_default.is (c.in_ok-cause.ensures run.receipts run.calls) in
     let none8 : NoneOfFirst 8 run = none_found 8 run c.in_ok-cause-2.field-0 c.in_default-2.is (c.in_ok-cause-2.ensures.first run.population none4) in
     cause_found 9 run c.in_ok-cause-3.field-0 c.in-Some-3.cause c.in-Some-3.is (c.in_ok-cause-3.ensures run.receipts run.calls none8)
 
 pub returns-then-not-is_clean-clause-refusal : goal.returns-then-not-is_clean-clause-refusal
-returns-then-not-is_clean-clause-refusal c =
+returns-then-not-is_clean-clause-refusal g c =
     let run : Run = record { population = c.args.population.now; closed = c.args.closed.now; receipts = lists_of c.args.receipts.now; calls = lists_of c.args.calls.now } in
     let none4 : NoneOfFirst 4 run = none_found 4 run c.in_ok-cause.field-0 c.in_default.is (c.in_ok-cause.ensures run.receipts run.calls) in
     let none8 : NoneOfFirst 8 run = none_found 8 run c.in_ok-cause-2.field-0 c.in_default-2.is (c.in_ok-cause-2.ensures.first run.population none4) in
@@ -42,7 +42,7 @@ returns-then-not-is_clean-clause-refusal c =
     (subst (λ (r : Rows). IsVerdict r c.in_ok-verdict.verdict) rows c.in_ok-verdict.ensures.verdict, sym c.is_clean.ensures ∙ c.if-not-is_clean.true)
 
 pub count_receipts-completed-requires : goal.count_receipts-completed-requires
-count_receipts-completed-requires c =
+count_receipts-completed-requires g c =
     let run : Run = record { population = c.args.population.now; closed = c.args.closed.now; receipts = lists_of c.args.receipts.now; calls = lists_of c.args.calls.now } in
     let none4 : NoneOfFirst 4 run = none_found 4 run c.in_ok-cause.field-0 c.in_default.is (c.in_ok-cause.ensures run.receipts run.calls) in
     let none8 : NoneOfFirst 8 run = none_found 8 run c.in_ok-cause-2.field-0 c.in_default-2.is (c.in_ok-cause-2.ensures.first run.population none4) in
@@ -51,7 +51,7 @@ count_receipts-completed-requires c =
     record { few = omega (arith, many, few) }
 
 pub returns-clause-settled : goal.returns-clause-settled
-returns-clause-settled c =
+returns-clause-settled g c =
     let run : Run = record { population = c.args.population.now; closed = c.args.closed.now; receipts = lists_of c.args.receipts.now; calls = lists_of c.args.calls.now } in
     let none4 : NoneOfFirst 4 run = none_found 4 run c.in_ok-cause.field-0 c.in_default.is (c.in_ok-cause.ensures run.receipts run.calls) in
     let none8 : NoneOfFirst 8 run = none_found 8 run c.in_ok-cause-2.field-0 c.in_default-2.is (c.in_ok-cause-2.ensures.first run.population none4) in

@@ -85,7 +85,15 @@ pub(crate) fn settle_ran<R: Threads + Sync>(
     } = ran.parts();
     landings.destroy_empty();
     match gather(alloc, sites, parcels) {
-        Ok(closed) => settle_closed(rt, alloc, plan, population, closed, receipts.as_slice(), lists),
+        Ok(closed) => settle_closed(
+            rt,
+            alloc,
+            plan,
+            population,
+            closed,
+            receipts.as_slice(),
+            lists,
+        ),
         Err(
             NotGathered {
                 error,

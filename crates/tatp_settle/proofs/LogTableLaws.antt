@@ -4,7 +4,7 @@ use Rattle.std.proofs.lemmas.Option.{slice_get_past}
 use Rattle.std.proofs.lemmas.Bool.{cases_lt}
 use Rattle.std.specs.Option.{option_map_or}
 use Rattle.tatp_procs.specs.declared.entry.Entry.{Entry}
-use Rattle.tatp_settle.specs.Closings.{ClosedState, entries_numbered}
+use Rattle.tatp_settle.specs.Closings.{ClosedState, entries_numbered, least_above}
 use Rattle.tatp_settle.specs.LogTables.{log_in, HasLogs}
 
 -- the list has the logs of the numbers below the count, and no more
@@ -43,9 +43,9 @@ logs_more closed logs log count h is = record {
         let here : count ≡ e = omega (arith, l, within) in
         subst (λ (n : ℕ). entries_numbered closed n ≡ log_in (logs ++ log ∷ []) n) here (sym is ∙ (sym (last logs log) ∙ ap (λ (n : ℕ). log_in (logs ++ log ∷ []) n) h.len))
 
-pub logs_all : (closed : ClosedState) (logs : List (Bor (List Entry))) (count : ℕ) → LogsBelow closed logs count → ((e : ℕ) → count ≤ e → entries_numbered closed e ≡ []) → HasLogs closed logs
-logs_all closed logs count h past e = by_cases (cases_lt e count)
+pub logs_all : (closed : ClosedState) (logs : List (Bor (List Entry))) (count : ℕ) → LogsBelow closed logs count → count ≡ least_above closed → ((e : ℕ) → count ≤ e → entries_numbered closed e ≡ []) → HasLogs closed logs
+logs_all closed logs count h is past = record { count = h.len ∙ is; are = λ e. by_cases e (cases_lt e count) }
   where
-    by_cases : (e < count) ⊎ (count ≤ e) → entries_numbered closed e ≡ log_in logs e
-    by_cases (inl l) = h.are e l
-    by_cases (inr l) = past e l ∙ sym (none_past logs e (omega (arith, l, h.len)))
+    by_cases : (e : ℕ) → (e < count) ⊎ (count ≤ e) → entries_numbered closed e ≡ log_in logs e
+    by_cases e (inl l) = h.are e l
+    by_cases e (inr l) = past e l ∙ sym (none_past logs e (omega (arith, l, h.len)))

@@ -1,6 +1,6 @@
 //! The logs of all numbers, each looked up once.
 ghost use Rattle.std.specs.Prelude.{◌≡◌, ◌≤◌, ℕ, [], IfOk};
-ghost use Rattle.tatp_settle.specs.Closings.{entries_numbered};
+ghost use Rattle.tatp_settle.specs.Closings.{entries_numbered, least_above};
 
 use crate::Closed;
 use crate::logs::{log_count, log_of};
@@ -41,9 +41,10 @@ impl<'a> LogTable<'a> {
         Ok(LogTable { closed, logs })
     }
 
-    /// How many numbers may have an entry in their logs: those below it.
+    /// The least number above those of all extents and logs.
     pub(crate) fn count(&self) -> u64
-        ensures { (e : ℕ) → result ≤ e → entries_numbered self.now e ≡ [] }
+        ensures value { result ≡ least_above self.now }
+        ensures beyond { (e : ℕ) → result ≤ e → entries_numbered self.now e ≡ [] }
     {
         self.logs.len() as u64
     }

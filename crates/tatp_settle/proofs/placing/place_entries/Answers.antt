@@ -31,7 +31,7 @@ logs-preserved c = placed_log c.args.logs.now (lists_of c.args.receipts.now) (ce
     (none_past c.args.logs.now c.log-log.result.now c.logs.extent c.entries.index c.log-log.ensures c.entries-test.false)
 
 past : (c : After-logs) → (e i : ℕ) (entry : Entry) → c.logs.extent ≤ e → StandsAt c.args.logs.now e i entry → ⊥
-past c e i entry l = none_after c.args.logs.now c.count-extent-end.result c.count-extent-end.ensures e i entry (omega (arith, l, c.logs-test.false))
+past c e i entry l = none_after c.args.logs.now c.count-extent-end.result c.count-extent-end.ensures.beyond e i entry (omega (arith, l, c.logs-test.false))
 
 pub returns-clause-first : goal.returns-clause-first
 returns-clause-first c = placed_end c.args.logs.now (lists_of c.args.receipts.now) (cells_of c.logs.table) c.logs.extent (past c) c.logs.least c.logs.invariant

@@ -12,4 +12,4 @@ logs-preserved c =
     (logs_more c.args.closed.now c.logs.logs.items c.log_of.result c.logs.number c.logs.invariant c.log_of.ensures)
 
 pub invariant_of-result : goal.invariant_of-result
-invariant_of-result c = logs_all c.args.closed.now c.logs.logs.items c.logs.number c.logs.invariant (λ e l. c.log_count-count.ensures.entries e (omega (arith, l, c.logs-test.false)))
+invariant_of-result c = logs_all c.args.closed.now c.logs.logs.items c.logs.number c.logs.invariant (let past = c.logs-test.false in omega (arith, past)) (λ e l. c.log_count-count.ensures.entries e (omega (arith, l, c.logs-test.false)))

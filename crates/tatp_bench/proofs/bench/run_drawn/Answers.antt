@@ -35,7 +35,7 @@ returns-in-Err-clause-refusal g c = elim c.fault_of.ensures as (λ _. RefusesBen
 ]
 
 pub settle_ran-requires-clause-clients : goal.settle_ran-requires-clause-clients
-settle_ran-requires-clause-clients g c =
+settle_ran-requires-clause-clients g c κs within =
     let same : lists_of c.as_slice-lists.result.now ≡ calls_drawn c.args.plan.now = search rules in
     c.in-Ok.ensures.receipts ∙ clients_listed c.args.plan.now c.as_slice-lists.result.now same
 

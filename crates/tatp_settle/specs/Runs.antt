@@ -47,10 +47,16 @@ homes_populated population e = if nat_le 1 e && nat_le e (extents_populated popu
 abbrev pub logs_left : Run → List (List Entry)
 logs_left run = map (entries_numbered run.closed) (range_with_len 0 (extents_populated run.population + 1))
 
--- the homes now, extent by extent
+-- the homes that stand now where the population has its extents, extent by extent
+abbrev pub homes_standing : Rows → ClosedState → List SubscriberRows
+homes_standing population closed = flat_map (λ e. option_map_or (λ (x : ExtentState). x.homes) (extent_numbered closed e) []) (range_with_len 1 (extents_populated population))
+
 abbrev pub homes_left : Run → List SubscriberRows
-homes_left run = flat_map (λ e. option_map_or (λ (x : ExtentState). x.homes) (extent_numbered run.closed e) []) (range_with_len 1 (extents_populated run.population))
+homes_left run = homes_standing run.population run.closed
 
 -- the rows now
+abbrev pub rows_standing : Rows → ClosedState → Rows
+rows_standing population closed = rows_of_homes (homes_standing population closed)
+
 abbrev pub rows_left : Run → Rows
-rows_left run = rows_of_homes (homes_left run)
+rows_left run = rows_standing run.population run.closed

@@ -1,9 +1,11 @@
 -- What a settled run is, and what it counts; what gathering and settling refuse.
-use Rattle.std.specs.Prelude.{◌≡◌, ℕ, ◌<◌, ◌≤◌, not, List, [], map, count_by, sum_by, Some}
+use Rattle.std.specs.Prelude.{◌≡◌, ℕ, ◌<◌, ◌≤◌, not, true, List, [], map, count_by, sum_by, Some}
 use Rattle.std.specs.List.{range_with_len}
 use Rattle.tatp_tables.specs.Clean.{IsClean}
 use Rattle.tatp_tables.specs.Database.{database_of}
-use Rattle.tatp_audits.specs.Audits.{clean_of}
+use Rattle.tatp_audits.specs.declared.verdict.Verdict.{Verdict}
+use Rattle.tatp_audits.specs.Audits.{IsVerdict, clean_of, says_clean}
+use Rattle.tatp_tables.specs.declared.row.Rows.{Rows}
 use Rattle.tatp_procs.specs.declared.ask.Ask.{Ask}
 use Rattle.tatp_procs.specs.declared.entry.Entry.{Entry}
 use Rattle.tatp_population.specs.Extents.{ExtentState}
@@ -40,6 +42,12 @@ pub record IsOneHistory (run : Run) : Type 0 where
   pub history : OneHistory (database_of run.population) (logs_left run) (database_of (rows_left run))
   pub received : IsReceived run
   pub clean : IsClean (rows_left run)
+
+-- the verdict is that on the rows
+pub record IsAuditOf (rows : Rows) (verdict : Verdict) : Type 0 where
+  pub told : IsVerdict rows verdict
+  pub clean : says_clean verdict ≡ true → IsClean rows
+  pub counts : IsClean rows → verdict ≡ clean_of rows
 
 -- ---- what is counted
 -- how many calls were completed, and to how many memory was refused

@@ -8,10 +8,10 @@ ghost use Rattle.tatp_tables.specs.Loading.{homes_in};
 ghost use Rattle.tatp_numbers.specs.Homes.{home_of_key};
 ghost use Rattle.tatp_numbers.specs.Listing.{answer};
 ghost use Rattle.tatp_numbers.specs.declared.key.Key.{Key};
-ghost use Rattle.tatp_settle.specs.Runs.{joined, lists_of};
+ghost use Rattle.tatp_settle.specs.Runs.{joined, lists_of, rows_standing};
 ghost use Rattle.tatp_settle.specs.Placing.{ArePlaced};
 ghost use Rattle.tatp_settle.specs.CauseOrder.{NoneOfFirst, IsFirstOf};
-ghost use Rattle.tatp_settle.specs.Settlements.{IsSettled, RefusesToSettle};
+ghost use Rattle.tatp_settle.specs.Settlements.{IsAuditOf, IsSettled, RefusesToSettle};
 
 use crate::answering::first_differing;
 use crate::counting::{count_kinds, count_receipts};
@@ -25,8 +25,8 @@ use crate::rows::{count_moves, rows_now};
 use crate::stamping::first_falling;
 use crate::{Closed, Receipt, SettleError, Settled, Unsettled};
 use std::alloc::{AllocError, Global};
-use std::thread::Threads;
-use tatp_audits::audit;
+use std::thread::{Threads, join};
+use tatp_audits::{Verdict, audit};
 use tatp_numbers::{BuildError, Directory, clean_rows_make_a_directory};
 use tatp_procs::Ask;
 use tatp_tables::{Home, Rows, homes};
@@ -49,14 +49,14 @@ pub(crate) fn judge<R: Threads + Sync>(
     if let Some(cause) = cause_in_extents(alloc, population, closed)? {
         return Err(SettleError::Because(cause));
     }
-    if let Some(cause) = cause_in_calls(rt, alloc, closed, receipts, calls)? {
+    let (audited, in_calls) = audit_beside_calls(rt, alloc, population, closed, receipts, calls);
+    if let Some(cause) = in_calls? {
         return Err(SettleError::Because(cause));
     }
     if let Some(cause) = cause_without_home(alloc, population, closed)? {
         return Err(SettleError::Because(cause));
     }
-    let rows = rows_now(alloc, population, closed)?;
-    let verdict = audit(alloc, &rows)?;
+    let verdict = audited?;
     if !verdict.is_clean() {
         return Err(SettleError::Because(Unsettled::Audit(verdict)));
     }
@@ -68,6 +68,38 @@ pub(crate) fn judge<R: Threads + Sync>(
         verdict,
         count_moves(population, closed),
     ))
+}
+
+/// The verdict on the rows now, and the first cause that a call is, where no extent is a cause: each by a
+/// thread of its own, where one can be made.
+fn audit_beside_calls<R: Threads + Sync>(
+    rt: &R,
+    alloc: Global,
+    population: &Rows,
+    closed: &Closed,
+    receipts: &[Vec<Receipt>],
+    calls: &[Vec<Ask>],
+) -> (
+    Result<Verdict, AllocError>,
+    Result<Option<Unsettled>, AllocError>,
+)
+    ensures audit { IfOk result.0 (IsAuditOf (rows_standing population.now closed.now)) }
+    ensures first { IfOk result.1 (λ cause. (population : Rows) → NoneOfFirst 4 (record { population = population; closed = closed.now; receipts = lists_of receipts.now; calls = lists_of calls.now }) → IsFirstOf 8 (record { population = population; closed = closed.now; receipts = lists_of receipts.now; calls = lists_of calls.now }) cause) }
+    ensures placed { IfOk result.1 (λ cause. IfNone cause (ArePlaced closed.now (lists_of receipts.now))) }
+{
+    join(
+        rt,
+        || audit_left(alloc, population, closed),
+        || cause_in_calls(rt, alloc, closed, receipts, calls),
+    )
+}
+
+/// The verdict on the rows now.
+fn audit_left(alloc: Global, population: &Rows, closed: &Closed) -> Result<Verdict, AllocError>
+    ensures { IfOk result (IsAuditOf (rows_standing population.now closed.now)) }
+{
+    let rows = rows_now(alloc, population, closed)?;
+    audit(alloc, &rows)
 }
 
 /// The first cause that an extent is.

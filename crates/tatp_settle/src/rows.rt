@@ -7,7 +7,7 @@ ghost use Rattle.tatp_tables.specs.Rows.{with_home};
 ghost use Rattle.tatp_population.specs.Extents.{ExtentState};
 ghost use Rattle.tatp_population.specs.HomeRows.{rows_of_homes};
 ghost use Rattle.tatp_settle.specs.Closings.{extent_numbered};
-ghost use Rattle.tatp_settle.specs.Runs.{extents_populated};
+ghost use Rattle.tatp_settle.specs.Runs.{extents_populated, rows_standing};
 
 use crate::Closed;
 use crate::logs::extent_of;
@@ -28,7 +28,7 @@ pub(crate) fn rows_now(
     population: &Rows,
     closed: &Closed,
 ) -> Result<Rows, AllocError>
-    ensures { IfOk result (λ rows. rows ≡ rows_of_homes (flat_map (λ e. option_map_or (λ (x : ExtentState). x.homes) (extent_numbered closed.now e) []) (range_with_len 1 (extents_populated population.now)))) }
+    ensures { IfOk result (λ rows. rows ≡ rows_standing population.now closed.now) }
 {
     let mut rows = Rows::new(alloc);
     'extents: for before in 0..extents_of(population) {

@@ -8,6 +8,7 @@ pub mod NameLaws
 pub mod BeginLaws
 pub mod ShownLaws
 pub mod EndLaws
+pub mod TurnLaws
 pub mod StepLaws
 pub mod CompletionLaws
 pub mod CloseLaws

@@ -18,7 +18,7 @@ use Rattle.tatp_partition.specs.RunnerStates.{RunnerState}
 use Rattle.tatp_partition.specs.declared.site.Site.TheInside.{Inside}
 use Rattle.tatp_partition.specs.Sites.{SiteState, RunningCall, rows_here, with_rows_here}
 use Rattle.tatp_partition.specs.Obstacles.{obstacle_to_step, step_obstacle, one_obstacle}
-use Rattle.tatp_partition.specs.Running.{AreRowsOf, GoesOn, AdvancesUnless}
+use Rattle.tatp_partition.specs.Running.{AreRowsOf, GoesOn, Advances, AdvancesUnless}
 use Rattle.tatp_partition.specs.Showing.{with_pinned, pinned_of, IsEmptyAt, rows_shown, call_shown, runner_shown, running_shown}
 use Rattle.tatp_partition.specs.Sound.{IsInPlace, IsRunning, IsSite}
 use Rattle.tatp_partition.specs.Fields.{site_of, IsPinnedFor, IsRunner, IsSound}
@@ -87,22 +87,29 @@ may_step a r h was =
     let place : IsInPlace (site_of a) (runner_shown r) r.machine.frame.home = subst (IsInPlace (site_of a) (runner_shown r)) f.home f.sound.in_place in
     record { going = f.runner.going; home = its_home (site_of a) a.slots (runner_shown r) r.machine.frame.home r.pinned f.shown place }
 
-pub may_turn : (a : Inside) → IsSound a → is_some a.running ≡ true → OfRunning MayStep a.running
-may_turn a h some = elim a.running as (λ (r : Option RunnerState). a.running ≡ r → is_some r ≡ true → OfRunning MayStep r) [ None ↦ λ e k. absurd cc | Some r ↦ λ e k. may_step a r h e ] refl some
+-- a call runs by the fields where the site shows one
+some_shown : (running : Option RunnerState) → is_some (running_shown running) ≡ true → is_some running ≡ true
+some_shown None h = h
+some_shown (Some r) h = refl
 
-pub runs_free : (a : Inside) → is_some a.running ≡ true → one_obstacle (site_of a) ≡ None
-runs_free a some = elim a.running as (λ (r : Option RunnerState). is_some r ≡ true → one_obstacle (record (site_of a) { running = running_shown r }) ≡ None) [ None ↦ λ k. absurd cc | Some r ↦ λ k. refl ] some
+pub may_turn : (a : Inside) → IsSound a → is_some (site_of a).running ≡ true → OfRunning MayStep a.running
+may_turn a h some = elim a.running as (λ (r : Option RunnerState). a.running ≡ r → is_some r ≡ true → OfRunning MayStep r) [ None ↦ λ e k. absurd cc | Some r ↦ λ e k. may_step a r h e ] refl (some_shown a.running some)
 
--- a step that nothing stands against is made as one
-some_runs : (running : Option RunningCall) (stopped : Bool) (breakpoints : List Breakpoint) → obstacle_to_step running stopped breakpoints ≡ None → is_none running ≡ false
-some_runs None stopped breakpoints h = absurd cc
-some_runs (Some r) stopped breakpoints h = refl
+-- nothing stands against one instruction of a call that runs
+runs_free : (running : Option RunningCall) → is_some running ≡ true → (if is_none running then Some NotRunning else None) ≡ None
+runs_free None h = absurd cc
+runs_free (Some r) h = refl
 
-pub steps_as_one : (s : SiteState) (result : Result Stepped SiteRefusal) (s' : SiteState) → step_obstacle s ≡ None → AdvancesUnless (one_obstacle s) s result s' → AdvancesUnless (step_obstacle s) s result s'
-steps_as_one s (Ok stepped) s' free h = (free, h.1)
-steps_as_one s (Err refusal) s' free h =
-    let none : one_obstacle s ≡ None = ap (λ (b : Bool). if b then Some NotRunning else None) (some_runs s.running s.stopped s.breakpoints free) in
-    absurd (let f : None ≡ Some refusal = sym none ∙ h.0 in cc)
+pub goes_as_one : (s : SiteState) (stepped : Stepped) (s' : SiteState) → is_some s.running ≡ true → Advances s stepped s' → AdvancesUnless (one_obstacle s) s (Ok stepped) s'
+goes_as_one s stepped s' some h = (runs_free s.running some, h)
+
+-- a call runs where nothing stands against a step
+free_runs : (running : Option RunningCall) (stopped : Bool) (breakpoints : List Breakpoint) → obstacle_to_step running stopped breakpoints ≡ None → is_some running ≡ true
+free_runs None stopped breakpoints h = absurd cc
+free_runs (Some r) stopped breakpoints h = refl
+
+pub may_advance : (s : SiteState) → step_obstacle s ≡ None → is_some s.running ≡ true
+may_advance s free = free_runs s.running s.stopped s.breakpoints free
 
 -- ---- a site goes on
 goes_on_at : AreRowsAlone → (s s' : SiteState) (g : GoesOn s s') (home : Option ℕ) → IsSite s → g.running.call.frame.home ≡ home → IsSite s'

@@ -11,7 +11,7 @@ ghost use Rattle.tatp_partition.specs.Showing.{pinned_of, pins_extent, homeless_
 ghost use Rattle.tatp_partition.specs.Runners.{OfRunning, MayStep, TurnsRunning, MayEnd, Completes, IsSetFree, logs_running, slots_after, homeless_after, MayBeSetBack, slots_without_call};
 ghost use Rattle.tatp_partition.specs.Running.{after_end, homeless_after_end};
 
-use crate::asks::{enter, enter_next, is_transaction};
+use crate::asks::{enter_next, is_transaction};
 use crate::slots::{Slots, fill};
 use crate::{Completion, Item};
 use std::marker::Model;
@@ -24,7 +24,7 @@ use tatp_procs::{Ask, Entry, Reply};
 /// call that runs, if one does, what was offered and the extent of its home, if it has one.
 pub struct Runner<'m> {
     item: Option<Item>,
-    machine: Option<Machine<'m>>,
+    machine: Machine<'m>,
     pinned: Option<Pinned>,
 }
 
@@ -38,19 +38,21 @@ impl<'m> Model for Runner<'m> {
 
     ghost view = { λ a. call_that_runs a.item a.machine a.pinned };
 
-    ghost invariant = { λ a. IsWhole a.item a.machine a.pinned };
+    ghost invariant = { λ a. IsWhole a.item a.pinned };
 }
 
 impl<'m> Runner<'m> {
     ghost use Rattle.tatp_partition.specs.RunnerStates.{RunnerState};
 
-    /// No call.
-    pub fn idle() -> Runner<'m>
+    /// No call. Until one begins, the machine stands at the entry of the module's first procedure.
+    pub fn idle(loaded: &'m Loaded) -> Runner<'m>
         ensures { result ≡ None }
     {
+        let arity = loaded.module().procs()[0].arity();
+        let arguments = [0; 8];
         Runner {
             item: None,
-            machine: None,
+            machine: Machine::enter(loaded, 0, &arguments[..arity as usize], None),
             pinned: None,
         }
     }
@@ -68,10 +70,7 @@ impl<'m> Runner<'m> {
     {
         match &self.item {
             None => None,
-            Some(_) => match &self.machine {
-                None => unreachable!(),
-                Some(machine) => Some(machine),
-            },
+            Some(_) => Some(&self.machine),
         }
     }
 
@@ -88,14 +87,11 @@ impl<'m> Runner<'m> {
         } = self;
         match pinned {
             None => return,
-            Some(mut pinned) => match machine {
-                None => unreachable!(),
-                Some(machine) => {
-                    machine.set_back(pinned.home_mut());
-                    slots.lower(pinned.number() as u64, pinned.set_free());
-                    return;
-                }
-            },
+            Some(mut pinned) => {
+                machine.set_back(pinned.home_mut());
+                slots.lower(pinned.number() as u64, pinned.set_free());
+                return;
+            }
         }
     }
 }
@@ -106,23 +102,9 @@ pub fn begin<'m>(running: &mut Runner<'m>, loaded: &'m Loaded, item: Item, pinne
     requires fits { Fits (arities_of loaded.now) item.ask }
     ensures { running.new ≡ Some (record { item = item; machine = machine_at_entry loaded.now (procedure_asked item.ask) (arguments_asked item.ask) item.home; pinned = pinned }) }
 {
-    match &mut running.machine {
-        Some(machine) => enter_next(machine, loaded, &item),
-        None => enter_first(&mut running.machine, loaded, &item),
-    }
+    enter_next(&mut running.machine, loaded, &item);
     running.item = Some(item);
     put(&mut running.pinned, pinned);
-}
-
-/// The site's machine is made with its first call. It stands apart, since a function pays at its start
-/// for the size of what it makes.
-#[cold]
-#[inline(never)]
-fn enter_first<'m>(machine: &mut Option<Machine<'m>>, loaded: &'m Loaded, item: &Item)
-    requires { Fits (arities_of loaded.now) item.now.ask }
-    ensures { machine.new ≡ Some (machine_at_entry loaded.now (procedure_asked item.now.ask) (arguments_asked item.now.ask) item.now.home) }
-{
-    *machine = Some(enter(loaded, item));
 }
 
 /// Puts the extent that is pinned, if one is, where none is.
@@ -169,15 +151,9 @@ pub fn turn(running: &mut Runner<'_>) -> Progress
     requires { OfRunning MayStep running.old }
     ensures { TurnsRunning running.old result running.new }
 {
-    match &running.item {
-        None => unreachable!(),
-        Some(_) => match &mut running.machine {
-            None => unreachable!(),
-            Some(machine) => match &mut running.pinned {
-                None => return machine.step_homeless(),
-                Some(pinned) => return machine.step(pinned.home_mut()),
-            },
-        },
+    match &mut running.pinned {
+        None => return running.machine.step_homeless(),
+        Some(pinned) => return running.machine.step(pinned.home_mut()),
     }
 }
 
@@ -200,30 +176,27 @@ fn end_running(
 {
     match &running.item {
         None => unreachable!(),
-        Some(item) => match &running.machine {
-            None => unreachable!(),
-            Some(machine) => {
-                let logged = is_logged(standard, &item.ask);
-                let reply = Reply::of(end, machine.outputs());
-                match running.pinned.take() {
-                    None => {
-                        let entry = entry_of(item, reply, homeless.last_stamp());
-                        running.item = None;
-                        end_homeless(homeless, logged, &entry);
-                        what_holds_of_every_homeless_log(homeless);
-                        return Completion { extent: 0, entry };
-                    }
-                    Some(pinned) => {
-                        let extent = pinned.number();
-                        let entry = entry_of(item, reply, pinned.last_stamp());
-                        running.item = None;
-                        slots.lower(extent as u64, set_free(pinned, logged, &entry));
-                        what_holds_of_every_homeless_log(homeless);
-                        return Completion { extent, entry };
-                    }
+        Some(item) => {
+            let logged = is_logged(standard, &item.ask);
+            let reply = Reply::of(end, running.machine.outputs());
+            match running.pinned.take() {
+                None => {
+                    let entry = entry_of(item, reply, homeless.last_stamp());
+                    running.item = None;
+                    end_homeless(homeless, logged, &entry);
+                    what_holds_of_every_homeless_log(homeless);
+                    return Completion { extent: 0, entry };
+                }
+                Some(pinned) => {
+                    let extent = pinned.number();
+                    let entry = entry_of(item, reply, pinned.last_stamp());
+                    running.item = None;
+                    slots.lower(extent as u64, set_free(pinned, logged, &entry));
+                    what_holds_of_every_homeless_log(homeless);
+                    return Completion { extent, entry };
                 }
             }
-        },
+        }
     }
 }
 

@@ -1,5 +1,5 @@
 //! A call that begins, goes on and ends.
-ghost use Rattle.std.specs.Prelude.{◌≡◌, None, Some, OnErr};
+ghost use Rattle.std.specs.Prelude.{◌≡◌, None, Some, OnErr, is_some, true};
 ghost use Rattle.tatp_partition.specs.Obstacles.{obstacle_to_step};
 ghost use Rattle.tatp_partition.specs.Running.{stepped_of};
 ghost use Rattle.tatp_partition.specs.Showing.{running_shown};
@@ -19,7 +19,7 @@ use tatp_tables::rows_of_one_subscriber;
 impl<'m> Site<'m> {
     ghost use Rattle.tatp_partition.specs.Asks.{Fits, arities_of};
     ghost use Rattle.tatp_partition.specs.Obstacles.{step_obstacle, one_obstacle};
-    ghost use Rattle.tatp_partition.specs.Running.{Begins, AdvancesUnless, told_in};
+    ghost use Rattle.tatp_partition.specs.Running.{Begins, Advances, AdvancesUnless, told_in};
     ghost use Rattle.tatp_partition.specs.Sound.{IsSite};
 
     /// Begins a call, unless its home isn't here.
@@ -69,7 +69,10 @@ impl<'m> Site<'m> {
     {
         match step_refusal(&self.running, self.stopped, &self.breakpoints) {
             Some(refusal) => return Err(refusal),
-            None => return self.one_into(ended),
+            None => {
+                self.advance(ended);
+                return Ok(());
+            }
         }
     }
 
@@ -96,24 +99,8 @@ impl<'m> Site<'m> {
         if !self.running.is_some() {
             return Err(SiteRefusal::NotRunning);
         }
-        rows_of_one_subscriber();
-        lines_then_an_end_are_a_run();
-        standard_procedures_are_transactions();
-        clean_rows_and_homes_are_consistent();
-        match turn(&mut self.running) {
-            Progress::Running => return Ok(()),
-            Progress::Ended(end) => {
-                end_running_into(
-                    &mut self.running,
-                    end,
-                    self.standard,
-                    &mut self.slots,
-                    &mut self.homeless,
-                    ended,
-                );
-                return Ok(());
-            }
-        }
+        self.advance(ended);
+        return Ok(());
     }
 
     /// One instruction of the running call, whether or not the site is stopped or has a breakpoint
@@ -126,6 +113,33 @@ impl<'m> Site<'m> {
         match self.one_into(&mut ended) {
             Err(refusal) => return Err(refusal),
             Ok(()) => return Ok(stepped(ended)),
+        }
+    }
+
+    /// One instruction of the running call. The completion of a call that ends is left in its place.
+    fn advance(&mut self, ended: &mut Option<Completion>)
+        requires running { is_some self.old.running ≡ true }
+        requires place { ended.old ≡ None }
+        ensures steps { Advances self.old (stepped_of ended.new) self.new }
+        ensures site { IsSite self.new }
+    {
+        rows_of_one_subscriber();
+        lines_then_an_end_are_a_run();
+        standard_procedures_are_transactions();
+        clean_rows_and_homes_are_consistent();
+        match turn(&mut self.running) {
+            Progress::Running => return,
+            Progress::Ended(end) => {
+                end_running_into(
+                    &mut self.running,
+                    end,
+                    self.standard,
+                    &mut self.slots,
+                    &mut self.homeless,
+                    ended,
+                );
+                return;
+            }
         }
     }
 }

@@ -1,10 +1,9 @@
-use Rattle.std.proofs.Common.{rules}
-use Rattle.tatp_partition.proofs.StepLaws.{may_turn, runs_free, HasMoved, has_moved}
+use Rattle.tatp_partition.proofs.StepLaws.{may_turn, HasMoved, has_moved}
 use Rattle.tatp_partition.proofs.CompletionLaws.{ready_to_end, HasEnded, has_ended}
-use Rattle.tatp_partition.proofs.site.Site.one_into.Goals as goal
+use Rattle.tatp_partition.proofs.site.Site.advance.Goals as goal
 
 pub turn-requires : goal.turn-requires
-turn-requires c = may_turn c.self.inside c.self.invariant (search rules)
+turn-requires c = may_turn c.self.inside c.self.invariant (rw (← c.self.view_is) at c.requires.running)
 
 moved : (c : goal.In-Running) → HasMoved c.self.inside c.turn.new.running
 moved c = has_moved (record { alone = c.rows_of_one_subscriber.ensures.alone; put = c.rows_of_one_subscriber.ensures.put_alone }) c.self.inside c.turn.new.running c.self.invariant c.in-Running.ensures
@@ -13,7 +12,7 @@ pub invariant_of-self : goal.invariant_of-self
 invariant_of-self c = (moved c).sound
 
 pub returns-in-Running-clause-steps : goal.returns-in-Running-clause-steps
-returns-in-Running-clause-steps c = rw c.requires (rw (← c.self.view_is) (runs_free c.self.inside (search rules), (moved c).moves))
+returns-in-Running-clause-steps c = rw (c.requires.place, ← c.self.view_is) (moved c).moves
 
 pub returns-in-Running-clause-site : goal.returns-in-Running-clause-site
 returns-in-Running-clause-site c = (moved c).sound.site
@@ -34,7 +33,7 @@ pub invariant_of-self-in-Ended : goal.invariant_of-self-in-Ended
 invariant_of-self-in-Ended c = (ended c).sound
 
 pub returns-in-Ended-clause-steps : goal.returns-in-Ended-clause-steps
-returns-in-Ended-clause-steps c = rw c.end_running_into.ensures.ended.1 (rw (← c.self.view_is) (runs_free c.self.inside (search rules), (ended c).ends))
+returns-in-Ended-clause-steps c = rw (c.end_running_into.ensures.ended.1, ← c.self.view_is) (ended c).ends
 
 pub returns-in-Ended-clause-site : goal.returns-in-Ended-clause-site
 returns-in-Ended-clause-site c = (ended c).sound.site

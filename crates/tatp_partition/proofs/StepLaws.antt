@@ -1,5 +1,5 @@
 -- One instruction at a site whose fields show a running call.
-use Rattle.std.proofs.Common.{◌≡◌, ℕ, Bool, true, false, is_some, is_none, if◌then◌else◌, List, Option, Some, None, Result, Ok, Err, IsSomeAnd, refl, sym, ◌∙◌, ap, subst}
+use Rattle.std.proofs.Common.{◌≡◌, ℕ, Bool, true, is_some, is_none, if◌then◌else◌, List, Option, Some, None, Ok, IsSomeAnd, refl, sym, ◌∙◌, ap, subst}
 use Rattle.tatp_tables.specs.Database.{Database, no_tables}
 use Rattle.tatp_tables.specs.Home.{SubscriberRows}
 use Rattle.tatp_machine.specs.declared.progress.Progress.{Progress}
@@ -12,7 +12,6 @@ use Rattle.tatp_population.specs.Pinning.{PinnedState}
 use Rattle.tatp_partition.specs.declared.item.Breakpoint.{Breakpoint}
 use Rattle.tatp_partition.specs.declared.item.Item.{Item}
 use Rattle.tatp_partition.specs.declared.item.Stepped.{Stepped}
-use Rattle.tatp_partition.specs.declared.refusal.SiteRefusal.{SiteRefusal}
 use Rattle.tatp_partition.specs.declared.refusal.SiteRefusal.TheVariants.{NotRunning}
 use Rattle.tatp_partition.specs.RunnerStates.{RunnerState}
 use Rattle.tatp_partition.specs.declared.site.Site.TheInside.{Inside}

@@ -1,16 +1,19 @@
 -- The entries of all logs, put into the table of calls one after another.
-use Rattle.std.proofs.Common.{◌≡◌, ℕ, ◌<◌, ◌≤◌, ◌+◌, ◌⊎◌, inl, inr, List, Option, Some, None, true, false, refl, sym, ◌∙◌, ap, subst, arith}
+use Rattle.std.proofs.Common.{Vec, Global, ◌≡◌, ℕ, ◌<◌, ◌≤◌, ◌+◌, ◌⊎◌, inl, inr, Bool, zero, suc, ◌-◌, ◌++◌, [], ◌∷◌, length, List, Option, Some, None, true, false, refl, sym, ◌∙◌, ap, subst, arith}
 use Rattle.std.proofs.lemmas.Option.{same_Some, none-some}
+use Rattle.std.proofs.lemmas.Bool.{false≢true}
+use Rattle.std.proofs.Math.ListN.{length-map}
 use Rattle.tatp_procs.specs.declared.entry.Entry.{Entry}
 use Rattle.tatp_settle.specs.declared.receipt.Receipt.{Receipt}
 use Rattle.tatp_settle.specs.declared.places.LogPlace.{LogPlace}
 use Rattle.tatp_settle.specs.declared.places.CallPlace.{CallPlace}
+use Rattle.tatp_settle.specs.declared.table.Table.{Table}
 use Rattle.tatp_settle.specs.Closings.{ClosedState, StandsAt}
-use Rattle.tatp_settle.specs.Runs.{at_call}
+use Rattle.tatp_settle.specs.Runs.{at_call, lists_of}
 use Rattle.tatp_settle.specs.Answering.{EntryFound}
 use Rattle.tatp_settle.specs.CallPlaces.{IsSooner, IsFirstCall}
 use Rattle.tatp_settle.specs.Causes.{HasEntryTooMany}
-use Rattle.tatp_settle.specs.Placing.{IsFresh, IsFreshCell, Puts, Points, AllPlaced, IsAtMost}
+use Rattle.tatp_settle.specs.Placing.{IsFresh, IsFreshCell, Puts, Points, AllPlaced, IsAtMost, BelongsAt, IsTooMany, HasTooManyIn, ArePlacedIn, IsTableOf, cells_of}
 use Rattle.tatp_settle.proofs.SearchLaws.{lt_or}
 use Rattle.tatp_settle.proofs.ReceivedLaws.{in_cell, one_place}
 
@@ -18,13 +21,13 @@ use Rattle.tatp_settle.proofs.ReceivedLaws.{in_cell, one_place}
 abbrev pub IsVisited : ℕ → ℕ → ℕ → ℕ → Type 0
 IsVisited extent index e i = (e < extent) ⊎ ((e ≡ extent) × (i < index))
 
--- the entries before a place are in the cells of their calls, or stand no sooner than the least call with an entry too many
-pub record ArePlaced (closed : ClosedState) (receipts : List (List Receipt)) (cells : ℕ → ℕ → Option (Option LogPlace)) (least : Option CallPlace) (extent index : ℕ) : Type 0 where
-  pub none : (client number : ℕ) → at_call receipts client number ≡ None → cells client number ≡ None
-  pub some : (client number : ℕ) → cells client number ≡ None → at_call receipts client number ≡ None
-  pub points : (client number : ℕ) (place : LogPlace) → cells client number ≡ Some (Some place) → Points closed client number place × IsVisited extent index place.extent place.index
-  pub seen : (e i : ℕ) (entry : Entry) → IsVisited extent index e i → StandsAt closed e i entry → (cells entry.client entry.number ≡ Some (Some (record { extent = e; index = i }))) ⊎ IsAtMost least entry.client entry.number
-  pub extra : (place : CallPlace) → least ≡ Some place → HasEntryTooMany closed receipts place.client place.number
+-- of the clients that belong there, the entries before a place are in the cells of their calls, or stand no sooner than the least call with an entry too many
+pub record PlacedBefore (closed : ClosedState) (receipts : List (List Receipt)) (first : ℕ) (last : Bool) (cells : ℕ → ℕ → Option (Option LogPlace)) (least : Option CallPlace) (extent index : ℕ) : Type 0 where
+  pub none : (at number : ℕ) → at_call receipts at number ≡ None → cells at number ≡ None
+  pub some : (at number : ℕ) → cells at number ≡ None → at_call receipts at number ≡ None
+  pub points : (at number : ℕ) (place : LogPlace) → cells at number ≡ Some (Some place) → Points closed (first + at) number place × IsVisited extent index place.extent place.index
+  pub seen : (e i at : ℕ) (entry : Entry) → first + at ≡ entry.client → BelongsAt receipts last at → IsVisited extent index e i → StandsAt closed e i entry → (cells at entry.number ≡ Some (Some (record { extent = e; index = i }))) ⊎ IsAtMost least entry.client entry.number
+  pub extra : (place : CallPlace) → least ≡ Some place → HasTooManyIn closed receipts first last place.client place.number
 
 no_receipt : {A : Type 0} (o : Option A) (v : Option (Option LogPlace)) → IsFreshCell o v → o ≡ None → v ≡ None
 no_receipt (Some a) v h e = absurd cc
@@ -38,12 +41,12 @@ not_filled : {A : Type 0} (o : Option A) (v : Option (Option LogPlace)) (p : Log
 not_filled (Some a) v p h e = cc
 not_filled None v p h e = cc
 
-pub placed_start : (closed : ClosedState) (receipts : List (List Receipt)) (cells : ℕ → ℕ → Option (Option LogPlace)) → IsFresh (at_call receipts) cells → ArePlaced closed receipts cells None 0 0
-placed_start closed receipts cells f = record {
+pub placed_start : (closed : ClosedState) (receipts : List (List Receipt)) (first : ℕ) (last : Bool) (cells : ℕ → ℕ → Option (Option LogPlace)) → IsFresh (at_call receipts) cells → PlacedBefore closed receipts first last cells None 0 0
+placed_start closed receipts first last cells f = record {
   none = λ c n e. no_receipt (at_call receipts c n) (cells c n) (f c n) e;
   some = λ c n e. no_cell (at_call receipts c n) (cells c n) (f c n) e;
   points = λ c n p e. absurd (not_filled (at_call receipts c n) (cells c n) p (f c n) e);
-  seen = λ e i entry v s. absurd (grind arith);
+  seen = λ e i at entry is own v s. absurd (grind arith);
   extra = λ p e. absurd cc;
 }
 
@@ -80,13 +83,13 @@ abbrev place_at : ℕ → ℕ → LogPlace
 place_at extent index = record { extent = extent; index = index }
 
 -- the whole log was seen
-pub placed_log : (closed : ClosedState) (receipts : List (List Receipt)) (cells : ℕ → ℕ → Option (Option LogPlace)) (least : Option CallPlace) (x count : ℕ) → ArePlaced closed receipts cells least x count → ((i : ℕ) (entry : Entry) → count ≤ i → StandsAt closed x i entry → ⊥) → ArePlaced closed receipts cells least (x + 1) 0
-placed_log closed receipts cells least x count h past = record {
+pub placed_log : (closed : ClosedState) (receipts : List (List Receipt)) (first : ℕ) (last : Bool) (cells : ℕ → ℕ → Option (Option LogPlace)) (least : Option CallPlace) (x count : ℕ) → PlacedBefore closed receipts first last cells least x count → ((i : ℕ) (entry : Entry) → count ≤ i → StandsAt closed x i entry → ⊥) → PlacedBefore closed receipts first last cells least (x + 1) 0
+placed_log closed receipts first last cells least x count h past = record {
   none = h.none;
   some = h.some;
   points = λ c n p e. ((h.points c n p e).0, visited_next x count p.extent p.index (h.points c n p e).1);
-  seen = λ e j entry v s. elim (which e j v) as (λ _. (cells entry.client entry.number ≡ Some (Some (record { extent = e; index = j }))) ⊎ IsAtMost least entry.client entry.number) [
-    | inl w ↦ h.seen e j entry w s
+  seen = λ e j at entry is own v s. elim (which e j v) as (λ _. (cells at entry.number ≡ Some (Some (record { extent = e; index = j }))) ⊎ IsAtMost least entry.client entry.number) [
+    | inl w ↦ h.seen e j at entry is own w s
     | inr k ↦ absurd (past j entry k.1 (subst (λ (d : ℕ). StandsAt closed d j entry) k.0 s))
   ];
   extra = h.extra;
@@ -95,56 +98,82 @@ placed_log closed receipts cells least x count h past = record {
     which : (e j : ℕ) → IsVisited (x + 1) 0 e j → IsVisited x count e j ⊎ ((e ≡ x) × (count ≤ j))
     which e j v = grind arith
 
+-- the entry there is this one
+entry_there : (closed : ClosedState) (x i e j : ℕ) (entry f : Entry) → StandsAt closed x i entry → StandsAt closed e j f → e ≡ x → j ≡ i → entry ≡ f
+entry_there closed x i e j entry f at g s t = same_Some entry f (sym at ∙ (subst (λ (d : ℕ). StandsAt closed x d f) t (subst (λ (d : ℕ). StandsAt closed d j f) s g)))
+
+-- the entry's client doesn't belong there
+pub placed_other : (closed : ClosedState) (receipts : List (List Receipt)) (first : ℕ) (last : Bool) (cells : ℕ → ℕ → Option (Option LogPlace)) (least : Option CallPlace) (x i : ℕ) (entry : Entry) → PlacedBefore closed receipts first last cells least x i → StandsAt closed x i entry
+    → ((at : ℕ) → first + at ≡ entry.client → BelongsAt receipts last at → ⊥) → PlacedBefore closed receipts first last cells least x (i + 1)
+placed_other closed receipts first last cells least x i entry h here other = record {
+  none = h.none;
+  some = h.some;
+  points = λ c n p g. (let old = h.points c n p g in (old.0, visited_more x i p.extent p.index old.1));
+  seen = λ e j at f is own v g. elim (visited_step x i e j v) as (λ _. (cells at f.number ≡ Some (Some (record { extent = e; index = j }))) ⊎ IsAtMost least f.client f.number) [
+    | inl w ↦ h.seen e j at f is own w g
+    | inr s ↦ absurd (other at (is ∙ ap (λ (r : Entry). r.client) (sym (entry_there closed x i e j entry f here g s.0 s.1))) own)
+  ];
+  extra = h.extra;
+}
+
 -- the entry's cell was empty, and has its place now
-pub placed_put : (closed : ClosedState) (receipts : List (List Receipt)) (cells cells' : ℕ → ℕ → Option (Option LogPlace)) (least : Option CallPlace) (x i : ℕ) (entry : Entry) → ArePlaced closed receipts cells least x i → StandsAt closed x i entry → Puts cells entry.client entry.number (record { extent = x; index = i }) true cells' → ArePlaced closed receipts cells' least x (i + 1)
-placed_put closed receipts cells cells' least x i entry h at q = record {
-  none = λ c n e. elim (same_or c n entry.client entry.number) as (λ _. cells' c n ≡ None) [
-    | inl s ↦ absurd (none-some None (sym (h.none entry.client entry.number (subst (λ (k : ℕ). at_call receipts k entry.number ≡ None) s.0 (subst (λ (k : ℕ). at_call receipts c k ≡ None) s.1 e))) ∙ q.0))
+pub placed_put : (closed : ClosedState) (receipts : List (List Receipt)) (first : ℕ) (last : Bool) (cells cells' : ℕ → ℕ → Option (Option LogPlace)) (least : Option CallPlace) (x i k : ℕ) (entry : Entry) → PlacedBefore closed receipts first last cells least x i → StandsAt closed x i entry → first + k ≡ entry.client
+    → Puts cells k entry.number (record { extent = x; index = i }) true cells' → PlacedBefore closed receipts first last cells' least x (i + 1)
+placed_put closed receipts first last cells cells' least x i k entry h here here_is q = record {
+  none = λ c n e. elim (same_or c n k entry.number) as (λ _. cells' c n ≡ None) [
+    | inl s ↦ absurd (none-some None (sym (h.none k entry.number (subst (λ (m : ℕ). at_call receipts m entry.number ≡ None) s.0 (subst (λ (m : ℕ). at_call receipts c m ≡ None) s.1 e))) ∙ q.0))
     | inr o ↦ q.2 c n o ∙ h.none c n e
   ];
-  some = λ c n e. elim (same_or c n entry.client entry.number) as (λ _. at_call receipts c n ≡ None) [
-    | inl s ↦ absurd (none-some (Some here) (sym (subst (λ (k : ℕ). cells' k entry.number ≡ None) s.0 (subst (λ (k : ℕ). cells' c k ≡ None) s.1 e)) ∙ q.1))
+  some = λ c n e. elim (same_or c n k entry.number) as (λ _. at_call receipts c n ≡ None) [
+    | inl s ↦ absurd (none-some (Some place) (sym (subst (λ (m : ℕ). cells' m entry.number ≡ None) s.0 (subst (λ (m : ℕ). cells' c m ≡ None) s.1 e)) ∙ q.1))
     | inr o ↦ h.some c n (sym (q.2 c n o) ∙ e)
   ];
-  points = λ c n p g. elim (same_or c n entry.client entry.number) as (λ _. Points closed c n p × IsVisited x (i + 1) p.extent p.index) [
-    | inl s ↦ subst (λ (r : LogPlace). Points closed c n r × IsVisited x (i + 1) r.extent r.index) (same_Some here p (same_Some (Some here) (Some p) (sym q.1 ∙ (subst (λ (k : ℕ). cells' k entry.number ≡ Some (Some p)) s.0 (subst (λ (k : ℕ). cells' c k ≡ Some (Some p)) s.1 g)))))
-        (record { entry = entry; stands = at; own = record { client = sym s.0; number = sym s.1 } }, inr (refl, omega arith))
+  points = λ c n p g. elim (same_or c n k entry.number) as (λ _. Points closed (first + c) n p × IsVisited x (i + 1) p.extent p.index) [
+    | inl s ↦ subst (λ (r : LogPlace). Points closed (first + c) n r × IsVisited x (i + 1) r.extent r.index) (same_Some place p (same_Some (Some place) (Some p) (sym q.1 ∙ (subst (λ (m : ℕ). cells' m entry.number ≡ Some (Some p)) s.0 (subst (λ (m : ℕ). cells' c m ≡ Some (Some p)) s.1 g)))))
+        (record { entry = entry; stands = here; own = record { client = sym here_is ∙ ap (λ (m : ℕ). first + m) (sym s.0); number = sym s.1 } }, inr (refl, omega arith))
     | inr o ↦ (let old = h.points c n p (sym (q.2 c n o) ∙ g) in (old.0, visited_more x i p.extent p.index old.1))
   ];
-  seen = λ e j f v g. elim (visited_step x i e j v) as (λ _. (cells' f.client f.number ≡ Some (Some (record { extent = e; index = j }))) ⊎ IsAtMost least f.client f.number) [
-    | inl w ↦ (elim (h.seen e j f w g) as (λ _. (cells' f.client f.number ≡ Some (Some (record { extent = e; index = j }))) ⊎ IsAtMost least f.client f.number) [
-      | inl a ↦ (elim (same_or f.client f.number entry.client entry.number) as (λ _. (cells' f.client f.number ≡ Some (Some (record { extent = e; index = j }))) ⊎ IsAtMost least f.client f.number) [
-        | inl s ↦ absurd (none-some (record { extent = e; index = j }) (same_Some None (Some (record { extent = e; index = j })) (sym q.0 ∙ (subst (λ (k : ℕ). cells k entry.number ≡ Some (Some (record { extent = e; index = j }))) s.0 (subst (λ (k : ℕ). cells f.client k ≡ Some (Some (record { extent = e; index = j }))) s.1 a)))))
-        | inr o ↦ inl (q.2 f.client f.number o ∙ a)
+  seen = λ e j at f is own v g. elim (visited_step x i e j v) as (λ _. (cells' at f.number ≡ Some (Some (record { extent = e; index = j }))) ⊎ IsAtMost least f.client f.number) [
+    | inl w ↦ (elim (h.seen e j at f is own w g) as (λ _. (cells' at f.number ≡ Some (Some (record { extent = e; index = j }))) ⊎ IsAtMost least f.client f.number) [
+      | inl a ↦ (elim (same_or at f.number k entry.number) as (λ _. (cells' at f.number ≡ Some (Some (record { extent = e; index = j }))) ⊎ IsAtMost least f.client f.number) [
+        | inl s ↦ absurd (none-some (record { extent = e; index = j }) (same_Some None (Some (record { extent = e; index = j })) (sym q.0 ∙ (subst (λ (m : ℕ). cells m entry.number ≡ Some (Some (record { extent = e; index = j }))) s.0 (subst (λ (m : ℕ). cells at m ≡ Some (Some (record { extent = e; index = j }))) s.1 a)))))
+        | inr o ↦ inl (q.2 at f.number o ∙ a)
       ])
       | inr b ↦ inr b
     ])
-    | inr s ↦ inl (subst (λ (r : Entry). cells' r.client r.number ≡ Some (Some (record { extent = e; index = j }))) (same_Some entry f (sym at ∙ (subst (λ (d : ℕ). StandsAt closed x d f) s.1 (subst (λ (d : ℕ). StandsAt closed d j f) s.0 g))))
-        (q.1 ∙ ap (λ (r : LogPlace). Some (Some r)) (same_place e j s.0 s.1)))
+    | inr s ↦ inl (now at f (entry_there closed x i e j entry f here g s.0 s.1) is
+        ∙ ap (λ (r : LogPlace). Some (Some r)) (same_place e j s.0 s.1))
   ];
   extra = h.extra;
 }
   where
-    here : LogPlace
-    here = record { extent = x; index = i }
+    place : LogPlace
+    place = record { extent = x; index = i }
 
-    same_place : (e j : ℕ) → e ≡ x → j ≡ i → here ≡ place_at e j
-    same_place e j s t = ap (λ (k : ℕ). place_at k i) (sym s) ∙ ap (λ (k : ℕ). place_at e k) (sym t)
+    same_place : (e j : ℕ) → e ≡ x → j ≡ i → place ≡ place_at e j
+    same_place e j s t = ap (λ (m : ℕ). place_at m i) (sym s) ∙ ap (λ (m : ℕ). place_at e m) (sym t)
+
+    now : (at : ℕ) (f : Entry) → entry ≡ f → first + at ≡ f.client → cells' at f.number ≡ Some (Some place)
+    now at f same is =
+        let client : entry.client ≡ f.client = ap (λ (r : Entry). r.client) same in
+        let place_is : k ≡ at = omega (arith, here_is, is, client) in
+        subst (λ (m : ℕ). cells' m f.number ≡ Some (Some place)) place_is (subst (λ (r : Entry). cells' k r.number ≡ Some (Some place)) same q.1)
 
 -- the entry's cell was filled or isn't there: its call has an entry too many
-pub placed_kept : (closed : ClosedState) (receipts : List (List Receipt)) (cells cells' : ℕ → ℕ → Option (Option LogPlace)) (least least' : Option CallPlace) (x i : ℕ) (entry : Entry) → ArePlaced closed receipts cells least x i → StandsAt closed x i entry → Puts cells entry.client entry.number (record { extent = x; index = i }) false cells'
-    → ((c n : ℕ) → IsAtMost least c n → IsAtMost least' c n) → IsAtMost least' entry.client entry.number → (least' ≡ least) ⊎ (least' ≡ Some (record { client = entry.client; number = entry.number })) → ArePlaced closed receipts cells' least' x (i + 1)
-placed_kept closed receipts cells cells' least least' x i entry h at q keeps here is = record {
+pub placed_kept : (closed : ClosedState) (receipts : List (List Receipt)) (first : ℕ) (last : Bool) (cells cells' : ℕ → ℕ → Option (Option LogPlace)) (least least' : Option CallPlace) (x i k : ℕ) (entry : Entry) → PlacedBefore closed receipts first last cells least x i → StandsAt closed x i entry → first + k ≡ entry.client → BelongsAt receipts last k
+    → Puts cells k entry.number (record { extent = x; index = i }) false cells'
+    → ((c n : ℕ) → IsAtMost least c n → IsAtMost least' c n) → IsAtMost least' entry.client entry.number → (least' ≡ least) ⊎ (least' ≡ Some (record { client = entry.client; number = entry.number })) → PlacedBefore closed receipts first last cells' least' x (i + 1)
+placed_kept closed receipts first last cells cells' least least' x i k entry h here here_is belongs q keeps most is = record {
   none = λ c n e. q.1 c n ∙ h.none c n e;
   some = λ c n e. h.some c n (sym (q.1 c n) ∙ e);
   points = λ c n p g. (let old = h.points c n p (sym (q.1 c n) ∙ g) in (old.0, visited_more x i p.extent p.index old.1));
-  seen = λ e j f v g. elim (visited_step x i e j v) as (λ _. (cells' f.client f.number ≡ Some (Some (record { extent = e; index = j }))) ⊎ IsAtMost least' f.client f.number) [
-    | inl w ↦ (elim (h.seen e j f w g) as (λ _. (cells' f.client f.number ≡ Some (Some (record { extent = e; index = j }))) ⊎ IsAtMost least' f.client f.number) [ inl a ↦ inl (q.1 f.client f.number ∙ a) | inr b ↦ inr (keeps f.client f.number b) ])
-    | inr s ↦ inr (subst (λ (r : Entry). IsAtMost least' r.client r.number) (same_Some entry f (sym at ∙ (subst (λ (d : ℕ). StandsAt closed x d f) s.1 (subst (λ (d : ℕ). StandsAt closed d j f) s.0 g)))) here)
+  seen = λ e j at f at_is own v g. elim (visited_step x i e j v) as (λ _. (cells' at f.number ≡ Some (Some (record { extent = e; index = j }))) ⊎ IsAtMost least' f.client f.number) [
+    | inl w ↦ (elim (h.seen e j at f at_is own w g) as (λ _. (cells' at f.number ≡ Some (Some (record { extent = e; index = j }))) ⊎ IsAtMost least' f.client f.number) [ inl a ↦ inl (q.1 at f.number ∙ a) | inr b ↦ inr (keeps f.client f.number b) ])
+    | inr s ↦ inr (subst (λ (r : Entry). IsAtMost least' r.client r.number) (entry_there closed x i e j entry f here g s.0 s.1) most)
   ];
-  extra = λ place g. elim is as (λ _. HasEntryTooMany closed receipts place.client place.number) [
+  extra = λ place g. elim is as (λ _. HasTooManyIn closed receipts first last place.client place.number) [
     | inl o ↦ h.extra place (sym o ∙ g)
-    | inr o ↦ subst (λ (r : CallPlace). HasEntryTooMany closed receipts r.client r.number) (same_Some (record { client = entry.client; number = entry.number }) place (sym o ∙ g)) (why (cells entry.client entry.number) refl)
+    | inr o ↦ subst (λ (r : CallPlace). HasTooManyIn closed receipts first last r.client r.number) (same_Some (record { client = entry.client; number = entry.number }) place (sym o ∙ g)) (record { at = k; is = here_is; belongs = belongs; many = why (cells k entry.number) refl })
   ];
 }
   where
@@ -152,35 +181,187 @@ placed_kept closed receipts cells cells' least least' x i entry h at q keeps her
     unvisited e j v a b = grind arith
 
     found : EntryFound closed entry.client entry.number
-    found = record { extent = x; place = i; entry = entry; stands = at; own = record { client = refl; number = refl } }
+    found = record { extent = x; place = i; entry = entry; stands = here; own = record { client = refl; number = refl } }
 
-    why : (v : Option (Option LogPlace)) → cells entry.client entry.number ≡ v → HasEntryTooMany closed receipts entry.client entry.number
-    why None g = inl (record { found = found; lacks = h.some entry.client entry.number g })
+    why : (v : Option (Option LogPlace)) → cells k entry.number ≡ v → IsTooMany closed (at_call receipts k entry.number) entry.client entry.number
+    why None g = inl (found, h.some k entry.number g)
     why (Some None) g = absurd (q.0 g)
-    why (Some (Some p)) g = let old = h.points entry.client entry.number p g in
-        inr (record { one = found; other = record { extent = p.extent; place = p.index; entry = old.0.entry; stands = old.0.stands; own = old.0.own }; apart = λ a b. unvisited p.extent p.index old.1 a b })
+    why (Some (Some p)) g = let old = h.points k entry.number p g in
+        inr (record { one = found; other = record { extent = p.extent; place = p.index; entry = old.0.entry; stands = old.0.stands; own = record { client = old.0.own.client ∙ here_is; number = old.0.own.number } }; apart = λ a b. unvisited p.extent p.index old.1 a b })
 
 -- all logs were seen
-module _ (closed : ClosedState) (receipts : List (List Receipt)) (cells : ℕ → ℕ → Option (Option LogPlace)) (count : ℕ) (past : (e i : ℕ) (entry : Entry) → count ≤ e → StandsAt closed e i entry → ⊥) where
-  visited : (e i : ℕ) (entry : Entry) → StandsAt closed e i entry → (e < count) ⊎ (count ≤ e) → IsVisited count 0 e i
-  visited e i entry s (inl l) = inl l
-  visited e i entry s (inr l) = absurd (past e i entry l s)
+pub placed_part : (closed : ClosedState) (receipts : List (List Receipt)) (first : ℕ) (last : Bool) (cells : ℕ → ℕ → Option (Option LogPlace)) (least : Option CallPlace) (count : ℕ) → ((e i : ℕ) (entry : Entry) → count ≤ e → StandsAt closed e i entry → ⊥) → PlacedBefore closed receipts first last cells least count 0 → ArePlacedIn closed receipts first last cells least
+placed_part closed receipts first last cells least count past h = record {
+  none = h.none;
+  some = h.some;
+  points = λ c n p e. (h.points c n p e).0;
+  seen = λ e i at entry is own s. h.seen e i at entry is own (visited e i entry s (lt_or e count)) s;
+  extra = h.extra;
+}
+  where
+    visited : (e i : ℕ) (entry : Entry) → StandsAt closed e i entry → (e < count) ⊎ (count ≤ e) → IsVisited count 0 e i
+    visited e i entry s (inl l) = inl l
+    visited e i entry s (inr l) = absurd (past e i entry l s)
 
-  pub placed_all : ArePlaced closed receipts cells None count 0 → AllPlaced closed receipts cells
+-- ---- two parts, one after the other
+at_front : {A : Type 0} (xs ys : List (List A)) (k n : ℕ) → k < length xs → at_call (xs ++ ys) k n ≡ at_call xs k n
+at_front [] ys k n l = absurd (omega (arith, l))
+at_front (x ∷ xs) ys zero n l = refl
+at_front (x ∷ xs) ys (suc k) n l = at_front xs ys k n (omega (arith, l))
+
+at_back : {A : Type 0} (xs ys : List (List A)) (k n : ℕ) → at_call (xs ++ ys) (length xs + k) n ≡ at_call ys k n
+at_back [] ys k n = ap (λ (m : ℕ). at_call ys m n) (let e : 0 + k ≡ k = omega arith in e)
+at_back (x ∷ xs) ys k n = ap (λ (m : ℕ). at_call (x ∷ xs ++ ys) m n) (let e : suc (length xs) + k ≡ suc (length xs + k) = omega arith in e) ∙ at_back xs ys k n
+
+length_both : {A : Type 0} (xs ys : List A) → length (xs ++ ys) ≡ length xs + length ys
+length_both [] ys = omega arith
+length_both (x ∷ xs) ys = let rest = length_both xs ys in omega (arith, rest)
+
+lists_both : {A : Type 0} (xs ys : List (Vec A Global)) → lists_of (xs ++ ys) ≡ lists_of xs ++ lists_of ys
+lists_both [] ys = refl
+lists_both (x ∷ xs) ys = ap (λ t. x.items ∷ t) (lists_both xs ys)
+
+-- the first of two calls that is there
+abbrev pub sooner_of : Option CallPlace → Option CallPlace → Option CallPlace
+sooner_of None other = other
+sooner_of (Some place) other = Some place
+
+module _ (closed : ClosedState) (low high : List (List Receipt)) (first : ℕ) (last : Bool) (front back cells : ℕ → ℕ → Option (Option LogPlace))
+    (at_low : (k n : ℕ) → k < length low → cells k n ≡ front k n) (at_high : (k n : ℕ) → cells (length low + k) n ≡ back k n) where
+  which : (k : ℕ) → (k < length low) ⊎ ((j : ℕ) × (length low + j ≡ k))
+  which k = elim (lt_or k (length low)) as (λ _. (k < length low) ⊎ ((j : ℕ) × (length low + j ≡ k))) [ inl l ↦ inl l | inr g ↦ inr (k - length low, omega (arith, g)) ]
+
+  both_none : (least other : Option CallPlace) → ArePlacedIn closed low first false front least → ArePlacedIn closed high (first + length low) last back other → (k n : ℕ) → at_call (low ++ high) k n ≡ None → cells k n ≡ None
+  both_none least other f b k n e = elim (which k) as (λ _. cells k n ≡ None) [
+    | inl l ↦ at_low k n l ∙ f.none k n (sym (at_front low high k n l) ∙ e)
+    | inr s ↦ subst (λ (m : ℕ). cells m n ≡ None) s.1 (at_high s.0 n ∙ b.none s.0 n (sym (at_back low high s.0 n) ∙ subst (λ (m : ℕ). at_call (low ++ high) m n ≡ None) (sym s.1) e))
+  ]
+
+  both_some : (least other : Option CallPlace) → ArePlacedIn closed low first false front least → ArePlacedIn closed high (first + length low) last back other → (k n : ℕ) → cells k n ≡ None → at_call (low ++ high) k n ≡ None
+  both_some least other f b k n e = elim (which k) as (λ _. at_call (low ++ high) k n ≡ None) [
+    | inl l ↦ at_front low high k n l ∙ f.some k n (sym (at_low k n l) ∙ e)
+    | inr s ↦ subst (λ (m : ℕ). at_call (low ++ high) m n ≡ None) s.1 (at_back low high s.0 n ∙ b.some s.0 n (sym (at_high s.0 n) ∙ subst (λ (m : ℕ). cells m n ≡ None) (sym s.1) e))
+  ]
+
+  further : (j k : ℕ) → length low + j ≡ k → (first + length low) + j ≡ first + k
+  further j k e = omega (arith, e)
+
+  both_points : (least other : Option CallPlace) → ArePlacedIn closed low first false front least → ArePlacedIn closed high (first + length low) last back other → (k n : ℕ) (place : LogPlace) → cells k n ≡ Some (Some place) → Points closed (first + k) n place
+  both_points least other f b k n place e = elim (which k) as (λ _. Points closed (first + k) n place) [
+    | inl l ↦ f.points k n place (sym (at_low k n l) ∙ e)
+    | inr s ↦ subst (λ (m : ℕ). Points closed m n place) (further s.0 k s.1) (b.points s.0 n place (sym (at_high s.0 n) ∙ subst (λ (m : ℕ). cells m n ≡ Some (Some place)) (sym s.1) e))
+  ]
+
+  belongs_high : (j k : ℕ) → length low + j ≡ k → BelongsAt (low ++ high) last k → BelongsAt high last j
+  belongs_high j k e (inl l) = let both = length_both low high in inl (omega (arith, e, l, both))
+  belongs_high j k e (inr all) = inr all
+
+  belongs_low : (k : ℕ) → BelongsAt low false k → BelongsAt (low ++ high) last k
+  belongs_low k (inl l) = let both = length_both low high in inl (omega (arith, l, both))
+  belongs_low k (inr never) = absurd (false≢true never)
+
+  belongs_both : (j : ℕ) → BelongsAt high last j → BelongsAt (low ++ high) last (length low + j)
+  belongs_both j (inl l) = let both = length_both low high in inl (omega (arith, l, both))
+  belongs_both j (inr all) = inr all
+
+  most_front : (least other : Option CallPlace) (c n : ℕ) → IsAtMost least c n → IsAtMost (sooner_of least other) c n
+  most_front None other c n m = absurd m
+  most_front (Some place) other c n m = m
+
+  -- a call of the first part stands before each of the second
+  in_low : (place : CallPlace) → HasTooManyIn closed low first false place.client place.number → place.client < first + length low
+  in_low place h = within h.at h.is h.belongs
+    where
+      within : (at : ℕ) → first + at ≡ place.client → BelongsAt low false at → place.client < first + length low
+      within at e (inl l) = omega (arith, e, l)
+      within at e (inr never) = absurd (false≢true never)
+
+  most_back : (least other : Option CallPlace) → ArePlacedIn closed low first false front least → (j c n : ℕ) → (first + length low) + j ≡ c → IsAtMost other c n → IsAtMost (sooner_of least other) c n
+  most_back None other f j c n e m = m
+  most_back (Some place) other f j c n e m = after (in_low place (f.extra place refl))
+    where
+      after : place.client < first + length low → IsSooner c n place.client place.number → ⊥
+      after l (inl s) = absurd (omega (arith, l, e, s))
+      after l (inr s) = absurd (omega (arith, l, e, s.0))
+
+  both_seen : (least other : Option CallPlace) → ArePlacedIn closed low first false front least → ArePlacedIn closed high (first + length low) last back other
+      → (e i k : ℕ) (entry : Entry) → first + k ≡ entry.client → BelongsAt (low ++ high) last k → StandsAt closed e i entry → (cells k entry.number ≡ Some (Some (record { extent = e; index = i }))) ⊎ IsAtMost (sooner_of least other) entry.client entry.number
+  both_seen least other f b e i k entry is own s = elim (which k) as (λ _. (cells k entry.number ≡ Some (Some (record { extent = e; index = i }))) ⊎ IsAtMost (sooner_of least other) entry.client entry.number) [
+    | inl l ↦ (elim (f.seen e i k entry is (inl l) s) as (λ _. (cells k entry.number ≡ Some (Some (record { extent = e; index = i }))) ⊎ IsAtMost (sooner_of least other) entry.client entry.number) [
+      | inl a ↦ inl (at_low k entry.number l ∙ a)
+      | inr m ↦ inr (most_front least other entry.client entry.number m)
+    ])
+    | inr g ↦ (elim (b.seen e i g.0 entry (further g.0 k g.1 ∙ is) (belongs_high g.0 k g.1 own) s) as (λ _. (cells k entry.number ≡ Some (Some (record { extent = e; index = i }))) ⊎ IsAtMost (sooner_of least other) entry.client entry.number) [
+      | inl a ↦ inl (subst (λ (m : ℕ). cells m entry.number ≡ Some (Some (record { extent = e; index = i }))) g.1 (at_high g.0 entry.number ∙ a))
+      | inr m ↦ inr (most_back least other f g.0 entry.client entry.number (further g.0 k g.1 ∙ is) m)
+    ])
+  ]
+
+  extra_low : (c n : ℕ) → HasTooManyIn closed low first false c n → HasTooManyIn closed (low ++ high) first last c n
+  extra_low c n h = record { at = h.at; is = h.is; belongs = belongs_low h.at h.belongs; many = by_cases h.belongs }
+    where
+      by_cases : BelongsAt low false h.at → IsTooMany closed (at_call (low ++ high) h.at n) c n
+      by_cases (inl l) = subst (λ (r : Option Receipt). IsTooMany closed r c n) (sym (at_front low high h.at n l)) h.many
+      by_cases (inr never) = absurd (false≢true never)
+
+  extra_high : (c n : ℕ) → HasTooManyIn closed high (first + length low) last c n → HasTooManyIn closed (low ++ high) first last c n
+  extra_high c n h = record {
+    at = length low + h.at;
+    is = sym (further h.at (length low + h.at) refl) ∙ h.is;
+    belongs = belongs_both h.at h.belongs;
+    many = subst (λ (r : Option Receipt). IsTooMany closed r c n) (sym (at_back low high h.at n)) h.many;
+  }
+
+  both_extra : (least other : Option CallPlace) → ArePlacedIn closed low first false front least → ArePlacedIn closed high (first + length low) last back other → (place : CallPlace) → sooner_of least other ≡ Some place → HasTooManyIn closed (low ++ high) first last place.client place.number
+  both_extra None other f b place e = extra_high place.client place.number (b.extra place e)
+  both_extra (Some p) other f b place e = extra_low place.client place.number (f.extra place e)
+
+  pub both_placed : (least other : Option CallPlace) → ArePlacedIn closed low first false front least → ArePlacedIn closed high (first + length low) last back other → ArePlacedIn closed (low ++ high) first last cells (sooner_of least other)
+  both_placed least other f b = record { none = both_none least other f b; some = both_some least other f b; points = both_points least other f b; seen = both_seen least other f b; extra = both_extra least other f b }
+
+-- the rows of two tables, one after the other
+pub both_tables : (closed : ClosedState) (low high : List (List Receipt)) (first : ℕ) (last : Bool) (front back table : Table) (least other : Option CallPlace) → table.rows.items ≡ front.rows.items ++ back.rows.items
+    → IsTableOf closed low first false front least → IsTableOf closed high (first + length low) last back other → IsTableOf closed (low ++ high) first last table (sooner_of least other)
+both_tables closed low high first last front back table least other rows f b = record {
+  len = table.rows.ok.0 ∙ (ap length rows ∙ (length_both front.rows.items back.rows.items ∙ (sum ∙ sym (length_both low high))));
+  placed = both_placed closed low high first last (cells_of front) (cells_of back) (cells_of table) at_low at_high least other f.placed b.placed;
+}
+  where
+    sum : length front.rows.items + length back.rows.items ≡ length low + length high
+    sum = let l = sym front.rows.ok.0 ∙ f.len in let h = sym back.rows.ok.0 ∙ b.len in omega (arith, l, h)
+
+    same : lists_of table.rows.items ≡ lists_of front.rows.items ++ lists_of back.rows.items
+    same = ap lists_of rows ∙ lists_both front.rows.items back.rows.items
+
+    front_len : length (lists_of front.rows.items) ≡ length low
+    front_len = length-map front.rows.items (λ v. v.items) ∙ (sym front.rows.ok.0 ∙ f.len)
+
+    at_low : (k n : ℕ) → k < length low → cells_of table k n ≡ cells_of front k n
+    at_low k n l = ap (λ rows. at_call rows k n) same ∙ at_front (lists_of front.rows.items) (lists_of back.rows.items) k n (omega (arith, l, front_len))
+
+    at_high : (k n : ℕ) → cells_of table (length low + k) n ≡ cells_of back k n
+    at_high k n = ap (λ rows. at_call rows (length low + k) n) same ∙ (ap (λ (m : ℕ). at_call (lists_of front.rows.items ++ lists_of back.rows.items) (m + k) n) (sym front_len) ∙ at_back (lists_of front.rows.items) (lists_of back.rows.items) k n)
+
+-- ---- the lists of all clients
+from_zero : (n : ℕ) → 0 + n ≡ n
+from_zero n = omega arith
+
+module _ (closed : ClosedState) (receipts : List (List Receipt)) (cells : ℕ → ℕ → Option (Option LogPlace)) where
+  pub placed_all : ArePlacedIn closed receipts 0 true cells None → AllPlaced closed receipts cells
   placed_all h = record {
     some = h.some;
     none = h.none;
-    points = λ c n p e. (h.points c n p e).0;
-    placed = λ e i entry s. elim (h.seen e i entry (visited e i entry s (lt_or e count)) s) as (λ _. cells entry.client entry.number ≡ Some (Some (record { extent = e; index = i }))) [ inl a ↦ a | inr b ↦ absurd b ];
+    points = λ c n p e. subst (λ (m : ℕ). Points closed m n p) (from_zero c) (h.points c n p e);
+    placed = λ e i entry s. elim (h.seen e i entry.client entry (from_zero entry.client) (inr refl) s) as (λ _. cells entry.client entry.number ≡ Some (Some (record { extent = e; index = i }))) [ inl a ↦ a | inr b ↦ absurd b ];
   }
 
-  in_its_cell : (place : CallPlace) → ArePlaced closed receipts cells (Some place) count 0 → (c n : ℕ) → IsSooner c n place.client place.number → (f : EntryFound closed c n) → cells c n ≡ Some (Some (record { extent = f.extent; index = f.place }))
-  in_its_cell place h c n s f = elim (h.seen f.extent f.place f.entry (visited f.extent f.place f.entry f.stands (lt_or f.extent count)) f.stands) as (λ _. cells c n ≡ Some (Some (record { extent = f.extent; index = f.place }))) [
+  in_its_cell : (place : CallPlace) → ArePlacedIn closed receipts 0 true cells (Some place) → (c n : ℕ) → IsSooner c n place.client place.number → (f : EntryFound closed c n) → cells c n ≡ Some (Some (record { extent = f.extent; index = f.place }))
+  in_its_cell place h c n s f = elim (h.seen f.extent f.place f.entry.client f.entry (from_zero f.entry.client) (inr refl) f.stands) as (λ _. cells c n ≡ Some (Some (record { extent = f.extent; index = f.place }))) [
     | inl m ↦ subst (λ (k : ℕ). cells c k ≡ Some (Some (record { extent = f.extent; index = f.place }))) f.own.number (subst (λ (k : ℕ). cells k f.entry.number ≡ Some (Some (record { extent = f.extent; index = f.place }))) f.own.client m)
     | inr o ↦ absurd (o (subst (λ (k : ℕ). IsSooner k f.entry.number place.client place.number) (sym f.own.client) (subst (λ (k : ℕ). IsSooner c k place.client place.number) (sym f.own.number) s)))
   ]
 
-  none_sooner : (place : CallPlace) → ArePlaced closed receipts cells (Some place) count 0 → (c n : ℕ) → IsSooner c n place.client place.number → HasEntryTooMany closed receipts c n → ⊥
+  none_sooner : (place : CallPlace) → ArePlacedIn closed receipts 0 true cells (Some place) → (c n : ℕ) → IsSooner c n place.client place.number → HasEntryTooMany closed receipts c n → ⊥
   none_sooner place h c n s (inl m) = none-some (Some (record { extent = m.found.extent; index = m.found.place })) (sym (h.none c n m.lacks) ∙ (in_its_cell place h c n s m.found))
   none_sooner place h c n s (inr t) =
       let one : LogPlace = record { extent = t.one.extent; index = t.one.place } in
@@ -188,10 +369,17 @@ module _ (closed : ClosedState) (receipts : List (List Receipt)) (cells : ℕ �
       let same : one ≡ other = same_Some one other (same_Some (Some one) (Some other) (sym (in_its_cell place h c n s t.one) ∙ (in_its_cell place h c n s t.other))) in
       t.apart (ap (λ (r : LogPlace). r.extent) same) (ap (λ (r : LogPlace). r.index) same)
 
-  none_extra : ArePlaced closed receipts cells None count 0 → (c n : ℕ) → HasEntryTooMany closed receipts c n → ⊥
+  none_extra : ArePlacedIn closed receipts 0 true cells None → (c n : ℕ) → HasEntryTooMany closed receipts c n → ⊥
   none_extra h c n (inl m) = none-some (Some (record { extent = m.found.extent; index = m.found.place })) (sym (h.none c n m.lacks) ∙ in_cell closed receipts cells (placed_all h) c n m.found)
   none_extra h c n (inr t) = let same = one_place closed receipts cells (placed_all h) c n t.one t.other in t.apart same.0 same.1
 
-  pub placed_end : (least : Option CallPlace) → ArePlaced closed receipts cells least count 0 → IsFirstCall (HasEntryTooMany closed receipts) least
+  too_many : (place : CallPlace) → HasTooManyIn closed receipts 0 true place.client place.number → HasEntryTooMany closed receipts place.client place.number
+  too_many place h = by_cases (subst (λ (k : ℕ). IsTooMany closed (at_call receipts k place.number) place.client place.number) (sym (from_zero h.at) ∙ h.is) h.many)
+    where
+      by_cases : IsTooMany closed (at_call receipts place.client place.number) place.client place.number → HasEntryTooMany closed receipts place.client place.number
+      by_cases (inl m) = inl (record { found = m.0; lacks = m.1 })
+      by_cases (inr t) = inr t
+
+  pub placed_end : (least : Option CallPlace) → ArePlacedIn closed receipts 0 true cells least → IsFirstCall (HasEntryTooMany closed receipts) least
   placed_end None h = none_extra h
-  placed_end (Some place) h = record { holds = h.extra place refl; least = none_sooner place h }
+  placed_end (Some place) h = record { holds = too_many place (h.extra place refl); least = none_sooner place h }

@@ -1,12 +1,13 @@
 -- A table with a cell for each call, in which the place of the call's entry is kept.
-use Rattle.std.specs.Prelude.{◌≡◌, ℕ, Bool, true, false, Option, Some, None, List}
+use Rattle.std.specs.Prelude.{◌≡◌, ℕ, ◌+◌, ◌<◌, ◌⊎◌, Bool, true, false, Option, Some, None, List, length, vec_len}
 use Rattle.tatp_procs.specs.declared.entry.Entry.{Entry}
 use Rattle.tatp_settle.specs.declared.receipt.Receipt.{Receipt}
 use Rattle.tatp_settle.specs.declared.places.LogPlace.{LogPlace}
 use Rattle.tatp_settle.specs.declared.table.Table.{Table}
 use Rattle.tatp_settle.specs.Closings.{ClosedState, StandsAt}
 use Rattle.tatp_settle.specs.Runs.{at_call, lists_of}
-use Rattle.tatp_settle.specs.Answering.{IsEntryOf}
+use Rattle.tatp_settle.specs.Answering.{IsEntryOf, EntryFound}
+use Rattle.tatp_settle.specs.Causes.{HasTwoEntries}
 use Rattle.tatp_settle.specs.declared.places.CallPlace.{CallPlace}
 use Rattle.tatp_settle.specs.CallPlaces.{IsSooner}
 
@@ -48,3 +49,32 @@ ArePlaced closed receipts = (cells : ℕ → ℕ → Option (Option LogPlace)) �
 abbrev pub IsAtMost : Option CallPlace → ℕ → ℕ → Type 0
 IsAtMost None client number = ⊥
 IsAtMost (Some place) client number = IsSooner client number place.client place.number → ⊥
+
+-- ---- the lists of some clients that follow one another
+-- the client has its list there, as the one after this many; or all later clients belong there
+abbrev pub BelongsAt : List (List Receipt) → Bool → ℕ → Type 0
+BelongsAt receipts last at = (at < length receipts) ⊎ (last ≡ true)
+
+-- an entry of the call, which has this receipt: it has none, or there is a second entry
+abbrev pub IsTooMany : ClosedState → Option Receipt → ℕ → ℕ → Type 0
+IsTooMany closed receipt client number = (EntryFound closed client number × (receipt ≡ None)) ⊎ HasTwoEntries closed client number
+
+-- the call's client belongs there, and there is an entry of it too many
+pub record HasTooManyIn (closed : ClosedState) (receipts : List (List Receipt)) (first : ℕ) (last : Bool) (client number : ℕ) : Type 0 where
+  pub at : ℕ
+  pub is : first + at ≡ client
+  pub belongs : BelongsAt receipts last at
+  pub many : IsTooMany closed (at_call receipts at number) client number
+
+-- each entry of a client that belongs there is in the cell of its call, or stands no sooner than the least call with an entry too many; each call that has a receipt has a cell, and no other
+pub record ArePlacedIn (closed : ClosedState) (receipts : List (List Receipt)) (first : ℕ) (last : Bool) (cells : ℕ → ℕ → Option (Option LogPlace)) (least : Option CallPlace) : Type 0 where
+  pub none : (at number : ℕ) → at_call receipts at number ≡ None → cells at number ≡ None
+  pub some : (at number : ℕ) → cells at number ≡ None → at_call receipts at number ≡ None
+  pub points : (at number : ℕ) (place : LogPlace) → cells at number ≡ Some (Some place) → Points closed (first + at) number place
+  pub seen : (e i at : ℕ) (entry : Entry) → first + at ≡ entry.client → BelongsAt receipts last at → StandsAt closed e i entry → (cells at entry.number ≡ Some (Some (record { extent = e; index = i }))) ⊎ IsAtMost least entry.client entry.number
+  pub extra : (place : CallPlace) → least ≡ Some place → HasTooManyIn closed receipts first last place.client place.number
+
+-- the table of these lists, row by row
+pub record IsTableOf (closed : ClosedState) (receipts : List (List Receipt)) (first : ℕ) (last : Bool) (table : Table) (least : Option CallPlace) : Type 0 where
+  pub len : vec_len table.rows ≡ length receipts
+  pub placed : ArePlacedIn closed receipts first last (cells_of table) least

@@ -153,7 +153,7 @@ fn cause_in_calls<R: Threads + Sync>(
         }));
     }
     let logs = LogTable::new(alloc, closed)?;
-    let (table, extra) = place_entries(alloc, &logs, receipts)?;
+    let (table, extra) = place_entries(rt, alloc, &logs, receipts)?;
     if let Some(place) = extra {
         return Ok(Some(Unsettled::ReceiptMissing {
             client: place.client,

@@ -1,5 +1,5 @@
 //! A table of calls: where the entry of each stands.
-ghost use Rattle.std.specs.Prelude.{◌≡◌, None, IfOk, replicate};
+ghost use Rattle.std.specs.Prelude.{◌≡◌, None, IfOk, length, replicate, vec_len};
 ghost use Rattle.std.specs.Option.{option_copied};
 ghost use Rattle.tatp_settle.specs.Runs.{at_call, lists_of};
 ghost use Rattle.tatp_settle.specs.Placing.{cells_of, IsFresh, Puts};
@@ -16,7 +16,8 @@ pub(crate) struct Table {
 impl Table {
     /// An empty cell for each call that has an element in these lists.
     pub(crate) fn fresh<T>(alloc: Global, lists: &[Vec<T>]) -> Result<Table, AllocError>
-        ensures { IfOk result (λ table. IsFresh (at_call (lists_of lists.now)) (cells_of table)) }
+        ensures fresh { IfOk result (λ table. IsFresh (at_call (lists_of lists.now)) (cells_of table)) }
+        ensures len { IfOk result (λ table. vec_len table.rows ≡ length lists.now) }
     {
         let mut rows: Vec<Vec<Option<LogPlace>>> = Vec::with_capacity(alloc, lists.len())?;
         'lists: for i in 0..lists.len() {
@@ -37,7 +38,8 @@ impl Table {
 
     /// Fills an empty cell; false where it is filled or isn't there.
     pub(crate) fn put(&mut self, client: u64, number: u64, place: LogPlace) -> bool
-        ensures { Puts (cells_of self.old) client number place result (cells_of self.new) }
+        ensures puts { Puts (cells_of self.old) client number place result (cells_of self.new) }
+        ensures len { vec_len self.new.rows ≡ vec_len self.old.rows }
     {
         let Some(None) = self.cell(client, number) else {
             return false;

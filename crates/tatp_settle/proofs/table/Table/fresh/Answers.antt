@@ -14,7 +14,7 @@ lists-preserved g c =
     (got_within c.args.lists.now c.lists.i c.index-lists-i.result c.lists-test.true c.index-lists-i.is)
     (c.in_ok-fresh_row.ensures ∙ ap (λ n. replicate n None) (c.len.ensures ∙ c.index-lists-i.result.ok.0)) c.lists.invariant
 
-pub returns : goal.returns
-returns g c = subst (λ cells. IsFresh (at_call (lists_of c.args.lists.now)) (at_call cells))
+pub returns-clause-fresh : goal.returns-clause-fresh
+returns-clause-fresh g c = subst (λ cells. IsFresh (at_call (lists_of c.args.lists.now)) (at_call cells))
     (ap fresh_rows (sym (take_all c.lists.i (lists_of c.args.lists.now) (omega (arith, c.lists-test.false, length-map c.args.lists.now (λ v. v.items))))) ∙ sym c.lists.invariant)
     (fresh_are_fresh (lists_of c.args.lists.now))

@@ -1,5 +1,2 @@
-//! What a run leaves where a read or a write fails, the standard module from its text, lines of `trace`.
-mod calls;
+//! Lines of `trace`.
 mod lines;
-mod modules;
-mod streams;

@@ -21,6 +21,3 @@ pub use modules::{run_asm, run_check, run_dis};
 pub use population::Population;
 pub use serving::serve;
 pub use tracing::trace;
-
-#[cfg(test)]
-mod tests;

@@ -1,5 +1,5 @@
+use crate::{read_trace_line, trace_line_text};
 use std::test::Fail;
-use tatp_trace::{read_trace_line, trace_line_text};
 
 /// One of each kind, and those at their bounds.
 static LINES: [&str; 20] = [

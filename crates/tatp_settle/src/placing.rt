@@ -35,8 +35,7 @@ pub(crate) fn lesser(least: Option<CallPlace>, other: CallPlace) -> Option<CallP
     }
 }
 
-/// Whether a client has one of so many lists, of which this is the first client's, or all later clients
-/// belong there.
+/// Whether a client belongs to a part: one of so many from the first on, or, in the last part, any later one.
 fn belongs(client: u64, first: u64, count: u64, last: bool) -> bool
     ensures belongs { result ≡ true → (first ≤ client) × ((client < first + count) ⊎ (last ≡ true)) }
     ensures other { result ≡ false → (client < first) ⊎ ((first + count ≤ client) × (last ≡ false)) }
@@ -44,8 +43,8 @@ fn belongs(client: u64, first: u64, count: u64, last: bool) -> bool
     client >= first && (last || client - first < count)
 }
 
-/// The table of the places of some clients' entries, whose first client this is, and their first call with
-/// an entry too many, by this thread alone.
+/// The table of a part of the clients, from the first on, who have these receipts, and the first call of the
+/// part with an entry too many. The last part has all later clients too. By this thread alone.
 fn place_in_turn(
     alloc: Global,
     logs: &LogTable<'_>,
@@ -81,7 +80,7 @@ fn place_in_turn(
     Ok((table, least))
 }
 
-/// The rows of both tables, one after another, and the first call with an entry too many.
+/// The table of two parts that follow one another, and their first call with an entry too many.
 fn put_together(
     front: Result<(Table, Option<CallPlace>), AllocError>,
     back: Result<(Table, Option<CallPlace>), AllocError>,
@@ -100,8 +99,7 @@ fn put_together(
     }
 }
 
-/// The table of the places of some clients' entries, and their first call with an entry too many: by
-/// halves, each by a thread of its own, where one can be made.
+/// As `place_in_turn`, by halves of the part, each by a thread of its own, where one can be made.
 #[cycle(parts)]
 fn place_part<R: Threads + Sync>(
     rt: &R,

@@ -5,9 +5,10 @@ use Rattle.std.specs.Str.{bytes_eq}
 use Rattle.std.specs.List.{All, list_all}
 use Rattle.std.proofs.lemmas.Bool.{le-leb, leb-true, ltb-true}
 use Rattle.std.proofs.lemmas.List.Folds.{list_all-append}
+use Rattle.tatp_lines.specs.Numbers.{is_between}
 use Rattle.tatp_instr.specs.declared.instr.Instr.{Instr}
 use Rattle.tatp_instr.specs.declared.instr.Instr.TheVariants.{Jmp, Jz}
-use Rattle.tatp_encoding.specs.Modules.{Procedure, is_name, is_from_to, is_procedure, jumps_within, jumps_stay, is_module}
+use Rattle.tatp_encoding.specs.Modules.{Procedure, is_name, is_procedure, jumps_within, jumps_stay, is_module}
 use Rattle.tatp_asm.specs.declared.fault.AsmFaultKind.TheVariants.{Syntax, LabelTwice, TooLong}
 use Rattle.tatp_asm.specs.Instrs.{has_target, aimed}
 use Rattle.tatp_asm.specs.Lines.{Line, Opens, Names, Does, Closes, IsLine}
@@ -160,8 +161,8 @@ codes_of : (ps : List Procedure) → list_all is_procedure ps ≡ true → All (
 codes_of [] h i d l = absurd (omega arith)
 codes_of (p ∷ ps) h zero d l =
     let a = both (is_procedure p) (list_all is_procedure ps) h in
-    let b = both (is_name p.name) (nat_le p.arity 8 && is_from_to 1 256 (length p.code)) a.0 in
-    let c = both (nat_le p.arity 8) (is_from_to 1 256 (length p.code)) b.1 in
+    let b = both (is_name p.name) (nat_le p.arity 8 && is_between 1 256 (length p.code)) a.0 in
+    let c = both (nat_le p.arity 8) (is_between 1 256 (length p.code)) b.1 in
     let x = both (nat_le 1 (length p.code)) (nat_le (length p.code) 256) c.1 in
     let least = leb-true 1 (length p.code) x.0 in
     let most = leb-true (length p.code) 256 x.1 in
@@ -170,7 +171,7 @@ codes_of (p ∷ ps) h (suc i) d l = codes_of ps (both (is_procedure p) (list_all
 
 pub bounded : (ps : List Procedure) → is_module ps ≡ true → Bounded [] ps
 bounded ps h =
-    let a = both (is_from_to 1 16 (length ps)) (list_all is_procedure ps && list_all jumps_stay ps) h in
+    let a = both (is_between 1 16 (length ps)) (list_all is_procedure ps && list_all jumps_stay ps) h in
     let b = both (list_all is_procedure ps) (list_all jumps_stay ps) a.1 in
     let x = both (nat_le 1 (length ps)) (nat_le (length ps) 16) a.0 in
     let least = leb-true 1 (length ps) x.0 in

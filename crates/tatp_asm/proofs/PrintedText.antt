@@ -7,9 +7,10 @@ use Rattle.std.specs.Char.{is_ascii_digit}
 use Rattle.std.proofs.lemmas.Bool.{lt-ltb, leb-true}
 use Rattle.std.proofs.lemmas.Bool.Decides.{nat_tests}
 use Rattle.std.proofs.lemmas.Fmt.{digits_decimal, length-decimal-le}
+use Rattle.tatp_lines.specs.Numbers.{is_between}
 use Rattle.tatp_instr.specs.declared.instr.Instr.{Instr}
 use Rattle.tatp_instr.specs.declared.instr.Instr.TheVariants.{Jmp, Jz}
-use Rattle.tatp_encoding.specs.Modules.{Procedure, is_name, is_from_to, is_procedure, jumps_stay, is_module}
+use Rattle.tatp_encoding.specs.Modules.{Procedure, is_name, is_procedure, jumps_stay, is_module}
 use Rattle.tatp_encoding.specs.Spelling.{IsInstr}
 use Rattle.tatp_lines.specs.Lines.{lines_of}
 use Rattle.tatp_asm.specs.Lines.{Line, Opens, Names, Does, Closes, line_text, IsLine, is_label, is_label_byte}
@@ -89,8 +90,8 @@ record IsFit (p : Procedure) : Type 0 where
 
 fits : (p : Procedure) → is_procedure p ≡ true → IsFit p
 fits p h =
-    let b = both (is_name p.name) (nat_le p.arity 8 && is_from_to 1 256 (length p.code)) h in
-    let c = both (nat_le p.arity 8) (is_from_to 1 256 (length p.code)) b.1 in
+    let b = both (is_name p.name) (nat_le p.arity 8 && is_between 1 256 (length p.code)) h in
+    let c = both (nat_le p.arity 8) (is_between 1 256 (length p.code)) b.1 in
     let x = both (nat_le 1 (length p.code)) (nat_le (length p.code) 256) c.1 in
     record { name = b.0; arity = leb-true p.arity 8 c.0; most = leb-true (length p.code) 256 x.1 }
 
@@ -108,6 +109,6 @@ short (p ∷ ps) h = let a = both (is_procedure p) (list_all is_procedure ps) h 
 pub disassembled_is : (ps : List Procedure) → is_module ps ≡ true → All (λ p. All IsInstr p.code) ps → IsTextOf (disassembled ps) ps
 unfolding disassembled
 disassembled_is ps h w =
-    let a = both (is_from_to 1 16 (length ps)) (list_all is_procedure ps && list_all jumps_stay ps) h in
+    let a = both (is_between 1 16 (length ps)) (list_all is_procedure ps && list_all jumps_stay ps) h in
     let b = both (list_all is_procedure ps) (list_all jumps_stay ps) a.1 in
     record { lines = module_lines ps; texts = texts_of_lines (module_lines ps) (module_are ps b.0 w); procedures = printed_are ps (short ps b.0) b.1 }

@@ -8,10 +8,11 @@ use Rattle.std.proofs.lemmas.Bool.{eq-eqb, ltb-true}
 use Rattle.std.proofs.lemmas.Bool.Decides.{nat_tests}
 use Rattle.std.proofs.lemmas.Slice.Eq.{bytes_eq-Decides}
 use Rattle.std.proofs.lemmas.Fmt.{digits_decimal}
-use Rattle.tatp_encoding.specs.Modules.{is_from_to, is_name, is_name_byte}
+use Rattle.tatp_encoding.specs.Modules.{is_name, is_name_byte}
 use Rattle.tatp_asm.specs.Lines.{is_label, is_letter, is_label_byte}
 use Rattle.std.proofs.lemmas.Str.Parse.{IsNumeralModel, numerals_by_value, tells_all_ascii_digits}
 use Rattle.std.specs.Str.Parse.{digits_value}
+use Rattle.tatp_lines.specs.Numbers.{is_between}
 
 -- ---- options and tests
 pub some_is : {X : Type 0} (x y : X) → Some x ≡ Some y → x ≡ y
@@ -100,7 +101,7 @@ label_plain (b ∷ bs) h =
     rw (letter_plain b r.0) (mono is_label_byte plain label_byte_plain bs s.0)
 
 pub name_plain : (name : List ℕ) → is_name name ≡ true → list_all plain name ≡ true
-name_plain name h = mono is_name_byte plain name_byte_plain name (both (is_from_to 1 24 (length name)) (list_all is_name_byte name) h).1
+name_plain name h = mono is_name_byte plain name_byte_plain name (both (is_between 1 24 (length name)) (list_all is_name_byte name) h).1
 
 pub label_short : (l : List ℕ) → is_label l ≡ true → length l < 25
 unfolding is_label

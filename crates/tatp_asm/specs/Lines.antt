@@ -1,10 +1,11 @@
 -- The lines of an assembly text: docs/FORMATS.md, "Assembly text".
 use Rattle.std.specs.Prelude.{◌≡◌, ℕ, ◌≤◌, nat_lt, ◌==◌, ◌&&◌, ◌||◌, Bool, true, false, List, [], ◌∷◌, ◌++◌, length, codes, decimal}
 use Rattle.std.specs.List.{list_all}
+use Rattle.tatp_lines.specs.Numbers.{is_between}
 use Rattle.tatp_instr.specs.declared.instr.Instr.{Instr}
 use Rattle.tatp_instr.specs.declared.instr.Instr.TheVariants.{Jmp, Jz}
 use Rattle.tatp_instr.specs.Instrs.{text_of, register_text}
-use Rattle.tatp_encoding.specs.Modules.{is_from_to, is_name}
+use Rattle.tatp_encoding.specs.Modules.{is_name}
 use Rattle.tatp_encoding.specs.declared.module.TheConstants.{MAX_NAME_BYTES, MAX_ARGUMENTS}
 use Rattle.tatp_encoding.specs.Spelling.{IsInstr}
 use Rattle.tatp_asm.specs.Instrs.{has_target, aimed}
@@ -30,11 +31,11 @@ line_text (Does instr label) = instruction_text instr label
 line_text Closes = codes "end"
 
 abbrev pub is_letter : ℕ → Bool
-is_letter byte = is_from_to 65 90 byte || is_from_to 97 122 byte
+is_letter byte = is_between 65 90 byte || is_between 97 122 byte
 
 -- a letter, a digit or the underscore
 abbrev pub is_label_byte : ℕ → Bool
-is_label_byte byte = is_letter byte || is_from_to 48 57 byte || byte == 95
+is_label_byte byte = is_letter byte || is_between 48 57 byte || byte == 95
 
 -- a letter, and then letters, digits or underscores, 1 to 24
 unfoldable pub is_label : List ℕ → Bool

@@ -8,10 +8,11 @@ use Rattle.std.proofs.lemmas.List.{length-take-le}
 use Rattle.std.proofs.lemmas.List.Folds.{list_any_none, list_any_at}
 use Rattle.std.proofs.lemmas.List.Sums.{sum_by-cons, sum_by-le}
 use Rattle.std.proofs.lemmas.Bool.{false≢true}
+use Rattle.tatp_lines.specs.Numbers.{is_between}
 use Rattle.tatp_tables.specs.Tuples.{Tuple, same}
 use Rattle.tatp_tables.specs.Keys.{has_number}
 use Rattle.tatp_tables.specs.Columns.{column_count}
-use Rattle.tatp_tables.specs.Domains.{is_between, is_row}
+use Rattle.tatp_tables.specs.Domains.{is_row}
 use Rattle.tatp_tables.specs.Clean.{count_of_key, IdsRunFromOne, NumbersStandOnce, KeysStandOnce, ParentsStand, ValuesFit, CountsFit, IsCountWithin, IsClean}
 use Rattle.tatp_tables.specs.declared.row.Rows.{Rows}
 use Rattle.tatp_tables.specs.declared.table.Table.{Table}

@@ -1,8 +1,9 @@
 -- The six audits in their order, each a list of tests on keys, table by table, and the verdict.
 use Rattle.std.specs.Prelude.{◌≡◌, ℕ, suc, ◌==◌, ◌⊎◌, ◌||◌, ◌&&◌, not, nat_le, max, Bool, true, false, List, [], ◌∷◌, ◌++◌, map, take, length, All, slice_index, Option, MatchOption, if◌then◌else◌}
+use Rattle.tatp_lines.specs.Numbers.{is_between}
 use Rattle.tatp_tables.specs.Tuples.{Tuple}
 use Rattle.tatp_tables.specs.Columns.{key_length, column_count, first_column}
-use Rattle.tatp_tables.specs.Domains.{is_between, is_in_domain, is_row}
+use Rattle.tatp_tables.specs.Domains.{is_in_domain, is_row}
 use Rattle.tatp_tables.specs.Clean.{count_of_key}
 use Rattle.tatp_tables.specs.declared.row.Rows.{Rows}
 use Rattle.tatp_tables.specs.declared.table.Table.{Table}

@@ -1,6 +1,6 @@
 //! Rows with fewer or more rows below them than they may have.
 ghost use Rattle.std.specs.Prelude.{◌≡◌, ◌≤◌, IfOk};
-ghost use Rattle.tatp_tables.specs.Domains.{is_between};
+ghost use Rattle.tatp_lines.specs.Numbers.{is_between};
 ghost use Rattle.tatp_audits.specs.Failing.{Finds};
 ghost use Rattle.tatp_audits.specs.Audits.{is_miscounted};
 

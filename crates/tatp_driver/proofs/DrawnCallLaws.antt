@@ -2,7 +2,8 @@
 use Rattle.std.specs.Prelude.{◌≡◌, ℕ, zero, suc, ◌+◌, ◌*◌, ◌%◌, ◌≤◌, ◌<◌, Bool, true, false, if◌then◌else◌, List, [], ◌∷◌, slice_index, Ok}
 use Rattle.std.proofs.Common.{refl, arith}
 use Rattle.std.proofs.lemmas.Bool.Decides.{nat_tests}
-use Rattle.tatp_tables.specs.Domains.{is_between, is_in_domain}
+use Rattle.tatp_lines.specs.Numbers.{is_between}
+use Rattle.tatp_tables.specs.Domains.{is_in_domain}
 use Rattle.tatp_procs.specs.declared.call.Call.{Call}
 use Rattle.tatp_procs.specs.Arguments.{accepted, first_bad, arguments_accepted}
 use Rattle.tatp_procs.specs.Calls.{key_of_call}

@@ -1,6 +1,6 @@
 -- A call from seven random words, 0 to 6. docs/FORMATS.md, "Calls from random words", says it in words.
 use Rattle.std.specs.Prelude.{ℕ, ◌+◌, ◌*◌, ◌%◌, ◌≤◌, bit_or, if◌then◌else◌, List, slice_index}
-use Rattle.tatp_tables.specs.Domains.{is_between}
+use Rattle.tatp_lines.specs.Numbers.{is_between}
 use Rattle.tatp_numbers.specs.declared.key.Key.{Key}
 use Rattle.tatp_numbers.specs.declared.key.Key.TheVariants.{Id, Number}
 use Rattle.tatp_procs.specs.declared.call.Call.{Call}

@@ -6,8 +6,9 @@ use Rattle.std.specs.List.{list_all}
 use Rattle.std.proofs.lemmas.Bool.{le-leb, le-ltb, leb-true}
 use Rattle.std.proofs.lemmas.Nat.{from_be_bytes-to_be_bytes_2}
 use Rattle.std.proofs.lemmas.List.{append-nil, take_at, drop_at}
+use Rattle.tatp_lines.specs.Numbers.{is_between}
 use Rattle.tatp_instr.specs.declared.instr.Instr.{Instr}
-use Rattle.tatp_encoding.specs.Modules.{Procedure, is_name, is_name_byte, is_from_to, is_procedure, jumps_stay, is_module}
+use Rattle.tatp_encoding.specs.Modules.{Procedure, is_name, is_name_byte, is_procedure, jumps_stay, is_module}
 use Rattle.tatp_encoding.specs.Spelling.{spelling, IsInstr}
 use Rattle.tatp_encoding.specs.Decoding.{decoded}
 use Rattle.tatp_loader.specs.declared.fault.LoadFault.{LoadFault}
@@ -32,14 +33,14 @@ bytes_again ends k front rest len =
 name_again : (n : ℕ) (name rest : List ℕ) → is_name name ≡ true → name_at n ((length name ∷ name) ++ rest) ≡ Ok (name, rest)
 unfolding name_at
 name_again n name rest h =
-    let parts = both (is_from_to 1 24 (length name)) (list_all is_name_byte name) h in
+    let parts = both (is_between 1 24 (length name)) (list_all is_name_byte name) h in
     rw (parts.0, bytes_again (cut n) (length name) name rest refl, parts.1) refl
 
 arity_again : (n arity : ℕ) (rest : List ℕ) → nat_le arity 8 ≡ true → arity_at n (arity ∷ rest) ≡ Ok (arity, rest)
 unfolding arity_at
 arity_again n arity rest h = rw h refl
 
-length_again : (n k : ℕ) (rest : List ℕ) → is_from_to 1 256 k ≡ true → length_at n (to_be_bytes w16 k ++ rest) ≡ Ok (k, rest)
+length_again : (n k : ℕ) (rest : List ℕ) → is_between 1 256 k ≡ true → length_at n (to_be_bytes w16 k ++ rest) ≡ Ok (k, rest)
 unfolding length_at
 length_again n k rest h =
     let most = leb-true k 256 (both (nat_le 1 k) (nat_le k 256) h).1 in
@@ -59,8 +60,8 @@ code_again reads n i (x ∷ code) rest are =
 procedure_again : ReadsInstrs → (n : ℕ) (p : Procedure) (rest : List ℕ) → is_procedure p ≡ true → HasInstrs p → procedure_at n (procedure_bytes p ++ rest) ≡ Ok (p, rest)
 unfolding procedure_at procedure_bytes
 procedure_again reads n p rest h are =
-    let named = both (is_name p.name) (nat_le p.arity 8 && is_from_to 1 256 (length p.code)) h in
-    let sized = both (nat_le p.arity 8) (is_from_to 1 256 (length p.code)) named.1 in
+    let named = both (is_name p.name) (nat_le p.arity 8 && is_between 1 256 (length p.code)) h in
+    let sized = both (nat_le p.arity 8) (is_between 1 256 (length p.code)) named.1 in
     let code = code_bytes p.code ++ rest in
     let tail = to_be_bytes w16 (length p.code) ++ code in
     let regrouped : procedure_bytes p ++ rest ≡ (length p.name ∷ p.name) ++ (p.arity ∷ tail) =
@@ -77,14 +78,14 @@ procedures_again reads n (p ∷ m) rest fit are =
     ap (procedures_at n (suc (length m))) (append_assoc (procedure_bytes p) (procedures_bytes m) rest)
     ∙ rw (procedure_again reads n p (procedures_bytes m ++ rest) parts.0 (are 0 p (omega arith)), procedures_again reads (suc n) m rest parts.1 (λ k d h. are (suc k) d (omega (arith, h)))) refl
 
-count_again : (count : ℕ) (rest : List ℕ) → is_from_to 1 16 count ≡ true → count_at (magic ++ (count ∷ rest)) ≡ Ok (count, rest)
+count_again : (count : ℕ) (rest : List ℕ) → is_between 1 16 count ≡ true → count_at (magic ++ (count ∷ rest)) ≡ Ok (count, rest)
 unfolding count_at
 count_again count rest h = rw (bytes_again (cut 0) 4 magic (count ∷ rest) refl, h) refl
 
 module_again : ReadsInstrs → (m : List Procedure) → is_module m ≡ true → All HasInstrs m → module_at (module_bytes m) ≡ Ok m
 unfolding module_at module_bytes
 module_again reads m is are =
-    let counted = both (is_from_to 1 16 (length m)) (list_all is_procedure m && list_all jumps_stay m) is in
+    let counted = both (is_between 1 16 (length m)) (list_all is_procedure m && list_all jumps_stay m) is in
     let fit = both (list_all is_procedure m) (list_all jumps_stay m) counted.1 in
     let procs : procedures_at 0 (length m) (procedures_bytes m) ≡ Ok (m, []) = ap (procedures_at 0 (length m)) (sym (append-nil (procedures_bytes m))) ∙ procedures_again reads 0 m [] fit.0 are in
     rw (count_again (length m) (procedures_bytes m) counted.0, procs) refl

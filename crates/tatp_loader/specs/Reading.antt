@@ -2,11 +2,12 @@
 use Rattle.std.specs.Prelude.{◌≡◌, ℕ, zero, suc, Bool, ◌==◌, nat_lt, nat_le, if◌then◌else◌, List, [], ◌∷◌, length, take, drop, Option, Some, None, Result, Ok, Err, bytes_eq}
 use Rattle.std.specs.Int.{w16, from_be_bytes}
 use Rattle.std.specs.List.{list_all}
+use Rattle.tatp_lines.specs.Numbers.{is_between}
 use Rattle.tatp_instr.specs.declared.instr.Instr.{Instr}
 use Rattle.tatp_encoding.specs.declared.decoding.Bad.{Bad}
 use Rattle.tatp_encoding.specs.declared.decoding.Bad.TheVariants as bad
 use Rattle.tatp_encoding.specs.Decoding.{decoded}
-use Rattle.tatp_encoding.specs.Modules.{Procedure, is_from_to, is_name_byte}
+use Rattle.tatp_encoding.specs.Modules.{Procedure, is_name_byte}
 use Rattle.tatp_encoding.specs.declared.module.TheConstants.{MAX_PROCEDURES, MAX_NAME_BYTES, MAX_ARGUMENTS, MAX_INSTRUCTIONS}
 use Rattle.tatp_loader.specs.declared.fault.LoadFaultKind.{LoadFaultKind}
 use Rattle.tatp_loader.specs.declared.fault.LoadFaultKind.TheVariants.{BadOp, UnusedNotZero, BadRegister, Truncated, BadMagic, Extra, BadHeader}
@@ -61,7 +62,7 @@ bytes_at ends k bytes = if nat_lt (length bytes) k then Err ends else Ok (take k
 unfoldable pub name_at : ℕ → List ℕ → Result (List ℕ × List ℕ) LoadFault
 name_at n bytes = do
   size ← byte_at (cut n) bytes
-  sized ← passing (bad_header n) (is_from_to 1 MAX_NAME_BYTES size.0) size
+  sized ← passing (bad_header n) (is_between 1 MAX_NAME_BYTES size.0) size
   name ← bytes_at (cut n) sized.0 sized.1
   passing (bad_header n) (list_all is_name_byte name.0) name
 
@@ -74,7 +75,7 @@ arity_at n bytes = do
 unfoldable pub length_at : ℕ → List ℕ → Result (ℕ × List ℕ) LoadFault
 length_at n bytes = do
   field ← bytes_at (cut n) 2 bytes
-  passing (bad_header n) (is_from_to 1 MAX_INSTRUCTIONS (from_be_bytes w16 field.0)) (from_be_bytes w16 field.0, field.1)
+  passing (bad_header n) (is_between 1 MAX_INSTRUCTIONS (from_be_bytes w16 field.0)) (from_be_bytes w16 field.0, field.1)
 
 abbrev pub kind_of : Bad → LoadFaultKind
 kind_of bad.BadOp = BadOp
@@ -123,7 +124,7 @@ count_at bytes = do
   front ← bytes_at (cut 0) 4 bytes
   rest ← passing (fault BadMagic 0 0) (bytes_eq front.0 magic) front.1
   count ← byte_at (cut 0) rest
-  passing (bad_header 0) (is_from_to 1 MAX_PROCEDURES count.0) count
+  passing (bad_header 0) (is_between 1 MAX_PROCEDURES count.0) count
 
 -- all of the bytes
 unfoldable pub module_at : List ℕ → Result (List Procedure) LoadFault

@@ -5,7 +5,7 @@ use Rattle.std.proofs.lemmas.Bool.{and_parts, eqb-true}
 use Rattle.std.proofs.lemmas.List.Elements.{All-cons, All-nil}
 use Rattle.std.proofs.lemmas.Bool.Decides.{nat_tests}
 use Rattle.tatp_instr.specs.declared.instr.Instr.{Instr}
-use Rattle.tatp_encoding.specs.Modules.{Procedure, is_from_to, is_procedure, jumps_stay, is_module}
+use Rattle.tatp_encoding.specs.Modules.{Procedure, is_procedure, jumps_stay, is_module}
 use Rattle.tatp_tables.specs.Tuples.{Tuple}
 use Rattle.tatp_tables.specs.Keys.{has_key, has_number}
 use Rattle.tatp_tables.specs.Domains.{is_in_domain, is_row}

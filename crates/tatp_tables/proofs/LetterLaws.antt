@@ -8,7 +8,8 @@ use Rattle.std.proofs.lemmas.List.Folds.{list_all-append, list_all_at, list_all_
 use Rattle.std.proofs.lemmas.Option.{cond_some}
 use Rattle.std.proofs.Math.Nat.{pow-le-pow_right}
 use Rattle.std.specs.List.{list_all}
-use Rattle.tatp_tables.specs.Domains.{is_between, are_letters}
+use Rattle.tatp_lines.specs.Numbers.{is_between}
+use Rattle.tatp_tables.specs.Domains.{are_letters}
 use Rattle.tatp_tables.specs.Text.{letters_of, letters_text, packed}
 use Rattle.tatp_tables.proofs.NumberLaws.{drop_written, exact_test, exact_test_parts, exact_test_no}
 

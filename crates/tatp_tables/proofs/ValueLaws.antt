@@ -9,9 +9,10 @@ use Rattle.std.proofs.lemmas.List.Sums.{AllPass-from_list_all}
 use Rattle.std.specs.List.{list_all, All}
 use Rattle.std.specs.Str.{IsAscii, IsUtf8, all_ascii_digits}
 use Rattle.std.specs.Char.{is_ascii_digit}
+use Rattle.tatp_lines.specs.Numbers.{is_between}
 use Rattle.tatp_tables.specs.declared.form.Form.{Form}
 use Rattle.tatp_tables.specs.declared.form.Form.TheVariants.{Decimal, FifteenDigits, Letters}
-use Rattle.tatp_tables.specs.Domains.{is_between, is_in_domain, are_letters}
+use Rattle.tatp_tables.specs.Domains.{is_in_domain, are_letters}
 use Rattle.tatp_tables.specs.Text.{form_of, is_decimal, text_in, value_in, value_text, value_of, is_printable, last_digits, letters_text}
 use Rattle.tatp_tables.proofs.FieldLaws.{is_space}
 use Rattle.tatp_lines.proofs.NumberLaws.{number_of-decimal, decimal-number_of}

@@ -1,11 +1,9 @@
 -- The values that each column may have. TATP Benchmark Description 1.0, schema and population; docs/FORMATS.md.
 use Rattle.std.specs.Prelude.{ℕ, suc, zero, ◌/◌, ◌%◌, Bool, true, false, ◌&&◌, ◌||◌, ◌==◌, nat_le, List, [], ◌∷◌, length, if◌then◌else◌}
+use Rattle.tatp_lines.specs.Numbers.{is_between}
 use Rattle.tatp_tables.specs.Tuples.{Tuple}
 use Rattle.tatp_tables.specs.Columns.{first_column, column_count}
 use Rattle.tatp_tables.specs.declared.table.Table.{Table}
-
-abbrev pub is_between : ℕ → ℕ → ℕ → Bool
-is_between least most v = nat_le least v && nat_le v most
 
 -- n letters A..Z, packed as bytes, the first letter highest
 abbrev pub are_letters : ℕ → ℕ → Bool

@@ -5,11 +5,11 @@ use Rattle.std.specs.Option.{option_map, option_and_then}
 use Rattle.std.specs.Str.{all_ascii_digits}
 use Rattle.std.specs.Str.Parse.{digits_value}
 use denote.Ref.{Bor}
-use Rattle.tatp_lines.specs.Numbers.{number_of}
+use Rattle.tatp_lines.specs.Numbers.{is_between, number_of}
 use Rattle.tatp_lines.specs.Fields as separated
 use Rattle.tatp_tables.specs.Tuples.{Tuple}
 use Rattle.tatp_tables.specs.Columns.{first_column, column_count}
-use Rattle.tatp_tables.specs.Domains.{is_between, is_in_domain}
+use Rattle.tatp_tables.specs.Domains.{is_in_domain}
 use Rattle.tatp_tables.specs.declared.table.Table.TheVariants.{Subscriber, AccessInfo, SpecialFacility, CallForwarding}
 use Rattle.tatp_tables.specs.declared.row.Row.{Row}
 use Rattle.tatp_tables.specs.declared.row.Row.TheVariants.{S, A, F, C}

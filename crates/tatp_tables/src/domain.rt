@@ -1,6 +1,7 @@
 //! The values that each column may have.
 ghost use Rattle.std.specs.Prelude.{◌≡◌};
-ghost use Rattle.tatp_tables.specs.Domains.{is_between, is_in_domain, are_letters};
+ghost use Rattle.tatp_lines.specs.Numbers.{is_between};
+ghost use Rattle.tatp_tables.specs.Domains.{is_in_domain, are_letters};
 
 fn is_letter(value: u64) -> bool
     ensures { result ≡ is_between 65 90 value }

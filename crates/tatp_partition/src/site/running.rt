@@ -61,6 +61,7 @@ impl<'m> Site<'m> {
 
     /// One instruction of the running call, as `step`, but the completion of a call that ends is left in
     /// its place, so that a step that goes on answers in a few bytes. A refused step leaves none.
+    #[inline(always)]
     pub fn step_into(&mut self, ended: &mut Option<Completion>) -> Result<(), SiteRefusal>
         requires { ended.old ≡ None }
         ensures steps { AdvancesUnless (step_obstacle self.old) self.old (told_in result ended.new) self.new }
@@ -90,6 +91,7 @@ impl<'m> Site<'m> {
 
     /// One instruction of the running call, as `one`, but the completion of a call that ends is left in
     /// its place.
+    #[inline(always)]
     pub fn one_into(&mut self, ended: &mut Option<Completion>) -> Result<(), SiteRefusal>
         requires { ended.old ≡ None }
         ensures steps { AdvancesUnless (one_obstacle self.old) self.old (told_in result ended.new) self.new }
@@ -117,6 +119,7 @@ impl<'m> Site<'m> {
     }
 
     /// One instruction of the running call. The completion of a call that ends is left in its place.
+    #[inline(never)]
     fn advance(&mut self, ended: &mut Option<Completion>)
         requires running { is_some self.old.running ≡ true }
         requires place { ended.old ≡ None }

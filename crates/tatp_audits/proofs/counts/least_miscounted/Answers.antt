@@ -1,7 +1,7 @@
 use Rattle.std.proofs.Common.{refl, sym, ◌∙◌, ap, arith, subst, take, ◌+◌, ◌≡◌, Option}
+use Rattle.tatp_lines.specs.Numbers.{is_between}
 use Rattle.tatp_tables.specs.Tuples.{Tuple}
 use Rattle.tatp_tables.specs.Clean.{count_of_key}
-use Rattle.tatp_tables.specs.Domains.{is_between}
 use Rattle.tatp_audits.specs.Failing.{Finds, is_wrong}
 use Rattle.tatp_audits.proofs.KeyCounts.{front_counted}
 use Rattle.tatp_audits.proofs.Scan.{scan_right, scan_wrong}

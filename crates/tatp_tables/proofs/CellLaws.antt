@@ -5,12 +5,11 @@ use Rattle.std.proofs.Common.{refl, sym, ap, subst, ◌∙◌, arith}
 use Rattle.std.proofs.lemmas.Bool.Decides.{nat_tests}
 use Rattle.std.specs.Cmp.Lexicographic.{slice_cmp, nat_list_cmp_total}
 use Rattle.std.specs.Cmp.{tied_itself, nat_cmp_total}
-use Rattle.std.specs.Ordering.{nat_cmp, is_lt, is_eq, ordering_then}
-use Rattle.std.specs.declared.cmp.Ordering.{Ordering}
+use Rattle.std.specs.Ordering.{nat_cmp, is_lt, ordering_then}
 use Rattle.std.specs.declared.cmp.Ordering.TheVariants.{Less, Equal, Greater}
 use Rattle.std.specs.FinMap.Entries as entry
-use Rattle.tatp_tables.specs.Tuples.{Tuple, Tuples, rows_of, same, has, set_of, insert_row, remove_row, replace_row}
-use Rattle.tatp_tables.proofs.TupleLaws.{same_tuples, same_is, same_itself, has-set_of, has-insert_row, has-remove_row, rises, rows_of-set_of}
+use Rattle.tatp_tables.specs.Tuples.{Tuple, Tuples, rows_of, same, has, set_of, insert_row, remove_row}
+use Rattle.tatp_tables.proofs.TupleLaws.{same_tuples, same_is, has-set_of, has-insert_row, has-remove_row, rises, rows_of-set_of}
 use Rattle.tatp_tables.specs.Keys.{has_key, row_at}
 use Rattle.tatp_tables.proofs.KeyLaws.{heads_equal}
 use Rattle.tatp_tables.specs.Cells.{present, StandAt}

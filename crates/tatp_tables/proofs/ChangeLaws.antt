@@ -4,7 +4,7 @@ use Rattle.std.proofs.Common.{refl, sym, ap, subst, ◌∙◌, arith}
 use Rattle.std.proofs.lemmas.Bool.Decides.{nat_tests}
 use Rattle.std.proofs.lemmas.Bool.{and_parts, and_from, eq-eqb, both_ways}
 use Rattle.std.proofs.lemmas.List.{take-set-le, length-set}
-use Rattle.tatp_tables.specs.Tuples.{Tuple, Tuples, has, no_rows, insert_row, remove_row, replace_row}
+use Rattle.tatp_tables.specs.Tuples.{Tuple, has, no_rows, insert_row, remove_row, replace_row}
 use Rattle.tatp_tables.specs.Keys.{has_key, row_at}
 use Rattle.tatp_tables.specs.Columns.{table_of, first_column, column_count, key_length, place_of, is_fixed}
 use Rattle.tatp_tables.specs.Domains.{is_in_domain, are_in_domain, is_row}

@@ -1,11 +1,11 @@
 -- The rows of the tests are clean: one subscriber with one row in each table.
-use Rattle.std.specs.Prelude.{◌≡◌, ℕ, ◌+◌, ◌≤◌, Bool, true, false, cond, List, [], ◌∷◌, length, take, max, count_by, All}
-use Rattle.std.proofs.Common.{refl, sym, ap, subst, ◌∙◌, arith, lit≤}
+use Rattle.std.specs.Prelude.{◌≡◌, ℕ, ◌≤◌, Bool, true, false, cond, [], ◌∷◌, take, count_by, All}
+use Rattle.std.proofs.Common.{refl, ap, arith, lit≤}
 use Rattle.std.proofs.lemmas.List.Elements.{All-cons, All-nil}
 use Rattle.tatp_tables.specs.Tuples.{Tuple}
 use Rattle.tatp_tables.specs.Keys.{has_key, has_number}
 use Rattle.tatp_tables.specs.Domains.{is_in_domain, is_row}
-use Rattle.tatp_tables.specs.Clean.{IsClean, IdsRunFromOne, ParentsStand, ValuesFit, CountsFit, IsCountWithin, count_of_key}
+use Rattle.tatp_tables.specs.Clean.{IsClean, IdsRunFromOne, IsCountWithin, count_of_key}
 use Rattle.tatp_tables.proofs.CleanLaws.{count_by-cons}
 use Rattle.tatp_tables.specs.declared.row.Rows.{Rows}
 use Rattle.tatp_tables.specs.declared.table.Table.TheVariants.{Subscriber, AccessInfo, SpecialFacility, CallForwarding}

@@ -1,9 +1,8 @@
 -- A row put into the empty cell of its key: the cells hold a home with that row besides.
-use Rattle.std.specs.Prelude.{◌≡◌, ℕ, ◌+◌, ◌<◌, ◌≤◌, Bool, true, false, List, [], ◌∷◌, Option, Some, None, length, map, take, slice_get, slice_set, slice_index, slice_index_or}
-use Rattle.std.specs.List.{range_with_len}
+use Rattle.std.specs.Prelude.{◌≡◌, ℕ, ◌+◌, ◌<◌, ◌≤◌, true, List, [], ◌∷◌, Option, Some, None, length, take, slice_get, slice_set, slice_index, slice_index_or}
 use Rattle.std.proofs.Common.{refl, sym, ap, subst, ◌∙◌, arith}
 use Rattle.std.proofs.lemmas.List.FromFn.{get_or-map-range_with_len}
-use Rattle.tatp_tables.specs.Tuples.{Tuple, Tuples, set_of, insert_row}
+use Rattle.tatp_tables.specs.Tuples.{Tuple, set_of, insert_row}
 use Rattle.tatp_tables.specs.Keys.{has_key, row_at}
 use Rattle.tatp_tables.specs.Columns.{key_length, column_count}
 use Rattle.tatp_tables.specs.Domains.{is_in_domain, is_row}
@@ -16,7 +15,7 @@ use Rattle.tatp_tables.specs.Cells.{present, StandAt, HoldHome, tables_in, subsc
 use Rattle.tatp_tables.proofs.KeyLaws.{take-one, take-two, has_key-take, first_is, first_has_key}
 use Rattle.tatp_tables.proofs.ChangeLaws.{IsHome-hold}
 use Rattle.tatp_tables.proofs.UndoLaws.{is_row-length, is_row-at}
-use Rattle.tatp_tables.proofs.CleanLaws.{row_fits, row_is_new, row_has_parent, ParentsLoaded}
+use Rattle.tatp_tables.proofs.CleanLaws.{row_fits, row_is_new, row_has_parent}
 use Rattle.tatp_tables.proofs.CellLaws.{StandAt-set}
 use Rattle.tatp_tables.proofs.PlaceLaws.{subscriber_at, type_at}
 use Rattle.tatp_tables.proofs.StorageLaws.{holds_row}

@@ -2,7 +2,7 @@
 use Rattle.std.specs.Prelude.{◌≡◌, ℕ, ◌+◌, ◌<◌, List, [], ◌∷◌, ◌++◌, Option, Some, None, Result, Ok, Err, OnOk, length, take, slice_index_or}
 use Rattle.std.proofs.Common.{refl, sym, ap, ◌∙◌, append_assoc, append-nil}
 use Rattle.std.proofs.lemmas.List.{take_more}
-use Rattle.tatp_tables.specs.Tuples.{Tuple, rows_of}
+use Rattle.tatp_tables.specs.Tuples.{Tuple}
 use Rattle.tatp_tables.specs.Rows.{with_home}
 use Rattle.tatp_tables.specs.Cells.{present, HoldHome, tables_in, subscriber_keys, type_keys, forwarding_keys}
 use Rattle.tatp_tables.proofs.CellLaws.{rows_of-present}

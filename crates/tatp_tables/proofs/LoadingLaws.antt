@@ -1,8 +1,7 @@
 -- One row more is read into its home.
-use Rattle.std.specs.Prelude.{◌≡◌, ◌≢◌, ℕ, zero, suc, ◌+◌, ◌<◌, ◌≤◌, Bool, true, false, ◌&&◌, ◌==◌, List, [], ◌∷◌, ◌++◌, map, take, drop, length, slice_index, slice_index_or, slice_set}
+use Rattle.std.specs.Prelude.{◌≡◌, ◌≢◌, ℕ, zero, suc, ◌+◌, ◌<◌, ◌≤◌, true, false, List, [], ◌∷◌, ◌++◌, map, take, drop, length, slice_index_or, slice_set}
 use Rattle.std.specs.List.{range_with_len}
-use Rattle.std.proofs.Common.{refl, sym, ap, subst, ◌∙◌, arith}
-use Rattle.std.proofs.lemmas.Bool.Decides.{nat_tests}
+use Rattle.std.proofs.Common.{refl, sym, ap, ◌∙◌, arith}
 use Rattle.std.proofs.lemmas.List.{take_all, take-append-le}
 use Rattle.std.proofs.lemmas.List.FromFn.{length-map-range_with_len, map-range_with_len_more}
 use Rattle.tatp_tables.specs.Tuples.{Tuple, no_rows, set_of, insert_row}
@@ -12,7 +11,7 @@ use Rattle.tatp_tables.specs.Database.{Database, database_of, in_table, of_subsc
 use Rattle.tatp_tables.specs.Home.{SubscriberRows, home_in, home_with}
 use Rattle.tatp_tables.specs.Loading.{read_until, homes_in}
 use Rattle.tatp_tables.proofs.PrefixLaws.{own_rows-more, other_rows-more, rows_with_s_id-none}
-use Rattle.tatp_tables.proofs.KeyLaws.{key_heads, first_has_key}
+use Rattle.tatp_tables.proofs.KeyLaws.{key_heads}
 use Rattle.tatp_tables.specs.declared.row.Rows.{Rows}
 use Rattle.tatp_tables.specs.declared.table.Table.{Table}
 use Rattle.tatp_tables.specs.declared.table.Table.TheVariants.{Subscriber, AccessInfo, SpecialFacility, CallForwarding}

@@ -1,5 +1,5 @@
 -- Lemmas on fifteen digits: what is read, what is written, and that each gives the other back.
-use Rattle.std.proofs.Common.{◌≡◌, ◌≢◌, ℕ, zero, suc, ◌+◌, ◌-◌, ◌*◌, ◌/◌, ◌%◌, ◌<◌, ◌≤◌, ◌^◌, ◌∙◌, sym, ap, subst, Bool, true, false, not, List, [], ◌∷◌, ◌++◌, length, drop, set, get_or, refl, arith, eqb, ltb, Some, None, Result, Ok, Err, decimal, append_assoc, length-append, replicate, add-one, sub-one, ◌&&◌, ◌||◌}
+use Rattle.std.proofs.Common.{◌≡◌, ◌≢◌, ℕ, zero, suc, ◌+◌, ◌-◌, ◌*◌, ◌/◌, ◌%◌, ◌<◌, ◌≤◌, ◌^◌, ◌∙◌, sym, ap, subst, Bool, true, false, List, [], ◌∷◌, ◌++◌, length, drop, set, get_or, refl, arith, eqb, Some, None, Result, Ok, Err, decimal, append_assoc, length-append, replicate, add-one, sub-one, ◌&&◌}
 use Rattle.std.proofs.lemmas.Bool.{and_parts}
 use Rattle.std.proofs.lemmas.Bool.Decides.{nat_tests}
 use Rattle.std.proofs.lemmas.Fmt.{digits_decimal, digits_value-decimal, length-decimal-le}

@@ -1,8 +1,8 @@
 -- Finds in a home's cells: what stands at the place of a key, and nothing where a key has no place.
-use Rattle.std.specs.Prelude.{◌≡◌, ◌≢◌, ℕ, ◌≤◌, Bool, true, false, cond, ◌||◌, ◌==◌, List, [], ◌∷◌, Option, Some, None, IfNone, find, is_some, length, take, slice_get, slice_index, slice_index_or}
+use Rattle.std.specs.Prelude.{◌≡◌, ◌≢◌, ℕ, Bool, true, false, cond, List, [], ◌∷◌, Option, Some, None, IfNone, find, is_some, length, slice_get, slice_index, slice_index_or}
 use Rattle.std.specs.List.{list_any}
-use Rattle.std.proofs.Common.{refl, sym, ap, subst, ◌∙◌, arith}
-use Rattle.tatp_tables.specs.Tuples.{Tuple, rows_of, set_of}
+use Rattle.std.proofs.Common.{refl, ap, ◌∙◌, arith}
+use Rattle.tatp_tables.specs.Tuples.{Tuple, set_of}
 use Rattle.tatp_tables.specs.Keys.{has_key, has_number, row_at, row_with_number}
 use Rattle.tatp_tables.specs.Cells.{present, StandAt, subscriber_keys, type_keys, forwarding_keys}
 use Rattle.tatp_tables.proofs.CellLaws.{row_at-place, row_at-nowhere, rows_of-present}

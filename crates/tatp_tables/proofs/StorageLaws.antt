@@ -1,13 +1,12 @@
 -- The changes of one cell are the changes of the database in the cells.
-use Rattle.std.specs.Prelude.{◌≡◌, ◌≢◌, ℕ, zero, suc, ◌-◌, ◌<◌, ◌≤◌, Bool, true, false, ◌&&◌, ◌||◌, ◌==◌, nat_lt, List, [], ◌∷◌, Option, Some, None, Result, Ok, Err, IfOk, is_some, length, take, slice_get, slice_set, slice_index, slice_index_or}
+use Rattle.std.specs.Prelude.{◌≡◌, ◌≢◌, ℕ, zero, suc, ◌-◌, ◌<◌, ◌≤◌, Bool, true, false, ◌&&◌, ◌==◌, List, [], ◌∷◌, Option, Some, None, Result, Ok, Err, IfOk, is_some, length, take, slice_get, slice_set, slice_index, slice_index_or}
 use Rattle.std.specs.Option.{ok_or}
 use Rattle.std.proofs.Common.{refl, sym, ap, subst, ◌∙◌, arith}
-use Rattle.std.proofs.lemmas.Bool.Decides.{nat_tests}
 use Rattle.std.proofs.lemmas.List.{set-get_or}
-use Rattle.tatp_tables.specs.Tuples.{Tuple, Tuples, set_of, insert_row, remove_row, replace_row}
+use Rattle.tatp_tables.specs.Tuples.{Tuple, set_of, insert_row}
 use Rattle.tatp_tables.specs.Keys.{has_key, row_at}
 use Rattle.tatp_tables.proofs.KeyLaws.{take-one, take-two, take-three, has_key-take, first_is}
-use Rattle.tatp_tables.specs.Columns.{table_of, first_column, key_length, place_of, is_fixed}
+use Rattle.tatp_tables.specs.Columns.{table_of, first_column, key_length, is_fixed}
 use Rattle.tatp_tables.specs.Domains.{is_in_domain, are_in_domain}
 use Rattle.tatp_tables.specs.Database.{Database, in_table, with_table, current_row}
 use Rattle.tatp_tables.specs.Changes.{put_answer_at, put_answer, put_rows, put_tables, parent_of, forwarding_key, insert_answer_at, insert_answer, insert_rows_at, insert_tables, delete_answer_at, delete_answer, delete_rows, delete_tables}

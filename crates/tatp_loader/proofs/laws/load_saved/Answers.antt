@@ -1,4 +1,4 @@
-use Rattle.std.proofs.Common.{◌≡◌, ◌∙◌, List, true, subst}
+use Rattle.std.proofs.Common.{◌≡◌, ◌∙◌, true, subst}
 use Rattle.std.specs.Prelude.{All}
 use Rattle.tatp_encoding.specs.Modules.{is_module}
 use Rattle.tatp_loader.specs.ModuleBytes.{HasInstrs}

@@ -1,4 +1,4 @@
-use Rattle.std.proofs.Common.{ℕ, ◌≡◌, ◌+◌, [], ◌∷◌, ◌++◌, List, Some, length, filter, not, slice_get, vec_len, rules, arith, refl, sym, ◌∙◌, ap, subst}
+use Rattle.std.proofs.Common.{ℕ, ◌≡◌, ◌+◌, [], List, Some, length, filter, not, slice_get, vec_len, rules, arith, sym, ◌∙◌, ap, subst}
 use Rattle.tatp_population.specs.Extents.{ExtentState}
 use Rattle.tatp_partition.specs.Opening.{AreNumbered}
 use Rattle.tatp_partition.specs.Sites.{SiteState}

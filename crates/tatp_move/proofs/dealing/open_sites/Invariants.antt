@@ -1,4 +1,4 @@
-use Rattle.std.proofs.Common.{◌≡◌, ◌≤◌, ◌+◌, ℕ, filter, length, Some, slice_get, vec_len, vec_capacity}
+use Rattle.std.proofs.Common.{◌≡◌, ◌≤◌, ℕ, filter, length, Some, slice_get, vec_capacity}
 use Rattle.tatp_partition.specs.Sites.{SiteState}
 use Rattle.tatp_move.specs.Dealing.{IsSiteOpened}
 use Rattle.tatp_move.proofs.DealLaws.{opens_from}

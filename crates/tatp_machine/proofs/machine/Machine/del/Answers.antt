@@ -1,4 +1,4 @@
-use Rattle.std.proofs.Common.{◌≡◌, sym, rules}
+use Rattle.std.proofs.Common.{sym, rules}
 use Rattle.tatp_machine.proofs.KeptLaws.{delete_kept}
 use Rattle.tatp_machine.proofs.LineLaws.{noted}
 use Rattle.tatp_machine.proofs.machine.Machine.del.Goals as goal

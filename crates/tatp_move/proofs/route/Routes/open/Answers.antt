@@ -1,7 +1,6 @@
-use Rattle.std.proofs.Common.{ℕ, List, rules, arith, ◌≡◌, ◌≤◌, ◌+◌, ◌/◌, ◌∙◌, ap, length, map, vec_len, vec_capacity}
+use Rattle.std.proofs.Common.{ℕ, List, rules, arith, ◌≡◌, ◌+◌, ◌∙◌, ap, map}
 use Rattle.std.specs.List.{range_with_len}
 use Rattle.tatp_population.specs.Opening.{extent_count}
-use Rattle.tatp_move.specs.Routing.{RoutesState}
 use Rattle.tatp_move.specs.declared.route.Route.{Route}
 use Rattle.tatp_move.proofs.RouteLaws.{opening_route, one_more, count_of_routes}
 use Rattle.tatp_move.proofs.route.Routes.open.Goals as goal

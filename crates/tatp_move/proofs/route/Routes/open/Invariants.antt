@@ -1,7 +1,5 @@
-use Rattle.std.proofs.Common.{◌≡◌, ◌+◌, ◌-◌, ◌%◌, ◌≤◌, ◌/◌, ℕ, map, vec_len, vec_capacity}
+use Rattle.std.proofs.Common.{◌≡◌, ◌≤◌, map, vec_capacity}
 use Rattle.std.specs.List.{range_with_len}
-use Rattle.tatp_move.specs.Routing.{opening_partition}
-use Rattle.tatp_move.specs.declared.route.Route.{Route}
 use Rattle.tatp_move.proofs.RouteLaws.{opening_route}
 use Rattle.tatp_move.proofs.route.Routes.open.Given as goal
 

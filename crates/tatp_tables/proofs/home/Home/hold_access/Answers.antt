@@ -1,4 +1,4 @@
-use Rattle.std.proofs.Common.{ap, sym}
+use Rattle.std.proofs.Common.{ap}
 use Rattle.tatp_tables.proofs.HoldLaws.{hold_access, type_of_access}
 use Rattle.tatp_tables.proofs.home.Home.hold_access.Goals as goal
 

@@ -1,4 +1,4 @@
-use Rattle.std.proofs.Common.{ap, sym}
+use Rattle.std.proofs.Common.{ap}
 use Rattle.tatp_tables.proofs.HoldLaws.{hold_facility, type_of_facility}
 use Rattle.tatp_tables.proofs.home.Home.hold_facility.Goals as goal
 

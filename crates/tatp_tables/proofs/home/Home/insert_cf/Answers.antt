@@ -1,4 +1,4 @@
-use Rattle.std.proofs.Common.{◌≡◌, length, rules, ap, sym, ◌∙◌, is_some, true}
+use Rattle.std.proofs.Common.{◌≡◌, length, rules, ap, sym, ◌∙◌, is_some}
 use Rattle.tatp_tables.specs.Home.{SubscriberRows}
 use Rattle.tatp_tables.specs.Changes.{parent_of, forwarding_key, insert_rows_at, delete_tables}
 use Rattle.tatp_tables.specs.Cells.{tables_in}

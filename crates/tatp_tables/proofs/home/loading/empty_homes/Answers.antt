@@ -1,4 +1,4 @@
-use Rattle.std.proofs.Common.{◌≡◌, ap, sym, ◌∙◌, arith}
+use Rattle.std.proofs.Common.{◌≡◌, ap, ◌∙◌, arith}
 use Rattle.tatp_tables.specs.Database.{no_tables}
 use Rattle.tatp_tables.specs.Loading.{homes_in}
 use Rattle.tatp_tables.proofs.LoadingLaws.{homes_of_none, one_home_more}

@@ -1,6 +1,5 @@
 use Rattle.std.proofs.Common.{◌≡◌, map}
 use Rattle.std.specs.List.{range_with_len}
-use Rattle.tatp_tables.specs.Home.{SubscriberRows}
 use Rattle.tatp_tables.specs.Database.{no_tables}
 use Rattle.tatp_tables.proofs.home.loading.empty_homes.Given as goal
 

@@ -1,3 +1,4 @@
 pub mod Shaped
 pub mod Separated
 pub mod Lengths
+pub mod BookLaws

@@ -1,3 +1,4 @@
 pub mod Shapes
 pub mod Instrs
 pub mod Rows
+pub mod Parts

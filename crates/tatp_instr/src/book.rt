@@ -1,9 +1,9 @@
 //! The table of the instructions as data.
-ghost use Rattle.std.specs.Prelude.{◌≡◌, ◌<◌, ◌≤◌, ◌↔◌, IsSome, IfSome};
+ghost use Rattle.std.specs.Prelude.{◌≡◌, ◌<◌, ◌≤◌, ◌↔◌, IsSome, IfSome, option_map, map, Some};
 ghost use Rattle.tatp_instr.specs.declared.instr.Instr.{Instr};
 ghost use Rattle.tatp_instr.specs.Instrs.{parts_of};
-ghost use Rattle.tatp_instr.specs.Rows.{IsRowOf};
-ghost use Rattle.tatp_instr.specs.Shapes.{shape_at};
+ghost use Rattle.tatp_instr.specs.Rows.{IsRowOf, row_view};
+ghost use Rattle.tatp_instr.specs.Shapes.{shape_at, named, row_named};
 
 /// What stands in an instruction's u32.
 #[derive(Clone, Copy, Debug, PartialEq, Eq)]
@@ -110,4 +110,26 @@ pub fn operands(op: u8) -> Option<Shape>
 {
     let index = op.checked_sub(1)?;
     BOOK.get(usize::from(index)).map(|row| row.shape)
+}
+
+// The first of some rows with this mnemonic.
+fn find_row(rows: &'static [OpRow], mnemonic: &str) -> Option<&'static OpRow>
+    ensures { option_map (λ row. row_view row.now) result ≡ named mnemonic.now (map row_view rows.now) }
+{
+    for row in rows {
+        if row.mnemonic == mnemonic {
+            return Some(row);
+        }
+    }
+    None
+}
+
+/// The row of a mnemonic, or `None` where no op has it.
+#[tactic(auto, unfolding(crate::specs::Shapes::row_named))]
+pub fn row_named(mnemonic: &str) -> Option<&'static OpRow>
+    ensures value { option_map (λ row. row_view row.now) result ≡ row_named mnemonic.now }
+    ensures shape { IfSome result (λ row. shape_at row.now.op ≡ Some row.now.shape) }
+    ensures registers { IfSome result (λ row. row.now.shape.registers ≤ 3) }
+{
+    find_row(&BOOK, mnemonic)
 }

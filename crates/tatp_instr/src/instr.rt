@@ -1,6 +1,7 @@
 //! The instructions, and what each is made of.
-ghost use Rattle.std.specs.Prelude.{◌≡◌, ◌+◌, ◌<◌, ◌≤◌, All, IsSomeAnd, slice_index};
-ghost use Rattle.tatp_instr.specs.Instrs.{parts_of};
+ghost use Rattle.std.specs.Prelude.{◌≡◌, ◌+◌, ◌<◌, ◌≤◌, ◌↔◌, false, All, IsSomeAnd, IfSome, IsNone, IsTrue, slice_index};
+ghost use Rattle.tatp_instr.specs.Instrs.{parts_of, parts_with};
+ghost use Rattle.tatp_instr.specs.Parts.{has_bad_op, has_unused, has_bad_register, instr_with, instr_of};
 ghost use Rattle.tatp_instr.specs.Shapes.{shape_at, HasShape};
 
 use crate::registers::{KeyRegisters, Register, RowRegisters};
@@ -103,4 +104,59 @@ impl Instr {
             word,
         }
     }
+
+    /// The instruction with these parts, or `None` where a register is outside its range.
+    pub fn from_parts(parts: &Parts) -> Option<Instr>
+        requires known { has_bad_op parts.now ≡ false }
+        requires used { has_unused parts.now ≡ false }
+        ensures value { IfSome result (λ instr. parts_of instr ≡ parts.now) }
+        ensures exact { result ≡ instr_of parts.now }
+        ensures none { IsNone result ↔ IsTrue (has_bad_register parts.now) }
+    {
+        let [first, second, third] = parts.registers;
+        instr_of(parts.op, first, second, third, parts.word)
+    }
+}
+
+// The instruction of an op and its operands, or `None` where a register is outside its range. An
+// operand that the op has no use for is 0, so it passes for a register.
+#[tactic(auto, unfolding(crate::specs::Parts::instr_with))]
+fn instr_of(op: u8, first: u8, second: u8, third: u8, word: u32) -> Option<Instr>
+    requires known { has_bad_op (parts_with op first second third word) ≡ false }
+    requires used { has_unused (parts_with op first second third word) ≡ false }
+    ensures value { IfSome result (λ instr. parts_of instr ≡ parts_with op first second third word) }
+    ensures exact { IfSome result (λ instr. instr ≡ instr_with op first second third word) }
+    ensures none { IsNone result ↔ IsTrue (has_bad_register (parts_with op first second third word)) }
+{
+    let key = second;
+    let (first, second, third) = (
+        Register::new(first)?,
+        Register::new(second)?,
+        Register::new(third)?,
+    );
+    let instr = match op {
+        0x01 => Instr::Ldi(first, word),
+        0x02 => Instr::Mov(first, second),
+        0x03 => Instr::Arg(first, word),
+        0x04 => Instr::Add(first, second, third),
+        0x05 => Instr::Sub(first, second, third),
+        0x06 => Instr::Eq(first, second, third),
+        0x07 => Instr::Lt(first, second, third),
+        0x08 => Instr::Jmp(word),
+        0x09 => Instr::Jz(first, word),
+        0x0A => Instr::Fsub(first, second),
+        0x0B => Instr::Fnum(first, second),
+        0x0C => Instr::Facc(first, second, third),
+        0x0D => Instr::Ffac(first, second, third),
+        0x0E => Instr::Fcfw(first, KeyRegisters::new(key)?),
+        0x0F => Instr::Get(first, word),
+        0x10 => Instr::Put(word, first),
+        0x11 => Instr::Ins(first, RowRegisters::new(key)?),
+        0x12 => Instr::Del,
+        0x13 => Instr::Out(first),
+        0x14 => Instr::Done,
+        // 0x15
+        _ => Instr::Fail(word),
+    };
+    Some(instr)
 }

@@ -6,7 +6,7 @@ mod instr;
 mod printing;
 mod registers;
 
-pub use book::{BOOK, OpRow, Shape, Word, operands};
+pub use book::{BOOK, OpRow, Shape, Word, operands, row_named};
 pub use instr::{Instr, Parts};
 pub use printing::{Line, text};
 pub use registers::{KeyRegisters, Register, Registers, RowRegisters};

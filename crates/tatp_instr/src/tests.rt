@@ -1,4 +1,7 @@
 //! The table, typed out a second time.
+ghost use Rattle.std.specs.Prelude.{◌≡◌};
+ghost use Rattle.tatp_instr.specs.Instrs.{parts_with};
+
 use super::*;
 use crate::Word::{Argument, Column, Count, Nothing, Target};
 use std::process::Abort;
@@ -93,4 +96,34 @@ fn register_bounds(rt: HostRuntime) {
     assert_eq!(rt; KeyRegisters::new(14), None);
     assert_eq!(rt; RowRegisters::new(11).map(RowRegisters::number), Some(11));
     assert_eq!(rt; RowRegisters::new(12), None);
+}
+
+#[test]
+fn rows_by_their_mnemonics(rt: HostRuntime) {
+    assert_eq!(rt; row_named("LDI").map(|row| row.op), Some(0x01));
+    assert_eq!(rt; row_named("FAIL").map(|row| row.op), Some(0x15));
+    assert_eq!(rt; row_named("PUT").map(|row| row.word_first), Some(true));
+    for mnemonic in ["", "LD", "LDIX", "ldi"] {
+        assert_eq!(rt; row_named(mnemonic).map(|row| row.op), None, "{mnemonic}");
+    }
+}
+
+fn with_first_two(op: u8, first: u8, second: u8) -> Parts
+    ensures { result ≡ parts_with op first second 0 0 }
+{
+    Parts {
+        op,
+        registers: [first, second, 0],
+        word: 0,
+    }
+}
+
+#[test]
+fn instructions_of_parts(rt: HostRuntime) -> Result<(), Fail> {
+    let mov = Instr::Mov(register(7)?, register(15)?);
+    assert_eq!(rt; Instr::from_parts(&with_first_two(0x02, 7, 15)), Some(mov));
+    assert_eq!(rt; Instr::from_parts(&with_first_two(0x02, 16, 0)), None);
+    assert_eq!(rt; Instr::from_parts(&with_first_two(0x0E, 0, 14)), None);
+    assert_eq!(rt; Instr::from_parts(&with_first_two(0x11, 0, 12)), None);
+    Ok(())
 }

@@ -7,10 +7,10 @@ use Rattle.std.proofs.lemmas.Nat.{from_be_bytes-to_be_bytes_4}
 use Rattle.tatp_instr.specs.declared.instr.Instr.{Instr}
 use Rattle.tatp_instr.specs.declared.instr.Instr.TheVariants.{Ldi, Mov, Arg, Add, Sub, Eq, Lt, Jmp, Jz, Fsub, Fnum, Facc, Ffac, Fcfw, Get, Put, Ins, Del, Out, Done, Fail}
 use Rattle.tatp_instr.specs.Instrs.{parts_of, parts_with}
+use Rattle.tatp_instr.specs.Parts.{has_bad_op, has_unused, has_bad_register, instr_with, instr_of_parts}
 use Rattle.tatp_encoding.specs.declared.decoding.Bad.TheVariants.{BadOp, UnusedNotZero, BadRegister}
-use Rattle.tatp_encoding.specs.Faults.{parts_in, has_bad_op, has_unused, has_bad_register}
 use Rattle.tatp_encoding.specs.Spelling.{spelling, IsInstr}
-use Rattle.tatp_encoding.specs.Decoding.{instr_with, instr_of_parts, decoded_parts, decoded}
+use Rattle.tatp_encoding.specs.Decoding.{parts_in, decoded_parts, decoded}
 
 number : (n : ℕ) → n < 2 ^ 32 → from_be_bytes w32 (to_be_bytes w32 n) ≡ n
 number n h = from_be_bytes-to_be_bytes_4 n h

@@ -1,14 +1,12 @@
 //! The instruction of eight bytes.
-ghost use Rattle.std.specs.Prelude.{◌≡◌, ℕ, ◌<◌, ◌≤◌, false, not, ◌&&◌, ◌↔◌, IsTrue, IfOk, IfSome, IsErrOf, IsNone, Ok, Some};
+ghost use Rattle.std.specs.Prelude.{◌≡◌, ◌≤◌, not, ◌&&◌, ◌↔◌, IsTrue, IfOk, IsErrOf, Ok, Some};
 ghost use Rattle.std.specs.List.{list_any};
 ghost use Rattle.tatp_instr.specs.declared.instr.Instr.{Instr};
-ghost use Rattle.tatp_instr.specs.Instrs.{parts_of, parts_with};
-ghost use Rattle.tatp_instr.specs.Shapes.{shape_at};
+ghost use Rattle.tatp_instr.specs.Parts.{has_bad_op, has_unused, has_unused_in, has_bad_register, is_not_zero, is_unused_word};
 ghost use Rattle.tatp_encoding.specs.Spelling.{spelling, IsInstr};
-ghost use Rattle.tatp_encoding.specs.Decoding.{instr_with, decoded};
-ghost use Rattle.tatp_encoding.specs.Faults.{parts_in, has_bad_op, has_unused, has_unused_in, has_bad_register, is_not_zero, is_unused_word};
+ghost use Rattle.tatp_encoding.specs.Decoding.{parts_in, decoded};
 
-use tatp_instr::{Instr, KeyRegisters, Parts, Register, RowRegisters, Shape, Word, operands};
+use tatp_instr::{Instr, Parts, Shape, Word, operands};
 use thiserror::Error;
 
 /// Why eight bytes are no instruction. Its text is its number and its name.
@@ -63,49 +61,6 @@ fn has_unused_part(parts: &Parts, shape: Shape) -> bool
         || has_unused_word(shape.word, parts.word)
 }
 
-// The instruction of an op and its operands, or `None` where a register is outside its range. An
-// operand that the op has no use for is 0, so it passes for a register.
-#[tactic(auto, unfolding(crate::specs::Decoding::instr_with))]
-fn instr_of(op: u8, first: u8, second: u8, third: u8, word: u32) -> Option<Instr>
-    requires known { has_bad_op (parts_with op first second third word) ≡ false }
-    requires used { has_unused (parts_with op first second third word) ≡ false }
-    ensures value { IfSome result (λ instr. parts_of instr ≡ parts_with op first second third word) }
-    ensures exact { IfSome result (λ instr. instr ≡ instr_with op first second third word) }
-    ensures none { IsNone result ↔ IsTrue (has_bad_register (parts_with op first second third word)) }
-{
-    let key = second;
-    let (first, second, third) = (
-        Register::new(first)?,
-        Register::new(second)?,
-        Register::new(third)?,
-    );
-    let instr = match op {
-        0x01 => Instr::Ldi(first, word),
-        0x02 => Instr::Mov(first, second),
-        0x03 => Instr::Arg(first, word),
-        0x04 => Instr::Add(first, second, third),
-        0x05 => Instr::Sub(first, second, third),
-        0x06 => Instr::Eq(first, second, third),
-        0x07 => Instr::Lt(first, second, third),
-        0x08 => Instr::Jmp(word),
-        0x09 => Instr::Jz(first, word),
-        0x0A => Instr::Fsub(first, second),
-        0x0B => Instr::Fnum(first, second),
-        0x0C => Instr::Facc(first, second, third),
-        0x0D => Instr::Ffac(first, second, third),
-        0x0E => Instr::Fcfw(first, KeyRegisters::new(key)?),
-        0x0F => Instr::Get(first, word),
-        0x10 => Instr::Put(word, first),
-        0x11 => Instr::Ins(first, RowRegisters::new(key)?),
-        0x12 => Instr::Del,
-        0x13 => Instr::Out(first),
-        0x14 => Instr::Done,
-        // 0x15
-        _ => Instr::Fail(word),
-    };
-    Some(instr)
-}
-
 /// The instruction that the bytes spell. Otherwise the first of the three faults that they have.
 #[tactic(auto, unfolding(crate::specs::Decoding::decoded))]
 pub fn decode(bytes: &[u8; 8]) -> Result<Instr, Bad>
@@ -127,6 +82,5 @@ pub fn decode(bytes: &[u8; 8]) -> Result<Instr, Bad>
     if has_unused_part(&parts, shape) {
         return Err(Bad::UnusedNotZero);
     }
-    let [first, second, third] = parts.registers;
-    instr_of(parts.op, first, second, third, parts.word).ok_or(Bad::BadRegister)
+    Instr::from_parts(&parts).ok_or(Bad::BadRegister)
 }

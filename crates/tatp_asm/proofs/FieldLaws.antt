@@ -1,13 +1,13 @@
 -- Fields that a separator parts, and what a text is not.
-use Rattle.std.proofs.Common.{◌≡◌, ◌≢◌, ℕ, ◌<◌, ◌∙◌, sym, ap, Bool, true, false, cond, eqb, List, [], ◌∷◌, ◌++◌, length, refl, arith, Some, None}
-use Rattle.std.specs.Option.{option_map, option_and_then}
+use Rattle.std.proofs.Common.{◌≡◌, ◌≢◌, ℕ, ◌<◌, ◌∙◌, ap, Bool, true, false, cond, eqb, List, [], ◌∷◌, ◌++◌, length, refl, arith, Some, None}
+use Rattle.std.specs.Option.{option_map}
 use Rattle.std.specs.List.{slice_split, position_or_len, before_first, after_first, onto_first}
 use Rattle.std.proofs.lemmas.Bool.{ne_eqb}
 use Rattle.std.proofs.lemmas.List.Splits.{slice_split_first, slice_split_none}
 use Rattle.std.proofs.lemmas.List.Sums.{fails_before_first}
-use Rattle.tatp_asm.specs.Words.{operand_of, before_colon, label_line, line_of, line_of_bytes}
-use Rattle.tatp_asm.specs.Lines.{Names, is_label}
-use Rattle.std.specs.Str.{IsUtf8, is_utf8}
+use Rattle.tatp_asm.specs.Words.{operand_of, instruction_with, before_colon, label_line, label_or_instruction, word_of, line_of, line_of_bytes}
+use Rattle.std.specs.Prelude.{codes}
+use Rattle.std.specs.Str.{bytes_eq, IsUtf8, is_utf8}
 use Rattle.std.proofs.lemmas.Str.{IsUtf8-from_is_utf8, is_utf8-from_IsUtf8}
 
 abbrev pub is : ℕ → ℕ → Bool
@@ -55,15 +55,18 @@ some_field c (b ∷ bs) = by (is c b) (some_field c bs)
     by true r = ([], slice_split (is c) bs, refl)
     by false r = (b ∷ r.0, r.1, ap (onto_first b) r.2)
 
--- the label before a colon
-pub label_read : (bs label : List ℕ) → bs ≡ label ++ (58 ∷ []) → option_and_then label_line (before_colon bs) ≡ label_line label
-label_read bs label e = ap (option_and_then label_line) (ap before_colon e ∙ colon_found label)
+-- a word that isn't `end`
+pub word_other : (word : List ℕ) → bytes_eq word (codes "end") ≡ false → word_of word ≡ label_or_instruction word (before_colon word)
+unfolding word_of
+word_other word other = rw other refl
 
-pub label_yes : (bs label kept : List ℕ) → bs ≡ label ++ (58 ∷ []) → is_label label ≡ true → kept ≡ label → Some (Names kept) ≡ option_and_then label_line (before_colon bs)
-label_yes bs label kept e t k = rw k (sym (label_read bs label e ∙ rw t refl))
+-- a word with a colon at its end
+pub with_colon : (word front : List ℕ) → word ≡ front ++ (58 ∷ []) → label_or_instruction word (before_colon word) ≡ label_line front
+with_colon word front e = ap (label_or_instruction word) (ap before_colon e ∙ colon_found front)
 
-pub label_no : (bs label : List ℕ) → bs ≡ label ++ (58 ∷ []) → is_label label ≡ false → None ≡ option_and_then label_line (before_colon bs)
-label_no bs label e t = sym (label_read bs label e ∙ rw t refl)
+-- and one with none
+pub with_no_colon : (word : List ℕ) → ((front : List ℕ) → word ≢ front ++ (58 ∷ [])) → label_or_instruction word (before_colon word) ≡ instruction_with word []
+with_no_colon word h = ap (label_or_instruction word) (no_colon word h)
 
 -- ---- bytes that are a text, and bytes that are none
 pub text_yes : (bytes : List ℕ) → IsUtf8 bytes → line_of_bytes bytes ≡ line_of bytes

@@ -1,14 +1,19 @@
 -- Instructions, their mnemonics and their operands.
-use Rattle.std.proofs.Common.{◌≡◌, ℕ, ◌<◌, ◌^◌, ◌∙◌, sym, ap, subst, Bool, true, false, cond, ltb, List, [], ◌∷◌, ◌++◌, length, refl, arith, append_assoc, Some, None, decimal}
+use Rattle.std.proofs.Common.{◌≡◌, ℕ, ◌<◌, ◌∙◌, sym, ap, subst, Bool, true, false, cond, leb, ◌||◌, List, [], ◌∷◌, ◌++◌, length, refl, arith, append_assoc, Some, None, decimal}
 use Rattle.std.specs.Prelude.{codes}
 use Rattle.std.specs.Str.{bytes_eq}
 use Rattle.std.specs.List.{list_all}
-use Rattle.std.proofs.lemmas.Bool.{lt-ltb, ltb-true}
+use Rattle.std.proofs.lemmas.Bool.{lt-leb, leb-false}
 use Rattle.tatp_instr.specs.declared.instr.Instr.{Instr}
 use Rattle.tatp_instr.specs.declared.instr.Instr.TheVariants.{Ldi, Mov, Arg, Add, Sub, Eq, Lt, Jmp, Jz, Fsub, Fnum, Facc, Ffac, Fcfw, Get, Put, Ins, Del, Out, Done, Fail}
 use Rattle.tatp_asm.specs.Lines.{Line, Opens, Names, Does, Closes, instruction_text, line_text, IsLine}
-use Rattle.tatp_asm.specs.Words.{Operand, Register, Number, Target, register_in, with_three, bare, only, with_register_and_number, with_two_registers, with_three_registers, instruction_with}
-use Rattle.tatp_asm.proofs.Tools.{some_is, word_is, guarded, plain}
+use Rattle.tatp_instr.specs.Instrs.{parts_with}
+use Rattle.tatp_instr.specs.Shapes.{Row, rows, named, row_named}
+use Rattle.tatp_instr.specs.Parts.{instr_with, instr_of}
+use Rattle.tatp_instr.proofs.BookLaws.{Each, find_each}
+use Rattle.tatp_asm.specs.Words.{Operand, Register, Number, Target, registers_of, Given, given_for, with_row, instruction_with, before_colon}
+use Rattle.tatp_asm.proofs.Tools.{some_is, word_is, chained, plain}
+use Rattle.tatp_asm.proofs.TableLaws.{row_operands, IsGiven, row_takes}
 use Rattle.tatp_asm.proofs.OperandLaws.{AreOperands, operands_text}
 
 abbrev pub mnemonic : Instr → List ℕ
@@ -103,131 +108,115 @@ abbrev pub IsMade : List ℕ → List Operand → Line → Type 0
 IsMade word os (Does i label) = (word ≡ mnemonic i) × (os ≡ operands i label) × IsLine (Does i label)
 IsMade word os line = ⊥
 
-abbrev rn : ℕ → ℕ → List Operand
-rn d n = Register d ∷ Number n ∷ []
+-- an instruction whose registers are in their ranges
+not_bad : (t : Bool) (x i : Instr) → cond t None (Some x) ≡ Some i → (t ≡ false) × (x ≡ i)
+not_bad true x i e = absurd cc
+not_bad false x i e = (refl, some_is x i e)
 
-abbrev rr : ℕ → ℕ → List Operand
-rr d a = Register d ∷ Register a ∷ []
+made : (word : List ℕ) (os : List Operand) (t : Bool) (x i : Instr) (label : List ℕ) → cond t None (Some x) ≡ Some i → word ≡ mnemonic x → os ≡ operands x label → (t ≡ false → IsLine (Does x label)) → IsMade word os (Does i label)
+made word os t x i label e w p l =
+    let n = not_bad t x i e in
+    subst (λ (j : Instr). IsMade word os (Does j label)) n.1 (w, p, l n.0)
 
-abbrev rrr : ℕ → ℕ → ℕ → List Operand
-rrr d a b = Register d ∷ Register a ∷ Register b ∷ []
+-- what is taken for a row is an instruction of it
+abbrev MakesItsOwn : Row → Type 0
+MakesItsOwn row =
+    (d a b : ℕ) (g : Given) (i : Instr) → AreOperands (row_operands row d a b g) → IsGiven row.shape.word g → instr_of (parts_with row.op d a b g.number) ≡ Some i
+    → IsMade row.mnemonic (row_operands row d a b g) (Does i g.label)
 
-rn_takes : (word : List ℕ) (d n : ℕ) (line : Line) → d < 16 → n < 2 ^ 32 → bare (with_register_and_number word d n) ≡ Some line → IsMade word (rn d n) line
-unfolding with_register_and_number
-rn_takes word d n line hd hn e = by (bytes_eq word (codes "LDI")) (bytes_eq word (codes "ARG")) (bytes_eq word (codes "GET")) refl refl refl e
-  where
-    by : (p q r : Bool) → bytes_eq word (codes "LDI") ≡ p → bytes_eq word (codes "ARG") ≡ q → bytes_eq word (codes "GET") ≡ r
-        → bare (cond p (Some (Ldi d n)) (cond q (Some (Arg d n)) (cond r (Some (Get d n)) None))) ≡ Some line → IsMade word (rn d n) line
-    by true q r x y z k = subst (IsMade word (rn d n)) (some_is (Does (Ldi d n) []) line k) (word_is word _ x, refl, ((hd, hn), refl, refl))
-    by false true r x y z k = subst (IsMade word (rn d n)) (some_is (Does (Arg d n) []) line k) (word_is word _ y, refl, ((hd, hn), refl, refl))
-    by false false true x y z k = subst (IsMade word (rn d n)) (some_is (Does (Get d n) []) line k) (word_is word _ z, refl, ((hd, hn), refl, refl))
-    by false false false x y z k = absurd cc
+key_within : (x y : Bool) → ((x || y) || false) ≡ false → y ≡ false
+key_within true y e = absurd cc
+key_within false true e = absurd cc
+key_within false false e = refl
 
-bare_guarded : (t : Bool) (i : Instr) (line : Line) → bare (cond t (Some i) None) ≡ Some line → (t ≡ true) × (Does i [] ≡ line)
-bare_guarded true i line e = (refl, some_is (Does i []) line e)
-bare_guarded false i line e = absurd cc
+row_within : (x y : Bool) → (x || y) ≡ false → y ≡ false
+row_within true y e = absurd cc
+row_within false y e = e
 
-rr_takes : (word : List ℕ) (d a : ℕ) (line : Line) → d < 16 → a < 16 → bare (with_two_registers word d a) ≡ Some line → IsMade word (rr d a) line
-unfolding with_two_registers
-rr_takes word d a line hd ha e = by (bytes_eq word (codes "MOV")) (bytes_eq word (codes "FSUB")) (bytes_eq word (codes "FNUM")) (bytes_eq word (codes "FCFW")) (bytes_eq word (codes "INS")) refl refl refl refl refl e
-  where
-    by : (p q r s t : Bool) → bytes_eq word (codes "MOV") ≡ p → bytes_eq word (codes "FSUB") ≡ q → bytes_eq word (codes "FNUM") ≡ r → bytes_eq word (codes "FCFW") ≡ s → bytes_eq word (codes "INS") ≡ t
-        → bare (cond p (Some (Mov d a)) (cond q (Some (Fsub d a)) (cond r (Some (Fnum d a)) (cond s (cond (ltb a 14) (Some (Fcfw d a)) None) (cond t (cond (ltb a 12) (Some (Ins d a)) None) None))))) ≡ Some line → IsMade word (rr d a) line
-    by true q r s t x y z u v k = subst (IsMade word (rr d a)) (some_is (Does (Mov d a) []) line k) (word_is word _ x, refl, ((hd, ha), refl, refl))
-    by false true r s t x y z u v k = subst (IsMade word (rr d a)) (some_is (Does (Fsub d a) []) line k) (word_is word _ y, refl, ((hd, ha), refl, refl))
-    by false false true s t x y z u v k = subst (IsMade word (rr d a)) (some_is (Does (Fnum d a) []) line k) (word_is word _ z, refl, ((hd, ha), refl, refl))
-    by false false false true t x y z u v k =
-        let g = bare_guarded (ltb a 14) (Fcfw d a) line k in
-        subst (IsMade word (rr d a)) g.1 (word_is word _ u, refl, ((hd, ltb-true a 14 g.0), refl, refl))
-    by false false false false true x y z u v k =
-        let g = bare_guarded (ltb a 12) (Ins d a) line k in
-        subst (IsMade word (rr d a)) g.1 (word_is word _ v, refl, ((hd, ltb-true a 12 g.0), refl, refl))
-    by false false false false false x y z u v k = absurd cc
-
-rrr_takes : (word : List ℕ) (d a b : ℕ) (line : Line) → d < 16 → a < 16 → b < 16 → bare (with_three_registers word d a b) ≡ Some line → IsMade word (rrr d a b) line
-unfolding with_three_registers
-rrr_takes word d a b line hd ha hb e = by (bytes_eq word (codes "ADD")) (bytes_eq word (codes "SUB")) (bytes_eq word (codes "EQ")) (bytes_eq word (codes "LT")) (bytes_eq word (codes "FACC")) (bytes_eq word (codes "FFAC")) refl refl refl refl refl refl e
-  where
-    by : (p q r s t o : Bool) → bytes_eq word (codes "ADD") ≡ p → bytes_eq word (codes "SUB") ≡ q → bytes_eq word (codes "EQ") ≡ r → bytes_eq word (codes "LT") ≡ s → bytes_eq word (codes "FACC") ≡ t → bytes_eq word (codes "FFAC") ≡ o
-        → bare (cond p (Some (Add d a b)) (cond q (Some (Sub d a b)) (cond r (Some (Eq d a b)) (cond s (Some (Lt d a b)) (cond t (Some (Facc d a b)) (cond o (Some (Ffac d a b)) None)))))) ≡ Some line → IsMade word (rrr d a b) line
-    by true q r s t o x y z u v w k = subst (IsMade word (rrr d a b)) (some_is (Does (Add d a b) []) line k) (word_is word _ x, refl, ((hd, ha, hb), refl, refl))
-    by false true r s t o x y z u v w k = subst (IsMade word (rrr d a b)) (some_is (Does (Sub d a b) []) line k) (word_is word _ y, refl, ((hd, ha, hb), refl, refl))
-    by false false true s t o x y z u v w k = subst (IsMade word (rrr d a b)) (some_is (Does (Eq d a b) []) line k) (word_is word _ z, refl, ((hd, ha, hb), refl, refl))
-    by false false false true t o x y z u v w k = subst (IsMade word (rrr d a b)) (some_is (Does (Lt d a b) []) line k) (word_is word _ u, refl, ((hd, ha, hb), refl, refl))
-    by false false false false true o x y z u v w k = subst (IsMade word (rrr d a b)) (some_is (Does (Facc d a b) []) line k) (word_is word _ v, refl, ((hd, ha, hb), refl, refl))
-    by false false false false false true x y z u v w k = subst (IsMade word (rrr d a b)) (some_is (Does (Ffac d a b) []) line k) (word_is word _ w, refl, ((hd, ha, hb), refl, refl))
-    by false false false false false false x y z u v w k = absurd cc
-
-only_takes : (word name : List ℕ) (it line : Line) → only word name it ≡ Some line → (word ≡ name) × (it ≡ line)
-only_takes word name it line e = let g = guarded (bytes_eq word name) (Some it) line e in (word_is word name g.0, some_is it line g.1)
-
-three_is : (word : List ℕ) (a b c : Operand) → instruction_with word (a ∷ b ∷ c ∷ []) ≡ with_three word (register_in a) (register_in b) (register_in c)
-unfolding instruction_with
-three_is word (Register x) (Register y) c = refl
-three_is word (Register x) (Number y) c = refl
-three_is word (Register x) (Target y) c = refl
-three_is word (Number x) (Register y) c = refl
-three_is word (Number x) (Number y) c = refl
-three_is word (Number x) (Target y) c = refl
-three_is word (Target x) (Register y) c = refl
-three_is word (Target x) (Number y) c = refl
-three_is word (Target x) (Target y) c = refl
-
-four_is : (word : List ℕ) (a b c d : Operand) (os : List Operand) → instruction_with word (a ∷ b ∷ c ∷ d ∷ os) ≡ None
-unfolding instruction_with
-four_is word (Register x) (Register y) c d os = refl
-four_is word (Register x) (Number y) c d os = refl
-four_is word (Register x) (Target y) c d os = refl
-four_is word (Number x) (Register y) c d os = refl
-four_is word (Number x) (Number y) c d os = refl
-four_is word (Number x) (Target y) c d os = refl
-four_is word (Target x) (Register y) c d os = refl
-four_is word (Target x) (Number y) c d os = refl
-four_is word (Target x) (Target y) c d os = refl
-
-three_takes : (word : List ℕ) (a b c : Operand) (line : Line) → AreOperands (a ∷ b ∷ c ∷ []) → with_three word (register_in a) (register_in b) (register_in c) ≡ Some line → IsMade word (a ∷ b ∷ c ∷ []) line
-three_takes word (Register d) (Register a) (Register b) line (hd, (ha, (hb, u))) e = rrr_takes word d a b line hd ha hb e
-three_takes word (Register d) (Register a) (Number n) line h e = absurd cc
-three_takes word (Register d) (Register a) (Target l) line h e = absurd cc
-three_takes word (Register d) (Number n) c line h e = absurd cc
-three_takes word (Register d) (Target l) c line h e = absurd cc
-three_takes word (Number n) b c line h e = absurd cc
-three_takes word (Target l) b c line h e = absurd cc
+each_makes_its_own : Each MakesItsOwn rows
+unfolding instr_with
+each_makes_its_own = (
+  λ d a b g i h l e. made _ _ _ (Ldi d g.number) i g.label e refl refl (λ t. ((h.0, h.1.0), refl, l)),
+  (
+    λ d a b g i h l e. made _ _ _ (Mov d a) i g.label e refl refl (λ t. ((h.0, h.1.0), refl, l)),
+    (
+      λ d a b g i h l e. made _ _ _ (Arg d g.number) i g.label e refl refl (λ t. ((h.0, h.1.0), refl, l)),
+      (
+        λ d a b g i h l e. made _ _ _ (Add d a b) i g.label e refl refl (λ t. ((h.0, h.1.0, h.1.1.0), refl, l)),
+        (
+          λ d a b g i h l e. made _ _ _ (Sub d a b) i g.label e refl refl (λ t. ((h.0, h.1.0, h.1.1.0), refl, l)),
+          (
+            λ d a b g i h l e. made _ _ _ (Eq d a b) i g.label e refl refl (λ t. ((h.0, h.1.0, h.1.1.0), refl, l)),
+            (
+              λ d a b g i h l e. made _ _ _ (Lt d a b) i g.label e refl refl (λ t. ((h.0, h.1.0, h.1.1.0), refl, l)),
+              (
+                λ d a b g i h l e. made _ _ false (Jmp g.number) i g.label e refl refl (λ t. (omega arith, ap Jmp (sym l), h.0)),
+                (
+                  λ d a b g i h l e. made _ _ _ (Jz d g.number) i g.label e refl refl (λ t. ((h.0, omega arith), ap (Jz d) (sym l), h.1.0)),
+                  (
+                    λ d a b g i h l e. made _ _ _ (Fsub d a) i g.label e refl refl (λ t. ((h.0, h.1.0), refl, l)),
+                    (
+                      λ d a b g i h l e. made _ _ _ (Fnum d a) i g.label e refl refl (λ t. ((h.0, h.1.0), refl, l)),
+                      (
+                        λ d a b g i h l e. made _ _ _ (Facc d a b) i g.label e refl refl (λ t. ((h.0, h.1.0, h.1.1.0), refl, l)),
+                        (
+                          λ d a b g i h l e. made _ _ _ (Ffac d a b) i g.label e refl refl (λ t. ((h.0, h.1.0, h.1.1.0), refl, l)),
+                          (
+                            λ d a b g i h l e. made _ _ _ (Fcfw d a) i g.label e refl refl (λ t. ((h.0, leb-false 14 a (key_within _ _ t)), refl, l)),
+                            (
+                              λ d a b g i h l e. made _ _ _ (Get d g.number) i g.label e refl refl (λ t. ((h.0, h.1.0), refl, l)),
+                              (
+                                λ d a b g i h l e. made _ _ _ (Put g.number d) i g.label e refl refl (λ t. ((h.0, h.1.0), refl, l)),
+                                (
+                                  λ d a b g i h l e. made _ _ _ (Ins d a) i g.label e refl refl (λ t. ((h.0, leb-false 12 a (row_within _ _ t)), refl, l)),
+                                  (
+                                    λ d a b g i h l e. made _ _ false Del i g.label e refl refl (λ t. (tt, refl, l)),
+                                    (
+                                      λ d a b g i h l e. made _ _ _ (Out d) i g.label e refl refl (λ t. (h.0, refl, l)),
+                                      (
+                                        λ d a b g i h l e. made _ _ false Done i g.label e refl refl (λ t. (tt, refl, l)),
+                                        (
+                                          λ d a b g i h l e. made _ _ false (Fail g.number) i g.label e refl refl (λ t. (h.0, refl, l)),
+                                          tt,
+                                        ),
+                                      ),
+                                    ),
+                                  ),
+                                ),
+                              ),
+                            ),
+                          ),
+                        ),
+                      ),
+                    ),
+                  ),
+                ),
+              ),
+            ),
+          ),
+        ),
+      ),
+    ),
+  ),
+)
 
 pub with_takes : (word : List ℕ) (os : List Operand) (line : Line) → AreOperands os → instruction_with word os ≡ Some line → IsMade word os line
-unfolding instruction_with
-with_takes word (Register d ∷ Number n ∷ []) line (hd, (hn, u)) e = rn_takes word d n line hd hn e
-with_takes word (Register d ∷ Register a ∷ []) line (hd, (ha, u)) e = rr_takes word d a line hd ha e
-with_takes word (Number c ∷ Register a ∷ []) line (hc, (ha, u)) e =
-    let g = only_takes word (codes "PUT") (Does (Put c a) []) line e in
-    subst (IsMade word (Number c ∷ Register a ∷ [])) g.1 (g.0, refl, ((hc, ha), refl, refl))
-with_takes word (Register a ∷ []) line (ha, u) e =
-    let g = only_takes word (codes "OUT") (Does (Out a) []) line e in
-    subst (IsMade word (Register a ∷ [])) g.1 (g.0, refl, (ha, refl, refl))
-with_takes word (Number n ∷ []) line (hn, u) e =
-    let g = only_takes word (codes "FAIL") (Does (Fail n) []) line e in
-    subst (IsMade word (Number n ∷ [])) g.1 (g.0, refl, (hn, refl, refl))
-with_takes word (Target label ∷ []) line (hl, u) e =
-    let g = only_takes word (codes "JMP") (Does (Jmp 0) label) line e in
-    subst (IsMade word (Target label ∷ [])) g.1 (g.0, refl, (omega arith, refl, hl))
-with_takes word (Register a ∷ Target label ∷ []) line (ha, (hl, u)) e =
-    let g = only_takes word (codes "JZ") (Does (Jz a 0) label) line e in
-    subst (IsMade word (Register a ∷ Target label ∷ [])) g.1 (g.0, refl, ((ha, omega arith), refl, hl))
-with_takes word (Number c ∷ Number n ∷ []) line h e = absurd cc
-with_takes word (Number c ∷ Target l ∷ []) line h e = absurd cc
-with_takes word (Target l ∷ Register a ∷ []) line h e = absurd cc
-with_takes word (Target l ∷ Number n ∷ []) line h e = absurd cc
-with_takes word (Target l ∷ Target m ∷ []) line h e = absurd cc
-with_takes word (a ∷ b ∷ c ∷ []) line h e = three_takes word a b c line h (sym (three_is word a b c) ∙ e)
-with_takes word [] line h e = absurd cc
-with_takes word (a ∷ b ∷ c ∷ d ∷ os) line h e = let f = four_is word a b c d os in absurd cc
+unfolding instruction_with row_named
+with_takes word os line h e =
+    let row = chained (λ row. with_row row os) (named word rows) line e in
+    let own = find_each MakesItsOwn (λ row. bytes_eq row.mnemonic word) rows row.0 each_makes_its_own row.1 in
+    let t = row_takes row.0 os line row.2 in
+    let m = own.1 t.d t.a t.b t.given t.instr (subst AreOperands t.operands h) t.is_given t.made in
+    let same : row.0.mnemonic ≡ word = word_is row.0.mnemonic word own.0 in
+    let x = subst (λ (w : List ℕ). IsMade w (row_operands row.0 t.d t.a t.b t.given) (Does t.instr t.given.label)) same m in
+    let y = subst (λ (xs : List Operand). IsMade word xs (Does t.instr t.given.label)) (sym t.operands) x in
+    subst (IsMade word os) t.is_line y
 
-pub made_text : (word : List ℕ) (o : Operand) (os : List Operand) (line : Line) → IsMade word (o ∷ os) line → (word ++ (32 ∷ operands_text (o ∷ os)) ≡ line_text line) × IsLine line
-made_text word o os (Opens name arity) h = absurd h
-made_text word o os (Names label) h = absurd h
-made_text word o os Closes h = absurd h
-made_text word o os (Does i label) (w, p, h) =
-    (ap (λ (x : List ℕ). x ++ (32 ∷ operands_text (o ∷ os))) w ∙ (ap (with_operands (mnemonic i)) p ∙ sym (text_is i label)), h)
+pub made_text : (word : List ℕ) (os : List Operand) (line : Line) → IsMade word os line → (with_operands word os ≡ line_text line) × IsLine line
+made_text word os (Opens name arity) h = absurd h
+made_text word os (Names label) h = absurd h
+made_text word os Closes h = absurd h
+made_text word os (Does i label) (w, p, h) = (ap (λ (x : List ℕ). with_operands x os) w ∙ (ap (with_operands (mnemonic i)) p ∙ sym (text_is i label)), h)
 
 -- ---- what is written
 pub operands_are : (i : Instr) (label : List ℕ) → IsLine (Does i label) → AreOperands (operands i label)
@@ -276,6 +265,16 @@ mnemonic_plain (Out a) = refl
 mnemonic_plain Done = refl
 mnemonic_plain (Fail n) = refl
 
+-- no mnemonic is `end`, and none has a colon
+pub mnemonic_not_end : (i : Instr) → bytes_eq (mnemonic i) (codes "end") ≡ false
+mnemonic_not_end (Ldi d n) = refl
+mnemonic_not_end _ = refl
+
+pub mnemonic_no_colon : (i : Instr) → before_colon (mnemonic i) ≡ None
+unfolding before_colon
+mnemonic_no_colon (Ldi d n) = refl
+mnemonic_no_colon _ = refl
+
 pub few_operands : (i : Instr) (label : List ℕ) → length (operands i label) < 4
 few_operands (Ldi d n) label = omega arith
 few_operands (Add d a b) label = omega arith
@@ -285,27 +284,30 @@ few_operands _ label = omega arith
 bare_line : (i : Instr) (label : List ℕ) → label ≡ [] → Does i [] ≡ Does i label
 bare_line i label e = ap (λ (l : List ℕ). Does i l) (sym e)
 
--- an instruction with operands
-pub with_again : (i : Instr) (label : List ℕ) → 0 < length (operands i label) → IsLine (Does i label) → instruction_with (mnemonic i) (operands i label) ≡ Some (Does i label)
-unfolding instruction_with with_register_and_number with_two_registers with_three_registers
-with_again (Ldi d n) label g (h, t, l) = ap Some (bare_line (Ldi d n) label l)
-with_again (Mov d a) label g (h, t, l) = ap Some (bare_line (Mov d a) label l)
-with_again (Arg d k) label g (h, t, l) = ap Some (bare_line (Arg d k) label l)
-with_again (Add d a b) label g (h, t, l) = ap Some (bare_line (Add d a b) label l)
-with_again (Sub d a b) label g (h, t, l) = ap Some (bare_line (Sub d a b) label l)
-with_again (Eq d a b) label g (h, t, l) = ap Some (bare_line (Eq d a b) label l)
-with_again (Lt d a b) label g (h, t, l) = ap Some (bare_line (Lt d a b) label l)
-with_again (Jmp x) label g (h, t, l) = ap (λ (i : Instr). Some (Does i label)) t
-with_again (Jz a x) label g (h, t, l) = ap (λ (i : Instr). Some (Does i label)) t
-with_again (Fsub d a) label g (h, t, l) = ap Some (bare_line (Fsub d a) label l)
-with_again (Fnum d a) label g (h, t, l) = ap Some (bare_line (Fnum d a) label l)
-with_again (Facc d a b) label g (h, t, l) = ap Some (bare_line (Facc d a b) label l)
-with_again (Ffac d a b) label g (h, t, l) = ap Some (bare_line (Ffac d a b) label l)
-with_again (Fcfw d a) label g (h, t, l) = rw (lt-ltb a 14 h.1) (ap Some (bare_line (Fcfw d a) label l))
-with_again (Get d c) label g (h, t, l) = ap Some (bare_line (Get d c) label l)
-with_again (Put c a) label g (h, t, l) = ap Some (bare_line (Put c a) label l)
-with_again (Ins d a) label g (h, t, l) = rw (lt-ltb a 12 h.1) (ap Some (bare_line (Ins d a) label l))
-with_again Del label g h = absurd (omega arith)
-with_again (Out a) label g (h, t, l) = ap Some (bare_line (Out a) label l)
-with_again Done label g h = absurd (omega arith)
-with_again (Fail n) label g (h, t, l) = ap Some (bare_line (Fail n) label l)
+low : (d : ℕ) → d < 16 → leb 16 d ≡ false
+low d h = lt-leb 16 d h
+
+-- the row of its mnemonic, with its operands
+pub with_again : (i : Instr) (label : List ℕ) → IsLine (Does i label) → instruction_with (mnemonic i) (operands i label) ≡ Some (Does i label)
+unfolding instruction_with row_named with_row registers_of given_for instr_with
+with_again (Ldi d n) label (h, t, l) = rw (low d h.0) (ap Some (bare_line (Ldi d n) label l))
+with_again (Mov d a) label (h, t, l) = rw (low d h.0, low a h.1) (ap Some (bare_line (Mov d a) label l))
+with_again (Arg d k) label (h, t, l) = rw (low d h.0) (ap Some (bare_line (Arg d k) label l))
+with_again (Add d a b) label (h, t, l) = rw (low d h.0, low a h.1, low b h.2) (ap Some (bare_line (Add d a b) label l))
+with_again (Sub d a b) label (h, t, l) = rw (low d h.0, low a h.1, low b h.2) (ap Some (bare_line (Sub d a b) label l))
+with_again (Eq d a b) label (h, t, l) = rw (low d h.0, low a h.1, low b h.2) (ap Some (bare_line (Eq d a b) label l))
+with_again (Lt d a b) label (h, t, l) = rw (low d h.0, low a h.1, low b h.2) (ap Some (bare_line (Lt d a b) label l))
+with_again (Jmp x) label (h, t, l) = ap (λ (i : Instr). Some (Does i label)) t
+with_again (Jz a x) label (h, t, l) = rw (low a h.0) (ap (λ (i : Instr). Some (Does i label)) t)
+with_again (Fsub d a) label (h, t, l) = rw (low d h.0, low a h.1) (ap Some (bare_line (Fsub d a) label l))
+with_again (Fnum d a) label (h, t, l) = rw (low d h.0, low a h.1) (ap Some (bare_line (Fnum d a) label l))
+with_again (Facc d a b) label (h, t, l) = rw (low d h.0, low a h.1, low b h.2) (ap Some (bare_line (Facc d a b) label l))
+with_again (Ffac d a b) label (h, t, l) = rw (low d h.0, low a h.1, low b h.2) (ap Some (bare_line (Ffac d a b) label l))
+with_again (Fcfw d a) label (h, t, l) = rw (low d h.0, low a (omega arith), lt-leb 14 a h.1) (ap Some (bare_line (Fcfw d a) label l))
+with_again (Get d c) label (h, t, l) = rw (low d h.0) (ap Some (bare_line (Get d c) label l))
+with_again (Put c a) label (h, t, l) = rw (low a h.1) (ap Some (bare_line (Put c a) label l))
+with_again (Ins d a) label (h, t, l) = rw (low d h.0, low a (omega arith), lt-leb 12 a h.1) (ap Some (bare_line (Ins d a) label l))
+with_again Del label (h, t, l) = ap Some (bare_line Del label l)
+with_again (Out a) label (h, t, l) = rw (low a h) (ap Some (bare_line (Out a) label l))
+with_again Done label (h, t, l) = ap Some (bare_line Done label l)
+with_again (Fail n) label (h, t, l) = ap Some (bare_line (Fail n) label l)

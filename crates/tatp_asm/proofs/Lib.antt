@@ -3,6 +3,7 @@ pub mod TargetLaws
 pub mod Tools
 pub mod FieldLaws
 pub mod OperandLaws
+pub mod TableLaws
 pub mod InstructionLaws
 pub mod LineLaws
 pub mod LabelLaws

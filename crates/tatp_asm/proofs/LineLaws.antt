@@ -8,14 +8,14 @@ use Rattle.std.proofs.lemmas.Bool.{eqb-true}
 use Rattle.std.proofs.lemmas.List.Splits.{join_with_byte-slice_split}
 use Rattle.std.proofs.lemmas.Str.{IsUtf8-from_ascii, is_utf8-from_IsUtf8}
 use Rattle.tatp_instr.specs.declared.instr.Instr.{Instr}
-use Rattle.tatp_instr.specs.declared.instr.Instr.TheVariants.{Del, Done}
 use Rattle.tatp_encoding.specs.Modules.{is_name}
 use Rattle.tatp_asm.specs.Lines.{Line, Opens, Names, Does, Closes, line_text, instruction_text, IsLine, is_label}
-use Rattle.tatp_asm.specs.Words.{Operand, below, operands_of, instruction_with, instruction_of, before_colon, label_line, word_of, opening_of, line_of_fields, line_of, line_of_bytes}
+use Rattle.tatp_asm.specs.Words.{Operand, below, operands_of, instruction_with, instruction_of, before_colon, label_line, label_or_instruction, word_of, opening_of, line_of_fields, line_of, line_of_bytes}
 use Rattle.tatp_asm.proofs.RoundTrip.{below_takes, below_again}
 use Rattle.tatp_asm.proofs.Tools.{some_is, word_is, mapped, chained, guarded, both, plain, ascii, free, mono, plain_ascii, plain_no_space, plain_no_comma, decimal_plain, label_plain, name_plain, Each, each_mono, all_append, each_join, split_join, ascii_at}
+use Rattle.tatp_asm.proofs.FieldLaws.{some_field}
 use Rattle.tatp_asm.proofs.OperandLaws.{operand_text, operands_text, AreOperands, operands_take, operands_again, operands_plain}
-use Rattle.tatp_asm.proofs.InstructionLaws.{mnemonic, operands, with_operands, text_is, IsMade, with_takes, made_text, operands_are, mnemonic_plain, few_operands, with_again}
+use Rattle.tatp_asm.proofs.InstructionLaws.{mnemonic, operands, with_operands, text_is, IsMade, with_takes, made_text, operands_are, mnemonic_plain, mnemonic_not_end, mnemonic_no_colon, few_operands, with_again}
 
 -- ---- what is read is written so
 abbrev IsRead : List ℕ → Line → Type 0
@@ -29,38 +29,36 @@ colon_takes (b ∷ c ∷ bs) front e =
     let m = mapped (λ (x : List ℕ). b ∷ x) (before_colon (c ∷ bs)) front e in
     rw (← m.2) (ap (λ (x : List ℕ). b ∷ x) (colon_takes (c ∷ bs) m.0 m.1))
 
+label_takes : (word front : List ℕ) (line : Line) → before_colon word ≡ Some front → label_line front ≡ Some line → IsRead word line
+label_takes word front line c e =
+    let g = guarded (is_label front) (Some (Names front)) line e in
+    subst (IsRead word) (some_is (Names front) line g.1) (colon_takes word front c, g.0)
+
 word_takes : (word : List ℕ) (line : Line) → word_of word ≡ Some line → IsRead word line
 unfolding word_of
-word_takes word line e = by (bytes_eq word (codes "end")) (bytes_eq word (codes "DEL")) (bytes_eq word (codes "DONE")) refl refl refl e
+word_takes word line e = by (bytes_eq word (codes "end")) (before_colon word) refl refl e
   where
-    by : (p q r : Bool) → bytes_eq word (codes "end") ≡ p → bytes_eq word (codes "DEL") ≡ q → bytes_eq word (codes "DONE") ≡ r
-        → cond p (Some Closes) (cond q (Some (Does Del [])) (cond r (Some (Does Done [])) (option_and_then label_line (before_colon word)))) ≡ Some line → IsRead word line
-    by true q r x y z k = subst (IsRead word) (some_is Closes line k) (word_is word _ x, tt)
-    by false true r x y z k = subst (IsRead word) (some_is (Does Del []) line k) (word_is word _ y, (tt, refl, refl))
-    by false false true x y z k = subst (IsRead word) (some_is (Does Done []) line k) (word_is word _ z, (tt, refl, refl))
-    by false false false x y z k =
-        let c = chained label_line (before_colon word) line k in
-        let g = guarded (is_label c.0) (Some (Names c.0)) line c.2 in
-        subst (IsRead word) (some_is (Names c.0) line g.1) (colon_takes word c.0 c.1, g.0)
+    by : (p : Bool) (colon : Option (List ℕ)) → bytes_eq word (codes "end") ≡ p → before_colon word ≡ colon → cond p (Some Closes) (label_or_instruction word colon) ≡ Some line → IsRead word line
+    by true colon x c k = subst (IsRead word) (some_is Closes line k) (word_is word _ x, tt)
+    by false (Some front) x c k = label_takes word front line c k
+    by false None x c k = made_text word [] line (with_takes word [] line tt k)
 
 abbrev with_field : List ℕ → List ℕ → List ℕ
 with_field word text = word ++ (32 ∷ text)
 
-no_operands : (word : List ℕ) (line : Line) → instruction_with word [] ≡ Some line → ⊥
-unfolding instruction_with
-no_operands word line e = cc
-
-made_takes : (word text : List ℕ) (os : List Operand) (line : Line) → IsMade word os line → text ≡ operands_text os → instruction_with word os ≡ Some line → IsRead (with_field word text) line
-made_takes word text [] line m t k = absurd (no_operands word line k)
-made_takes word text (o ∷ os) line m t k = let f = made_text word o os line m in (ap (with_field word) t ∙ f.0, f.1)
+made_takes : (word text : List ℕ) (os : List Operand) (line : Line) → IsMade word os line → slice_split (λ b. eqb b 44) text ≡ map operand_text os → IsRead (with_field word text) line
+made_takes word text [] line m f = let s = some_field 44 text in absurd cc
+made_takes word text (o ∷ os) line m f =
+    let t : text ≡ operands_text (o ∷ os) = sym (join_with_byte-slice_split 44 text) ∙ ap (join_with_byte 44) f in
+    let r = made_text word (o ∷ os) line m in
+    (ap (with_field word) t ∙ r.0, r.1)
 
 instruction_takes : (word text : List ℕ) (line : Line) → instruction_of word text ≡ Some line → IsRead (with_field word text) line
 unfolding instruction_of
 instruction_takes word text line e =
     let c = chained (instruction_with word) (operands_of (slice_split (λ b. eqb b 44) text)) line e in
     let r = operands_take (slice_split (λ b. eqb b 44) text) c.0 c.1 in
-    let t : text ≡ operands_text c.0 = sym (join_with_byte-slice_split 44 text) ∙ ap (join_with_byte 44) r.0 in
-    made_takes word text c.0 line (with_takes word c.0 line r.1 c.2) t c.2
+    made_takes word text c.0 line (with_takes word c.0 line r.1 c.2) r.0
 
 abbrev opening_text : List ℕ → List ℕ → List ℕ → List ℕ
 opening_text word name arity = word ++ (32 ∷ (name ++ (32 ∷ arity)))
@@ -133,17 +131,9 @@ end_no_label : before_colon (codes "end") ≡ None
 unfolding before_colon
 end_no_label = refl
 
-del_no_label : before_colon (codes "DEL") ≡ None
-unfolding before_colon
-del_no_label = refl
-
-done_no_label : before_colon (codes "DONE") ≡ None
-unfolding before_colon
-done_no_label = refl
-
 names_again : (l : List ℕ) → is_label l ≡ true → word_of (l ++ codes ":") ≡ Some (Names l)
 unfolding word_of
-names_again l h = rw (word_not l (codes "end") end_no_label, word_not l (codes "DEL") del_no_label, word_not l (codes "DONE") done_no_label, colon_again l) (rw h refl)
+names_again l h = rw (word_not l (codes "end") end_no_label, colon_again l) (rw h refl)
 
 opens_again : (name : List ℕ) (arity : ℕ) → is_name name ≡ true → arity ≤ 8 → opening_of (codes "proc") name (decimal arity) ≡ Some (Opens name arity)
 unfolding opening_of
@@ -153,25 +143,20 @@ closes_again : word_of (codes "end") ≡ Some Closes
 unfolding word_of
 closes_again = refl
 
-alone_again : (word : List ℕ) (i : Instr) (label : List ℕ) → list_all plain word ≡ true → label ≡ [] → word_of word ≡ Some (Does i []) → line_of_bytes word ≡ Some (Does i label)
-alone_again word i label p l e = plain_again word [] (Does i []) (p, tt) e ∙ ap (λ (x : List ℕ). Some (Does i x)) (sym l)
-
-del_again : word_of (codes "DEL") ≡ Some (Does Del [])
+alone_again : (i : Instr) (label : List ℕ) → instruction_with (mnemonic i) [] ≡ Some (Does i label) → word_of (mnemonic i) ≡ Some (Does i label)
 unfolding word_of
-del_again = refl
+alone_again i label e = rw (mnemonic_not_end i, mnemonic_no_colon i) e
 
-done_again : word_of (codes "DONE") ≡ Some (Does Done [])
-unfolding word_of
-done_again = refl
-
-does_again : (i : Instr) (label : List ℕ) (os : List Operand) → os ≡ operands i label → 0 < length os → IsLine (Does i label) → line_of_bytes (instruction_text i label) ≡ Some (Does i label)
-does_again i label [] e n h = absurd (omega arith)
-does_again i label (o ∷ os) e n h =
+does_again : (i : Instr) (label : List ℕ) (os : List Operand) → os ≡ operands i label → IsLine (Does i label) → line_of_bytes (instruction_text i label) ≡ Some (Does i label)
+does_again i label [] e h =
+    let t : instruction_text i label ≡ with_operands (mnemonic i) [] = text_is i label ∙ ap (with_operands (mnemonic i)) (sym e) in
+    let made : instruction_with (mnemonic i) [] ≡ Some (Does i label) = ap (instruction_with (mnemonic i)) e ∙ with_again i label h in
+    ap line_of_bytes t ∙ plain_again (mnemonic i) [] (Does i label) (mnemonic_plain i, tt) (alone_again i label made)
+does_again i label (o ∷ os) e h =
     let t : instruction_text i label ≡ with_operands (mnemonic i) (o ∷ os) = text_is i label ∙ ap (with_operands (mnemonic i)) (sym e) in
     let few : length (o ∷ os) < 4 = subst (λ (x : List Operand). length x < 4) (sym e) (few_operands i label) in
     let are : AreOperands (o ∷ os) = subst AreOperands (sym e) (operands_are i label h) in
-    let some : 0 < length (operands i label) = subst (λ (x : List Operand). 0 < length x) e n in
-    let made : instruction_with (mnemonic i) (o ∷ os) ≡ Some (Does i label) = ap (instruction_with (mnemonic i)) e ∙ with_again i label some h in
+    let made : instruction_with (mnemonic i) (o ∷ os) ≡ Some (Does i label) = ap (instruction_with (mnemonic i)) e ∙ with_again i label h in
     ap line_of_bytes t ∙ operands_again_all (mnemonic i) o os (Does i label) (mnemonic_plain i) few are made
 
 pub line_again : (line : Line) → IsLine line → line_of_bytes (line_text line) ≡ Some line
@@ -179,9 +164,7 @@ line_again (Opens name arity) (h, k) =
     ap line_of_bytes (opening_is name arity) ∙ plain_again (codes "proc") (name ∷ decimal arity ∷ []) (Opens name arity) (refl, (name_plain name h, (decimal_plain arity (omega arith), tt))) (opens_again name arity h k)
 line_again (Names l) h = plain_again (l ++ codes ":") [] (Names l) (all_append plain l (codes ":") (label_plain l h) refl, tt) (names_again l h)
 line_again Closes h = plain_again (codes "end") [] Closes (refl, tt) closes_again
-line_again (Does Del label) (h, t, l) = alone_again (codes "DEL") Del label refl l del_again
-line_again (Does Done label) (h, t, l) = alone_again (codes "DONE") Done label refl l done_again
-line_again (Does i label) h = does_again i label (operands i label) refl (omega arith) h
+line_again (Does i label) h = does_again i label (operands i label) refl h
 
 -- ---- the bytes of a line
 alone_all : (p : ℕ → Bool) (f : (b : ℕ) → plain b ≡ true → p b ≡ true) (i : Instr) (os : List Operand) → p 32 ≡ true → p 44 ≡ true → AreOperands os → list_all p (with_operands (mnemonic i) os) ≡ true

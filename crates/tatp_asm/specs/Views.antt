@@ -7,6 +7,7 @@ use Rattle.tatp_asm.specs.declared.fields.Split.{Split}
 use Rattle.tatp_asm.specs.declared.fields.Split.TheVariants.{One, Two, Three, More}
 use Rattle.tatp_asm.specs.declared.operands.Operand.{Operand}
 use Rattle.tatp_asm.specs.declared.operands.Operand.TheVariants as operand
+use Rattle.tatp_asm.specs.declared.operands.Given.{Given}
 use Rattle.tatp_asm.specs.declared.line.Line.{Line}
 use Rattle.tatp_asm.specs.declared.line.Line.TheVariants.{Opening, Label, Instruction, Ending}
 use Rattle.tatp_asm.specs.declared.draft.Draft.{Draft}
@@ -29,6 +30,12 @@ abbrev pub operand_view : Operand → words.Operand
 operand_view (operand.Register r) = Register r
 operand_view (operand.Number n) = Number n
 operand_view (operand.Target label) = Target label.bytes
+
+abbrev pub operands_view : List Operand → List words.Operand
+operands_view operands = map operand_view operands
+
+abbrev pub given_view : Given → words.Given
+given_view given = record { number = given.number; label = given.label.bytes }
 
 abbrev pub line_view : Line → lines.Line
 line_view (Opening name arity) = Opens name.bytes arity

@@ -1,12 +1,14 @@
 -- The line that a text is, read field by field: docs/FORMATS.md, "Assembly text".
-use Rattle.std.specs.Prelude.{ℕ, ◌+◌, ◌^◌, ◌==◌, ◌&&◌, nat_lt, if◌then◌else◌, List, [], ◌∷◌, codes, bytes_eq, Option, Some, None}
+use Rattle.std.specs.Prelude.{ℕ, ◌+◌, ◌^◌, ◌==◌, ◌&&◌, nat_lt, if◌then◌else◌, List, [], ◌∷◌, take, drop, length, codes, bytes_eq, Option, Some, None}
 use Rattle.std.specs.Option.{option_map, option_and_then}
 use Rattle.std.specs.Str.{is_utf8}
 use denote.Ref.{Bor}
 use Rattle.tatp_lines.specs.Fields.{fields_of}
 use Rattle.tatp_lines.specs.Numbers.{number_of}
-use Rattle.tatp_instr.specs.declared.instr.Instr.{Instr}
-use Rattle.tatp_instr.specs.declared.instr.Instr.TheVariants.{Ldi, Mov, Arg, Add, Sub, Eq, Lt, Jmp, Jz, Fsub, Fnum, Facc, Ffac, Fcfw, Get, Put, Ins, Del, Out, Done, Fail}
+use Rattle.tatp_instr.specs.declared.book.Word.{Word}
+use Rattle.tatp_instr.specs.declared.book.Word.TheVariants as holds
+use Rattle.tatp_instr.specs.Shapes.{Row, row_named}
+use Rattle.tatp_instr.specs.Parts.{instr_of}
 use Rattle.tatp_encoding.specs.Modules.{is_name}
 use Rattle.tatp_encoding.specs.declared.module.TheConstants.{MAX_ARGUMENTS}
 use Rattle.tatp_asm.specs.Lines.{Line, Opens, Names, Does, Closes, is_label}
@@ -49,62 +51,66 @@ operands_of (a ∷ b ∷ []) = option_and_then (λ x. option_map (λ y. x ∷ y 
 operands_of (a ∷ b ∷ c ∷ []) = option_and_then (λ x. option_and_then (λ y. option_map (λ z. x ∷ y ∷ z ∷ []) (operand_of c)) (operand_of b)) (operand_of a)
 operands_of fields = None
 
--- ---- instructions, by their operands
-unfoldable pub with_register_and_number : List ℕ → ℕ → ℕ → Option Instr
-with_register_and_number word d n =
-    if bytes_eq word (codes "LDI") then Some (Ldi d n) else
-    if bytes_eq word (codes "ARG") then Some (Arg d n) else
-    if bytes_eq word (codes "GET") then Some (Get d n) else
-    None
+-- ---- instructions, by the table of their mnemonics and operands
+-- the operands that stand for a row's registers
+abbrev pub for_registers : Row → List Operand → List Operand
+for_registers row operands = if row.word_first then drop 1 operands else take row.shape.registers operands
 
-unfoldable pub with_two_registers : List ℕ → ℕ → ℕ → Option Instr
-with_two_registers word d a =
-    if bytes_eq word (codes "MOV") then Some (Mov d a) else
-    if bytes_eq word (codes "FSUB") then Some (Fsub d a) else
-    if bytes_eq word (codes "FNUM") then Some (Fnum d a) else
-    if bytes_eq word (codes "FCFW") then (if nat_lt a 14 then Some (Fcfw d a) else None) else
-    if bytes_eq word (codes "INS") then (if nat_lt a 12 then Some (Ins d a) else None) else
-    None
-
-unfoldable pub with_three_registers : List ℕ → ℕ → ℕ → ℕ → Option Instr
-with_three_registers word d a b =
-    if bytes_eq word (codes "ADD") then Some (Add d a b) else
-    if bytes_eq word (codes "SUB") then Some (Sub d a b) else
-    if bytes_eq word (codes "EQ") then Some (Eq d a b) else
-    if bytes_eq word (codes "LT") then Some (Lt d a b) else
-    if bytes_eq word (codes "FACC") then Some (Facc d a b) else
-    if bytes_eq word (codes "FFAC") then Some (Ffac d a b) else
-    None
-
--- what is, where the word is this one
-abbrev pub only : {A : Type 0} → List ℕ → List ℕ → A → Option A
-only word name it = if bytes_eq word name then Some it else None
-
--- an instruction that names no label
-abbrev pub bare : Option Instr → Option Line
-bare instr = option_map (λ i. Does i []) instr
+-- those that stand for its u32
+abbrev pub for_word : Row → List Operand → List Operand
+for_word row operands = if row.word_first then take 1 operands else drop row.shape.registers operands
 
 abbrev pub register_in : Operand → Option ℕ
 register_in (Register a) = Some a
 register_in operand = None
 
-abbrev pub with_three : List ℕ → Option ℕ → Option ℕ → Option ℕ → Option Line
-with_three word d a b = option_and_then (λ d. option_and_then (λ a. option_and_then (λ b. bare (with_three_registers word d a b)) b) a) d
+-- the numbers of up to three registers, and 0 where there are fewer
+unfoldable pub registers_of : List Operand → Option (List ℕ)
+registers_of [] = Some (0 ∷ 0 ∷ 0 ∷ [])
+registers_of (a ∷ []) = option_map (λ a. a ∷ 0 ∷ 0 ∷ []) (register_in a)
+registers_of (a ∷ b ∷ []) = option_and_then (λ a. option_map (λ b. a ∷ b ∷ 0 ∷ []) (register_in b)) (register_in a)
+registers_of (a ∷ b ∷ c ∷ []) = option_and_then (λ a. option_and_then (λ b. option_map (λ c. a ∷ b ∷ c ∷ []) (register_in c)) (register_in b)) (register_in a)
+registers_of operands = None
 
+-- what operands give for a u32: a number, and the label that they name; beside its label, a target is 0
+pub record Given : Type 0 where
+  pub number : ℕ
+  pub label : List ℕ
+
+abbrev pub numbered : ℕ → Given
+numbered n = record { number = n; label = [] }
+
+abbrev pub labelled : List ℕ → Given
+labelled label = record { number = 0; label = label }
+
+-- what they give where the u32 holds this
+unfoldable pub given_for : Word → List Operand → Option Given
+given_for holds.Nothing [] = Some (numbered 0)
+given_for holds.Count (Number n ∷ []) = Some (numbered n)
+given_for holds.Column (Number n ∷ []) = Some (numbered n)
+given_for holds.Argument (Number n ∷ []) = Some (numbered n)
+given_for holds.Target (Target label ∷ []) = Some (labelled label)
+given_for word operands = None
+
+-- the instruction of an op with these registers and this number, beside this label
+abbrev pub with_parts : ℕ → List ℕ → Given → Option Line
+with_parts op registers given = option_map (λ instr. Does instr given.label) (instr_of (record { op = op; registers = registers; word = given.number }))
+
+-- the instruction of a row with these operands, which are as many as the row has
+unfoldable pub with_row : Row → List Operand → Option Line
+with_row row operands =
+    let registers = for_registers row operands in
+    if length registers == row.shape.registers
+    then option_and_then (λ given. option_and_then (λ numbers. with_parts row.op numbers given) (registers_of registers)) (given_for row.shape.word (for_word row operands))
+    else None
+
+-- the instruction of a mnemonic with these operands
 unfoldable pub instruction_with : List ℕ → List Operand → Option Line
-instruction_with word (Register d ∷ Number n ∷ []) = bare (with_register_and_number word d n)
-instruction_with word (Register d ∷ Register a ∷ []) = bare (with_two_registers word d a)
-instruction_with word (Number c ∷ Register a ∷ []) = only word (codes "PUT") (Does (Put c a) [])
-instruction_with word (Register a ∷ []) = only word (codes "OUT") (Does (Out a) [])
-instruction_with word (Number n ∷ []) = only word (codes "FAIL") (Does (Fail n) [])
-instruction_with word (Target label ∷ []) = only word (codes "JMP") (Does (Jmp 0) label)
-instruction_with word (Register a ∷ Target label ∷ []) = only word (codes "JZ") (Does (Jz a 0) label)
-instruction_with word (a ∷ b ∷ c ∷ []) = with_three word (register_in a) (register_in b) (register_in c)
-instruction_with word operands = None
+instruction_with mnemonic operands = option_and_then (λ row. with_row row operands) (row_named mnemonic)
 
 -- an instruction with operands, which are parted by commas
 unfoldable pub instruction_of : List ℕ → List ℕ → Option Line
-instruction_of word text = option_and_then (instruction_with word) (operands_of (fields_of 44 text))
+instruction_of mnemonic text = option_and_then (instruction_with mnemonic) (operands_of (fields_of 44 text))
 
 -- ---- lines
 -- what stands before a colon at the end
@@ -116,13 +122,14 @@ before_colon (b ∷ c ∷ more) = option_map (λ front. b ∷ front) (before_col
 abbrev pub label_line : List ℕ → Option Line
 label_line label = if is_label label then Some (Names label) else None
 
+-- a word that isn't `end`: with a colon at its end a label, and else a mnemonic that stands alone
+abbrev pub label_or_instruction : List ℕ → Option (List ℕ) → Option Line
+label_or_instruction word (Some label) = label_line label
+label_or_instruction word None = instruction_with word []
+
 -- a line of one word
 unfoldable pub word_of : List ℕ → Option Line
-word_of word =
-    if bytes_eq word (codes "end") then Some Closes else
-    if bytes_eq word (codes "DEL") then Some (Does Del []) else
-    if bytes_eq word (codes "DONE") then Some (Does Done []) else
-    option_and_then label_line (before_colon word)
+word_of word = if bytes_eq word (codes "end") then Some Closes else label_or_instruction word (before_colon word)
 
 -- a line that begins a procedure
 unfoldable pub opening_of : List ℕ → List ℕ → List ℕ → Option Line

@@ -1,13 +1,12 @@
 //! One line: what it is.
 ghost use Rattle.std.specs.Prelude.{◌≡◌, option_map, IfSome};
-ghost use Rattle.std.specs.Option.{option_and_then};
 ghost use Rattle.tatp_asm.specs.Lines.{IsLine};
-ghost use Rattle.tatp_asm.specs.Words.{before_colon, label_line, word_of, opening_of, line_of, line_of_bytes};
+ghost use Rattle.tatp_asm.specs.Words.{label_line, word_of, opening_of, line_of, line_of_bytes};
 ghost use Rattle.tatp_asm.specs.Views.{line_view};
 
 use crate::fields::{Split, below, is_label, is_name, split_fields};
 use crate::name::{Name, name_of};
-use crate::operands::instruction;
+use crate::operands::{instruction, instruction_with};
 use tatp_encoding::MAX_ARGUMENTS;
 use tatp_instr::Instr;
 
@@ -24,12 +23,11 @@ pub(crate) enum Line {
     Ending,
 }
 
-/// The label that a line is, which ends with a colon.
+/// The line of a label, which a colon follows.
 #[tactic(auto, using(crate::proofs::Tools::label_short))]
-fn label_line(word: &str) -> Option<Line>
-    ensures { option_map line_view result ≡ option_and_then label_line (before_colon word.now) }
+fn label_line(label: &str) -> Option<Line>
+    ensures { option_map line_view result ≡ label_line label.now }
 {
-    let label = word.strip_suffix(':')?;
     if is_label(label.as_bytes()) {
         Some(Line::Label(name_of(label)))
     } else {
@@ -42,11 +40,12 @@ fn label_line(word: &str) -> Option<Line>
 fn word_line(word: &str) -> Option<Line>
     ensures { option_map line_view result ≡ word_of word.now }
 {
-    match word {
-        "end" => Some(Line::Ending),
-        "DEL" => Some(Line::Instruction(Instr::Del, Name::new())),
-        "DONE" => Some(Line::Instruction(Instr::Done, Name::new())),
-        _ => label_line(word),
+    if word == "end" {
+        return Some(Line::Ending);
+    }
+    match word.strip_suffix(':') {
+        Some(label) => label_line(label),
+        None => instruction_with(word, &[]),
     }
 }
 

@@ -1,13 +1,15 @@
-//! Operands, and the instruction that a mnemonic makes of them.
-ghost use Rattle.std.specs.Prelude.{◌≡◌, ◌∷◌, [], option_map};
-ghost use Rattle.tatp_asm.specs.Words.{operand_of, register_in, bare, instruction_with, instruction_of, with_register_and_number, with_two_registers, with_three_registers};
+//! Operands, and the instruction that a mnemonic makes of them, by the table of the instructions.
+ghost use Rattle.std.specs.Prelude.{◌≡◌, option_map, take, drop, Some};
+ghost use Rattle.tatp_instr.specs.Shapes.{shape_at};
+ghost use Rattle.tatp_instr.specs.Rows.{row_view};
+ghost use Rattle.tatp_asm.specs.Words.{operand_of, for_registers, for_word, register_in, registers_of, given_for, with_row, instruction_with, instruction_of};
 ghost use Rattle.tatp_asm.specs.Words as words;
-ghost use Rattle.tatp_asm.specs.Views.{operand_view, line_view};
+ghost use Rattle.tatp_asm.specs.Views.{operand_view, operands_view, given_view, line_view};
 
 use crate::fields::{Split, below, is_label, split_fields};
 use crate::line::Line;
 use crate::name::{Name, name_of};
-use tatp_instr::{Instr, KeyRegisters, Register, RowRegisters};
+use tatp_instr::{Instr, OpRow, Parts, Register, Word, row_named};
 
 /// An operand: its first character tells which.
 #[derive(Clone, Copy, Debug)]
@@ -18,6 +20,32 @@ pub(crate) enum Operand {
     Target(Name),
 }
 
+/// What operands give for a u32: a number, and the label that they name. Beside its label, a target
+/// is 0.
+#[derive(Clone, Copy, Debug)]
+struct Given {
+    number: u32,
+    label: Name,
+}
+
+/// A number that stands for itself.
+fn numbered(number: u32) -> Given
+    ensures { given_view result ≡ words.numbered number }
+{
+    Given {
+        number,
+        label: Name::new(),
+    }
+}
+
+/// A label.
+fn labelled(label: Name) -> Given
+    ensures { given_view result ≡ words.labelled label.bytes }
+{
+    Given { number: 0, label }
+}
+
+/// The register of a number.
 fn register(text: &str) -> Option<Register>
     ensures { result ≡ words.below 16 text.now }
 {
@@ -43,162 +71,102 @@ fn read_operand(text: &str) -> Option<Operand>
     }
 }
 
-#[tactic(auto, unfolding(crate::specs::Words::with_register_and_number))]
-fn with_register_and_number(word: &str, d: Register, n: u32) -> Option<Instr>
-    ensures { result ≡ with_register_and_number word.now d n }
+/// The first so many operands, and the others.
+fn parted_at(operands: &[Operand], count: usize) -> (&[Operand], &[Operand])
+    ensures first { result.0.now ≡ take count operands.now }
+    ensures others { result.1.now ≡ drop count operands.now }
 {
-    match word {
-        "LDI" => Some(Instr::Ldi(d, n)),
-        "ARG" => Some(Instr::Arg(d, n)),
-        "GET" => Some(Instr::Get(d, n)),
-        _ => None,
+    operands.split_at(count.min(operands.len()))
+}
+
+/// The operands that stand for a row's registers, and those that stand for its u32.
+fn parted<'a>(row: &OpRow, operands: &'a [Operand]) -> (&'a [Operand], &'a [Operand])
+    ensures registers { operands_view result.0.now ≡ for_registers (row_view row.now) (operands_view operands.now) }
+    ensures word { operands_view result.1.now ≡ for_word (row_view row.now) (operands_view operands.now) }
+{
+    if row.word_first {
+        let (word, registers) = parted_at(operands, 1);
+        (registers, word)
+    } else {
+        parted_at(operands, usize::from(row.shape.registers))
     }
 }
 
-#[tactic(auto, unfolding(crate::specs::Words::with_two_registers))]
-fn with_two_registers(word: &str, d: Register, a: Register) -> Option<Instr>
-    ensures { result ≡ with_two_registers word.now d a }
-{
-    match word {
-        "MOV" => Some(Instr::Mov(d, a)),
-        "FSUB" => Some(Instr::Fsub(d, a)),
-        "FNUM" => Some(Instr::Fnum(d, a)),
-        "FCFW" => Some(Instr::Fcfw(d, KeyRegisters::new(a.number())?)),
-        "INS" => Some(Instr::Ins(d, RowRegisters::new(a.number())?)),
-        _ => None,
-    }
-}
-
-#[tactic(auto, unfolding(crate::specs::Words::with_three_registers))]
-fn with_three_registers(word: &str, d: Register, a: Register, b: Register) -> Option<Instr>
-    ensures { result ≡ with_three_registers word.now d a b }
-{
-    match word {
-        "ADD" => Some(Instr::Add(d, a, b)),
-        "SUB" => Some(Instr::Sub(d, a, b)),
-        "EQ" => Some(Instr::Eq(d, a, b)),
-        "LT" => Some(Instr::Lt(d, a, b)),
-        "FACC" => Some(Instr::Facc(d, a, b)),
-        "FFAC" => Some(Instr::Ffac(d, a, b)),
-        _ => None,
-    }
-}
-
-/// An instruction that names no label.
-fn bare(instr: Option<Instr>) -> Option<Line>
-    ensures { option_map line_view result ≡ bare instr }
-{
-    Some(Line::Instruction(instr?, Name::new()))
-}
-
-#[tactic(auto, unfolding(crate::specs::Words::instruction_with))]
-fn with_one(word: &str, operand: Operand) -> Option<Line>
-    ensures { option_map line_view result ≡ instruction_with word.now (operand_view operand ∷ []) }
+/// The number of the register that an operand is.
+fn register_in(operand: &Operand) -> Option<u8>
+    ensures { result ≡ register_in (operand_view operand.now) }
 {
     match operand {
-        Operand::Register(a) => {
-            if word == "OUT" {
-                Some(Line::Instruction(Instr::Out(a), Name::new()))
-            } else {
-                None
-            }
-        }
-        Operand::Number(n) => {
-            if word == "FAIL" {
-                Some(Line::Instruction(Instr::Fail(n), Name::new()))
-            } else {
-                None
-            }
-        }
-        Operand::Target(label) => {
-            if word == "JMP" {
-                Some(Line::Instruction(Instr::Jmp(0), label))
-            } else {
-                None
-            }
-        }
-    }
-}
-
-#[tactic(auto, unfolding(crate::specs::Words::instruction_with))]
-fn with_register_and(word: &str, d: Register, second: Operand) -> Option<Line>
-    ensures { option_map line_view result ≡ instruction_with word.now (words.Register d ∷ operand_view second ∷ []) }
-{
-    match second {
-        Operand::Number(n) => bare(with_register_and_number(word, d, n)),
-        Operand::Register(a) => bare(with_two_registers(word, d, a)),
-        Operand::Target(label) => {
-            if word == "JZ" {
-                Some(Line::Instruction(Instr::Jz(d, 0), label))
-            } else {
-                None
-            }
-        }
-    }
-}
-
-#[tactic(auto, unfolding(crate::specs::Words::instruction_with))]
-fn with_number_and(word: &str, c: u32, second: Operand) -> Option<Line>
-    ensures { option_map line_view result ≡ instruction_with word.now (words.Number c ∷ operand_view second ∷ []) }
-{
-    match second {
-        Operand::Register(a) => {
-            if word == "PUT" {
-                Some(Line::Instruction(Instr::Put(c, a), Name::new()))
-            } else {
-                None
-            }
-        }
+        Operand::Register(register) => Some(register.number()),
         Operand::Number(_) | Operand::Target(_) => None,
     }
 }
 
-#[tactic(auto, unfolding(crate::specs::Words::instruction_with))]
-fn with_two(word: &str, first: Operand, second: Operand) -> Option<Line>
-    ensures { option_map line_view result ≡ instruction_with word.now (operand_view first ∷ operand_view second ∷ []) }
+/// The numbers of up to three registers, and 0 where there are fewer.
+#[tactic(auto, unfolding(crate::specs::Words::registers_of))]
+fn registers_of(operands: &[Operand]) -> Option<[u8; 3]>
+    ensures { result ≡ registers_of (operands_view operands.now) }
 {
-    match first {
-        Operand::Register(d) => with_register_and(word, d, second),
-        Operand::Number(c) => with_number_and(word, c, second),
-        Operand::Target(_) => None,
+    match operands {
+        [] => Some([0, 0, 0]),
+        [a] => Some([register_in(a)?, 0, 0]),
+        [a, b] => Some([register_in(a)?, register_in(b)?, 0]),
+        [a, b, c] => Some([register_in(a)?, register_in(b)?, register_in(c)?]),
+        _ => None,
     }
 }
 
-/// The register that an operand is.
-fn register_in(operand: Operand) -> Option<Register>
-    ensures { result ≡ register_in (operand_view operand) }
+/// What operands give where the u32 holds this.
+#[tactic(auto, unfolding(crate::specs::Words::given_for))]
+fn given_for(word: Word, operands: &[Operand]) -> Option<Given>
+    ensures { option_map given_view result ≡ given_for word (operands_view operands.now) }
 {
-    match operand {
-        Operand::Register(a) => Some(a),
-        Operand::Number(_) | Operand::Target(_) => None,
+    match (word, operands) {
+        (Word::Nothing, []) => Some(numbered(0)),
+        (Word::Count | Word::Column | Word::Argument, [Operand::Number(n)]) => Some(numbered(*n)),
+        (Word::Target, [Operand::Target(label)]) => Some(labelled(*label)),
+        _ => None,
     }
 }
 
-#[tactic(auto, unfolding(crate::specs::Words::instruction_with))]
-fn with_three(word: &str, first: Operand, second: Operand, third: Operand) -> Option<Line>
-    ensures { option_map line_view result ≡ instruction_with word.now (operand_view first ∷ operand_view second ∷ operand_view third ∷ []) }
+/// The instruction of a row with these operands.
+#[tactic(auto, unfolding(crate::specs::Words::with_row))]
+fn with_row(row: &OpRow, operands: &[Operand]) -> Option<Line>
+    requires shape { shape_at row.now.op ≡ Some row.now.shape }
+    ensures { option_map line_view result ≡ with_row (row_view row.now) (operands_view operands.now) }
 {
-    let (d, a, b) = (
-        register_in(first)?,
-        register_in(second)?,
-        register_in(third)?,
-    );
-    bare(with_three_registers(word, d, a, b))
+    let (registers, word) = parted(row, operands);
+    if registers.len() != usize::from(row.shape.registers) {
+        return None;
+    }
+    let given = given_for(row.shape.word, word)?;
+    let parts = Parts {
+        op: row.op,
+        registers: registers_of(registers)?,
+        word: given.number,
+    };
+    Some(Line::Instruction(Instr::from_parts(&parts)?, given.label))
+}
+
+/// The instruction of a mnemonic with these operands.
+#[tactic(auto, unfolding(crate::specs::Words::instruction_with))]
+pub(crate) fn instruction_with(mnemonic: &str, operands: &[Operand]) -> Option<Line>
+    ensures { option_map line_view result ≡ instruction_with mnemonic.now (operands_view operands.now) }
+{
+    with_row(row_named(mnemonic)?, operands)
 }
 
 /// The instruction of a mnemonic and its operands, which commas part.
 #[tactic(auto, unfolding(crate::specs::Words::instruction_of, crate::specs::Words::operands_of))]
-pub(crate) fn instruction(word: &str, text: &str) -> Option<Line>
-    ensures { option_map line_view result ≡ instruction_of word.now text.now }
+pub(crate) fn instruction(mnemonic: &str, text: &str) -> Option<Line>
+    ensures { option_map line_view result ≡ instruction_of mnemonic.now text.now }
 {
     match split_fields(',', text) {
-        Split::One(a) => with_one(word, read_operand(a)?),
-        Split::Two(a, b) => with_two(word, read_operand(a)?, read_operand(b)?),
-        Split::Three(a, b, c) => with_three(
-            word,
-            read_operand(a)?,
-            read_operand(b)?,
-            read_operand(c)?,
+        Split::One(a) => instruction_with(mnemonic, &[read_operand(a)?]),
+        Split::Two(a, b) => instruction_with(mnemonic, &[read_operand(a)?, read_operand(b)?]),
+        Split::Three(a, b, c) => instruction_with(
+            mnemonic,
+            &[read_operand(a)?, read_operand(b)?, read_operand(c)?],
         ),
         Split::More => None,
     }

@@ -1,18 +1,17 @@
 -- What each event does to the fields of the whole: they stay sound, and it is told what it is.
-use Rattle.std.proofs.Common.{◌≡◌, ◌≢◌, inl, inr, ℕ, zero, suc, ◌+◌, ◌<◌, ◌≤◌, Bool, true, false, List, [], ◌∷◌, ◌++◌, length, Option, Some, None, Ok, Err, Result, slice_get, refl, sym, ◌∙◌, ap, subst, arith, vec_len, vec_capacity}
+use Rattle.std.proofs.Common.{◌≡◌, inl, inr, ℕ, zero, suc, ◌+◌, ◌<◌, ◌≤◌, false, List, [], ◌∷◌, ◌++◌, length, Option, Some, None, Ok, Err, Result, slice_get, refl, sym, ◌∙◌, ap, subst, arith, vec_len, vec_capacity}
 use Rattle.std.specs.Option.{option_map, option_map_or}
 use Rattle.std.proofs.Math.ListN.{set, length-set}
 use Rattle.std.proofs.Common.{Vec, Global}
 use Rattle.std.proofs.lemmas.Option.{slice_get_cases, slice_get_past}
 use Rattle.tatp_tables.specs.Database.{Database}
 use Rattle.tatp_procs.specs.declared.entry.Entry.{Entry}
-use Rattle.tatp_procs.specs.declared.reply.Reply.{Reply}
 use Rattle.tatp_partition.specs.declared.item.Completion.{Completion}
 use Rattle.tatp_partition.specs.declared.refusal.SiteRefusal.{SiteRefusal}
 use Rattle.tatp_partition.specs.declared.item.Stepped.TheVariants.{Moved as Did_move, Ended as Did_end}
 use Rattle.tatp_partition.specs.Running.{GoesOn, EndsCall}
 use Rattle.tatp_dispatch.specs.Stepping.{StepsAt}
-use Rattle.tatp_partition.specs.Sites.{SiteState, RunningCall, with_rows_here}
+use Rattle.tatp_partition.specs.Sites.{SiteState, with_rows_here}
 use Rattle.tatp_partition.specs.Sound.{IsSite}
 use Rattle.tatp_dispatch.specs.declared.client.Client.{Client}
 use Rattle.tatp_dispatch.specs.declared.event.Answer.{Answer}
@@ -24,10 +23,8 @@ use Rattle.tatp_dispatch.specs.Counts.{one, total}
 use Rattle.tatp_dispatch.specs.Worlds.{WorldState}
 use Rattle.tatp_dispatch.specs.Fields.{world_of, HasRoom, IsSound}
 use Rattle.tatp_dispatch.specs.Obstacles.{at_site}
-use Rattle.tatp_dispatch.specs.Events.{IsRefused, with_site, ChangesSite, MovesAt, EndsAt}
-use Rattle.tatp_dispatch.specs.Plain.{Goes, Stays, Nothing}
-use Rattle.tatp_dispatch.specs.Shown.{shown}
-use Rattle.tatp_dispatch.specs.Serving.{step_of, IsWorld, Serves, Tells}
+use Rattle.tatp_dispatch.specs.Events.{IsRefused, with_site, MovesAt, EndsAt}
+use Rattle.tatp_dispatch.specs.Serving.{IsWorld, Tells}
 use Rattle.tatp_dispatch.proofs.CountLaws.{total_set_same, total_set, total_at}
 use Rattle.tatp_dispatch.specs.Placed.{times_running}
 use Rattle.tatp_dispatch.proofs.CallLaws.{runs_counted}

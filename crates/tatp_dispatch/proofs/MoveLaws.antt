@@ -1,12 +1,11 @@
 -- An extent is taken or given, and a landing is told to the routes: no row changes, and what holds of the whole still holds.
-use Rattle.std.proofs.Common.{◌≡◌, ◌≢◌, ◌⊎◌, inl, inr, ℕ, zero, suc, ◌+◌, ◌<◌, ◌≤◌, Bool, true, false, List, [], ◌∷◌, ◌++◌, length, Option, Some, None, Ok, slice_get, refl, sym, ◌∙◌, ap, subst, arith}
+use Rattle.std.proofs.Common.{◌≡◌, ◌≢◌, inl, inr, ℕ, ◌<◌, true, false, List, [], ◌∷◌, ◌++◌, length, Option, Some, None, Ok, slice_get, refl, sym, ◌∙◌, ap, subst, arith}
 use Rattle.std.specs.Prelude.{remove}
 use Rattle.std.specs.Option.{option_flatten, option_and_then, option_map}
 use Rattle.std.proofs.Math.ListN.{set, length-set}
 use Rattle.tatp_population.specs.Extents.{ExtentState, extent_of, home_at}
 use Rattle.std.proofs.lemmas.Option.{slice_get_within}
-use Rattle.tatp_population.specs.Opening.{extent_count}
-use Rattle.tatp_partition.specs.Moving.{LandedState, moved, with_extent, HasPlaceFor, Takes, Gives}
+use Rattle.tatp_partition.specs.Moving.{LandedState, moved, with_extent, Gives}
 use Rattle.tatp_partition.specs.Sites.{SiteState, slot}
 use Rattle.tatp_partition.specs.Sound.{IsSite}
 use Rattle.tatp_move.specs.declared.route.Route.{Route}
@@ -15,14 +14,14 @@ use Rattle.tatp_move.specs.declared.route.Settled.TheVariants.{Set as Is_set, Su
 use Rattle.tatp_move.specs.Routing.{RoutesState, Settles}
 use Rattle.tatp_dispatch.specs.Counts.{one}
 use Rattle.tatp_dispatch.specs.Worlds.{WorldState}
-use Rattle.tatp_dispatch.specs.Placed.{IsWhole, AreExtentsPlaced}
+use Rattle.tatp_dispatch.specs.Placed.{IsWhole}
 use Rattle.tatp_dispatch.specs.Routed.{extent_in, moves_of, stands_at, AreRoutesRight, NamePartitions}
 use Rattle.tatp_dispatch.specs.Serving.{IsWorld}
 use Rattle.tatp_dispatch.proofs.CountLaws.{same_or_not, get_set_same, get_set_other, at_set}
-use Rattle.tatp_dispatch.proofs.PlaceLaws.{slot_has, extent_at_site, extent_in_hand, home_in}
-use Rattle.tatp_dispatch.proofs.RouteLaws.{SettlesIn, routes_taken, routes_given, routes_settled, get_push, remove_old}
+use Rattle.tatp_dispatch.proofs.PlaceLaws.{slot_has, extent_at_site, extent_in_hand}
+use Rattle.tatp_dispatch.proofs.RouteLaws.{routes_taken, routes_given, routes_settled, get_push, remove_old}
 use Rattle.tatp_dispatch.proofs.SlotLaws.{Changes, placed_changed, extent_other, stands_other, extent_here, extent_held, stands_in_hand, stands_here, hand_free}
-use Rattle.tatp_dispatch.proofs.WorldLaws.{Kept, Carries, carried_world, keeps_carried}
+use Rattle.tatp_dispatch.proofs.WorldLaws.{Kept, Carries}
 
 some_inj : {A : Type 0} (x y : A) → Some x ≡ Some y → x ≡ y
 some_inj x y h = cc

@@ -36,7 +36,7 @@ use Rattle.tatp_dispatch.specs.Placed.{extent_at, AreExtentsPlaced, WaitsIn, Run
 use Rattle.tatp_dispatch.specs.Populated.{IsPopulated}
 use Rattle.tatp_dispatch.specs.Routed.{extent_in, moves_of, stands_at, AreRoutesRight, NamePartitions}
 use Rattle.tatp_dispatch.specs.Serving.{IsWorld}
-use Rattle.tatp_dispatch.specs.Shown.{shown, set_back}
+use Rattle.tatp_dispatch.specs.Shown.{set_back}
 use Rattle.tatp_dispatch.specs.Worlds.{WorldState}
 use Rattle.tatp_dispatch.proofs.CleanLaws.{clean_populated}
 use Rattle.tatp_dispatch.proofs.CollectLaws.{Collects, has_row, both_ways, first_is, collected_same}

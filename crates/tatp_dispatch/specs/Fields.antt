@@ -1,5 +1,5 @@
 -- How the fields of the whole show it, and what holds of them.
-use Rattle.std.specs.Prelude.{◌≡◌, ℕ, ◌+◌, ◌≤◌, length, vec_len, None}
+use Rattle.std.specs.Prelude.{◌≡◌, ◌+◌, ◌≤◌, length, vec_len, None}
 use Rattle.std.specs.Vec.{vec_capacity}
 use Rattle.tatp_partition.specs.Sites.{SiteState}
 use Rattle.tatp_dispatch.specs.declared.world.World.TheInside.{Inside}

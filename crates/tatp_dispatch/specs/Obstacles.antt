@@ -1,12 +1,11 @@
 -- Why an event is refused: the first obstacle that is there, in their order.
-use Rattle.std.specs.Prelude.{◌≡◌, ℕ, ◌-◌, ◌^◌, ◌==◌, not, Bool, if◌then◌else◌, List, [], ◌∷◌, is_none, Option, Some, None, slice_get}
+use Rattle.std.specs.Prelude.{ℕ, ◌-◌, ◌^◌, ◌==◌, not, Bool, if◌then◌else◌, List, is_none, Option, Some, None, slice_get}
 use Rattle.std.specs.Option.{option_map, option_map_or, option_and_then}
 use Rattle.tatp_encoding.specs.Modules.{Procedure}
 use Rattle.tatp_procs.specs.declared.ask.Ask.{Ask}
 use Rattle.tatp_partition.specs.declared.item.Item.{Item}
 use Rattle.tatp_partition.specs.declared.refusal.SiteRefusal.{SiteRefusal}
 use Rattle.tatp_partition.specs.Asks.{has_procedure, bad_argument}
-use Rattle.tatp_partition.specs.Moving.{LandedState}
 use Rattle.tatp_partition.specs.Sites.{SiteState, slot}
 use Rattle.tatp_partition.specs.Obstacles.{begin_obstacle, step_obstacle, one_obstacle, take_obstacle, stop_obstacle, resume_obstacle, break_obstacle}
 use Rattle.tatp_dispatch.specs.declared.event.Refusal.{Refusal}

@@ -133,72 +133,35 @@ row_within : (x y : Bool) → (x || y) ≡ false → y ≡ false
 row_within true y e = absurd cc
 row_within false y e = e
 
+infixr 10 ◌⨾◌
+◌⨾◌ : {A B : Type 0} → A → B → A × B
+first ⨾ others = (first, others)
+
 each_makes_its_own : Each MakesItsOwn rows
 unfolding instr_with
-each_makes_its_own = (
-  λ d a b g i h l e. made _ _ _ (Ldi d g.number) i g.label e refl refl (λ t. ((h.0, h.1.0), refl, l)),
-  (
-    λ d a b g i h l e. made _ _ _ (Mov d a) i g.label e refl refl (λ t. ((h.0, h.1.0), refl, l)),
-    (
-      λ d a b g i h l e. made _ _ _ (Arg d g.number) i g.label e refl refl (λ t. ((h.0, h.1.0), refl, l)),
-      (
-        λ d a b g i h l e. made _ _ _ (Add d a b) i g.label e refl refl (λ t. ((h.0, h.1.0, h.1.1.0), refl, l)),
-        (
-          λ d a b g i h l e. made _ _ _ (Sub d a b) i g.label e refl refl (λ t. ((h.0, h.1.0, h.1.1.0), refl, l)),
-          (
-            λ d a b g i h l e. made _ _ _ (Eq d a b) i g.label e refl refl (λ t. ((h.0, h.1.0, h.1.1.0), refl, l)),
-            (
-              λ d a b g i h l e. made _ _ _ (Lt d a b) i g.label e refl refl (λ t. ((h.0, h.1.0, h.1.1.0), refl, l)),
-              (
-                λ d a b g i h l e. made _ _ false (Jmp g.number) i g.label e refl refl (λ t. (omega arith, ap Jmp (sym l), h.0)),
-                (
-                  λ d a b g i h l e. made _ _ _ (Jz d g.number) i g.label e refl refl (λ t. ((h.0, omega arith), ap (Jz d) (sym l), h.1.0)),
-                  (
-                    λ d a b g i h l e. made _ _ _ (Fsub d a) i g.label e refl refl (λ t. ((h.0, h.1.0), refl, l)),
-                    (
-                      λ d a b g i h l e. made _ _ _ (Fnum d a) i g.label e refl refl (λ t. ((h.0, h.1.0), refl, l)),
-                      (
-                        λ d a b g i h l e. made _ _ _ (Facc d a b) i g.label e refl refl (λ t. ((h.0, h.1.0, h.1.1.0), refl, l)),
-                        (
-                          λ d a b g i h l e. made _ _ _ (Ffac d a b) i g.label e refl refl (λ t. ((h.0, h.1.0, h.1.1.0), refl, l)),
-                          (
-                            λ d a b g i h l e. made _ _ _ (Fcfw d a) i g.label e refl refl (λ t. ((h.0, leb-false 14 a (key_within _ _ t)), refl, l)),
-                            (
-                              λ d a b g i h l e. made _ _ _ (Get d g.number) i g.label e refl refl (λ t. ((h.0, h.1.0), refl, l)),
-                              (
-                                λ d a b g i h l e. made _ _ _ (Put g.number d) i g.label e refl refl (λ t. ((h.0, h.1.0), refl, l)),
-                                (
-                                  λ d a b g i h l e. made _ _ _ (Ins d a) i g.label e refl refl (λ t. ((h.0, leb-false 12 a (row_within _ _ t)), refl, l)),
-                                  (
-                                    λ d a b g i h l e. made _ _ false Del i g.label e refl refl (λ t. (tt, refl, l)),
-                                    (
-                                      λ d a b g i h l e. made _ _ _ (Out d) i g.label e refl refl (λ t. (h.0, refl, l)),
-                                      (
-                                        λ d a b g i h l e. made _ _ false Done i g.label e refl refl (λ t. (tt, refl, l)),
-                                        (
-                                          λ d a b g i h l e. made _ _ false (Fail g.number) i g.label e refl refl (λ t. (h.0, refl, l)),
-                                          tt,
-                                        ),
-                                      ),
-                                    ),
-                                  ),
-                                ),
-                              ),
-                            ),
-                          ),
-                        ),
-                      ),
-                    ),
-                  ),
-                ),
-              ),
-            ),
-          ),
-        ),
-      ),
-    ),
-  ),
-)
+each_makes_its_own =
+    (λ d a b g i h l e. made _ _ _ (Ldi d g.number) i g.label e refl refl (λ t. ((h.0, h.1.0), refl, l)))
+    ⨾ (λ d a b g i h l e. made _ _ _ (Mov d a) i g.label e refl refl (λ t. ((h.0, h.1.0), refl, l)))
+    ⨾ (λ d a b g i h l e. made _ _ _ (Arg d g.number) i g.label e refl refl (λ t. ((h.0, h.1.0), refl, l)))
+    ⨾ (λ d a b g i h l e. made _ _ _ (Add d a b) i g.label e refl refl (λ t. ((h.0, h.1.0, h.1.1.0), refl, l)))
+    ⨾ (λ d a b g i h l e. made _ _ _ (Sub d a b) i g.label e refl refl (λ t. ((h.0, h.1.0, h.1.1.0), refl, l)))
+    ⨾ (λ d a b g i h l e. made _ _ _ (Eq d a b) i g.label e refl refl (λ t. ((h.0, h.1.0, h.1.1.0), refl, l)))
+    ⨾ (λ d a b g i h l e. made _ _ _ (Lt d a b) i g.label e refl refl (λ t. ((h.0, h.1.0, h.1.1.0), refl, l)))
+    ⨾ (λ d a b g i h l e. made _ _ false (Jmp g.number) i g.label e refl refl (λ t. (omega arith, ap Jmp (sym l), h.0)))
+    ⨾ (λ d a b g i h l e. made _ _ _ (Jz d g.number) i g.label e refl refl (λ t. ((h.0, omega arith), ap (Jz d) (sym l), h.1.0)))
+    ⨾ (λ d a b g i h l e. made _ _ _ (Fsub d a) i g.label e refl refl (λ t. ((h.0, h.1.0), refl, l)))
+    ⨾ (λ d a b g i h l e. made _ _ _ (Fnum d a) i g.label e refl refl (λ t. ((h.0, h.1.0), refl, l)))
+    ⨾ (λ d a b g i h l e. made _ _ _ (Facc d a b) i g.label e refl refl (λ t. ((h.0, h.1.0, h.1.1.0), refl, l)))
+    ⨾ (λ d a b g i h l e. made _ _ _ (Ffac d a b) i g.label e refl refl (λ t. ((h.0, h.1.0, h.1.1.0), refl, l)))
+    ⨾ (λ d a b g i h l e. made _ _ _ (Fcfw d a) i g.label e refl refl (λ t. ((h.0, leb-false 14 a (key_within _ _ t)), refl, l)))
+    ⨾ (λ d a b g i h l e. made _ _ _ (Get d g.number) i g.label e refl refl (λ t. ((h.0, h.1.0), refl, l)))
+    ⨾ (λ d a b g i h l e. made _ _ _ (Put g.number d) i g.label e refl refl (λ t. ((h.0, h.1.0), refl, l)))
+    ⨾ (λ d a b g i h l e. made _ _ _ (Ins d a) i g.label e refl refl (λ t. ((h.0, leb-false 12 a (row_within _ _ t)), refl, l)))
+    ⨾ (λ d a b g i h l e. made _ _ false Del i g.label e refl refl (λ t. (tt, refl, l)))
+    ⨾ (λ d a b g i h l e. made _ _ _ (Out d) i g.label e refl refl (λ t. (h.0, refl, l)))
+    ⨾ (λ d a b g i h l e. made _ _ false Done i g.label e refl refl (λ t. (tt, refl, l)))
+    ⨾ (λ d a b g i h l e. made _ _ false (Fail g.number) i g.label e refl refl (λ t. (h.0, refl, l)))
+    ⨾ tt
 
 pub with_takes : (word : List ℕ) (os : List Operand) (line : Line) → AreOperands os → instruction_with word os ≡ Some line → IsMade word os line
 unfolding instruction_with row_named

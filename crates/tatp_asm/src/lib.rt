@@ -17,6 +17,3 @@ pub use assembling::{assemble, assemble_bytes};
 pub use fault::{AsmError, AsmFault, AsmFaultKind};
 pub use laws::assemble_disassembled;
 pub use printing::disassemble;
-
-#[cfg(test)]
-mod tests;

@@ -13,6 +13,3 @@ pub use bench::{run_bench, run_drawn};
 pub use drawing::{Drawn, draw};
 pub use fault::BenchFault;
 pub use plan::BenchPlan;
-
-#[cfg(test)]
-mod tests;

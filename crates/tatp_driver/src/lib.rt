@@ -8,6 +8,3 @@ mod driver;
 pub use distribution::Distribution;
 pub use drawn_call::call_of;
 pub use driver::Driver;
-
-#[cfg(test)]
-mod tests;

@@ -10,6 +10,3 @@ pub use book::{BOOK, OpRow, Shape, Word, operands, row_named};
 pub use instr::{Instr, Parts};
 pub use printing::{Line, text};
 pub use registers::{KeyRegisters, Register, Registers, RowRegisters};
-
-#[cfg(test)]
-mod tests;

@@ -9,6 +9,3 @@ mod numbers;
 pub use bytes::next_line;
 pub use lines::Lines;
 pub use numbers::read_number;
-
-#[cfg(test)]
-mod tests;

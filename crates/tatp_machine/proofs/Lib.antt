@@ -6,4 +6,3 @@ pub mod LaterLaws
 pub mod LineLaws
 pub mod HomelessLaws
 pub mod RunLaws
-pub mod FixtureLaws

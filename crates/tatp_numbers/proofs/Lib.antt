@@ -2,4 +2,3 @@ pub mod IdLaws
 pub mod FindLaws
 pub mod NumberLaws
 pub mod HomeLaws
-pub mod FixtureLaws

@@ -14,6 +14,3 @@ pub use build_error::BuildError;
 pub use directory::Directory;
 pub use key::Key;
 pub use laws::clean_rows_make_a_directory;
-
-#[cfg(test)]
-mod tests;

@@ -15,4 +15,3 @@ pub mod CloseLaws
 pub mod OpenLaws
 pub mod RestLaws
 pub mod RunnerLaws
-pub mod FixtureLaws

@@ -16,6 +16,3 @@ pub use parcel::{Landed, Parcel, what_holds_of_every_parcel};
 pub use refusal::SiteRefusal;
 pub use site::{Site, what_holds_of_every_site};
 pub use slots::Slots;
-
-#[cfg(test)]
-mod tests;

@@ -58,6 +58,3 @@ fn name(call: &Call) -> &'static str
         Call::DeleteCallForwarding { .. } => "DELETE_CALL_FORWARDING",
     }
 }
-
-#[cfg(test)]
-mod tests;

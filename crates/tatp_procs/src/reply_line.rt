@@ -87,6 +87,3 @@ fn answer_columns(call: &Call) -> &'static [u8]
         _ => &[],
     }
 }
-
-#[cfg(test)]
-mod tests;

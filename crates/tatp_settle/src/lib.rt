@@ -26,8 +26,6 @@ mod settled;
 mod settling;
 mod stamping;
 mod table;
-#[cfg(test)]
-mod tests;
 
 pub use cause::Unsettled;
 pub use closed::{Closed, ClosedSite};

@@ -19,5 +19,4 @@ pub mod LetterLaws
 pub mod NumberLaws
 pub mod RowTextLaws
 pub mod ValueLaws
-pub mod FixtureLaws
 pub mod EqualityLaws

@@ -28,6 +28,3 @@ pub use row::{Row, RowList, Rows};
 pub use table::{Table, is_fixed};
 pub use text::{read_row, row_text};
 pub use values::{push_value, read_value};
-
-#[cfg(test)]
-mod tests;

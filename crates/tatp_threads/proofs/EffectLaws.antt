@@ -1,7 +1,7 @@
 -- Lists that grow, where they are known.
-use Rattle.std.proofs.Common.{◌≡◌, Bool, true, false, List, [], ◌++◌, Option, Some, None, sym, ap, ◌∙◌, append_assoc}
+use Rattle.std.proofs.Common.{◌≡◌, List, [], ◌++◌, Option, Some, None, sym, ap, ◌∙◌, append_assoc}
 use Rattle.std.proofs.lemmas.List.{append-nil}
-use Rattle.tatp_threads.specs.Effects.{Grows, known_unless}
+use Rattle.tatp_threads.specs.Effects.{Grows}
 
 pub not_grown : {A : Type 0} (known : Option (List A)) → Grows known known []
 not_grown None = tt
@@ -12,7 +12,3 @@ grown_twice before mid None xs ys h k = tt
 grown_twice before None (Some a) xs ys h k = absurd k
 grown_twice None (Some m) (Some a) xs ys h k = absurd h
 grown_twice {A = A} (Some b) (Some m) (Some a) xs ys h k = k ∙ ap (λ (l : List A). l ++ ys) h ∙ append_assoc b xs ys
-
-pub grows_by : {A : Type 0} (lost : Bool) (before after more : List A) → after ≡ before ++ more → Grows (known_unless lost before) (known_unless lost after) more
-grows_by true before after more is = tt
-grows_by false before after more is = is

@@ -18,11 +18,6 @@ Grows before None more = Unit {0}
 Grows None (Some after) more = ⊥
 Grows (Some before) (Some after) more = after ≡ before ++ more
 
--- what is known of a list that is kept, unless some of it was lost
-abbrev pub known_unless : {A : Type 0} → Bool → List A → Option (List A)
-known_unless true kept = None
-known_unless false kept = Some kept
-
 -- ---- executors
 -- the receipt of a completed call: what its entry says, and in which extent's log it stands
 abbrev pub receipt_of : Completion → Receipt

@@ -27,6 +27,3 @@ pub use message::Message;
 pub use ran::{Moves, Ran, RanParts};
 pub use refusal::RunRefusal;
 pub use run::run_calls;
-
-#[cfg(test)]
-mod tests;

@@ -17,6 +17,3 @@ pub use line::TraceLine;
 pub use looking::{home_lines, look_text};
 pub use printing::trace_line_text;
 pub use reading::read_trace_line;
-
-#[cfg(test)]
-mod tests;

@@ -1,0 +1,12 @@
+//! A module for each crate whose calls are tested.
+mod asm;
+mod driver;
+mod encoding;
+mod instr;
+mod lines;
+mod loader;
+mod machine;
+mod numbers;
+mod population;
+mod procs;
+mod tables;

@@ -1,3 +1,0 @@
-//! A population that is opened and gathered.
-mod fixture;
-mod opening;

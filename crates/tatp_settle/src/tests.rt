@@ -1,4 +1,0 @@
-//! What sites and parcels leave, gathered and settled: each refusal, and what a settled run counts.
-mod fixture;
-mod gathering;
-mod settling;

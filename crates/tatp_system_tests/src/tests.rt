@@ -1,0 +1,15 @@
+//! Tests, and what they share: rows, sites, and events at a site.
+mod calls;
+mod events;
+mod gates;
+mod gathering;
+mod moves;
+mod routes;
+mod rows;
+mod runs;
+mod settling;
+mod sites;
+mod stops;
+mod threads;
+mod trace_lines;
+mod world;

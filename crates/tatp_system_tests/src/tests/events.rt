@@ -1,0 +1,233 @@
+//! Sites of 192 subscribers in three extents, and what happens at them.
+ghost use Rattle.std.specs.Prelude.{◌<◌, ◌^◌, IsTrue, length};
+ghost use Rattle.tatp_settle.specs.Runs.{joined, lists_of};
+
+use super::sites::{begins, ended, lands, opened, spend_parcels, spend_site};
+use std::alloc::{AllocError, Global};
+use tatp_loader::Loaded;
+use tatp_move::close_sites;
+use tatp_numbers::Key;
+use tatp_partition::{Item, Parcel, Site};
+use tatp_procs::{Ask, Call, Raw, Reply};
+use tatp_settle::Receipt;
+
+/// What happens at a site.
+#[derive(Clone, Copy)]
+pub enum Event {
+    /// The call of a client, by its number, reads at the home of a subscriber.
+    Call(u64, u64, u64),
+    /// The same, of a client that has seen this stamp.
+    Late(u64, u64, u64, u64),
+    /// The call of a client reads, without a home, for a subscriber.
+    Homeless(u64, u64, u64),
+    /// A call that is no standard transaction reads at the home of a subscriber.
+    Raw(u64),
+    /// The same without a home.
+    RawHomeless,
+    /// The extent is taken and lands there again.
+    Moved(u32),
+    /// The extent is taken, and stays in its parcel.
+    Taken(u32),
+    /// The extent is taken, and is spent.
+    Lost(u32),
+}
+
+/// A reading of access data that a subscriber lacks: it has one row in Access_Info.
+pub fn reading(s_id: u64) -> Ask {
+    Ask::Txn(Call::GetAccessData { s_id, ai_type: 2 })
+}
+
+/// The same reading as a call that is no standard transaction.
+fn raw(s_id: u64) -> Ask {
+    Ask::Raw(Raw::new(2, &[s_id, 2], Key::Id(s_id)))
+}
+
+/// Runs a call, by its client, its number and the stamp that was seen, in at most 256 steps; whether it ended.
+fn ends(
+    alloc: Global,
+    site: &mut Site<'_>,
+    (client, number, seen): (u64, u64, u64),
+    ask: Ask,
+    home: Option<u64>,
+) -> bool {
+    let item = Item {
+        client,
+        number,
+        seen,
+        ask,
+        home,
+    };
+    begins(site, alloc, item) == Ok(true) && ended(site).is_some()
+}
+
+/// Keeps a parcel; whether there was memory.
+fn keeps(parcels: &mut Vec<Parcel>, parcel: Parcel) -> bool {
+    match parcels.push(parcel) {
+        Ok(()) => true,
+        Err(refused) => {
+            let _ = refused.value.unpack().close();
+            false
+        }
+    }
+}
+
+/// Whether the event happened.
+fn happens(alloc: Global, site: &mut Site<'_>, parcels: &mut Vec<Parcel>, event: Event) -> bool {
+    match event {
+        Event::Call(client, number, s_id) => {
+            ends(alloc, site, (client, number, 0), reading(s_id), Some(s_id))
+        }
+        Event::Late(client, number, s_id, seen) => {
+            ends(
+                alloc,
+                site,
+                (client, number, seen),
+                reading(s_id),
+                Some(s_id),
+            )
+        }
+        Event::Homeless(client, number, s_id) => {
+            ends(alloc, site, (client, number, 0), reading(s_id), None)
+        }
+        Event::Raw(s_id) => ends(alloc, site, (0, 0, 0), raw(s_id), Some(s_id)),
+        Event::RawHomeless => ends(alloc, site, (0, 0, 0), raw(193), None),
+        Event::Moved(e) => match site.take(e) {
+            Ok(parcel) => lands(site, parcel),
+            Err(_) => false,
+        },
+        Event::Taken(e) => match site.take(e) {
+            Ok(parcel) => keeps(parcels, parcel),
+            Err(_) => false,
+        },
+        Event::Lost(e) => match site.take(e) {
+            Ok(parcel) => {
+                let _ = parcel.unpack().close();
+                true
+            }
+            Err(_) => false,
+        },
+    }
+}
+
+/// Whether all events happened, one after another, at the last of the sites.
+fn all_happen(
+    alloc: Global,
+    sites: &mut Vec<Site<'_>>,
+    parcels: &mut Vec<Parcel>,
+    events: &[Event],
+) -> bool {
+    for event in events {
+        match sites.last_mut() {
+            None => return false,
+            Some(site) => {
+                if !happens(alloc, site, parcels, *event) {
+                    return false;
+                }
+            }
+        }
+    }
+    true
+}
+
+/// The sites of these partitions, each with all three extents.
+fn all_opened<'m>(
+    alloc: Global,
+    loaded: &'m Loaded,
+    partitions: &[u8],
+) -> Result<Vec<Site<'m>>, AllocError> {
+    let mut sites = Vec::new(alloc);
+    for partition in partitions {
+        match opened(alloc, loaded, 192, *partition) {
+            Err(error) => {
+                close_sites(sites);
+                return Err(error);
+            }
+            Ok(site) => match sites.push(site) {
+                Ok(()) => {}
+                Err(refused) => {
+                    spend_site(refused.value);
+                    close_sites(sites);
+                    return Err(AllocError);
+                }
+            },
+        }
+    }
+    Ok(sites)
+}
+
+/// The sites of these partitions and the parcels that are under way, once the events have happened at
+/// the last of the sites. None where one did not happen.
+pub fn left<'m>(
+    alloc: Global,
+    loaded: &'m Loaded,
+    partitions: &[u8],
+    events: &[Event],
+) -> Result<Option<(Vec<Site<'m>>, Vec<Parcel>)>, AllocError> {
+    let mut sites = all_opened(alloc, loaded, partitions)?;
+    let mut parcels = Vec::new(alloc);
+    if all_happen(alloc, &mut sites, &mut parcels, events) {
+        Ok(Some((sites, parcels)))
+    } else {
+        close_sites(sites);
+        spend_parcels(parcels);
+        Ok(None)
+    }
+}
+
+/// What a client got for a call that read nothing.
+#[derive(Clone, Copy)]
+pub enum Got {
+    /// For the call of a client, by its number, this failure, this extent, and this stamp.
+    Failed(u64, u64, u32, u32, u64),
+    /// For the call of a client, by its number, no memory.
+    Refused(u64, u64),
+}
+
+/// The readings of these subscribers, client by client.
+pub fn readings(alloc: Global, clients: &[&[u64]]) -> Result<Vec<Vec<Ask>>, AllocError> {
+    let mut lists = Vec::new(alloc);
+    for s_ids in clients {
+        let mut list = Vec::new(alloc);
+        for s_id in *s_ids {
+            list.push(reading(*s_id))?;
+        }
+        lists.push(list)?;
+    }
+    Ok(lists)
+}
+
+/// The receipts that clients got.
+pub fn receipts(alloc: Global, clients: &[&[Got]]) -> Result<Vec<Vec<Receipt>>, AllocError> {
+    let mut lists = Vec::new(alloc);
+    for all in clients {
+        let mut list = Vec::new(alloc);
+        for got in *all {
+            list.push(match *got {
+                Got::Failed(client, number, failure, extent, stamp) => Receipt::Done {
+                    client,
+                    number,
+                    reply: Reply::Failed(failure),
+                    extent,
+                    stamp,
+                },
+                Got::Refused(client, number) => Receipt::Refused { client, number },
+            })?;
+        }
+        lists.push(list)?;
+    }
+    Ok(lists)
+}
+
+/// Whether the calls are few enough to be settled; of more than 100 it may say no.
+pub fn are_few(calls: &[Vec<Ask>]) -> bool
+    ensures { IsTrue result → length (joined (lists_of calls.now)) < 2 ^ 64 }
+{
+    let mut count: u64 = 0;
+    'lists: for list in calls {
+        if count > 100 || list.len() > 100 {
+            return false;
+        }
+        count += list.len() as u64;
+    }
+    true
+}

@@ -1,0 +1,186 @@
+//! What a run of threads leaves: sites that were stopped, extents that were moved, and what is copied out of locked
+//! sites.
+ghost use Rattle.std.specs.Prelude.{◌≡◌, vec_len};
+
+use super::rows::clean_rows;
+use super::sites::{module, spend_parcels};
+use std::alloc::{AllocError, Global};
+use std::process::Abort;
+use std::sync::{Mutex, Wait};
+use std::test::*;
+use std::thread::Threads;
+use tatp_partition::Site;
+use tatp_population::ExtentParts;
+use tatp_procs::{Ask, Call, Reply};
+use tatp_settle::Receipt;
+use tatp_threads::{Moves, NoGate, Ran, RanParts, copy_extent, run_calls};
+
+/// Moves to both partitions and to none, and stops of each.
+fn moves_and_stops(alloc: Global) -> Result<Moves, AllocError> {
+    Ok(Moves {
+        moves: vec![in alloc; (3u32, 1u8), (3, 0), (0, 1), (3, 2), (4, 1), (3, 1)]?,
+        stops: vec![in alloc; 0u8, 1, 2, 0]?,
+    })
+}
+
+/// The call of the one client.
+const ASK: Call = Call::UpdateLocation {
+    sub_nbr: 1,
+    vlr_location: 7,
+};
+
+/// What is to be seen of what a run leaves.
+#[derive(Drop)]
+struct Left {
+    /// How often each site was stopped, that of the last partition first.
+    stops: Vec<u64>,
+    /// The partition, the number and the moves of each extent that was moved.
+    moves: Vec<(u8, u32, u16)>,
+    /// Copies of the extents 1 and 3 at each site, the last site first.
+    copies: Vec<Option<ExtentParts>>,
+    parcels: usize,
+    receipts: Vec<Vec<Receipt>>,
+}
+
+/// Spends a site, and adds which extents at it were moved.
+fn spend_moved(site: Site<'_>, moves: &mut Vec<(u8, u32, u16)>) {
+    let partition = site.partition();
+    let (mut slots, _homeless) = site.close();
+    while let Some(slot) = slots.pop() {
+        match slot {
+            None => {}
+            Some(extent) => {
+                let parts = extent.close();
+                if parts.moves > 0 {
+                    let _pushed = moves.push((partition, parts.number, parts.moves));
+                }
+            }
+        }
+    }
+    slots.destroy_empty();
+}
+
+/// Adds a copy of an extent at a locked site.
+fn add_copy<R: Wait>(
+    rt: &R,
+    alloc: Global,
+    site: &Mutex<Site<'_>>,
+    extent: u32,
+    copies: &mut Vec<Option<ExtentParts>>,
+) {
+    if let Ok(copy) = copy_extent(rt, alloc, site, extent) {
+        let _pushed = copies.push(copy);
+    }
+}
+
+/// Looks at each site, the last first, and spends it.
+fn look<R: Wait>(rt: &R, alloc: Global, sites: Vec<Site<'_>>, left: &mut Left) {
+    let mut rest = sites;
+    while let Some(site) = rest.pop() {
+        let _pushed = left.stops.push(site.stops());
+        let site = Mutex::new(site);
+        add_copy(rt, alloc, &site, 1, &mut left.copies);
+        add_copy(rt, alloc, &site, 3, &mut left.copies);
+        spend_moved(site.into_inner(), &mut left.moves);
+    }
+    rest.destroy_empty();
+}
+
+/// What a run leaves.
+fn left_by<R: Wait>(rt: &R, alloc: Global, ran: Ran<'_>) -> Left
+    requires { vec_len ran.parts.landings ≡ 0 }
+{
+    let RanParts {
+        sites,
+        parcels,
+        landings,
+        receipts,
+    } = ran.parts();
+    landings.destroy_empty();
+    let mut left = Left {
+        stops: Vec::new(alloc),
+        moves: Vec::new(alloc),
+        copies: Vec::new(alloc),
+        parcels: parcels.len(),
+        receipts,
+    };
+    spend_parcels(parcels);
+    look(rt, alloc, sites, &mut left);
+    left
+}
+
+/// What a run of that call over two partitions leaves.
+fn left_by_run<R: Threads + Wait + Sync>(rt: &R, alloc: Global) -> Result<Left, Fail> {
+    let loaded = module(alloc)?;
+    let lists = vec![in alloc; vec![in alloc; Ask::Txn(ASK)]?]?;
+    let moves = moves_and_stops(alloc)?;
+    let rows = clean_rows(alloc, 130, &[])?;
+    match run_calls(
+        rt,
+        alloc,
+        &loaded,
+        rows,
+        2,
+        lists.as_slice(),
+        &moves,
+        &NoGate,
+    ) {
+        Err(_) => Err("no run".into()),
+        Ok(ran) => Ok(left_by(rt, alloc, ran)),
+    }
+}
+
+/// Whether the receipt is that of the first call, which changed a row of extent 1 and puts nothing out.
+fn is_first(receipt: &Receipt) -> bool {
+    match *receipt {
+        Receipt::Done {
+            client,
+            number,
+            reply,
+            extent,
+            stamp,
+        } => matches!(reply, Reply::Values(_)) && (client, number, extent, stamp) == (0, 0, 1, 1),
+        Receipt::Refused { .. } => false,
+    }
+}
+
+/// The sites were stopped and the extents moved so, and the one call was answered.
+fn expect_left(rt: &impl Abort, left: &Left) {
+    assert_eq!(rt; left.stops.as_slice(), [1, 2].as_slice());
+    assert_eq!(rt; left.moves.as_slice(), [(1, 3, 3)].as_slice());
+    assert_eq!(rt; (left.parcels, left.receipts.len()), (0, 1));
+    assert_eq!(rt; left.receipts[0].len(), 1);
+    assert!(rt; is_first(&left.receipts[0][0]));
+}
+
+/// Extent 3 was moved three times, and no call was made there.
+fn expect_third(rt: &impl Abort, parts: &ExtentParts) {
+    assert_eq!(rt; (parts.number, parts.moves, parts.mixed), (3, 3, false));
+    assert_eq!(rt; parts.log.len(), 0);
+}
+
+/// Extent 1 was not moved, has the call in its log, and the location before it and after it.
+fn expect_first(rt: &impl Abort, parts: &ExtentParts) {
+    assert_eq!(rt; (parts.number, parts.moves, parts.mixed), (1, 0, false));
+    assert_eq!(rt;
+        (parts.log.len(), parts.opening.len(), parts.homes.len()),
+        (1, 64, 64)
+    );
+    assert_eq!(rt; (parts.log[0].ask, parts.log[0].stamp), (Ask::Txn(ASK), 1));
+    let before = parts.opening[0].get(33, [1, 0, 0]);
+    let after = parts.homes[0].get(33, [1, 0, 0]);
+    assert_eq!(rt; (before, after), (Some(1), Some(7)));
+}
+
+// A mover that moves nothing, or a debugger that stops nothing, leaves other numbers.
+#[test]
+fn extents_are_moved_and_copied_and_sites_stopped(rt: HostRuntime) -> Result<(), Fail> {
+    let left = left_by_run(&rt, rt.alloc())?;
+    expect_left(&rt, &left);
+    let [None, Some(third), Some(first), None] = left.copies.as_slice() else {
+        return Err("other copies".into());
+    };
+    expect_third(&rt, third);
+    expect_first(&rt, first);
+    Ok(())
+}

@@ -1,2 +1,0 @@
-//! Lines of `trace`.
-mod lines;

@@ -33,7 +33,7 @@ pub enum Event {
 }
 
 /// A reading of access data that a subscriber lacks: it has one row in Access_Info.
-pub fn reading(s_id: u64) -> Ask {
+fn reading(s_id: u64) -> Ask {
     Ask::Txn(Call::GetAccessData { s_id, ai_type: 2 })
 }
 

@@ -1,3 +1,0 @@
-pub mod SubscriberLaws
-pub mod TwoSubscriberLaws
-pub mod ThreeSubscriberLaws

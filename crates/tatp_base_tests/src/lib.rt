@@ -1,7 +1,0 @@
-//! Tests of the crates up to `tatp_driver` and `tatp_population`, through their public calls.
-//!
-//! They stand in a crate of their own, since a crate with tests is proved a second time with them.
-#![tactic(auto)]
-
-#[cfg(test)]
-mod tests;

@@ -1,1 +1,3 @@
+pub mod SubscriberLaws
 pub mod TwoSubscriberLaws
+pub mod ThreeSubscriberLaws

@@ -2,5 +2,8 @@
 mod asm;
 mod encoding;
 mod instr;
+mod lines;
 mod loader;
 mod machine;
+mod numbers;
+mod tables;

@@ -1,2 +1,0 @@
-pub mod SubscriberLaws
-pub mod ThreeSubscriberLaws

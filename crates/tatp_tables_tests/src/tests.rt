@@ -1,4 +1,0 @@
-//! A module for each crate whose calls are tested.
-mod lines;
-mod numbers;
-mod tables;

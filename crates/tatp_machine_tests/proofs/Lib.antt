@@ -1,3 +1,1 @@
-pub mod SubscriberLaws
 pub mod TwoSubscriberLaws
-pub mod ThreeSubscriberLaws

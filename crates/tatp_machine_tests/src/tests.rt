@@ -2,8 +2,5 @@
 mod asm;
 mod encoding;
 mod instr;
-mod lines;
 mod loader;
 mod machine;
-mod numbers;
-mod tables;

@@ -1,9 +1,9 @@
 use Rattle.std.proofs.Common.{sym, subst, ap, ◌∙◌}
 use Rattle.tatp_tables.specs.Rows.{with_row}
 use Rattle.tatp_tables.specs.Clean.{IsClean}
-use Rattle.tatp_machine_tests.proofs.SubscriberLaws.{subscriber, access, facility, forwarding, IsClean-one_subscriber}
+use Rattle.tatp_tables_tests.proofs.SubscriberLaws.{subscriber, access, facility, forwarding, IsClean-one_subscriber}
 use Rattle.tatp_tables.specs.declared.row.Row.TheVariants.{S, A, F, C}
-use Rattle.tatp_machine_tests.proofs.tests.tables.homes.one_subscriber.Goals as goal
+use Rattle.tatp_tables_tests.proofs.tests.tables.homes.one_subscriber.Goals as goal
 
 pub returns : goal.returns
 returns c = subst IsClean

@@ -1,0 +1,2 @@
+pub mod SubscriberLaws
+pub mod ThreeSubscriberLaws

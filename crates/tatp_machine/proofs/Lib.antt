@@ -4,5 +4,6 @@ pub mod KeptLaws
 pub mod FindLaws
 pub mod LaterLaws
 pub mod LineLaws
+pub mod ReadingLaws
 pub mod HomelessLaws
 pub mod RunLaws

@@ -146,6 +146,20 @@ pub fn pinned_extent<'r>(running: &'r Runner<'_>, number: u64) -> Option<&'r Pin
     }
 }
 
+/// One instruction of the call that runs, where the call has a home and the instruction changes no row
+/// and doesn't end it: whether it was made. Else nothing is done.
+#[inline(always)]
+pub fn turn_reading(running: &mut Runner<'_>) -> bool
+    requires { OfRunning MayStep running.old }
+    ensures turns { result ≡ true → TurnsRunning running.old Progress.Running running.new }
+    ensures no_turn { result ≡ false → running.new ≡ running.old }
+{
+    match &mut running.pinned {
+        None => return false,
+        Some(pinned) => return running.machine.step_reading(pinned.home_mut()),
+    }
+}
+
 /// One instruction of the call that runs.
 pub fn turn(running: &mut Runner<'_>) -> Progress
     requires { OfRunning MayStep running.old }

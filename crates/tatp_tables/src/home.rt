@@ -187,6 +187,7 @@ impl Home {
     /// The value of a column in the row of its table with this key, of which the table takes the
     /// first parts; the parts that it lacks are 0 by custom and are not read. None where there is no
     /// such column (above 50).
+    #[inline(always)]
     pub fn get(&self, column: u8, key: [u64; 3]) -> Option<u64>
         ensures { result ≡ cell self.now.tables column key }
     {

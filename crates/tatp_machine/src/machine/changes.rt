@@ -1,4 +1,4 @@
-//! The rows of the table that read or change a row of the home, and FAIL.
+//! The rows of the table that change a row of the home, FAIL, and traps.
 ghost use Rattle.std.specs.Prelude.{◌≡◌, length, Some, slice_get};
 ghost use Rattle.tatp_tables.specs.Database.{Database};
 ghost use Rattle.tatp_machine.specs.Instructions.{Turn, Stops, act};
@@ -21,27 +21,12 @@ impl<'m> Machine<'m> {
         self.end_undone(home, End::Failed(n))
     }
 
-    fn trap(&mut self, home: &mut Home, trap: Trap) -> Progress
+    pub(super) fn trap(&mut self, home: &mut Home, trap: Trap) -> Progress
         requires { self.old.frame.home ≡ Some home.old.s_id }
         ensures turns { Turns (Stops (End.Trapped trap)) self.old home.old.tables result self.new home.new.tables }
         ensures same { home.new.s_id ≡ home.old.s_id }
     {
         self.end_undone(home, End::Trapped(trap))
-    }
-
-    pub(super) fn get(&mut self, home: &mut Home, d: Register, column: u32) -> Progress
-        requires home { self.old.frame.home ≡ Some home.old.s_id }
-        requires fits { Fits (length self.old.frame.arguments) (length self.old.frame.code) self.old.frame.pc (Instr.Get d column) }
-        ensures turns { Turns (act (Instr.Get d column) self.old.frame home.old.tables) self.old home.old.tables result self.new home.new.tables }
-        ensures same { home.new.s_id ≡ home.old.s_id }
-    {
-        let Some(key) = self.key_of_column(column) else {
-            return self.trap(home, Trap::NoCurrent);
-        };
-        let Some(x) = home.get(column as u8, key) else {
-            return self.trap(home, Trap::NoCurrent);
-        };
-        self.set(d, x)
     }
 
     pub(super) fn put(&mut self, home: &mut Home, column: u32, a: Register) -> Progress

@@ -1,5 +1,5 @@
 //! A call that begins, goes on and ends.
-ghost use Rattle.std.specs.Prelude.{◌≡◌, None, Some, OnErr, is_some, true};
+ghost use Rattle.std.specs.Prelude.{◌≡◌, None, Some, OnErr, is_some, true, false};
 ghost use Rattle.tatp_partition.specs.Obstacles.{obstacle_to_step};
 ghost use Rattle.tatp_partition.specs.Running.{stepped_of};
 ghost use Rattle.tatp_partition.specs.Showing.{running_shown};
@@ -7,7 +7,7 @@ ghost use Rattle.tatp_partition.specs.Showing.{running_shown};
 use super::Site;
 use super::reading::extent_of;
 use super::stopping::is_break;
-use crate::runner::{Runner, begin, end_running_into, turn};
+use crate::runner::{Runner, begin, end_running_into, turn, turn_reading};
 use crate::{Breakpoint, Completion, Item, Offer, SiteRefusal, Stepped};
 use arrayvec::ArrayVec;
 use std::alloc::Global;
@@ -119,8 +119,35 @@ impl<'m> Site<'m> {
     }
 
     /// One instruction of the running call. The completion of a call that ends is left in its place.
-    #[inline(never)]
+    #[inline(always)]
     fn advance(&mut self, ended: &mut Option<Completion>)
+        requires running { is_some self.old.running ≡ true }
+        requires place { ended.old ≡ None }
+        ensures steps { Advances self.old (stepped_of ended.new) self.new }
+        ensures site { IsSite self.new }
+    {
+        if self.advance_reading() {
+            return;
+        }
+        self.advance_apart(ended);
+    }
+
+    /// One instruction of the running call, where the call has a home and the instruction changes no row
+    /// and doesn't end it: whether it was made. Else nothing is done. Nearly all steps are such.
+    #[inline(always)]
+    fn advance_reading(&mut self) -> bool
+        requires { is_some self.old.running ≡ true }
+        ensures steps { result ≡ true → Advances self.old Stepped.Moved self.new }
+        ensures no_step { result ≡ false → self.new ≡ self.old }
+        ensures site { IsSite self.new }
+    {
+        rows_of_one_subscriber();
+        turn_reading(&mut self.running)
+    }
+
+    /// As `advance`, in a function of its own, since what is left is seldom and keeps more registers.
+    #[inline(never)]
+    fn advance_apart(&mut self, ended: &mut Option<Completion>)
         requires running { is_some self.old.running ≡ true }
         requires place { ended.old ≡ None }
         ensures steps { Advances self.old (stepped_of ended.new) self.new }

@@ -56,8 +56,10 @@ fn answer_line(world: &mut World<'_>, line: &[u8], pending: &mut String) -> Resu
         return Ok(());
     }
     let ask = Ask::Txn(call);
-    let reply = world.call(0, ask).unwrap_or(Reply::Refused);
-    push_reply(pending, &ask, &reply)?;
+    match world.call(0, ask) {
+        Some(reply) => push_reply(pending, &ask, &reply)?,
+        None => push_reply(pending, &ask, &Reply::Refused)?,
+    }
     Ok(())
 }
 

@@ -1,7 +1,7 @@
 -- A call from its asking to its end.
-use Rattle.std.proofs.Common.{◌≡◌, ℕ, ◌-◌, ◌<◌, ◌≤◌, ◌==◌, List, [], ◌∷◌, ◌++◌, length, map, Option, Some, None, IfSome, Result, Ok, Err, slice_get, refl, sym, ◌∙◌, ap, subst, arith}
+use Rattle.std.proofs.Common.{◌≡◌, Bool, true, false, ℕ, ◌-◌, ◌<◌, ◌≤◌, ◌==◌, List, [], ◌∷◌, ◌++◌, length, map, Option, Some, None, IfSome, Result, Ok, Err, slice_get, refl, sym, ◌∙◌, ap, subst, arith}
 use Rattle.std.specs.Option.{option_map_or}
-use Rattle.std.proofs.lemmas.Bool.{eq-eqb}
+use Rattle.std.proofs.lemmas.Bool.{eq-eqb, false≢true}
 use Rattle.std.proofs.lemmas.List.{append-nil, append_cancel_left}
 use Rattle.tatp_encoding.specs.Modules.{Procedure}
 use Rattle.tatp_tables.specs.Database.{Database}
@@ -26,7 +26,7 @@ use Rattle.tatp_dispatch.specs.Placed.{RunsAt, times_waiting}
 use Rattle.tatp_dispatch.specs.Shown.{set_back}
 use Rattle.tatp_dispatch.specs.Events.{Submits, BeginsAt, MovesAt, EndsAt, BeginsFront, QueuesCall}
 use Rattle.tatp_dispatch.specs.Serving.{AloneInOrder, Serves, IsWorld, calls_of}
-use Rattle.tatp_dispatch.specs.Calling.{CompletesCall, CompletesNone, CallsOnce, TransactsOnce}
+use Rattle.tatp_dispatch.specs.Calling.{CompletesCall, CompletesNone, CallsOnce, CallsBriefly, TransactsOnce}
 use Rattle.tatp_dispatch.proofs.CountLaws.{get_set_same, total_at}
 use Rattle.tatp_dispatch.proofs.EventLaws.{kept_running}
 use Rattle.tatp_dispatch.proofs.RunLaws.{under_way_most}
@@ -58,6 +58,29 @@ then_called a b c client ask (Some reply) same h k = record {
   completions = k.completions ∙ ap (λ es. es ++ k.entry ∷ []) h.completions;
   alone = subst (λ (u : Database). AloneInOrder a.procedures u (k.entry ∷ []) (set_back c)) h.back (subst (λ (m : List Procedure). AloneInOrder m (set_back b) (k.entry ∷ []) (set_back c)) same k.alone);
 }
+
+-- the same where the reply isn't told
+pub then_briefly : (a b c : WorldState) (client : ℕ) (ask : Ask) (done : Bool) → b.procedures ≡ a.procedures → CompletesNone a b → CallsBriefly b client ask done c → CallsBriefly a client ask done c
+then_briefly a b c client ask false same h k = none_more a b c h k
+then_briefly a b c client ask true same h k = (k.0, then_called a b c client ask (Some k.0) same h k.1)
+
+-- the reply in the last completion is the call's
+pub replied_last : (w w' : WorldState) (client : ℕ) (ask : Ask) (done : Bool) (reply : Reply) → CallsBriefly w client ask done w' → done ≡ true → ((before : List Entry) (entry : Entry) → w'.completions ≡ before ++ entry ∷ [] → reply ≡ entry.reply) → CallsOnce w client ask (Some reply) w'
+replied_last w w' client ask false reply h is last = absurd (false≢true is)
+replied_last w w' client ask true reply h is last =
+    let k = h.1 in
+    record {
+      entry = k.entry;
+      of_client = k.of_client;
+      of_ask = k.of_ask;
+      of_reply = sym (last w.completions k.entry k.completions);
+      completions = k.completions;
+      alone = k.alone;
+    }
+
+pub none_briefly : (w w' : WorldState) (client : ℕ) (ask : Ask) (done : Bool) → CallsBriefly w client ask done w' → done ≡ false → CallsOnce w client ask None w'
+none_briefly w w' client ask false h is = h
+none_briefly w w' client ask true h is = absurd (false≢true (sym is))
 
 -- ---- events that complete no call
 pub submit_completes_none : (w w' : WorldState) (client : ℕ) (ask : Ask) (answered : Result Answer Refusal) → Submits w client ask answered w' → w'.completions ≡ w.completions
@@ -187,5 +210,5 @@ transacts_once w w' client ask None good h = tt
 transacts_once w w' client ask (Some reply) good h = transacts w w' client ask reply good h
 
 -- ---- what is told of a running call is told of the one that runs
-pub called_so : (w w' : WorldState) (p client : ℕ) (ask : Ask) (reply : Option Reply) → StillRuns w p client ask → ((r : RunningCall) → RunsAt w.sites p r → CallsOnce w r.client r.ask reply w') → CallsOnce w client ask reply w'
-called_so w w' p client ask reply h told = subst (λ (k : ℕ). CallsOnce w k ask reply w') h.of_client (subst (λ (a : Ask). CallsOnce w h.r.client a reply w') h.of_ask (told h.r h.at))
+pub called_so : (w w' : WorldState) (p client : ℕ) (ask : Ask) (done : Bool) → StillRuns w p client ask → ((r : RunningCall) → RunsAt w.sites p r → CallsBriefly w r.client r.ask done w') → CallsBriefly w client ask done w'
+called_so w w' p client ask done h told = subst (λ (k : ℕ). CallsBriefly w k ask done w') h.of_client (subst (λ (a : Ask). CallsBriefly w h.r.client a done w') h.of_ask (told h.r h.at))

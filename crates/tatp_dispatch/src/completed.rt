@@ -6,14 +6,14 @@ ghost use Rattle.tatp_procs.specs.declared.entry.Entry.{Entry};
 use tatp_procs::{Entry, Reply};
 
 /// One more call is completed, where there is room for it.
-pub fn complete(completions: &mut Vec<Entry>, entry: Entry)
+pub fn complete(completions: &mut Vec<Entry>, entry: &Entry)
     requires { vec_len completions.old < vec_capacity completions.old }
-    ensures items { completions.new.items ≡ completions.old.items ++ entry ∷ [] }
+    ensures items { completions.new.items ≡ completions.old.items ++ entry.now ∷ [] }
     ensures len { vec_len completions.new ≡ vec_len completions.old + 1 }
     ensures capacity { vec_capacity completions.new ≡ vec_capacity completions.old }
 {
     let reply: Reply = entry.reply;
-    completions.push_reserved(Entry { reply, ..entry });
+    completions.push_reserved(Entry { reply, ..*entry });
 }
 
 /// The reply of the last of them.

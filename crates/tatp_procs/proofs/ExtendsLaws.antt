@@ -19,8 +19,8 @@ Extends-then before between text e f = record {
 }
 
 -- a value after a space
-pub Extends-printed : (before text spaced longer value : List ℕ) → Extends before text → spaced ≡ text ++ 32 ∷ [] → longer ≡ spaced ++ value → Extends before longer
-Extends-printed before text spaced longer value e s v = Extends-then before text longer e (Extends-by text longer 32 value (lit< tt) (v ∙ (ap (λ front. front ++ value) s ∙ append_assoc text (32 ∷ []) value)))
+pub Extends-printed : (before text longer value : List ℕ) → Extends before text → longer ≡ text ++ 32 ∷ value → Extends before longer
+Extends-printed before text longer value e v = Extends-then before text longer e (Extends-by text longer 32 value (lit< tt) v)
 
 -- so it may be cut there
 pub may_be_cut : (before text : List ℕ) (n : ℕ) → n ≡ length before → Extends before text → IsSplitPoint text n

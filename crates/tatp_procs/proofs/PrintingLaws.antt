@@ -29,16 +29,13 @@ first_printed [] (suc i) v more = ap (λ t. 32 ∷ t ++ values_text [] more) (in
 first_printed (c ∷ columns) zero v more = refl
 first_printed (c ∷ columns) (suc i) v more = first_printed columns i v more
 
-value_regrouped : (text value more : List ℕ) → ((text ++ 32 ∷ []) ++ value) ++ more ≡ text ++ (32 ∷ value ++ more)
-value_regrouped text value more = append_assoc (text ++ 32 ∷ []) value more ∙ append_assoc text (32 ∷ []) (value ++ more)
-
-pub value_printed : (columns values all : List ℕ) (i column : ℕ) (text spaced longer : List ℕ) → IsPrintedUpTo columns values all i text → i < length values → column ≡ get_or columns i 255 → spaced ≡ text ++ 32 ∷ [] → longer ≡ spaced ++ value_text column (get_or values i 0) → IsPrintedUpTo columns values all (i + 1) longer
-value_printed columns values all i column text spaced longer p l k s e =
+pub value_printed : (columns values all : List ℕ) (i column : ℕ) (text longer : List ℕ) → IsPrintedUpTo columns values all i text → i < length values → column ≡ get_or columns i 255 → longer ≡ text ++ 32 ∷ value_text column (get_or values i 0) → IsPrintedUpTo columns values all (i + 1) longer
+value_printed columns values all i column text longer p l k e =
     let more = values_text (drop (suc i) columns) (drop (suc i) values) in
     let value = value_text (get_or columns i 255) (get_or values i 0) in
-    let whole : longer ≡ (text ++ 32 ∷ []) ++ value = e ∙ (λ j. s j ++ value_text (k j) (get_or values i 0)) in
+    let whole : longer ≡ text ++ 32 ∷ value = e ∙ ap (λ c. text ++ 32 ∷ value_text c (get_or values i 0)) k in
     let here : values_text (drop i columns) (drop i values) ≡ 32 ∷ value ++ more = ap (values_text (drop i columns)) (drop-cons values i 0 l) ∙ first_printed columns i (get_or values i 0) (drop (suc i) values) in
-    record { completed = ap (λ n. longer ++ values_text (drop n columns) (drop n values)) (add-one i) ∙ (ap (λ front. front ++ more) whole ∙ (value_regrouped text value more ∙ (ap (λ rest. text ++ rest) (sym here) ∙ p.completed))) }
+    record { completed = ap (λ n. longer ++ values_text (drop n columns) (drop n values)) (add-one i) ∙ (ap (λ front. front ++ more) whole ∙ (append_assoc text (32 ∷ value) more ∙ (ap (λ rest. text ++ rest) (sym here) ∙ p.completed))) }
 
 nothing_printed : (columns : List ℕ) → values_text columns [] ≡ []
 unfolding values_text

@@ -1,9 +1,11 @@
 //! Values in text, one after another, each in the form of the column that stands at its place.
-ghost use Rattle.std.specs.Prelude.{◌≡◌, ◌<◌, ◌^◌, ◌++◌, All, IfOk, OnOk, OnErr, slice_index_or};
+ghost use Rattle.std.specs.Prelude.{◌≡◌, ◌<◌, ◌^◌, ◌∷◌, ◌++◌, All, IfOk, OnOk, OnErr, slice_index_or};
 ghost use Rattle.std.specs.String.{string_bytes};
+ghost use Rattle.tatp_tables.specs.Text.{form_of, is_decimal, value_text};
 ghost use Rattle.tatp_procs.specs.Extends.{Extends};
 ghost use Rattle.tatp_procs.specs.ValuesText.{values_of, values_text};
 
+use crate::small_numbers::spaced_small_number;
 use std::alloc::{AllocError, Global};
 use tatp_tables::{Fields, push_value, read_value};
 
@@ -56,10 +58,28 @@ pub(crate) fn push_values(
     ensures err { OnErr result (Extends (string_bytes text.old) (string_bytes text.new)) }
 {
     for (place, value) in values.iter().enumerate() {
-        text.push_str(" ")?;
-        push_value(text, column_at(columns, place), *value)?;
+        push_spaced(text, column_at(columns, place), *value)?;
     }
     Ok(())
+}
+
+/// Appends a space and the value. An error may leave the space.
+fn push_spaced(text: &mut String, column: u8, value: u64) -> Result<(), AllocError>
+    ensures ok { OnOk result (string_bytes text.new ≡ string_bytes text.old ++ 32 ∷ value_text column value) }
+    ensures err { OnErr result (Extends (string_bytes text.old) (string_bytes text.new)) }
+{
+    if value < 256 && is_decimal(column) {
+        return text.push_str(spaced_small_number(value));
+    }
+    text.push_str(" ")?;
+    push_value(text, column, value)
+}
+
+/// Whether all values of a column stand in decimal.
+fn is_decimal(column: u8) -> bool
+    ensures { result ≡ is_decimal (form_of column) }
+{
+    !matches!(column, 1 | 38 | 39 | 45 | 50)
 }
 
 fn column_at(columns: &[u8], place: usize) -> u8

@@ -64,7 +64,7 @@ fn complete_ended(
         None => unreachable!(),
         Some(completion) => {
             let client = completion.entry.client;
-            complete(completions, completion.entry);
+            complete(completions, &completion.entry);
             end_call(clients, client, completion.entry.stamp);
             *ended = None;
             client

@@ -5,8 +5,8 @@ use Rattle.tatp_procs.proofs.values.push_values.Goals as goal
 
 pub loop-place-preserved : goal.loop-place-preserved
 loop-place-preserved c = (
-  value_printed c.args.columns.now c.args.values.now _ c.loop-place.place c.column_at.result (string_bytes c.loop-place.text) (string_bytes c.push_str.new.self) _ c.loop-place.invariant.0 c.loop-place-test.true c.column_at.ensures c.in_ok-push_str.ensures.bytes c.in_ok-push_value.ensures.ok,
-  Extends-printed _ _ _ _ _ c.loop-place.invariant.1 c.in_ok-push_str.ensures.bytes c.in_ok-push_value.ensures.ok,
+  value_printed c.args.columns.now c.args.values.now _ c.loop-place.place c.column_at.result (string_bytes c.loop-place.text) _ c.loop-place.invariant.0 c.loop-place-test.true c.column_at.ensures c.in_ok-push_spaced.ensures.ok,
+  Extends-printed _ _ _ _ c.loop-place.invariant.1 c.in_ok-push_spaced.ensures.ok,
 )
 
 pub returns-clause-ok : goal.returns-clause-ok

@@ -1,5 +1,4 @@
-use Rattle.std.proofs.Common.{ℕ, Option, Some, None, Ok, ap, subst, ◌∙◌}
-use Rattle.tatp_dispatch.specs.Worlds.{WorldState}
+use Rattle.std.proofs.Common.{ℕ, Option, Some, None, Ok, refl, ap, subst, ◌∙◌}
 use Rattle.tatp_dispatch.specs.Obstacles.{step_obstacle_at}
 use Rattle.tatp_dispatch.specs.Advancing.{AdvancesBriefly}
 use Rattle.tatp_dispatch.proofs.CallingLaws.{none_by, none_more, then_called, still_runs, fewer_left, ends_call}
@@ -24,7 +23,8 @@ steps-smaller c = fewer_left c.steps.self c.advance.new.self c.args.p (moved c).
 pub returns-in-Ok-Some-clause-call : goal.returns-in-Ok-Some-clause-call
 returns-in-Ok-Some-clause-call c = λ r at.
     let h = subst (λ (t : Option ℕ). AdvancesBriefly (step_obstacle_at c.steps.self c.args.p) c.steps.self c.args.p (Ok t) c.advance.new.self) c.in-Ok-Some.field-0-is c.in-Ok-Some.ensures in
-    let e = h.1.1 in
-    let last = c.last_reply.ensures c.steps.self.completions (e.0).entry (c.deref.ensures.value ∙ (ap (λ (t : WorldState). t.completions) c.self.view_is ∙ ap (λ (t : WorldState). t.completions) e.3.after)) in
-    then_called c.args.self.now c.steps.self c.advance.new.self r.client r.ask (Some c.last_reply.result) c.steps.invariant.procedures c.steps.invariant.none
-    (ends_call c.steps.self c.advance.new.self c.args.p r.client r.ask e.0 c.last_reply.result h.2.serves e.3 last (c.steps.invariant.still r at))
+    let e = h.1.1 in (
+      (e.0).entry.reply,
+      then_called c.args.self.now c.steps.self c.advance.new.self r.client r.ask (Some (e.0).entry.reply) c.steps.invariant.procedures c.steps.invariant.none
+          (ends_call c.steps.self c.advance.new.self c.args.p r.client r.ask e.0 (e.0).entry.reply h.2.serves e.3 refl (c.steps.invariant.still r at)),
+    )

@@ -310,7 +310,7 @@ The input is the rows of a population, a line with a dot, and the calls; a row o
 The reply to a call is OK and the values, FAILED and why, or REFUSED and why.
 
 A completed call is kept to the end, in the log of its subscriber's extent and among all completed
-calls: about 880 bytes of memory, so 1.2 million calls a GiB, besides the rows. Nothing else grows.
+calls: about 720 bytes of memory, so 1.5 million calls a GiB, besides the rows. Nothing else grows.
 
 Examples:
   tatp call < examples/first-run.txt

@@ -5,7 +5,7 @@ ghost use Rattle.std.specs.String.{string_bytes};
 ghost use Rattle.tatp_lines.specs.Lines.{lines_of};
 ghost use Rattle.tatp_procs.specs.Standard.{standard_module};
 ghost use Rattle.tatp_commands.specs.declared.fault.Fault.TheVariants.{NoMemory, WriteFault};
-ghost use Rattle.tatp_commands.specs.Populations.{IsPopulation};
+ghost use Rattle.tatp_commands.specs.Populations.{IsPopulation, AreCleanWhereDrawn};
 ghost use Rattle.tatp_commands.specs.Refusing.{RefusesReading};
 ghost use Rattle.tatp_commands.specs.Served.{call_in, work_of};
 ghost use Rattle.tatp_commands.specs.Serving.{WritesReplies, WritesFrontOfReplies, WritesServed, Leaves};
@@ -13,7 +13,7 @@ ghost use Rattle.tatp_dispatch.specs.Shown.{set_back};
 ghost use Rattle.tatp_commands.specs.Answering.{AnswersLine};
 
 use crate::fault::Fault;
-use crate::population::Population;
+use crate::population::{Population, open_world};
 use crate::rows::read_work;
 use crate::streams::{MOST_BYTES, read_all, write_last, write_out};
 use rand_pcg::Pcg64;
@@ -114,6 +114,7 @@ pub(crate) fn work_of(
     requires input { length input.now ≤ MOST_BYTES }
     requires population { IsPopulation population }
     ensures work { IfOk result (λ work. work_of population input.now ≡ Ok (record { rows = work.0; calls = lines_of work.1.now })) }
+    ensures clean { IfOk result (λ work. AreCleanWhereDrawn population work.0) }
     ensures faults { IfErr result (RefusesReading (work_of population input.now)) }
 {
     match population {
@@ -141,7 +142,7 @@ fn serve_input<W: Write>(
 {
     let standard = standard(alloc)?;
     let (rows, calls) = work_of(alloc, population, input)?;
-    let mut world = World::open(alloc, &standard, rows, partitions, 1)?;
+    let mut world = open_world(alloc, &standard, population, rows, partitions, 1)?;
     let answered = answer_lines(alloc, &mut world, calls, writer);
     world.close();
     answered

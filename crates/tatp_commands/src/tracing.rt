@@ -11,7 +11,7 @@ ghost use Rattle.tatp_commands.specs.Told.{TellsAll, TellsUpTo};
 ghost use Rattle.tatp_commands.specs.Tracing.{WritesTold, LeavesTold};
 
 use crate::fault::Fault;
-use crate::population::Population;
+use crate::population::{Population, open_world};
 use crate::serving::{work_of, write_much};
 use crate::streams::{MOST_BYTES, read_all, write_last};
 use std::alloc::Global;
@@ -66,7 +66,7 @@ fn trace_input<W: Write>(
 {
     let standard = standard(alloc)?;
     let (rows, lines) = work_of(alloc, population, input)?;
-    let mut world = World::open(alloc, &standard, rows, partitions, clients)?;
+    let mut world = open_world(alloc, &standard, population, rows, partitions, clients)?;
     let told = tell_lines(alloc, &mut world, lines, writer);
     world.close();
     told

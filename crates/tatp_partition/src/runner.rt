@@ -268,7 +268,7 @@ fn set_free(pinned: Pinned, logged: bool, entry: &Entry) -> Extent
     ensures extent { IsExtent result }
 {
     if logged && !pinned.mixed() {
-        return pinned.end(*entry);
+        return pinned.end(entry);
     }
     return pinned.end_mixed();
 }
@@ -281,7 +281,7 @@ fn end_homeless(homeless: &mut Homeless, logged: bool, entry: &Entry)
     ensures { homeless_shown homeless.new ≡ homeless_after_end logged entry.now (homeless_shown homeless.old) }
 {
     if logged && !homeless.mixed() {
-        homeless.end(*entry);
+        homeless.end(entry);
         return;
     }
     homeless.end_mixed();

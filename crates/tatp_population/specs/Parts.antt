@@ -12,7 +12,7 @@ state_of parts = record {
   mixed = parts.mixed;
   opening = parts.opening.items;
   homes = parts.homes.items;
-  log = parts.log.items;
+  log = parts.log.entries;
 }
 
 -- the extent that has these parts, pinned on the home of this subscriber

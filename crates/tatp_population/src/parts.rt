@@ -1,6 +1,6 @@
 //! The parts of an extent, and of the log of calls without a home.
 
-use tatp_procs::Entry;
+use crate::Log;
 use tatp_tables::Home;
 
 /// What an extent is made of. They tell nothing of each other: an [`crate::Extent`] does.
@@ -17,7 +17,7 @@ pub struct ExtentParts {
     /// Its homes now.
     pub homes: Vec<Home>,
     /// The calls that were logged, in the order of their stamps.
-    pub log: Vec<Entry>,
+    pub log: Log,
 }
 
 /// What the log of the calls without a home is made of.
@@ -26,5 +26,5 @@ pub struct HomelessParts {
     /// Whether a call that is no standard transaction has ended.
     pub mixed: bool,
     /// The calls that were logged, in the order of their stamps.
-    pub log: Vec<Entry>,
+    pub log: Log,
 }

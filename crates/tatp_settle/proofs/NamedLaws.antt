@@ -18,6 +18,11 @@ within [] i x h = absurd (let k : None ≡ Some x = h in cc)
 within (y ∷ xs) zero x h = omega arith
 within (y ∷ xs) (suc i) x h = let l = within xs i x h in omega (arith, l)
 
+pub some_within : {A : Type 0} (xs : List A) (i : ℕ) → i < length xs → IsSome (slice_get xs i)
+some_within [] i l = absurd (omega (arith, l))
+some_within (x ∷ xs) zero l = refl
+some_within (x ∷ xs) (suc i) l = some_within xs i (omega (arith, l))
+
 abbrev pub Naming : List Entry → Listing → Option CallPlace → ℕ → Type 0
 Naming log directory least i = (j : ℕ) (entry : Entry) → j < i → slice_get log j ≡ Some entry → IsSome (answer directory (key_asked entry.ask)) → IsAtMost least entry.client entry.number
 

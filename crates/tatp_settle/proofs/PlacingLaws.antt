@@ -8,7 +8,8 @@ use Rattle.tatp_settle.specs.declared.receipt.Receipt.{Receipt}
 use Rattle.tatp_settle.specs.declared.places.LogPlace.{LogPlace}
 use Rattle.tatp_settle.specs.declared.places.CallPlace.{CallPlace}
 use Rattle.tatp_settle.specs.declared.table.Table.{Table}
-use Rattle.tatp_settle.specs.Closings.{ClosedState, StandsAt}
+use Rattle.tatp_population.specs.Logs.{IsOfCall}
+use Rattle.tatp_settle.specs.Closings.{ClosedState, entries_numbered, StandsAt}
 use Rattle.tatp_settle.specs.Runs.{at_call, lists_of}
 use Rattle.tatp_settle.specs.Answering.{EntryFound}
 use Rattle.tatp_settle.specs.CallPlaces.{IsSooner, IsFirstCall}
@@ -188,6 +189,32 @@ placed_kept closed receipts first last cells cells' least least' x i k entry h h
     why (Some None) g = absurd (q.0 g)
     why (Some (Some p)) g = let old = h.points k entry.number p g in
         inr (record { one = found; other = record { extent = p.extent; place = p.index; entry = old.0.entry; stands = old.0.stands; own = record { client = old.0.own.client ∙ here_is; number = old.0.own.number } }; apart = λ a b. unvisited p.extent p.index old.1 a b })
+
+-- ---- the same, of an entry of which only its call is read
+pub caller_other : (closed : ClosedState) (receipts : List (List Receipt)) (first : ℕ) (last : Bool) (cells : ℕ → ℕ → Option (Option LogPlace)) (least : Option CallPlace) (x i client number : ℕ) → PlacedBefore closed receipts first last cells least x i → IsOfCall (entries_numbered closed x) i client number
+    → ((at : ℕ) → first + at ≡ client → BelongsAt receipts last at → ⊥) → PlacedBefore closed receipts first last cells least x (i + 1)
+caller_other closed receipts first last cells least x i client number h call other =
+    placed_other closed receipts first last cells least x i call.entry h call.stands (λ at is own. other at (is ∙ call.of_client) own)
+
+pub caller_put : (closed : ClosedState) (receipts : List (List Receipt)) (first : ℕ) (last : Bool) (cells cells' : ℕ → ℕ → Option (Option LogPlace)) (least : Option CallPlace) (x i k client number : ℕ) → PlacedBefore closed receipts first last cells least x i → IsOfCall (entries_numbered closed x) i client number → first + k ≡ client
+    → Puts cells k number (record { extent = x; index = i }) true cells' → PlacedBefore closed receipts first last cells' least x (i + 1)
+caller_put closed receipts first last cells cells' least x i k client number h call is q =
+    placed_put closed receipts first last cells cells' least x i k call.entry h call.stands (is ∙ sym call.of_client)
+    (subst (λ (n : ℕ). Puts cells k n (record { extent = x; index = i }) true cells') (sym call.of_number) q)
+
+pub caller_kept : (closed : ClosedState) (receipts : List (List Receipt)) (first : ℕ) (last : Bool) (cells cells' : ℕ → ℕ → Option (Option LogPlace)) (least least' : Option CallPlace) (x i k client number : ℕ) → PlacedBefore closed receipts first last cells least x i → IsOfCall (entries_numbered closed x) i client number → first + k ≡ client → BelongsAt receipts last k
+    → Puts cells k number (record { extent = x; index = i }) false cells'
+    → ((c n : ℕ) → IsAtMost least c n → IsAtMost least' c n) → IsAtMost least' client number → (least' ≡ least) ⊎ (least' ≡ Some (record { client = client; number = number })) → PlacedBefore closed receipts first last cells' least' x (i + 1)
+caller_kept closed receipts first last cells cells' least least' x i k client number h call here_is belongs q keeps most is =
+    let e = call.entry in
+    placed_kept closed receipts first last cells cells' least least' x i k e h call.stands (here_is ∙ sym call.of_client) belongs
+    (subst (λ (n : ℕ). Puts cells k n (record { extent = x; index = i }) false cells') (sym call.of_number) q)
+    keeps
+    (subst (λ (n : ℕ). IsAtMost least' e.client n) (sym call.of_number) (subst (λ (c : ℕ). IsAtMost least' c number) (sym call.of_client) most))
+    (elim is as (λ _. (least' ≡ least) ⊎ (least' ≡ Some (record { client = e.client; number = e.number }))) [
+      | inl a ↦ inl a
+      | inr b ↦ inr (b ∙ (λ j. Some (record { client = sym call.of_client j; number = sym call.of_number j })))
+    ])
 
 -- all logs were seen
 pub placed_part : (closed : ClosedState) (receipts : List (List Receipt)) (first : ℕ) (last : Bool) (cells : ℕ → ℕ → Option (Option LogPlace)) (least : Option CallPlace) (count : ℕ) → ((e i : ℕ) (entry : Entry) → count ≤ e → StandsAt closed e i entry → ⊥) → PlacedBefore closed receipts first last cells least count 0 → ArePlacedIn closed receipts first last cells least

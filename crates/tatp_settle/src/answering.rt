@@ -47,8 +47,8 @@ fn agrees(logs: &LogTable<'_>, cell: Option<LogPlace>, ask: &Ask, receipt: &Rece
             Receipt::Refused { .. } => true,
             Receipt::Done { .. } => false,
         },
-        Some(place) => match logs.log(place.extent).get(place.index) {
-            Some(entry) => says(place.extent, entry, ask, receipt),
+        Some(place) => match logs.entry(place.extent, place.index) {
+            Some(entry) => says(place.extent, &entry, ask, receipt),
             None => false,
         },
     }

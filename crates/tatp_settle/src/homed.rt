@@ -14,21 +14,25 @@ use crate::places::CallPlace;
 use crate::placing::lesser;
 use tatp_numbers::Directory;
 use tatp_partition::key_of;
-use tatp_procs::Entry;
+use tatp_population::Log;
 
 /// The first call without a home whose key names a subscriber of the directory.
 pub(crate) fn first_homed(directory: &Directory, closed: &Closed) -> Option<CallPlace>
     ensures { (subscribers : Tuples) → ((key : Key) → answer directory.now key ≡ home_of_key subscribers key) → IsFirstCall (NamesHome subscribers closed.now) result }
 {
-    first_named(log_of(closed, 0), directory)
+    match log_of(closed, 0) {
+        Some(log) => first_named(log, directory),
+        None => None,
+    }
 }
 
 /// The first call of a log whose key names a subscriber.
-fn first_named(log: &[Entry], directory: &Directory) -> Option<CallPlace>
-    ensures { IsFirstCall (IsNamedIn log.now directory.now) result }
+fn first_named(log: &Log, directory: &Directory) -> Option<CallPlace>
+    ensures { IsFirstCall (IsNamedIn log.now.entries directory.now) result }
 {
     let mut least: Option<CallPlace> = None;
-    'entries: for entry in log {
+    'entries: for index in 0..log.len() {
+        let entry = log.get(index).unwrap();
         if directory.home_of(key_of(&entry.ask)).is_some() {
             least = lesser(
                 least,

@@ -1,18 +1,22 @@
 //! The logs of all numbers, each looked up once.
-ghost use Rattle.std.specs.Prelude.{◌≡◌, ◌≤◌, ℕ, [], IfOk};
+ghost use Rattle.std.specs.Prelude.{◌≡◌, ◌<◌, ◌≤◌, ℕ, [], IfOk, length, slice_get};
+ghost use Rattle.std.specs.Option.{option_copied};
+ghost use Rattle.tatp_population.specs.Logs.{IsOfCall};
 ghost use Rattle.tatp_settle.specs.Closings.{entries_numbered, least_above};
+ghost use Rattle.tatp_settle.specs.LogTables.{entries_of};
 
 use crate::Closed;
 use crate::logs::{log_count, log_of};
 use std::alloc::{AllocError, Global};
 use std::marker::Model;
+use tatp_population::Log;
 use tatp_procs::Entry;
 
 /// What was gathered, with the log of each number at hand.
 #[derive(Drop)]
 pub(crate) struct LogTable<'a> {
     closed: &'a Closed,
-    logs: Vec<&'a [Entry]>,
+    logs: Vec<Option<&'a Log>>,
 }
 
 impl<'a> Model for LogTable<'a> {
@@ -49,13 +53,44 @@ impl<'a> LogTable<'a> {
         self.logs.len() as u64
     }
 
-    /// The log of a number: empty, where there is none.
-    pub(crate) fn log(&self, number: u64) -> &[Entry]
-        ensures { result.now ≡ entries_numbered self.now number }
+    /// The log of a number, if there is one.
+    fn log(&self, number: u64) -> Option<&Log>
+        ensures { entries_of (option_copied result) ≡ entries_numbered self.now number }
     {
         match self.logs.get(number as usize) {
-            Some(log) => log,
-            None => &[],
+            Some(log) => *log,
+            None => None,
+        }
+    }
+
+    /// How many entries stand under a number.
+    pub(crate) fn len(&self, number: u64) -> usize
+        ensures { result ≡ length (entries_numbered self.now number) }
+    {
+        match self.log(number) {
+            Some(log) => log.len(),
+            None => 0,
+        }
+    }
+
+    /// The entry in a place under a number, if there is one.
+    pub(crate) fn entry(&self, number: u64, index: usize) -> Option<Entry>
+        ensures { result ≡ slice_get (entries_numbered self.now number) index }
+    {
+        match self.log(number) {
+            Some(log) => log.get(index),
+            None => None,
+        }
+    }
+
+    /// Whose call the entry in a place under a number is: its client, and the call's number.
+    pub(crate) fn caller(&self, number: u64, index: usize) -> (u64, u64)
+        requires { index < length (entries_numbered self.now number) }
+        ensures { IsOfCall (entries_numbered self.now number) index result.0 result.1 }
+    {
+        match self.log(number) {
+            Some(log) => log.caller(index),
+            None => unreachable!(),
         }
     }
 }

@@ -3,11 +3,11 @@ ghost use Rattle.std.specs.Prelude.{◌≡◌, ◌≤◌, ◌^◌, ◌==◌, ℕ
 ghost use Rattle.std.specs.List.{flat_map};
 ghost use Rattle.std.specs.Option.{option_copied, option_map_or};
 ghost use Rattle.tatp_population.specs.Extents.{ExtentState};
+ghost use Rattle.tatp_settle.specs.LogTables.{entries_of};
 ghost use Rattle.tatp_settle.specs.Closings.{ClosedSiteState, extents_in_slots, extents_numbered, extent_numbered, entries_numbered, most_places, above_all, least_above, IsClosedSite};
 
 use crate::{Closed, ClosedSite};
-use tatp_population::Extent;
-use tatp_procs::Entry;
+use tatp_population::{Extent, Log};
 
 /// The first of these extents that has a number.
 fn first_of(extents: &[Extent], number: u64) -> Option<&Extent>
@@ -45,29 +45,29 @@ pub(crate) fn extent_of(closed: &Closed, number: u64) -> Option<&Extent>
     }
 }
 
-/// The first log of calls without a home.
-fn homeless_of(sites: &[ClosedSite]) -> &[Entry]
-    ensures { result.now ≡ option_map_or (λ (site : ClosedSiteState). site.homeless.log) (find (λ (site : ClosedSiteState). site.partition == 0) sites.now) [] }
+/// The first log of calls without a home, if there is one.
+fn homeless_of(sites: &[ClosedSite]) -> Option<&Log>
+    ensures { entries_of (option_copied result) ≡ option_map_or (λ (site : ClosedSiteState). site.homeless.log) (find (λ (site : ClosedSiteState). site.partition == 0) sites.now) [] }
 {
     'sites: for site in sites {
         if site.partition() == 0 {
-            return site.homeless_entries();
+            return Some(site.homeless_log());
         }
     }
-    &[]
+    None
 }
 
-/// The entries of the first log that has a number; that of the calls without a home has the number 0.
-pub(crate) fn log_of(closed: &Closed, number: u64) -> &[Entry]
-    ensures { result.now ≡ entries_numbered closed.now number }
+/// The first log that has a number, if there is one; that of the calls without a home has the number 0.
+pub(crate) fn log_of(closed: &Closed, number: u64) -> Option<&Log>
+    ensures { entries_of (option_copied result) ≡ entries_numbered closed.now number }
 {
     closed.what_holds();
     if number == 0 {
         return homeless_of(closed.sites());
     }
     match extent_of(closed, number) {
-        Some(extent) => extent.log(),
-        None => &[],
+        Some(extent) => Some(extent.log()),
+        None => None,
     }
 }
 

@@ -57,23 +57,12 @@ fn place_in_turn(
     let mut table = Table::fresh(alloc, receipts)?;
     let mut least: Option<CallPlace> = None;
     'logs: for extent in 0..logs.count() {
-        let log = logs.log(extent);
-        'entries: for index in 0..log.len() {
-            let entry = &log[index];
-            if belongs(entry.client, first, receipts.len() as u64, last)
-                && !table.put(
-                    entry.client - first,
-                    entry.number,
-                    LogPlace { extent, index },
-                )
+        'entries: for index in 0..logs.len(extent) {
+            let (client, number) = logs.caller(extent, index);
+            if belongs(client, first, receipts.len() as u64, last)
+                && !table.put(client - first, number, LogPlace { extent, index })
             {
-                least = lesser(
-                    least,
-                    CallPlace {
-                        client: entry.client,
-                        number: entry.number,
-                    },
-                );
+                least = lesser(least, CallPlace { client, number });
             }
         }
     }

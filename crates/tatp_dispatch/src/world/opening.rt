@@ -12,7 +12,7 @@ use crate::queue::Queue;
 use std::alloc::{AllocError, Global};
 use tatp_loader::Loaded;
 use tatp_move::{Routes, open_sites};
-use tatp_population::{OpenError, discard, open};
+use tatp_population::{OpenError, admit, discard, open_clean};
 use tatp_tables::Rows;
 
 /// Queues for so many partitions, all empty.
@@ -93,27 +93,48 @@ impl<'m> World<'m> {
         ensures clean { OnOk result (IsClean rows) }
         ensures refusal { IfErr result (RefusesRows rows) }
     {
+        admit(alloc, &rows)?;
+        Ok(World::open_clean(alloc, loaded, rows, partitions, clients)?)
+    }
+
+    /// The whole with these rows, as [`World::open`] opens it, where the rows are known to be clean, as
+    /// drawn ones are, and so aren't audited. The rows are consumed, where memory is refused too.
+    pub fn open_clean(
+        alloc: Global,
+        loaded: &'m Loaded,
+        rows: Rows,
+        partitions: u8,
+        clients: u8,
+    ) -> Result<World<'m>, AllocError>
+        requires some_partitions { 1 ≤ partitions }
+        requires few_partitions { partitions ≤ 8 }
+        requires few_clients { clients ≤ 64 }
+        requires clean { IsClean rows }
+        requires few { length rows.subscribers ≤ most_subscribers }
+        ensures opened { IfOk result (IsOpened loaded.now rows partitions clients) }
+        ensures world { IfOk result IsWorld }
+    {
         let subscribers = rows.subscribers.len() as u64;
-        let (extents, directory) = open(alloc, rows, partitions)?;
+        let (extents, directory) = open_clean(alloc, rows)?;
         let dispatcher = match Dispatcher::open(alloc, subscribers, partitions, clients) {
             Ok(dispatcher) => dispatcher,
-            Err(_) => {
+            Err(error) => {
                 discard(extents);
-                return Err(OpenError::NoMemory);
+                return Err(error);
             }
         };
         let parcels = match empty_hand(alloc, extents.len() as u32) {
             Ok(parcels) => parcels,
-            Err(_) => {
+            Err(error) => {
                 discard(extents);
-                return Err(OpenError::NoMemory);
+                return Err(error);
             }
         };
         let sites = match open_sites(alloc, loaded, partitions, extents) {
             Ok(sites) => sites,
-            Err(_) => {
+            Err(error) => {
                 close_parcels(parcels);
-                return Err(OpenError::NoMemory);
+                return Err(error);
             }
         };
         let _module = loaded.module();

@@ -166,7 +166,10 @@ fn expect_first(rt: &impl Abort, parts: &ExtentParts) {
         (parts.log.len(), parts.opening.len(), parts.homes.len()),
         (1, 64, 64)
     );
-    assert_eq!(rt; (parts.log[0].ask, parts.log[0].stamp), (Ask::Txn(ASK), 1));
+    match parts.log.get(0) {
+        Some(entry) => assert_eq!(rt; (entry.ask, entry.stamp), (Ask::Txn(ASK), 1)),
+        None => panic!(rt; "no entry"),
+    }
     let before = parts.opening[0].get(33, [1, 0, 0]);
     let after = parts.homes[0].get(33, [1, 0, 0]);
     assert_eq!(rt; (before, after), (Some(1), Some(7)));

@@ -113,7 +113,7 @@ fn an_extent_and_calls_on_it(rt: HostRuntime) -> Result<(), Fail> {
 fn calls_without_a_home(rt: HostRuntime) -> Result<(), Fail> {
     let mut homeless = Homeless::new(rt.alloc());
     homeless.reserve(rt.alloc())?;
-    assert!(rt; !homeless.mixed() && homeless.entries().is_empty() && homeless.last_stamp() == 0);
+    assert!(rt; !homeless.mixed() && homeless.log().is_empty() && homeless.last_stamp() == 0);
     homeless.end_mixed();
     assert!(rt; homeless.mixed());
     let parts = homeless.close();

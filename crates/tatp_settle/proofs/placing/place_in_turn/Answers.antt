@@ -1,4 +1,4 @@
-use Rattle.std.proofs.Common.{◌≡◌, ℕ, ◌+◌, ◌-◌, ◌<◌, ◌≤◌, ◌⊎◌, inl, inr, Bool, true, false, Vec, Global, ◌∙◌, List, Some, slice_get, slice_index_or, [], length, arith, sym, subst}
+use Rattle.std.proofs.Common.{◌≡◌, ℕ, ◌+◌, ◌-◌, ◌<◌, ◌≤◌, ◌⊎◌, inl, inr, Bool, true, false, Vec, Global, ◌∙◌, List, Some, slice_get, [], length, arith, sym, subst}
 use Rattle.std.proofs.lemmas.Option.{slice_get_within}
 use Rattle.std.proofs.lemmas.Bool.{false≢true}
 use Rattle.std.proofs.Math.ListN.{length-map}
@@ -7,19 +7,15 @@ use Rattle.tatp_procs.specs.declared.entry.Entry.{Entry}
 use Rattle.tatp_settle.specs.Closings.{ClosedState, StandsAt, entries_numbered}
 use Rattle.tatp_settle.specs.Runs.{lists_of}
 use Rattle.tatp_settle.specs.Placing.{cells_of, BelongsAt}
-use Rattle.tatp_settle.proofs.TableLaws.{got_within}
-use Rattle.tatp_settle.proofs.PlacingLaws.{placed_put, placed_kept, placed_other, placed_log, placed_part}
+use Rattle.tatp_settle.proofs.PlacingLaws.{caller_put, caller_kept, caller_other, placed_log, placed_part}
 use Rattle.tatp_settle.proofs.placing.place_in_turn.Goals as goal
 use Rattle.tatp_settle.proofs.placing.place_in_turn.Goals.{then-belongs+then-not-put, else-belongs, else-belongs-via-then-belongs+else-not-put, else-belongs-via-else-belongs, After-logs}
 
 none_after : (closed : ClosedState) (count : ℕ) → ((e : ℕ) → count ≤ e → entries_numbered closed e ≡ []) → (e i : ℕ) (entry : Entry) → count ≤ e → StandsAt closed e i entry → ⊥
 none_after closed count h e i entry l s = let f : slice_get [] i ≡ Some entry = subst (λ xs. slice_get xs i ≡ Some entry) (h e l) s in cc
 
-none_past : (closed : ClosedState) (log : List Entry) (e n : ℕ) → log ≡ entries_numbered closed e → length log ≤ n → (i : ℕ) (entry : Entry) → n ≤ i → StandsAt closed e i entry → ⊥
-none_past closed log e n is all i entry l s = omega (arith, all, l, slice_get_within log i entry (subst (λ xs. slice_get xs i ≡ Some entry) (sym is) s))
-
-stands : (closed : ClosedState) (log : List Entry) (e i : ℕ) (entry : Entry) → log ≡ entries_numbered closed e → i < length log → entry ≡ slice_index_or log i entry → StandsAt closed e i entry
-stands closed log e i entry is within at = subst (λ (xs : List Entry). slice_get xs i ≡ Some entry) is (got_within log i entry within at)
+none_past : (closed : ClosedState) (e n : ℕ) → length (entries_numbered closed e) ≤ n → (i : ℕ) (entry : Entry) → n ≤ i → StandsAt closed e i entry → ⊥
+none_past closed e n all i entry l s = omega (arith, all, l, slice_get_within (entries_numbered closed e) i entry s)
 
 belongs_there : (receipts : List (Vec Receipt Global)) (first client : ℕ) (last : Bool) → first ≤ client → (client < first + length receipts) ⊎ (last ≡ true) → BelongsAt (lists_of receipts) last (client - first)
 belongs_there receipts first client last later (inl l) = let same = length-map receipts (λ v. v.items) in inl (omega (arith, later, l, same))
@@ -35,25 +31,25 @@ client_at first client later = omega (arith, later)
 
 pub entries-preserved : goal.entries-preserved
 entries-preserved c =
-    let here = stands c.args.logs.now c.log-log.result.now c.logs.extent c.entries.index c.index-log-index.result c.log-log.ensures c.entries-test.true c.index-log-index.is in
-    let entry = c.index-log-index.result in
+    let client = c.caller-client.result.0 in
+    let number = c.caller-client.result.1 in
     elim c.if-belongs.branch [
       | then-belongs+then-not-put w ↦ rw w.table-is (rw w.least-is (record {
         len = w.put.ensures.len ∙ c.entries.invariant.len;
-        placed = placed_kept c.args.logs.now (lists_of c.args.receipts.now) c.args.first c.args.last (cells_of c.entries.table) (cells_of w.put.new.self) c.entries.least w.lesser-least.result c.logs.extent c.entries.index (entry.client - c.args.first) entry c.entries.invariant.placed here
-            (client_at c.args.first entry.client (c.belongs.ensures.belongs w.if-belongs.true).0) (belongs_there c.args.receipts.now c.args.first entry.client c.args.last (c.belongs.ensures.belongs w.if-belongs.true).0 (c.belongs.ensures.belongs w.if-belongs.true).1)
+        placed = caller_kept c.args.logs.now (lists_of c.args.receipts.now) c.args.first c.args.last (cells_of c.entries.table) (cells_of w.put.new.self) c.entries.least w.lesser-least.result c.logs.extent c.entries.index (client - c.args.first) client number c.entries.invariant.placed c.caller-client.ensures
+            (client_at c.args.first client (c.belongs.ensures.belongs w.if-belongs.true).0) (belongs_there c.args.receipts.now c.args.first client c.args.last (c.belongs.ensures.belongs w.if-belongs.true).0 (c.belongs.ensures.belongs w.if-belongs.true).1)
             w.if-not-put.ensures.puts w.lesser-least.ensures.keeps w.lesser-least.ensures.at w.lesser-least.ensures.is;
       }))
       | else-belongs w ↦ rw w.table-is (rw w.least-is (elim w.else-belongs.branch [
         | else-belongs-via-then-belongs+else-not-put w' ↦ rw w'.table-is (record {
           len = w'.put.ensures.len ∙ c.entries.invariant.len;
-          placed = placed_put c.args.logs.now (lists_of c.args.receipts.now) c.args.first c.args.last (cells_of c.entries.table) (cells_of w'.put.new.self) c.entries.least c.logs.extent c.entries.index (entry.client - c.args.first) entry c.entries.invariant.placed here
-              (client_at c.args.first entry.client (c.belongs.ensures.belongs w'.if-belongs.true).0) w'.if-not-put.ensures.puts;
+          placed = caller_put c.args.logs.now (lists_of c.args.receipts.now) c.args.first c.args.last (cells_of c.entries.table) (cells_of w'.put.new.self) c.entries.least c.logs.extent c.entries.index (client - c.args.first) client number c.entries.invariant.placed c.caller-client.ensures
+              (client_at c.args.first client (c.belongs.ensures.belongs w'.if-belongs.true).0) w'.if-not-put.ensures.puts;
         })
         | else-belongs-via-else-belongs w' ↦ rw w'.table-is (record {
           len = c.entries.invariant.len;
-          placed = placed_other c.args.logs.now (lists_of c.args.receipts.now) c.args.first c.args.last (cells_of c.entries.table) c.entries.least c.logs.extent c.entries.index entry c.entries.invariant.placed here
-              (belongs_not c.args.receipts.now c.args.first entry.client c.args.last (c.belongs.ensures.other w'.if-belongs.false));
+          placed = caller_other c.args.logs.now (lists_of c.args.receipts.now) c.args.first c.args.last (cells_of c.entries.table) c.entries.least c.logs.extent c.entries.index client number c.entries.invariant.placed c.caller-client.ensures
+              (belongs_not c.args.receipts.now c.args.first client c.args.last (c.belongs.ensures.other w'.if-belongs.false));
         })
       ]))
     ]
@@ -62,7 +58,7 @@ pub logs-preserved : goal.logs-preserved
 logs-preserved c = record {
   len = c.entries.invariant.len;
   placed = placed_log c.args.logs.now (lists_of c.args.receipts.now) c.args.first c.args.last (cells_of c.entries.table) c.entries.least c.logs.extent c.entries.index c.entries.invariant.placed
-      (none_past c.args.logs.now c.log-log.result.now c.logs.extent c.entries.index c.log-log.ensures c.entries-test.false);
+      (none_past c.args.logs.now c.logs.extent c.entries.index (omega (arith, c.len-index-end.ensures, c.entries-test.false)));
 }
 
 past : (c : After-logs) → (e i : ℕ) (entry : Entry) → c.logs.extent ≤ e → StandsAt c.args.logs.now e i entry → ⊥

@@ -13,7 +13,7 @@ use Rattle.tatp_dispatch.specs.Serving.{IsWorld}
 use Rattle.tatp_dispatch.specs.Worlds.{WorldState}
 use Rattle.tatp_dispatch.proofs.OpenLaws.{length-opened_extents, opened_are_numbered}
 use Rattle.tatp_dispatch.proofs.NewLaws.{Opens, new_world, no_parcels, is_world, is_opened, none_under_way, none_to_end}
-use Rattle.tatp_dispatch.proofs.world.World.open.Goals as goal
+use Rattle.tatp_dispatch.proofs.world.World.open_clean.Goals as goal
 
 -- ---- the extents
 many : (rows : Rows) (extents : List ExtentState) → extents ≡ opened_extents (database_of rows) (length rows.subscribers) → length extents ≡ extent_count (length rows.subscribers)
@@ -22,11 +22,11 @@ many rows extents is = ap length is ∙ length-opened_extents (database_of rows)
 pub overflow_cast-len : goal.overflow_cast-len
 overflow_cast-len c =
     let same : c.len.result ≡ length c.in_ok-extents.extents.items = search rules in
-    let few : c.len.result < 4294967296 = omega (arith, same, many c.args.rows c.in_ok-extents.extents.items c.in_ok-extents.ensures.extents, c.in_ok-extents.ensures.few) in
+    let few : c.len.result < 4294967296 = omega (arith, same, many c.args.rows c.in_ok-extents.extents.items c.in_ok-extents.ensures.extents, c.requires.few) in
     search rules
 
 pub open_sites-requires-clause-few : goal.open_sites-requires-clause-few
-open_sites-requires-clause-few c = omega (arith, many c.args.rows c.in_ok-extents.extents.items c.in_ok-extents.ensures.extents, c.in_ok-extents.ensures.few)
+open_sites-requires-clause-few c = omega (arith, many c.args.rows c.in_ok-extents.extents.items c.in_ok-extents.ensures.extents, c.requires.few)
 
 pub open_sites-requires-clause-numbers : goal.open_sites-requires-clause-numbers
 open_sites-requires-clause-numbers c = subst (λ (xs : List ExtentState). AreNumbered (length xs) xs) (sym c.in_ok-extents.ensures.extents) (opened_are_numbered (database_of c.args.rows) (length c.args.rows.subscribers))
@@ -36,8 +36,8 @@ opens : (c : goal.After-new-2) → Opens c.args.loaded.now c.args.rows c.args.pa
 opens c = record {
   lawful = c.module-module.ensures.lawful;
   some = c.requires.some_partitions;
-  few = c.in_ok-extents.ensures.few;
-  clean = c.in_ok-extents.ensures.clean;
+  few = c.requires.few;
+  clean = c.requires.clean;
   answers = c.in_ok-extents.ensures.directory;
   opened = subst (λ (xs : List ExtentState). AreSitesOpened c.args.loaded.now c.args.partitions xs c.in-Ok-open_sites.sites.items) c.in_ok-extents.ensures.extents c.in-Ok-open_sites.ensures;
 }

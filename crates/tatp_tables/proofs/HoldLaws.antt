@@ -1,7 +1,6 @@
 -- A row put into the empty cell of its key: the cells hold a home with that row besides.
-use Rattle.std.specs.Prelude.{◌≡◌, ℕ, ◌+◌, ◌<◌, ◌≤◌, true, List, [], ◌∷◌, Option, Some, None, length, take, slice_get, slice_set, slice_index, slice_index_or}
+use Rattle.std.specs.Prelude.{◌≡◌, ◌≢◌, ℕ, ◌+◌, ◌<◌, ◌≤◌, true, List, [], ◌∷◌, Option, Some, None, length, take, slice_get, slice_set, slice_index, slice_index_or}
 use Rattle.std.proofs.Common.{refl, sym, ap, subst, ◌∙◌, arith}
-use Rattle.std.proofs.lemmas.List.FromFn.{get_or-map-range_with_len}
 use Rattle.tatp_tables.specs.Tuples.{Tuple, set_of, insert_row}
 use Rattle.tatp_tables.specs.Keys.{has_key, row_at}
 use Rattle.tatp_tables.specs.Columns.{key_length, column_count}
@@ -9,8 +8,8 @@ use Rattle.tatp_tables.specs.Domains.{is_in_domain, is_row}
 use Rattle.tatp_tables.specs.Rows.{rows_in}
 use Rattle.tatp_tables.specs.Database.{Database, in_table, with_table, of_subscriber}
 use Rattle.tatp_tables.specs.Home.{SubscriberRows, home_in, home_with, HasParent, IsHome}
-use Rattle.tatp_tables.specs.Clean.{ValuesFit, IsClean}
-use Rattle.tatp_tables.specs.Loading.{read_until, homes_in}
+use Rattle.tatp_tables.specs.Clean.{IsClean}
+use Rattle.tatp_tables.specs.Loading.{read_until}
 use Rattle.tatp_tables.specs.Cells.{present, StandAt, HoldHome, tables_in, subscriber_keys, type_keys}
 use Rattle.tatp_tables.proofs.KeyLaws.{take-one, take-two, has_key-take, first_is, first_has_key}
 use Rattle.tatp_tables.proofs.ChangeLaws.{IsHome-hold}
@@ -19,7 +18,7 @@ use Rattle.tatp_tables.proofs.CleanLaws.{row_fits, row_is_new, row_has_parent}
 use Rattle.tatp_tables.proofs.CellLaws.{StandAt-set}
 use Rattle.tatp_tables.proofs.PlaceLaws.{subscriber_at, type_at}
 use Rattle.tatp_tables.proofs.StorageLaws.{holds_row}
-use Rattle.tatp_tables.proofs.LoadingLaws.{homes-next, homes-same}
+use Rattle.tatp_tables.proofs.LoadingLaws.{own-next, other-next, not_own}
 use Rattle.tatp_tables.specs.declared.row.Rows.{Rows}
 use Rattle.tatp_tables.specs.declared.table.Table.{Table}
 use Rattle.tatp_tables.specs.declared.table.Table.TheVariants.{Subscriber, AccessInfo, SpecialFacility, CallForwarding}
@@ -113,10 +112,7 @@ type_of_access row fits = sym (types_alike (slice_index row 1)) ∙ is_row-at Ac
 pub type_of_facility : (row : Tuple) → is_row SpecialFacility row ≡ true → is_in_domain 47 (slice_index row 1) ≡ true
 type_of_facility row fits = sym (types_of_facilities (slice_index row 1)) ∙ is_row-at SpecialFacility row 1 fits (omega arith)
 
--- ---- the home of the row at a place of a list
-pub home_at : (homes : List SubscriberRows) (u : Database) (first n place s : ℕ) (d : SubscriberRows) → homes ≡ homes_in u first n → place < n → first + place ≡ s → slice_index_or homes place d ≡ home_in u s
-home_at homes u first n place s d e lt at = ap (λ xs. slice_index_or xs place d) e ∙ get_or-map-range_with_len (home_in u) first n place s d lt at
-
+-- ---- the next row of a table, and its home
 -- what its home asks of the row
 pub record RowWanted (t : Table) (home : SubscriberRows) (row : Tuple) : Type 0 where
   pub own : has_key (home.s_id ∷ []) row ≡ true
@@ -129,54 +125,38 @@ wanted_at AccessInfo r i s d clean lt own = record { own = own; free = row_is_ne
 wanted_at SpecialFacility r i s d clean lt own = record { own = own; free = row_is_new SpecialFacility r s i d clean lt; parent = row_has_parent SpecialFacility r (of_subscriber (read_until SpecialFacility r i) s) s i d clean.parents refl lt own }
 wanted_at CallForwarding r i s d clean lt own = record { own = own; free = row_is_new CallForwarding r s i d clean lt; parent = row_has_parent CallForwarding r (of_subscriber (read_until CallForwarding r i) s) s i d clean.parents refl lt own }
 
--- ---- the next row of a list, as a loop over it says it
 one_column : (t : Table) → 1 ≤ column_count t
 one_column Subscriber = omega arith
 one_column AccessInfo = omega arith
 one_column SpecialFacility = omega arith
 one_column CallForwarding = omega arith
 
-row_own : (t : Table) (r : Rows) (i : ℕ) (d : Tuple) → ValuesFit r → i < length (rows_in t r) → has_key (slice_index (slice_index_or (rows_in t r) i d) 0 ∷ []) (slice_index_or (rows_in t r) i d) ≡ true
-row_own t r i d fit lt = let row = slice_index_or (rows_in t r) i d in
-    first_has_key (slice_index row 0) row (omega (arith, is_row-length t row (row_fits t r i d fit lt), one_column t)) refl
+-- a row that is read next
+pub record IsNext (t : Table) (r : Rows) (i : ℕ) (row : Tuple) : Type 0 where
+  pub clean : IsClean r
+  pub more : i < length (rows_in t r)
+  pub is : row ≡ slice_index_or (rows_in t r) i []
 
--- the homes while the list of table t is read: its first i rows are in them
-pub record Loads (t : Table) (r : Rows) (xs : List Tuple) (i first n : ℕ) (homes : List SubscriberRows) : Type 0 where
-  pub list : xs ≡ rows_in t r
-  pub more : i < length xs
-  pub so_far : homes ≡ homes_in (read_until t r i) first n
-  pub count : length homes ≡ n
+pub next_fits : (t : Table) (r : Rows) (i : ℕ) (row : Tuple) → IsNext t r i row → is_row t row ≡ true
+next_fits t r i row next = ap (is_row t) next.is ∙ row_fits t r i [] next.clean.values next.more
 
-pub wanted : (t : Table) (r : Rows) (xs : List Tuple) (i first n place : ℕ) (d : Tuple) (homes : List SubscriberRows) (e : SubscriberRows) → IsClean r → Loads t r xs i first n homes
-    → place < length homes → first + place ≡ slice_index (slice_index_or xs i d) 0 → RowWanted t (slice_index_or homes place e) (slice_index_or xs i d)
-wanted t r xs i first n place d homes e clean loads within at =
-    let row = slice_index_or (rows_in t r) i d in
-    let lt : i < length (rows_in t r) = subst (λ ys. i < length ys) loads.list loads.more in
-    let s : first + place ≡ slice_index row 0 = at ∙ ap (λ ys. slice_index (slice_index_or ys i d) 0) loads.list in
-    let home = home_at homes (read_until t r i) first n place (slice_index row 0) e loads.so_far (omega (arith, loads.count)) s in
-    subst (λ ys. RowWanted t (slice_index_or homes place e) (slice_index_or ys i d)) (sym loads.list)
-    (subst (λ h. RowWanted t h row) (sym home) (wanted_at t r i (slice_index row 0) d clean lt (row_own t r i d clean.values lt)))
+pub next_has_column : (t : Table) (r : Rows) (i : ℕ) (row : Tuple) → IsNext t r i row → 0 < length row
+next_has_column t r i row next = omega (arith, is_row-length t row (next_fits t r i row next), one_column t)
 
--- the homes after it
-pub next_held : (t : Table) (r : Rows) (xs : List Tuple) (i first n place : ℕ) (d : Tuple) (homes : List SubscriberRows) (e new : SubscriberRows) → IsClean r → Loads t r xs i first n homes
-    → place < length homes → first + place ≡ slice_index (slice_index_or xs i d) 0
-    → new ≡ home_with (slice_index_or homes place e) t (insert_row (in_table t (slice_index_or homes place e).tables) (slice_index_or xs i d))
-    → slice_set homes place new ≡ homes_in (read_until t r (i + 1)) first n
-next_held t r xs i first n place d homes e new clean loads within at is =
-    let row = slice_index_or (rows_in t r) i d in
-    let lt : i < length (rows_in t r) = subst (λ ys. i < length ys) loads.list loads.more in
-    let inside : place < n = omega (arith, loads.count) in
-    let s : first + place ≡ slice_index row 0 = at ∙ ap (λ ys. slice_index (slice_index_or ys i d) 0) loads.list in
-    let home = home_at homes (read_until t r i) first n place (first + place) e loads.so_far inside refl in
-    (λ j. slice_set (loads.so_far j) place ((is
-    ∙ ap (λ ys. home_with (slice_index_or homes place e) t (insert_row (in_table t (slice_index_or homes place e).tables) (slice_index_or ys i d))) loads.list
-    ∙ ap (λ h. home_with h t (insert_row (in_table t h.tables) row)) home) j))
-    ∙ sym (homes-next t r i first n place d lt inside (ap (λ q. has_key (q ∷ []) row) s ∙ row_own t r i d clean.values lt))
+pub next_own : (t : Table) (r : Rows) (i s : ℕ) (row : Tuple) → IsNext t r i row → slice_index row 0 ≡ s → has_key (s ∷ []) (slice_index_or (rows_in t r) i []) ≡ true
+next_own t r i s row next at =
+    ap (has_key (s ∷ [])) (sym next.is) ∙ ap (λ q. has_key (q ∷ []) row) (sym at) ∙ first_has_key (slice_index row 0) row (next_has_column t r i row next) refl
 
-pub next_passed : (t : Table) (r : Rows) (xs : List Tuple) (i first n : ℕ) (d : Tuple) (homes : List SubscriberRows) → IsClean r → Loads t r xs i first n homes
-    → ((k : ℕ) → k < length homes → first + k ≡ slice_index (slice_index_or xs i d) 0 → ⊥) → homes ≡ homes_in (read_until t r (i + 1)) first n
-next_passed t r xs i first n d homes clean loads none =
-    let row = slice_index_or (rows_in t r) i d in
-    let lt : i < length (rows_in t r) = subst (λ ys. i < length ys) loads.list loads.more in
-    loads.so_far ∙ sym (homes-same t r i first n (slice_index row 0) d lt (row_own t r i d clean.values lt)
-    (λ k l e. none k (omega (arith, loads.count)) (e ∙ ap (λ ys. slice_index (slice_index_or ys i d) 0) (sym loads.list))))
+pub wanted : (t : Table) (r : Rows) (i s : ℕ) (row : Tuple) (home : SubscriberRows) → IsNext t r i row → home ≡ home_in (read_until t r i) s → slice_index row 0 ≡ s → RowWanted t home row
+wanted t r i s row home next is at =
+    subst (λ h. RowWanted t h row) (sym is) (subst (RowWanted t (home_in (read_until t r i) s)) (sym next.is) (wanted_at t r i s [] next.clean next.more (next_own t r i s row next at)))
+
+-- one home after it
+pub home_held : (t : Table) (r : Rows) (i s : ℕ) (row : Tuple) (home new : SubscriberRows) → IsNext t r i row → home ≡ home_in (read_until t r i) s → slice_index row 0 ≡ s
+    → new ≡ home_with home t (insert_row (in_table t home.tables) row) → new ≡ home_in (read_until t r (i + 1)) s
+home_held t r i s row home new next is at held =
+    held ∙ (λ j. home_with (is j) t (insert_row (in_table t (is j).tables) (next.is j))) ∙ sym (own-next t r i s [] next.more (next_own t r i s row next at))
+
+pub home_passed : (t : Table) (r : Rows) (i s : ℕ) (row : Tuple) (home : SubscriberRows) → IsNext t r i row → home ≡ home_in (read_until t r i) s → slice_index row 0 ≢ s → home ≡ home_in (read_until t r (i + 1)) s
+home_passed t r i s row home next is other =
+    is ∙ sym (other-next t r i s [] next.more (not_own (slice_index row 0) s (slice_index_or (rows_in t r) i []) (next_own t r i (slice_index row 0) row next refl) (λ e. other (sym e))))

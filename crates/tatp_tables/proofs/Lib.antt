@@ -12,6 +12,7 @@ pub mod PlaceLaws
 pub mod StorageLaws
 pub mod LoadingLaws
 pub mod HoldLaws
+pub mod ListLaws
 pub mod ListingLaws
 pub mod ColumnLaws
 pub mod FieldLaws

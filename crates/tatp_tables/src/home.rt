@@ -16,7 +16,7 @@ mod loading;
 
 use crate::Table;
 use crate::place::{forwarding_place, type_place};
-pub use loading::homes;
+pub use loading::{homes, homes_in_lists};
 use std::marker::Model;
 
 /// The rows of one s_id: at most one Subscriber row, four Access_Info and four Special_Facility rows

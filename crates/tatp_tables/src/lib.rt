@@ -21,7 +21,7 @@ mod values;
 
 pub use domain::in_domain;
 pub use fields::Fields;
-pub use home::{Home, homes, what_holds_of_every_home};
+pub use home::{Home, homes, homes_in_lists, what_holds_of_every_home};
 pub use laws::rows_of_one_subscriber;
 pub use refusal::Refusal;
 pub use row::{Row, RowList, Rows};

@@ -1,7 +1,8 @@
 //! Rows of the four tables, and lists of them.
-ghost use Rattle.std.specs.Prelude.{◌≡◌, [], ◌∷◌, ◌++◌, ◌==◌, length, take, OnOk, OnErr};
-ghost use Rattle.tatp_tables.specs.Rows.{with_row};
+ghost use Rattle.std.specs.Prelude.{◌≡◌, [], ◌∷◌, ◌++◌, ◌==◌, ◌<◌, length, take, slice_index_or, OnOk, OnErr};
+ghost use Rattle.tatp_tables.specs.Rows.{rows_in, with_row};
 
+use crate::Table;
 use std::alloc::{AllocError, AllocFailed, Global};
 use std::marker::Model;
 
@@ -114,6 +115,31 @@ impl Rows {
             accesses: RowList::new(alloc),
             facilities: RowList::new(alloc),
             forwardings: RowList::new(alloc),
+        }
+    }
+
+    /// How many rows a table has.
+    pub(crate) fn count(&self, table: Table) -> usize
+        ensures { result ≡ length (rows_in table self.now) }
+    {
+        match table {
+            Table::Subscriber => self.subscribers.len(),
+            Table::AccessInfo => self.accesses.len(),
+            Table::SpecialFacility => self.facilities.len(),
+            Table::CallForwarding => self.forwardings.len(),
+        }
+    }
+
+    /// A row of a table.
+    pub(crate) fn row(&self, table: Table, i: usize) -> &[u64]
+        requires { i < length (rows_in table self.now) }
+        ensures { result.now ≡ slice_index_or (rows_in table self.now) i [] }
+    {
+        match table {
+            Table::Subscriber => &self.subscribers.as_slice()[i],
+            Table::AccessInfo => &self.accesses.as_slice()[i],
+            Table::SpecialFacility => &self.facilities.as_slice()[i],
+            Table::CallForwarding => &self.forwardings.as_slice()[i],
         }
     }
 

@@ -1,14 +1,15 @@
 //! Homes from lists of rows: one s_id's, or all.
 //!
 //! The tables are read one after another, each in one pass, and each row goes into its own home.
-ghost use Rattle.std.specs.Prelude.{◌≡◌, ℕ, ◌+◌, ◌<◌, ◌∷◌, [], IfSome, IfNone, IfOk, None, true, length, take};
+ghost use Rattle.std.specs.Prelude.{◌≡◌, ℕ, ◌+◌, ◌^◌, ◌<◌, ◌≤◌, ◌∷◌, [], IfSome, IfNone, IfOk, None, true, map, length, take};
 ghost use Rattle.tatp_tables.specs.Tuples.{insert_row};
 ghost use Rattle.tatp_tables.specs.Keys.{has_key, row_at};
 ghost use Rattle.tatp_tables.specs.Domains.{is_row};
-ghost use Rattle.tatp_tables.specs.Database.{no_tables, database_of};
+ghost use Rattle.tatp_tables.specs.Columns.{key_length};
+ghost use Rattle.tatp_tables.specs.Database.{no_tables, database_of, in_table};
 ghost use Rattle.tatp_tables.specs.Home.{home_in, home_with, HasParent};
 ghost use Rattle.tatp_tables.specs.Clean.{IsClean};
-ghost use Rattle.tatp_tables.specs.Loading.{read_until, homes_in};
+ghost use Rattle.tatp_tables.specs.Loading.{read_until, read_with, homes_in, lists_in};
 
 use super::Home;
 use crate::place::type_place;
@@ -21,10 +22,42 @@ impl Home {
         requires { IsClean rows.now }
         ensures { result ≡ home_in (database_of rows.now) s_id }
     {
-        let mut homes = [Home::empty(s_id)];
-        load(&mut homes, s_id, rows);
-        let [home] = homes;
+        let mut home = Home::empty(s_id);
+        home.read(rows, Table::Subscriber);
+        home.read(rows, Table::AccessInfo);
+        home.read(rows, Table::SpecialFacility);
+        home.read(rows, Table::CallForwarding);
         home
+    }
+
+    /// Takes in its own among the rows of one table.
+    fn read(&mut self, rows: &Rows, table: Table)
+        requires clean { IsClean rows.now }
+        requires before { self.old ≡ home_in (read_until table rows.now 0) self.old.s_id }
+        ensures { self.new ≡ home_in (read_with table rows.now) self.old.s_id }
+    {
+        for i in 0..rows.count(table) {
+            let row = rows.row(table, i);
+            if row[0] == self.s_id() {
+                self.hold(table, row);
+            }
+        }
+    }
+
+    /// Takes in a row of its own.
+    fn hold(&mut self, table: Table, row: &[u64])
+        requires row { is_row table row.now ≡ true }
+        requires own { has_key (self.old.s_id ∷ []) row.now ≡ true }
+        requires free { row_at (in_table table self.old.tables) (take (key_length table) row.now) ≡ None }
+        requires parent { HasParent table self.old.tables row.now }
+        ensures { self.new ≡ home_with self.old table (insert_row (in_table table self.old.tables) row.now) }
+    {
+        match table {
+            Table::Subscriber => self.hold_subscriber(columns(row)),
+            Table::AccessInfo => self.hold_access(columns(row)),
+            Table::SpecialFacility => self.hold_facility(columns(row)),
+            Table::CallForwarding => self.hold_forwarding(columns(row)),
+        }
     }
 
     fn hold_subscriber(&mut self, row: &[u64; 34])
@@ -73,97 +106,93 @@ impl Home {
     }
 }
 
+/// The columns of a row with as many.
+fn columns<const N: usize>(row: &[u64]) -> &[u64; N]
+    requires { length row.now ≡ N }
+    ensures { result.now ≡ row.now }
+{
+    match row.as_array() {
+        Some(columns) => columns,
+        None => unreachable!(),
+    }
+}
+
 /// The homes of the subscribers 1 to N of clean rows, in this order.
 pub fn homes(alloc: Global, rows: &Rows) -> Result<Vec<Home>, AllocError>
     requires { IsClean rows.now }
     ensures { IfOk result (λ homes. homes.items ≡ homes_in (database_of rows.now) 1 (length rows.now.subscribers)) }
 {
-    let mut homes = empty_homes(alloc, rows.subscribers.len())?;
-    load(homes.as_mut_slice(), 1, rows);
-    Ok(homes)
+    let all = rows.subscribers.len().max(1);
+    match homes_in_lists(alloc, rows, all)?.pop() {
+        Some(homes) => Ok(homes),
+        None => Ok(Vec::new(alloc)),
+    }
 }
 
-/// Homes without rows, of the s_ids 1 to `count`.
-fn empty_homes(alloc: Global, count: usize) -> Result<Vec<Home>, AllocError>
-    ensures { IfOk result (λ homes. homes.items ≡ homes_in no_tables 1 count) }
+/// The homes of the subscribers 1 to N of clean rows, in this order, in lists of `size`. The last list may
+/// be shorter, and none is empty.
+pub fn homes_in_lists(alloc: Global, rows: &Rows, size: usize) -> Result<Vec<Vec<Home>>, AllocError>
+    requires clean { IsClean rows.now }
+    requires size { 1 ≤ size }
+    ensures { IfOk result (λ lists. map (λ list. list.items) lists.items ≡ lists_in (database_of rows.now) size (length rows.now.subscribers)) }
+{
+    let mut lists = empty_lists(alloc, rows.subscribers.len(), size)?;
+    load(lists.as_mut_slice(), size, rows, Table::Subscriber);
+    load(lists.as_mut_slice(), size, rows, Table::AccessInfo);
+    load(lists.as_mut_slice(), size, rows, Table::SpecialFacility);
+    load(lists.as_mut_slice(), size, rows, Table::CallForwarding);
+    Ok(lists)
+}
+
+/// Homes without rows, of the s_ids 1 to `count`, in lists of `size`.
+fn empty_lists(alloc: Global, count: usize, size: usize) -> Result<Vec<Vec<Home>>, AllocError>
+    requires { 1 ≤ size }
+    ensures { IfOk result (λ lists. map (λ list. list.items) lists.items ≡ lists_in no_tables size count) }
+{
+    let mut lists = Vec::with_capacity(alloc, count.div_ceil(size))?;
+    for list in 0..count.div_ceil(size) {
+        let before = size * list;
+        lists.push(empty_homes(alloc, before as u64 + 1, size.min(count - before))?)?;
+    }
+    Ok(lists)
+}
+
+/// Homes without rows, of `count` s_ids from the first on.
+fn empty_homes(alloc: Global, first: u64, count: usize) -> Result<Vec<Home>, AllocError>
+    requires { first + count ≤ 2 ^ 64 }
+    ensures { IfOk result (λ homes. homes.items ≡ homes_in no_tables first count) }
 {
     let mut homes = Vec::with_capacity(alloc, count)?;
     for place in 0..count {
-        homes.push(Home::empty(place as u64 + 1))?;
+        homes.push(Home::empty(first + place as u64))?;
     }
     Ok(homes)
 }
 
-/// Puts each row into its home, where that is among these.
-fn load(homes: &mut [Home], first: u64, rows: &Rows)
+/// Puts each row of one table into its home, among those of all subscribers in lists of `size`.
+fn load(lists: &mut [Vec<Home>], size: usize, rows: &Rows, table: Table)
     requires clean { IsClean rows.now }
-    requires empty { homes.old ≡ homes_in no_tables first (length homes.old) }
-    ensures { homes.new ≡ homes_in (database_of rows.now) first (length homes.old) }
+    requires size { 1 ≤ size }
+    requires before { map (λ list. list.items) lists.old ≡ lists_in (read_until table rows.now 0) size (length rows.now.subscribers) }
+    ensures { map (λ list. list.items) lists.new ≡ lists_in (read_with table rows.now) size (length rows.now.subscribers) }
 {
-    load_subscribers(homes, first, rows);
-    load_accesses(homes, first, rows);
-    load_facilities(homes, first, rows);
-    load_forwardings(homes, first, rows);
-}
-
-fn load_subscribers(homes: &mut [Home], first: u64, rows: &Rows)
-    requires clean { IsClean rows.now }
-    requires before { homes.old ≡ homes_in (read_until Table.Subscriber rows.now 0) first (length homes.old) }
-    ensures { homes.new ≡ homes_in (read_until Table.AccessInfo rows.now 0) first (length homes.old) }
-{
-    for row in rows.subscribers.as_slice() {
-        if let Some(place) = place_among(homes.len(), first, row[0]) {
-            let home = &mut homes[place];
-            home.hold_subscriber(row);
+    let count = rows.subscribers.len();
+    for i in 0..rows.count(table) {
+        let row = rows.row(table, i);
+        if let Some(place) = place_of(count, row[0]) {
+            let list = &mut lists[place / size];
+            let home = &mut list[place % size];
+            home.hold(table, row);
         }
     }
 }
 
-fn load_accesses(homes: &mut [Home], first: u64, rows: &Rows)
-    requires clean { IsClean rows.now }
-    requires before { homes.old ≡ homes_in (read_until Table.AccessInfo rows.now 0) first (length homes.old) }
-    ensures { homes.new ≡ homes_in (read_until Table.SpecialFacility rows.now 0) first (length homes.old) }
+/// The place of an s_id among 1 to `count`, counted from 0.
+fn place_of(count: usize, s_id: u64) -> Option<usize>
+    ensures some { IfSome result (λ i. (i < count) × (1 + i ≡ s_id)) }
+    ensures none { IfNone result ((i : ℕ) → i < count → (1 + i ≡ s_id) → ⊥) }
 {
-    for row in rows.accesses.as_slice() {
-        if let Some(place) = place_among(homes.len(), first, row[0]) {
-            let home = &mut homes[place];
-            home.hold_access(row);
-        }
-    }
-}
-
-fn load_facilities(homes: &mut [Home], first: u64, rows: &Rows)
-    requires clean { IsClean rows.now }
-    requires before { homes.old ≡ homes_in (read_until Table.SpecialFacility rows.now 0) first (length homes.old) }
-    ensures { homes.new ≡ homes_in (read_until Table.CallForwarding rows.now 0) first (length homes.old) }
-{
-    for row in rows.facilities.as_slice() {
-        if let Some(place) = place_among(homes.len(), first, row[0]) {
-            let home = &mut homes[place];
-            home.hold_facility(row);
-        }
-    }
-}
-
-fn load_forwardings(homes: &mut [Home], first: u64, rows: &Rows)
-    requires clean { IsClean rows.now }
-    requires before { homes.old ≡ homes_in (read_until Table.CallForwarding rows.now 0) first (length homes.old) }
-    ensures { homes.new ≡ homes_in (database_of rows.now) first (length homes.old) }
-{
-    for row in rows.forwardings.as_slice() {
-        if let Some(place) = place_among(homes.len(), first, row[0]) {
-            let home = &mut homes[place];
-            home.hold_forwarding(row);
-        }
-    }
-}
-
-/// The place of an s_id among homes of `count` s_ids from `first` on.
-fn place_among(count: usize, first: u64, s_id: u64) -> Option<usize>
-    ensures some { IfSome result (λ i. (i < count) × (first + i ≡ s_id)) }
-    ensures none { IfNone result ((i : ℕ) → i < count → (first + i ≡ s_id) → ⊥) }
-{
-    let place = s_id.checked_sub(first)?;
+    let place = s_id.checked_sub(1)?;
     if place < count as u64 {
         Some(place as usize)
     } else {

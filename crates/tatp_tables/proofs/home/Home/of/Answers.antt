@@ -1,7 +1,8 @@
-use Rattle.std.proofs.Common.{[], ◌∷◌, ap, ◌∙◌}
-use Rattle.tatp_tables.specs.Home.{SubscriberRows}
-use Rattle.tatp_tables.proofs.LoadingLaws.{homes_of_none}
+use Rattle.std.proofs.Common.{ap, sym, ◌∙◌}
+use Rattle.tatp_tables.specs.Database.{no_tables}
+use Rattle.tatp_tables.specs.Home.{SubscriberRows, home_in}
+use Rattle.tatp_tables.proofs.LoadingLaws.{home_of_none}
 use Rattle.tatp_tables.proofs.home.Home.of.Goals as goal
 
-pub load-requires-clause-empty : goal.load-requires-clause-empty
-load-requires-clause-empty c = ap (λ (h : SubscriberRows). h ∷ []) c.empty.ensures ∙ homes_of_none c.args.s_id 1
+pub read-requires-clause-before : goal.read-requires-clause-before
+read-requires-clause-before c = c.empty-home.ensures ∙ home_of_none c.args.s_id ∙ ap (home_in no_tables) (sym (ap (λ (h : SubscriberRows). h.s_id) c.empty-home.ensures))

@@ -5,9 +5,9 @@ use Rattle.tatp_tables.proofs.LoadingLaws.{homes_of_none, one_home_more}
 use Rattle.tatp_tables.proofs.home.loading.empty_homes.Goals as goal
 
 pub loop-place-preserved : goal.loop-place-preserved
-loop-place-preserved c = c.in_ok-push.ensures.items ∙ one_home_more c.loop-place.homes.items c.empty.result c.loop-place.place c.loop-place.invariant c.empty.ensures
+loop-place-preserved c = c.in_ok-push.ensures.items ∙ one_home_more c.loop-place.homes.items c.empty.result c.args.first c.loop-place.place c.loop-place.invariant c.empty.ensures
 
 pub returns : goal.returns
 returns c =
     let all : c.loop-place.place ≡ c.args.count = omega arith in
-    c.loop-place.invariant ∙ homes_of_none 1 c.loop-place.place ∙ ap (homes_in no_tables 1) all
+    c.loop-place.invariant ∙ homes_of_none c.args.first c.loop-place.place ∙ ap (homes_in no_tables c.args.first) all

@@ -1,18 +1,18 @@
-use Rattle.std.proofs.Common.{◌≡◌, length, ap, sym, ◌∙◌}
-use Rattle.tatp_tables.specs.Database.{no_tables, database_of}
-use Rattle.tatp_tables.specs.Loading.{homes_in}
-use Rattle.tatp_tables.proofs.LoadingLaws.{length-homes_in, whole_slice}
+use Rattle.std.proofs.Common.{◌≡◌, max, length, map, ap, sym, ◌∙◌}
+use Rattle.tatp_tables.specs.Database.{database_of}
+use Rattle.tatp_tables.specs.Loading.{lists_in}
+use Rattle.tatp_tables.proofs.ListLaws.{last_of_one, none_of_one}
 use Rattle.tatp_tables.proofs.home.loading.homes.Goals as goal
 
-pub load-requires-clause-empty : goal.load-requires-clause-empty
-load-requires-clause-empty c =
-    let made = c.as_mut_slice.ensures.value ∙ c.in_ok-homes.ensures in
-    made ∙ ap (homes_in no_tables 1) (sym (ap length made ∙ length-homes_in no_tables 1 c.len.result))
+pub returns-in-Some : goal.returns-in-Some
+returns-in-Some c =
+    let all = c.max-all.ensures ∙ ap (λ n. max n 1) c.len.ensures in
+    let lists = c.in_ok-homes_in_lists.ensures ∙ ap (λ size. lists_in (database_of c.args.rows.now) size (length c.args.rows.now.subscribers)) all in
+    last_of_one _ c.pop.new.self.items c.in-Some.homes (database_of c.args.rows.now) _ (ap (map (λ list. list.items)) (sym c.in-Some.ensures.items) ∙ lists)
 
 pub returns : goal.returns
 returns c =
-    let made = c.as_mut_slice.ensures.value ∙ c.in_ok-homes.ensures in
-    let count : length c.as_mut_slice.result.now ≡ c.len.result = ap length made ∙ length-homes_in no_tables 1 c.len.result in
-    let long : length c.load.new.homes ≡ length c.as_mut_slice.result.now = ap length c.load.ensures ∙ length-homes_in (database_of c.args.rows.now) 1 _ in
-    whole_slice c.load.new.homes c.in_ok-homes.homes.items c.in_ok-homes.homes.len (long ∙ c.as_mut_slice.ensures.len)
-    ∙ c.load.ensures ∙ ap (homes_in (database_of c.args.rows.now) 1) (count ∙ c.len.ensures)
+    let all = c.max-all.ensures ∙ ap (λ n. max n 1) c.len.ensures in
+    let lists = c.in_ok-homes_in_lists.ensures ∙ ap (λ size. lists_in (database_of c.args.rows.now) size (length c.args.rows.now.subscribers)) all in
+    let none : length c.in_ok-homes_in_lists.field-0.items ≡ 0 = sym c.in_ok-homes_in_lists.field-0.ok.0 ∙ c.in-None.ensures.cases.0 in
+    c.new.ensures.items ∙ none_of_one _ c.in_ok-homes_in_lists.field-0.items (database_of c.args.rows.now) _ none lists

@@ -1,7 +1,0 @@
-use Rattle.std.proofs.Common.{◌≡◌, length}
-use Rattle.tatp_tables.specs.Loading.{read_until, homes_in}
-use Rattle.tatp_tables.specs.declared.table.Table.TheVariants.{SpecialFacility}
-use Rattle.tatp_tables.proofs.home.loading.load_facilities.Given as goal
-
-abbrev pub invariant-loop-row : goal.invariant-loop-row
-invariant-loop-row l = l.homes ≡ homes_in (read_until SpecialFacility l.rows l.row-index) l.first (length l.fn.homes)

@@ -10,7 +10,6 @@ pub mod Replies
 pub mod Performs
 pub mod Extends
 pub mod ValuesText
-pub mod SmallNumbers
 pub mod CallText
 pub mod ReplyText
 pub mod Locality

@@ -1,45 +1,42 @@
-//! The texts of small numbers, which most values are.
-ghost use Rattle.std.specs.Prelude.{◌≡◌, ◌<◌, ◌∷◌, length, true, decimal};
-ghost use Rattle.tatp_procs.specs.SmallNumbers.{are_spaced_from};
+//! Small numbers in text, digit by digit: most values have one to three digits.
+ghost use Rattle.std.specs.Prelude.{◌≡◌, ◌<◌, ◌++◌, OnErr, OnOk, decimal};
+ghost use Rattle.std.specs.String.{string_bytes};
+ghost use Rattle.tatp_procs.specs.Extends.{Extends};
 
-/// The numbers below 256 in decimal, each after a space.
-static SPACED: [&str; 256] = [
-    " 0", " 1", " 2", " 3", " 4", " 5", " 6", " 7", " 8", " 9", " 10", " 11", " 12", " 13", " 14",
-    " 15", " 16", " 17", " 18", " 19", " 20", " 21", " 22", " 23", " 24", " 25", " 26", " 27",
-    " 28", " 29", " 30", " 31", " 32", " 33", " 34", " 35", " 36", " 37", " 38", " 39", " 40",
-    " 41", " 42", " 43", " 44", " 45", " 46", " 47", " 48", " 49", " 50", " 51", " 52", " 53",
-    " 54", " 55", " 56", " 57", " 58", " 59", " 60", " 61", " 62", " 63", " 64", " 65", " 66",
-    " 67", " 68", " 69", " 70", " 71", " 72", " 73", " 74", " 75", " 76", " 77", " 78", " 79",
-    " 80", " 81", " 82", " 83", " 84", " 85", " 86", " 87", " 88", " 89", " 90", " 91", " 92",
-    " 93", " 94", " 95", " 96", " 97", " 98", " 99", " 100", " 101", " 102", " 103", " 104",
-    " 105", " 106", " 107", " 108", " 109", " 110", " 111", " 112", " 113", " 114", " 115", " 116",
-    " 117", " 118", " 119", " 120", " 121", " 122", " 123", " 124", " 125", " 126", " 127", " 128",
-    " 129", " 130", " 131", " 132", " 133", " 134", " 135", " 136", " 137", " 138", " 139", " 140",
-    " 141", " 142", " 143", " 144", " 145", " 146", " 147", " 148", " 149", " 150", " 151", " 152",
-    " 153", " 154", " 155", " 156", " 157", " 158", " 159", " 160", " 161", " 162", " 163", " 164",
-    " 165", " 166", " 167", " 168", " 169", " 170", " 171", " 172", " 173", " 174", " 175", " 176",
-    " 177", " 178", " 179", " 180", " 181", " 182", " 183", " 184", " 185", " 186", " 187", " 188",
-    " 189", " 190", " 191", " 192", " 193", " 194", " 195", " 196", " 197", " 198", " 199", " 200",
-    " 201", " 202", " 203", " 204", " 205", " 206", " 207", " 208", " 209", " 210", " 211", " 212",
-    " 213", " 214", " 215", " 216", " 217", " 218", " 219", " 220", " 221", " 222", " 223", " 224",
-    " 225", " 226", " 227", " 228", " 229", " 230", " 231", " 232", " 233", " 234", " 235", " 236",
-    " 237", " 238", " 239", " 240", " 241", " 242", " 243", " 244", " 245", " 246", " 247", " 248",
-    " 249", " 250", " 251", " 252", " 253", " 254", " 255",
-];
+use std::alloc::AllocError;
 
-/// The text of a number below 256 in decimal, after a space.
-pub(crate) fn spaced_small_number(number: u64) -> &'static str
-    requires { number < 256 }
-    ensures { result.now ≡ 32 ∷ decimal number }
+/// Appends a number below 1000 in decimal. An error may leave its first digits.
+pub(crate) fn push_small_number(text: &mut String, number: u64) -> Result<(), AllocError>
+    requires { number < 1000 }
+    ensures ok { OnOk result (string_bytes text.new ≡ string_bytes text.old ++ decimal number) }
+    ensures err { OnErr result (Extends (string_bytes text.old) (string_bytes text.new)) }
 {
-    text_at(&SPACED, number)
+    if number < 10 {
+        return push_digit(text, number);
+    }
+    push_below_100(text, number / 10)?;
+    push_digit(text, number % 10)
 }
 
-/// The text at a number's place.
-fn text_at(texts: &'static [&'static str], number: u64) -> &'static str
-    requires texts { are_spaced_from 0 texts.now ≡ true }
-    requires place { number < length texts.now }
-    ensures { result.now ≡ 32 ∷ decimal number }
+/// Appends a number below 100 in decimal. An error may leave its first digit.
+fn push_below_100(text: &mut String, number: u64) -> Result<(), AllocError>
+    requires { number < 100 }
+    ensures ok { OnOk result (string_bytes text.new ≡ string_bytes text.old ++ decimal number) }
+    ensures err { OnErr result (Extends (string_bytes text.old) (string_bytes text.new)) }
 {
-    texts[number as usize]
+    if number < 10 {
+        return push_digit(text, number);
+    }
+    push_digit(text, number / 10)?;
+    push_digit(text, number % 10)
+}
+
+/// Appends a digit. An error leaves the text as it was.
+#[tactic(auto, using(std::proofs::lemmas::Fmt::decimal_digit))]
+fn push_digit(text: &mut String, digit: u64) -> Result<(), AllocError>
+    requires { digit < 10 }
+    ensures ok { OnOk result (string_bytes text.new ≡ string_bytes text.old ++ decimal digit) }
+    ensures err { OnErr result (string_bytes text.new ≡ string_bytes text.old) }
+{
+    text.push(char::from(b'0' + digit as u8))
 }

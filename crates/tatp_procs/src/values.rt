@@ -5,7 +5,7 @@ ghost use Rattle.tatp_tables.specs.Text.{form_of, is_decimal, value_text};
 ghost use Rattle.tatp_procs.specs.Extends.{Extends};
 ghost use Rattle.tatp_procs.specs.ValuesText.{values_of, values_text};
 
-use crate::small_numbers::spaced_small_number;
+use crate::small_numbers::push_small_number;
 use std::alloc::{AllocError, Global};
 use tatp_tables::{Fields, push_value, read_value};
 
@@ -63,15 +63,15 @@ pub(crate) fn push_values(
     Ok(())
 }
 
-/// Appends a space and the value. An error may leave the space.
+/// Appends a space and the value. An error may leave the space and the first digits.
 fn push_spaced(text: &mut String, column: u8, value: u64) -> Result<(), AllocError>
     ensures ok { OnOk result (string_bytes text.new ≡ string_bytes text.old ++ 32 ∷ value_text column value) }
     ensures err { OnErr result (Extends (string_bytes text.old) (string_bytes text.new)) }
 {
-    if value < 256 && is_decimal(column) {
-        return text.push_str(spaced_small_number(value));
+    text.push(' ')?;
+    if value < 1000 && is_decimal(column) {
+        return push_small_number(text, value);
     }
-    text.push_str(" ")?;
     push_value(text, column, value)
 }
 

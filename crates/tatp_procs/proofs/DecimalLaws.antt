@@ -25,6 +25,11 @@ spaced_in_decimal (Ok done) old spaced text c v h s t =
     t ∙ ap (λ front. front ++ decimal v) s ∙ append_assoc old (32 ∷ []) (decimal v) ∙ ap (λ value. old ++ 32 ∷ value) (sym (printed_in_decimal c v h))
 spaced_in_decimal (Err error) old spaced text c v h s t = tt
 
+-- a value of no column
+pub in_decimal : (v : ℕ) → decimal v ≡ value_text 255 v
+unfolding value_text is_in_domain
+in_decimal v = refl
+
 -- a last digit after the others
 last_digit : (old front text : List ℕ) (n : ℕ) → 10 ≤ n → n < 2 ^ 64 → front ≡ old ++ decimal (n / 10) → text ≡ front ++ decimal (n % 10) → text ≡ old ++ decimal n
 last_digit old front text n low high f t =

@@ -2,13 +2,13 @@
 use Rattle.std.proofs.Common.{◌≡◌, ℕ, zero, suc, ◌+◌, ◌<◌, ◌≤◌, ◌∙◌, sym, ap, List, [], ◌∷◌, ◌++◌, length, drop, get_or, refl, decimal, append_assoc, add-one, drop-cons, Result, Ok, Err, codes}
 use Rattle.std.specs.Result.{OnOk}
 use Rattle.std.proofs.lemmas.List.{append-nil, drop_all}
-use Rattle.tatp_tables.specs.Domains.{is_in_domain}
 use Rattle.tatp_tables.specs.Text.{value_text}
 use Rattle.tatp_procs.specs.declared.ask.Ask.{Ask}
 use Rattle.tatp_procs.specs.declared.reply.Reply.{Reply}
 use Rattle.tatp_procs.specs.declared.reply.Reply.TheVariants.{Failed}
 use Rattle.tatp_procs.specs.ValuesText.{values_text}
 use Rattle.tatp_procs.specs.ReplyText.{reply_text}
+use Rattle.tatp_procs.proofs.DecimalLaws.{in_decimal}
 
 -- a text that the values from place i on complete
 pub record IsPrintedUpTo (columns values all : List ℕ) (i : ℕ) (text : List ℕ) : Type 0 where
@@ -16,11 +16,6 @@ pub record IsPrintedUpTo (columns values all : List ℕ) (i : ℕ) (text : List 
 
 pub none_printed : (columns values text : List ℕ) → IsPrintedUpTo columns values (text ++ values_text columns values) 0 text
 none_printed columns values text = record { completed = refl }
-
--- a value of no column
-in_decimal : (v : ℕ) → decimal v ≡ value_text 255 v
-unfolding value_text is_in_domain
-in_decimal v = refl
 
 first_printed : (columns : List ℕ) (i v : ℕ) (more : List ℕ) → values_text (drop i columns) (v ∷ more) ≡ 32 ∷ value_text (get_or columns i 255) v ++ values_text (drop (suc i) columns) more
 unfolding values_text
@@ -54,8 +49,8 @@ words_and_values old words values between text w v = v ∙ (ap (λ front. front 
 
 -- the line of a failure
 pub failure_printed : {E : Type 0} (r : Result (Unit {0}) E) (ask : Ask) (reply : Reply) (n number : ℕ) (old between text : List ℕ) → reply ≡ Failed n → number ≡ n → between ≡ old ++ codes "FAILED "
-    → OnOk r (text ≡ between ++ value_text 255 number) → OnOk r (text ≡ old ++ reply_text ask reply)
+    → OnOk r (text ≡ between ++ decimal number) → OnOk r (text ≡ old ++ reply_text ask reply)
 failure_printed (Err e) ask reply n number old between text is same w h = tt
 failure_printed (Ok done) ask reply n number old between text is same w h =
-    words_and_values old (codes "FAILED ") (decimal n) between text w (h ∙ ap (λ v. between ++ value_text 255 v) same ∙ ap (λ digits. between ++ digits) (sym (in_decimal n)))
+    words_and_values old (codes "FAILED ") (decimal n) between text w (h ∙ ap (λ v. between ++ decimal v) same)
     ∙ ap (λ answer. old ++ reply_text ask answer) (sym is)

@@ -6,11 +6,11 @@ ghost use Rattle.tatp_procs.specs.Extends.{Extends};
 ghost use Rattle.tatp_procs.specs.ReplyText.{answer_columns, reply_columns, reply_text};
 
 use crate::columns::NUMBERX;
-use crate::values::{NO_COLUMN, push_values};
+use crate::numbers::push_decimal;
+use crate::values::push_values;
 use crate::{Ask, Call, Reply};
 use std::alloc::{AllocError, Global};
 use tatp_machine::Trap;
-use tatp_tables::push_value;
 
 /// The line of a reply to what was asked.
 pub fn reply_text(alloc: Global, ask: &Ask, reply: &Reply) -> Result<String, AllocError>
@@ -48,7 +48,7 @@ fn push_line(text: &mut String, ask: &Ask, reply: &Reply) -> Result<(), AllocErr
         }
         Reply::Failed(number) => {
             text.push_str("FAILED ")?;
-            push_value(text, NO_COLUMN, u64::from(*number))
+            push_decimal(text, u64::from(*number))
         }
         Reply::Trapped(trap) => text.push_str(trapped(trap)),
         Reply::Refused => text.push_str("REFUSED 46 NoMemory"),

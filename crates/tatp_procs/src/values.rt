@@ -5,7 +5,7 @@ ghost use Rattle.tatp_tables.specs.Text.{form_of, is_decimal, value_text};
 ghost use Rattle.tatp_procs.specs.Extends.{Extends};
 ghost use Rattle.tatp_procs.specs.ValuesText.{values_of, values_text};
 
-use crate::small_numbers::push_small_number;
+use crate::numbers::push_decimal;
 use std::alloc::{AllocError, Global};
 use tatp_tables::{Fields, push_value, read_value};
 
@@ -69,8 +69,8 @@ fn push_spaced(text: &mut String, column: u8, value: u64) -> Result<(), AllocErr
     ensures err { OnErr result (Extends (string_bytes text.old) (string_bytes text.new)) }
 {
     text.push(' ')?;
-    if value < 1000 && is_decimal(column) {
-        return push_small_number(text, value);
+    if is_decimal(column) {
+        return push_decimal(text, value);
     }
     push_value(text, column, value)
 }

@@ -1,12 +1,25 @@
-//! Small numbers in text, digit by digit: most values have one to three digits.
+//! Numbers in decimal, those of one to three digits, as most are, digit by digit.
 ghost use Rattle.std.specs.Prelude.{◌≡◌, ◌<◌, ◌++◌, OnErr, OnOk, decimal};
 ghost use Rattle.std.specs.String.{string_bytes};
 ghost use Rattle.tatp_procs.specs.Extends.{Extends};
 
+use crate::values::NO_COLUMN;
 use std::alloc::AllocError;
+use tatp_tables::push_value;
 
-/// Appends a number below 1000 in decimal. An error may leave its first digits.
-pub(crate) fn push_small_number(text: &mut String, number: u64) -> Result<(), AllocError>
+/// Appends a number in decimal. An error may leave its first digits.
+#[tactic(auto, using(crate::proofs::DecimalLaws::in_decimal))]
+pub(crate) fn push_decimal(text: &mut String, number: u64) -> Result<(), AllocError>
+    ensures ok { OnOk result (string_bytes text.new ≡ string_bytes text.old ++ decimal number) }
+    ensures err { OnErr result (Extends (string_bytes text.old) (string_bytes text.new)) }
+{
+    if number < 1000 {
+        return push_below_1000(text, number);
+    }
+    push_value(text, NO_COLUMN, number)
+}
+
+fn push_below_1000(text: &mut String, number: u64) -> Result<(), AllocError>
     requires { number < 1000 }
     ensures ok { OnOk result (string_bytes text.new ≡ string_bytes text.old ++ decimal number) }
     ensures err { OnErr result (Extends (string_bytes text.old) (string_bytes text.new)) }
@@ -18,7 +31,6 @@ pub(crate) fn push_small_number(text: &mut String, number: u64) -> Result<(), Al
     push_digit(text, number % 10)
 }
 
-/// Appends a number below 100 in decimal. An error may leave its first digit.
 fn push_below_100(text: &mut String, number: u64) -> Result<(), AllocError>
     requires { number < 100 }
     ensures ok { OnOk result (string_bytes text.new ≡ string_bytes text.old ++ decimal number) }

@@ -2,7 +2,7 @@ use Rattle.std.proofs.Common.{arith}
 use Rattle.std.specs.String.{string_bytes}
 use Rattle.tatp_procs.proofs.DecimalLaws.{last_digit_pushed}
 use Rattle.tatp_procs.proofs.ExtendsLaws.{Extends-decimal}
-use Rattle.tatp_procs.proofs.small_numbers.push_small_number.Goals as goal
+use Rattle.tatp_procs.proofs.numbers.push_below_1000.Goals as goal
 
 pub returns-clause-ok : goal.returns-clause-ok
 returns-clause-ok c = last_digit_pushed c.push_digit-2.result (string_bytes c.args.text.now) _ _ c.args.number c.if-number-lt10.false (omega arith) c.in_ok-push_below_100.ensures.ok c.push_digit-2.ensures.ok

@@ -20,7 +20,7 @@ use std::marker::Model;
 use tatp_loader::Loaded;
 use tatp_move::Routes;
 use tatp_numbers::Directory;
-use tatp_partition::{Completion, Landed, Parcel, Site, Slots};
+use tatp_partition::{CompletionPlace, Landed, Parcel, Site, Slots};
 use tatp_procs::Entry;
 
 /// All sites, with what is under way between them. It can be neither copied nor dropped.
@@ -36,7 +36,7 @@ pub struct World<'m> {
     completions: Vec<Entry>,
     /// Where a site leaves the completion of a call that ends: empty between events. It stands here,
     /// since a function clears the room of its locals when it begins.
-    ended: Option<Completion>,
+    ended: CompletionPlace,
 }
 
 impl<'m> Model for World<'m> {

@@ -1,10 +1,12 @@
 -- One instruction of a call that runs, and its end, by the fields that show it.
-use Rattle.std.specs.Prelude.{◌≡◌, ℕ, ◌+◌, ◌<◌, ◌≤◌, ◌^◌, ◌&&◌, max, Bool, false, true, List, Option, Some, None, slice_set}
+use Rattle.std.specs.Prelude.{◌≡◌, ◌⊎◌, ℕ, ◌+◌, ◌<◌, ◌≤◌, ◌^◌, ◌&&◌, max, Bool, false, true, List, Option, Some, None, slice_get, slice_set}
 use Rattle.std.specs.Option.{option_map_or}
+use Rattle.tatp_instr.specs.declared.instr.Instr.{Instr}
 use Rattle.tatp_tables.specs.Database.{Database}
 use Rattle.tatp_machine.specs.declared.progress.End.{End}
 use Rattle.tatp_machine.specs.declared.progress.Progress.{Progress}
 use Rattle.tatp_machine.specs.declared.progress.Progress.TheVariants.{Running, Ended}
+use Rattle.tatp_machine.specs.Instructions.{MayChangeOrEnd}
 use Rattle.tatp_machine.specs.Lines.{Steps, rows_of_home, with_home_rows}
 use Rattle.tatp_machine.specs.Machines.{IsLater, call_state}
 use Rattle.tatp_procs.specs.declared.entry.Entry.{Entry}
@@ -54,6 +56,10 @@ pub record Turns (r : RunnerState) (progress : Progress) (r' : RunnerState) : Ty
 abbrev pub TurnsRunning : Option RunnerState → Progress → Option RunnerState → Type 0
 TurnsRunning (Some r) progress (Some r') = Turns r progress r'
 TurnsRunning before progress after = ⊥
+
+-- the call has no home, or its next instruction may change a row of it or ends the call
+abbrev pub ReadsNoMore : RunnerState → Type 0
+ReadsNoMore r = (i : Instr) → slice_get r.machine.frame.code r.machine.frame.pc ≡ Some i → (r.machine.frame.home ≡ None) ⊎ MayChangeOrEnd r.machine.frame (rows_shown r.pinned) i
 
 -- ---- an end
 -- the last stamp in the log of the pinned extent, or in that of the calls without a home

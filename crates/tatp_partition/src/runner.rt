@@ -8,17 +8,17 @@ ghost use Rattle.tatp_population.specs.HomelessLog.{IsHomeless, RecordsHomeless}
 ghost use Rattle.tatp_partition.specs.declared.item.Completion.{Completion};
 ghost use Rattle.tatp_partition.specs.Asks.{Fits, arities_of, procedure_asked, arguments_asked, is_transaction};
 ghost use Rattle.tatp_partition.specs.Showing.{pinned_of, pins_extent, homeless_shown, IsEmptyAt};
-ghost use Rattle.tatp_partition.specs.Runners.{OfRunning, MayStep, TurnsRunning, MayEnd, Completes, IsSetFree, logs_running, slots_after, homeless_after, MayBeSetBack, slots_without_call};
+ghost use Rattle.tatp_partition.specs.Runners.{OfRunning, MayStep, ReadsNoMore, TurnsRunning, MayEnd, Completes, IsSetFree, logs_running, slots_after, homeless_after, MayBeSetBack, slots_without_call};
 ghost use Rattle.tatp_partition.specs.Running.{after_end, homeless_after_end};
 
 use crate::asks::{enter_next, is_transaction};
 use crate::slots::{Slots, fill};
-use crate::{Completion, Item};
+use crate::{CompletionPlace, Item};
 use std::marker::Model;
 use tatp_loader::Loaded;
 use tatp_machine::{End, Machine, Progress};
 use tatp_population::{Extent, Homeless, Pinned, what_holds_of_every_homeless_log};
-use tatp_procs::{Ask, Entry, Reply};
+use tatp_procs::{Ask, Entry};
 
 /// What runs a site's calls: its machine, which is kept from call to call and never moved, and of the
 /// call that runs, if one does, what was offered and the extent of its home, if it has one.
@@ -153,6 +153,7 @@ pub fn turn_reading(running: &mut Runner<'_>) -> bool
     requires { OfRunning MayStep running.old }
     ensures turns { result ≡ true → TurnsRunning running.old Progress.Running running.new }
     ensures no_turn { result ≡ false → running.new ≡ running.old }
+    ensures others { result ≡ false → OfRunning ReadsNoMore running.new }
 {
     match &mut running.pinned {
         None => return false,
@@ -171,52 +172,9 @@ pub fn turn(running: &mut Runner<'_>) -> Progress
     }
 }
 
-/// The call that runs has ended so: its extent is set free, and it is logged.
-fn end_running(
-    running: &mut Runner<'_>,
-    end: End,
-    standard: bool,
-    slots: &mut Slots<Extent>,
-    homeless: &mut Homeless,
-) -> Completion
-    requires ready { OfRunning (MayEnd end standard homeless.old) running.old }
-    requires place { IsEmptyAt slots.old (pinned_of running.old) }
-    ensures running { running.new ≡ None }
-    ensures completes { OfRunning (Completes end homeless.old result) running.old }
-    ensures slots { slots.new ≡ slots_after (logs_running standard running.old) result.entry (pinned_of running.old) slots.old }
-    ensures homeless { homeless_shown homeless.new ≡ homeless_after (logs_running standard running.old) result.entry (pinned_of running.old) (homeless_shown homeless.old) }
-    ensures history { IsHomeless homeless.new.mixed homeless.new.log }
-    ensures free { IsSetFree (logs_running standard running.old) result.entry (pinned_of running.old) }
-{
-    match &running.item {
-        None => unreachable!(),
-        Some(item) => {
-            let logged = is_logged(standard, &item.ask);
-            let reply = Reply::of(end, running.machine.outputs());
-            match running.pinned.take() {
-                None => {
-                    let entry = entry_of(item, reply, homeless.last_stamp());
-                    running.item = None;
-                    end_homeless(homeless, logged, &entry);
-                    what_holds_of_every_homeless_log(homeless);
-                    return Completion { extent: 0, entry };
-                }
-                Some(pinned) => {
-                    let extent = pinned.number();
-                    let entry = entry_of(item, reply, pinned.last_stamp());
-                    running.item = None;
-                    slots.lower(extent as u64, set_free(pinned, logged, &entry));
-                    what_holds_of_every_homeless_log(homeless);
-                    return Completion { extent, entry };
-                }
-            }
-        }
-    }
-}
-
-/// The call that runs has ended so, and its completion is left in its place, where none stands. It stands
-/// apart, since a function clears the room of its locals when it begins: so a step that goes on clears none
-/// for a completion.
+/// The call that runs has ended so: its completion is left in its place, where none stands, its extent is
+/// set free, and it is logged. It stands apart, since it is seldom and keeps more registers than a step that
+/// goes on.
 #[inline(never)]
 pub fn end_running_into(
     running: &mut Runner<'_>,
@@ -224,7 +182,7 @@ pub fn end_running_into(
     standard: bool,
     slots: &mut Slots<Extent>,
     homeless: &mut Homeless,
-    ended: &mut Option<Completion>,
+    ended: &mut CompletionPlace,
 )
     requires ready { OfRunning (MayEnd end standard homeless.old) running.old }
     requires place { IsEmptyAt slots.old (pinned_of running.old) }
@@ -236,7 +194,31 @@ pub fn end_running_into(
         × IsSetFree (logs_running standard running.old) completion.entry (pinned_of running.old) }
     ensures history { IsHomeless homeless.new.mixed homeless.new.log }
 {
-    *ended = Some(end_running(running, end, standard, slots, homeless));
+    match &running.item {
+        None => unreachable!(),
+        Some(item) => {
+            let logged = is_logged(standard, &item.ask);
+            match running.pinned.take() {
+                None => {
+                    let stamp = next_stamp(item, homeless.last_stamp());
+                    ended.fill(0, item, stamp, end, running.machine.outputs());
+                    running.item = None;
+                    end_homeless(homeless, logged, ended.entry());
+                    what_holds_of_every_homeless_log(homeless);
+                    return;
+                }
+                Some(pinned) => {
+                    let extent = pinned.number();
+                    let stamp = next_stamp(item, pinned.last_stamp());
+                    ended.fill(extent, item, stamp, end, running.machine.outputs());
+                    running.item = None;
+                    slots.lower(extent as u64, set_free(pinned, logged, ended.entry()));
+                    what_holds_of_every_homeless_log(homeless);
+                    return;
+                }
+            }
+        }
+    }
 }
 
 /// Whether a call is logged: where it is a transaction and the module is the standard one.
@@ -246,18 +228,12 @@ fn is_logged(standard: bool, ask: &Ask) -> bool
     standard && is_transaction(ask)
 }
 
-/// The entry of a call that was replied so, above the last stamp of its log.
-fn entry_of(item: &Item, reply: Reply, last: u64) -> Entry
+/// The stamp of a call that ends: above the last of its log, and above what its client has seen.
+fn next_stamp(item: &Item, last: u64) -> u64
     requires { max item.now.seen last + 1 < 2 ^ 64 }
-    ensures { result ≡ record { client = item.now.client; number = item.now.number; ask = item.now.ask; reply = reply; stamp = max item.now.seen last + 1 } }
+    ensures { result ≡ max item.now.seen last + 1 }
 {
-    Entry {
-        client: item.client,
-        number: item.number,
-        ask: item.ask,
-        reply,
-        stamp: item.seen.max(last) + 1,
-    }
+    item.seen.max(last) + 1
 }
 
 /// The extent after a call on one of its homes has ended: a call that isn't logged ends the log.

@@ -44,6 +44,17 @@ impl Outputs {
         }
     }
 
+    /// These values in place of the others.
+    fn set(&mut self, values: &[u64])
+        requires { length values.now ≤ 40 }
+        ensures { self.new ≡ values.now }
+    {
+        let count = values.len();
+        self.values[..count].copy_from_slice(values);
+        self.values[count..].fill(0);
+        self.count = count;
+    }
+
     /// The values, in the order in which they were put out.
     pub fn as_slice(&self) -> &[u64]
         ensures value { result.now ≡ self.now }
@@ -91,5 +102,30 @@ impl Reply {
             End::Failed(number) => Reply::Failed(number),
             End::Trapped(trap) => Reply::Trapped(trap),
         }
+    }
+
+    /// The reply to a call that ended so, with these outputs, in place of this one. Outputs go where outputs
+    /// stand, so that only as many are copied as there are.
+    pub fn set(&mut self, end: End, outputs: &[u64])
+        requires { length outputs.now ≤ 40 }
+        ensures { self.new ≡ reply_to end outputs.now }
+    {
+        match end {
+            End::Done => match self {
+                Reply::Values(values) => values.set(outputs),
+                _ => self.replace(end, outputs),
+            },
+            _ => self.replace(end, outputs),
+        }
+    }
+
+    /// The same. It stands apart, since a function clears the room of its locals when it begins, and makes
+    /// a whole reply.
+    #[inline(never)]
+    fn replace(&mut self, end: End, outputs: &[u64])
+        requires { length outputs.now ≤ 40 }
+        ensures { self.new ≡ reply_to end outputs.now }
+    {
+        *self = Reply::of(end, outputs);
     }
 }

@@ -2,9 +2,8 @@
 use Rattle.std.proofs.Common.{◌≡◌, ℕ, suc, ◌+◌, Ok, subst, arith}
 use Rattle.tatp_partition.specs.declared.item.Stepped.TheVariants.{Moved}
 use Rattle.tatp_partition.specs.Obstacles.{step_obstacle}
-use Rattle.tatp_partition.specs.Running.{AdvancesUnless}
+use Rattle.tatp_partition.specs.Running.{AdvancesUnless, GoesOnFor}
 use Rattle.tatp_partition.specs.Sites.{SiteState}
-use Rattle.tatp_threads.specs.Held.{GoesOnFor}
 
 pub one_more : (n : ℕ) (s mid s' : SiteState) → GoesOnFor n s mid → AdvancesUnless (step_obstacle mid) mid (Ok Moved) s' → GoesOnFor (n + 1) s s'
 one_more n s mid s' before moved =

@@ -1,12 +1,12 @@
 -- What an executor does while it holds the lock of its partition.
-use Rattle.std.specs.Prelude.{◌≡◌, ◌⊎◌, ℕ, zero, suc, ◌<◌, Some, None, Result}
+use Rattle.std.specs.Prelude.{◌≡◌, ◌⊎◌, ℕ, ◌<◌, Some, None, Result}
 use Rattle.tatp_partition.specs.declared.item.Item.{Item}
 use Rattle.tatp_partition.specs.declared.item.Stepped.{Stepped}
 use Rattle.tatp_partition.specs.declared.refusal.SiteRefusal.{SiteRefusal}
 use Rattle.tatp_partition.specs.declared.refusal.SiteRefusal.TheVariants.{Running, Stopped, NotHere, WrongHome, StampFull}
 use Rattle.tatp_partition.specs.Asks.{Fits, arities_of}
 use Rattle.tatp_partition.specs.Obstacles.{begin_obstacle, step_obstacle}
-use Rattle.tatp_partition.specs.Running.{begun, GoesOn, AdvancesUnless}
+use Rattle.tatp_partition.specs.Running.{begun, GoesOnFor, AdvancesUnless}
 use Rattle.tatp_partition.specs.Sites.{SiteState}
 use Rattle.tatp_threads.specs.declared.held.Offered.{Offered}
 use Rattle.tatp_threads.specs.declared.held.Offered.TheVariants.{Began, Again, Away, Denied, Dropped}
@@ -29,11 +29,6 @@ Offers s item (Denied back) s' = IsTaken s item × (begin_obstacle s item ≡ No
 Offers s item (Dropped back) s' = IsDropped s item × (back ≡ item) × (s' ≡ s)
 
 -- ---- a slice
--- so many steps, each of which went on, lead from one site to another
-abbrev pub GoesOnFor : ℕ → SiteState → SiteState → Type 0
-GoesOnFor zero s s' = s' ≡ s
-GoesOnFor (suc steps) s s' = (mid : SiteState) × GoesOnFor steps s mid × (step_obstacle mid ≡ None) × GoesOn mid s'
-
 -- the most steps of one call under one hold of the lock
 abbrev pub most_steps : ℕ
 most_steps = 16

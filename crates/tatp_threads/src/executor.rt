@@ -9,7 +9,7 @@ use crate::{Gate, Message};
 use std::sync::atomic::AtomicU64;
 use std::sync::{Mutex, Wait};
 use std::thread;
-use tatp_partition::{Item, Site, SiteRefusal};
+use tatp_partition::{CompletionPlace, Item, Site, SiteRefusal};
 
 /// One partition: its site under its lock, and how many other threads want that lock.
 #[derive(Clone, Copy)]
@@ -61,13 +61,14 @@ fn take_calls<R: Wait, G: Gate, A: Arities, O: Outgoing>(
     partition: Partition<'_, '_>,
     reader: &mut Reader<A>,
 ) {
+    let mut ended = CompletionPlace::empty();
     for _ in rt.forever() {
         match reader.take(rt) {
             None | Some(Message::Quit) => return,
             Some(Message::Call(item)) => {
                 let client = item.client;
                 if begin(rt, shared, outgoing, partition, item) {
-                    run(rt, shared, outgoing, partition, client);
+                    run(rt, shared, outgoing, partition, client, &mut ended);
                 }
             }
         }
@@ -94,26 +95,28 @@ fn begin<R: Wait, G, A: Arities, O: Outgoing>(
     unreachable!()
 }
 
-/// Runs the call that began to its end, unless the debugger ends it.
+/// Runs the call that began to its end, unless the debugger ends it. Its completion is left in a place that
+/// stays from call to call.
 fn run<R: Wait, G: Gate, A: Arities, O: Outgoing>(
     rt: &R,
     shared: &Shared<G, A>,
     outgoing: &mut O,
     partition: Partition<'_, '_>,
     client: u64,
+    ended: &mut CompletionPlace,
 ) {
     for _ in rt.forever() {
-        let mut ended = None;
+        ended.clear();
         let made = slice(
             &mut *partition.site.lock(rt),
             shared.gate,
             client,
             partition.wanted,
-            &mut ended,
+            ended,
         );
         match made {
             Ok(()) => {
-                if let Some(completion) = &ended {
+                if let Some(completion) = ended.get() {
                     conclude(outgoing, completion);
                     shared.gate.after_end(partition.number, client);
                     return;

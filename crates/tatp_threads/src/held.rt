@@ -7,7 +7,7 @@ ghost use Rattle.tatp_threads.specs.Held.{Offers, IsSlice};
 use crate::Gate;
 use std::alloc::Global;
 use std::sync::atomic::{AtomicU64, Ordering};
-use tatp_partition::{Completion, Item, Offer, Site, SiteRefusal};
+use tatp_partition::{CompletionPlace, Item, Offer, Site, SiteRefusal};
 
 /// The most steps of one call under one hold of the lock.
 const MOST_STEPS: u32 = 16;
@@ -54,7 +54,7 @@ fn gated_step(
     site: &mut Site<'_>,
     gate: &impl Gate,
     client: u64,
-    ended: &mut Option<Completion>,
+    ended: &mut CompletionPlace,
 ) -> Result<(), SiteRefusal>
     requires { ended.old ≡ None }
     ensures { AdvancesUnless (step_obstacle site.old) site.old (told_in result ended.new) site.new }
@@ -72,7 +72,7 @@ pub(crate) fn slice(
     gate: &impl Gate,
     client: u64,
     wanted: &AtomicU64,
-    ended: &mut Option<Completion>,
+    ended: &mut CompletionPlace,
 ) -> Result<(), SiteRefusal>
     requires { ended.old ≡ None }
     ensures { IsSlice site.old (told_in result ended.new) site.new }

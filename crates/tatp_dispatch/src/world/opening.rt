@@ -12,6 +12,7 @@ use crate::queue::Queue;
 use std::alloc::{AllocError, Global};
 use tatp_loader::Loaded;
 use tatp_move::{Routes, open_sites};
+use tatp_partition::CompletionPlace;
 use tatp_population::{OpenError, admit, discard, open_clean};
 use tatp_tables::Rows;
 
@@ -148,7 +149,7 @@ impl<'m> World<'m> {
             landings: Vec::new(alloc),
             clients: dispatcher.clients,
             completions: Vec::new(alloc),
-            ended: None,
+            ended: CompletionPlace::empty(),
         });
     }
 }

@@ -1,5 +1,5 @@
 use Rattle.std.proofs.Common.{◌≡◌, None}
-use Rattle.tatp_threads.specs.Held.{GoesOnFor}
+use Rattle.tatp_partition.specs.Running.{GoesOnFor}
 use Rattle.tatp_threads.proofs.held.slice.Given as goal
 
 abbrev pub invariant-loop-made : goal.invariant-loop-made

@@ -1,4 +1,4 @@
-use Rattle.std.proofs.Common.{ℕ, ◌≡◌, ◌+◌, ◌<◌, List, Option, None, length, replicate, rules, arith, refl, sym, ◌∙◌, ap, subst}
+use Rattle.std.proofs.Common.{ℕ, ◌≡◌, ◌+◌, ◌<◌, List, Option, None, length, replicate, rules, arith, sym, ◌∙◌, ap, subst}
 use Rattle.std.proofs.lemmas.List.{length-replicate}
 use Rattle.tatp_tables.specs.Database.{database_of}
 use Rattle.tatp_tables.specs.declared.row.Rows.{Rows}
@@ -32,7 +32,7 @@ pub open_sites-requires-clause-numbers : goal.open_sites-requires-clause-numbers
 open_sites-requires-clause-numbers c = subst (λ (xs : List ExtentState). AreNumbered (length xs) xs) (sym c.in_ok-extents.ensures.extents) (opened_are_numbered (database_of c.args.rows) (length c.args.rows.subscribers))
 
 -- ---- the whole
-opens : (c : goal.After-new-2) → Opens c.args.loaded.now c.args.rows c.args.partitions c.in_ok-extents.directory c.in-Ok-open_sites.sites.items
+opens : (c : goal.After-empty) → Opens c.args.loaded.now c.args.rows c.args.partitions c.in_ok-extents.directory c.in-Ok-open_sites.sites.items
 opens c = record {
   lawful = c.module-module.ensures.lawful;
   some = c.requires.some_partitions;
@@ -42,7 +42,7 @@ opens c = record {
   opened = subst (λ (xs : List ExtentState). AreSitesOpened c.args.loaded.now c.args.partitions xs c.in-Ok-open_sites.sites.items) c.in_ok-extents.ensures.extents c.in-Ok-open_sites.ensures;
 }
 
-abbrev shown_as : goal.After-new-2 → WorldState
+abbrev shown_as : goal.After-empty → WorldState
 shown_as c = record {
   procedures = c.args.loaded.now;
   directory = c.in_ok-extents.directory;
@@ -55,12 +55,12 @@ shown_as c = record {
   completions = c.new-2.result.items;
 }
 
-none_held : (c : goal.After-new-2) → c.in-Ok-empty_hand.parcels ≡ no_parcels (length c.args.rows.subscribers)
+none_held : (c : goal.After-empty) → c.in-Ok-empty_hand.parcels ≡ no_parcels (length c.args.rows.subscribers)
 none_held c =
     let same : c.len.result ≡ length c.in_ok-extents.extents.items = search rules in
     c.in-Ok-empty_hand.ensures ∙ ap (λ (k : ℕ). replicate (k + 1) None) (same ∙ many c.args.rows c.in_ok-extents.extents.items c.in_ok-extents.ensures.extents)
 
-same : (c : goal.After-new-2) → new_world c.args.loaded.now (length c.args.rows.subscribers) c.args.partitions c.args.clients c.in_ok-extents.directory c.in-Ok-open_sites.sites.items ≡ shown_as c
+same : (c : goal.After-empty) → new_world c.args.loaded.now (length c.args.rows.subscribers) c.args.partitions c.args.clients c.in_ok-extents.directory c.in-Ok-open_sites.sites.items ≡ shown_as c
 same c =
     let n : c.len-subscribers.result ≡ length c.args.rows.subscribers = c.len-subscribers.ensures in
     let routes = c.in-Ok.ensures.routes ∙ ap (λ (k : ℕ). opened_routes k c.args.partitions) n in
@@ -76,7 +76,7 @@ same c =
       completions = sym c.new-2.ensures.items i;
     }
 
-world : (c : goal.After-new-2) → IsWorld (shown_as c)
+world : (c : goal.After-empty) → IsWorld (shown_as c)
 world c = subst IsWorld (same c) (is_world c.args.loaded.now c.args.rows c.args.partitions c.args.clients c.in_ok-extents.directory c.in-Ok-open_sites.sites.items (opens c))
 
 pub invariant_of-result : goal.invariant_of-result
@@ -87,7 +87,7 @@ invariant_of-result c = record {
     landings = let none = ap (λ (t : List (Option ExtentState)). total (λ x. one x) t) (none_held c) ∙ none_under_way (length c.args.rows.subscribers) in omega (arith, c.new.ensures.len, none);
     clients = let count = ap length c.in-Ok.ensures.clients ∙ length-replicate c.args.clients new_client in omega (arith, count, c.requires.few_clients);
   };
-  empty = refl;
+  empty = c.empty.ensures;
 }
 
 pub returns-clause-opened : goal.returns-clause-opened

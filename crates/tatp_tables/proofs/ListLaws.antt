@@ -3,7 +3,7 @@ use Rattle.std.specs.Prelude.{◌≡◌, ◌≢◌, ℕ, ◌+◌, ◌*◌, ◌-�
 use Rattle.std.specs.Int.{div_ceil}
 use Rattle.std.specs.List.{range_with_len}
 use Rattle.std.proofs.Common.{refl, sym, ap, ◌∙◌, arith, inl, inr, zero-add}
-use Rattle.std.proofs.Math.Nat.{div-add-mod, div-mul-le_self, mul-le-mul_left, mul-le-mul_right, mul_comm, mul-add, mul-one, div_self, mod_self}
+use Rattle.std.proofs.Math.Nat.{div-add-mod, div-mul-le_self, mul-le-mul_left, mul-le-mul_right, mul-add, mul-one, div_self, mod_self}
 use Rattle.std.proofs.lemmas.Bool.{cases_lt}
 use Rattle.std.proofs.lemmas.Nat.{mod_below}
 use Rattle.std.proofs.lemmas.Grind.{div_ceil_times}
@@ -29,13 +29,6 @@ list_of p n size h lt =
 
 pub place_in_list : (p n size : ℕ) → 1 ≤ size → p < n → p % size < min size (n - size * (p / size))
 place_in_list p n size h lt = let share = div-add-mod p size in let below = mod_below p size h in omega (arith, share, below, lt)
-
-pub before_list : (k n size : ℕ) → 1 ≤ size → k < div_ceil n size → size * k < n
-before_list k n size h lt =
-    let all = (div_ceil_times n size h).1 in
-    let long : (k + 1) * size ≤ div_ceil n size * size = mul-le-mul_right size (omega arith) in
-    let more : (k + 1) * size ≡ size * k + size = mul_comm (k + 1) size ∙ mul-add size k 1 ∙ ap (λ x. size * k + x) (mul-one size) in
-    omega (arith, all, long, more)
 
 -- two lists have no s_id in common
 before_next : (q k size : ℕ) → q < k → size * q + size ≤ size * k

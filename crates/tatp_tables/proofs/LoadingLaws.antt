@@ -1,8 +1,8 @@
 -- One row more is read into its home.
-use Rattle.std.specs.Prelude.{◌≡◌, ◌≢◌, ℕ, zero, suc, ◌+◌, ◌<◌, ◌≤◌, true, false, List, [], ◌∷◌, ◌++◌, map, take, drop, length, slice_index_or, slice_set}
+use Rattle.std.specs.Prelude.{◌≡◌, ◌≢◌, ℕ, zero, suc, ◌+◌, ◌<◌, true, false, List, [], ◌∷◌, ◌++◌, map, length, slice_index_or, slice_set}
 use Rattle.std.specs.List.{range_with_len}
 use Rattle.std.proofs.Common.{refl, sym, ap, ◌∙◌, arith}
-use Rattle.std.proofs.lemmas.List.{take_all, take-append-le}
+use Rattle.std.proofs.lemmas.List.{take_all}
 use Rattle.std.proofs.lemmas.List.FromFn.{length-map-range_with_len, map-range_with_len_more}
 use Rattle.tatp_tables.specs.Tuples.{Tuple, no_rows, set_of, insert_row}
 use Rattle.tatp_tables.specs.Keys.{has_key}
@@ -116,7 +116,3 @@ length-homes_in u first n = length-map-range_with_len (home_in u) first n
 pub one_home_more : (xs : List SubscriberRows) (home : SubscriberRows) (first n : ℕ) → xs ≡ map (λ s. record { s_id = s; tables = no_tables }) (range_with_len first n) → home ≡ record { s_id = first + n; tables = no_tables }
     → xs ++ home ∷ [] ≡ map (λ s. record { s_id = s; tables = no_tables }) (range_with_len first (n + 1))
 one_home_more xs home first n e h = (λ i. e i ++ h i ∷ []) ∙ sym (map-range_with_len_more (λ s. record { s_id = s; tables = no_tables }) first n (first + n) refl)
-
--- what a slice of a whole vector leaves in it
-pub whole_slice : {X : Type 0} (after before : List X) (len : ℕ) → length after ≡ len → take len (after ++ drop (length after) before) ≡ after
-whole_slice after before len e = let le : len ≤ length after = omega arith in rw take-append-le (take_all len after (omega arith))

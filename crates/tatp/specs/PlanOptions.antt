@@ -36,7 +36,7 @@ distribution_asked found = if is_uniform found then Uniform else Skewed
 -- ---- the run: each number is digits alone and lies in its range
 pub record HasPlan (found : Found) : Type 0 where
   pub subscribers : IsGivenIn 1 most_subscribers (first_value found (codes "subscribers"))
-  pub partitions : IsNumberIn 1 8 (partitions_text found)
+  pub partitions : IsNumberIn 1 16 (partitions_text found)
   pub clients : IsNumberIn 1 64 (clients_text found)
   pub calls : IsGivenIn 1 100000 (first_value found (codes "calls"))
   pub seed : IsNumberIn 0 (2 ^ 64 - 1) (seed_text found)

@@ -42,8 +42,8 @@ clients_text found = unwrap_or (first_value found (codes "clients")) (codes "4")
 
 -- ---- the task can be done: where rows are drawn, so many can be; there can be so many partitions and clients; a run of the benchmark can be asked for
 abbrev pub IsTask : Task → Type 0
-IsTask (Call population partitions) = IsPopulation population × (1 ≤ partitions) × (partitions ≤ 8)
-IsTask (Trace population partitions clients) = IsPopulation population × (1 ≤ partitions) × (partitions ≤ 8) × (1 ≤ clients) × (clients ≤ 64)
+IsTask (Call population partitions) = IsPopulation population × (1 ≤ partitions) × (partitions ≤ 16)
+IsTask (Trace population partitions clients) = IsPopulation population × (1 ≤ partitions) × (partitions ≤ 16) × (1 ≤ clients) × (clients ≤ 64)
 IsTask (Bench plan progress) = IsPlan plan
 IsTask task = Unit {0}
 

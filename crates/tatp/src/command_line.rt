@@ -16,10 +16,10 @@ use tatp_commands::Population;
 use tatp_driver::Distribution;
 
 /// The most subscribers that are drawn.
-const MOST_SUBSCRIBERS: u64 = 100_000;
+const MOST_SUBSCRIBERS: u64 = 1_000_000;
 
 /// The most partitions.
-const MOST_PARTITIONS: u64 = 8;
+const MOST_PARTITIONS: u64 = 16;
 
 /// The most clients.
 const MOST_CLIENTS: u64 = 64;
@@ -164,13 +164,13 @@ fn call<'a>(alloc: Global) -> Result<Command<'a>, AllocError> {
         alloc,
         "call",
         "Answer calls of the seven transactions, one reply a line",
-        "Draw the rows of N subscribers (1 to 100000); the input is calls alone",
+        "Draw the rows of N subscribers (1 to 1000000); the input is calls alone",
     )?
     .arg(
         option(alloc, "partitions", 1, MOST_PARTITIONS)
             .value_name("P")
             .default_value("2")
-            .help("Open the rows in P partitions (1 to 8); it changes no byte of the replies"),
+            .help("Open the rows in P partitions (1 to 16); it changes no byte of the replies"),
     )
 }
 
@@ -179,13 +179,13 @@ fn trace<'a>(alloc: Global) -> Result<Command<'a>, AllocError> {
         alloc,
         "trace",
         "Step, stop and look at the machines of partitions, and move ranges between them",
-        "Draw the rows of N subscribers (1 to 100000); the input is events alone",
+        "Draw the rows of N subscribers (1 to 1000000); the input is events alone",
     )?
     .arg(
         option(alloc, "partitions", 1, MOST_PARTITIONS)
             .value_name("P")
             .default_value("2")
-            .help("Open the rows in P partitions (1 to 8)"),
+            .help("Open the rows in P partitions (1 to 16)"),
     )?
     .arg(
         option(alloc, "clients", 1, MOST_CLIENTS)
@@ -211,13 +211,13 @@ fn bench<'a>(alloc: Global) -> Result<Command<'a>, AllocError> {
             option(alloc, "subscribers", 1, MOST_SUBSCRIBERS)
                 .value_name("N")
                 .required(true)
-                .help("Draw the rows of N subscribers (1 to 100000)"),
+                .help("Draw the rows of N subscribers (1 to 1000000)"),
         )?
         .arg(
             option(alloc, "partitions", 1, MOST_PARTITIONS)
                 .value_name("P")
                 .default_value("2")
-                .help("Open the rows in P partitions (1 to 8)"),
+                .help("Open the rows in P partitions (1 to 16)"),
         )?
         .arg(
             option(alloc, "clients", 1, MOST_CLIENTS)

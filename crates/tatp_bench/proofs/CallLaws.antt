@@ -56,14 +56,14 @@ has_standard (UpdateLocation n v) = refl
 has_standard (InsertCallForwarding n t b e x) = refl
 has_standard (DeleteCallForwarding n t b) = refl
 
-one_of : (x n : ℕ) → 1 ≤ n → n ≤ 100000 → 1 + x % n ≤ 999999999999999
+one_of : (x n : ℕ) → 1 ≤ n → n ≤ 1000000 → 1 + x % n ≤ 999999999999999
 one_of x n some few = omega arith
 
-named_fits : (distribution : Distribution) (n : ℕ) (words : List ℕ) → 1 ≤ n → n ≤ 100000 → drawn_subscriber distribution n words ≤ 999999999999999
+named_fits : (distribution : Distribution) (n : ℕ) (words : List ℕ) → 1 ≤ n → n ≤ 1000000 → drawn_subscriber distribution n words ≤ 999999999999999
 named_fits Skewed n words some few = one_of _ n some few
 named_fits Uniform n words some few = one_of _ n some few
 
-accepted : (distribution : Distribution) (n : ℕ) (words : List ℕ) → 1 ≤ n → n ≤ 100000 → arguments_accepted (drawn_call distribution n words) ≡ Ok tt
+accepted : (distribution : Distribution) (n : ℕ) (words : List ℕ) → 1 ≤ n → n ≤ 1000000 → arguments_accepted (drawn_call distribution n words) ≡ Ok tt
 accepted distribution n words some few = call_on_accepted (drawn_subscriber distribution n words) words (named_fits distribution n words some few)
 
 none_of_both : (xs ys : List (Option RunRefusal)) → first_of xs ≡ None → first_of ys ≡ None → first_of (xs ++ ys) ≡ None
@@ -75,7 +75,7 @@ module _ (procedures : List Procedure) (has : (call : Call) → has_procedure pr
   no_obstacle : (call : Call) → arguments_accepted call ≡ Ok tt → obstacle_to procedures (Txn call) ≡ None
   no_obstacle call fits = (λ i. cond (has call i) (option_map BadArgument (bad_argument (Txn call))) (Some NoProcedure)) ∙ ap (λ (r : Result (Unit {0}) Bad). option_map BadArgument (result_err r)) fits
 
-  pub calls_run : (distribution : Distribution) (subscribers : ℕ) → 1 ≤ subscribers → subscribers ≤ 100000 → (n : ℕ) (stream : Stream)
+  pub calls_run : (distribution : Distribution) (subscribers : ℕ) → 1 ≤ subscribers → subscribers ≤ 1000000 → (n : ℕ) (stream : Stream)
       → obstacle_in procedures (map Txn (next_calls distribution subscribers n stream).0) ≡ None
   unfolding next_calls
   calls_run distribution subscribers some few zero stream = refl

@@ -1,14 +1,27 @@
 -- What a settled run of a plan counts.
-use Rattle.std.specs.Prelude.{◌≡◌, ℕ, ◌+◌, ◌*◌, not, Bool, true, false, cond, List, [], ◌∷◌, length, count_by}
-use Rattle.std.proofs.Common.{refl, ◌∙◌, arith}
+use Rattle.std.specs.Prelude.{◌≡◌, ℕ, ◌+◌, ◌*◌, not, Bool, true, false, cond, List, [], ◌∷◌, map, length, count_by, Vec, vec_len}
+use Rattle.std.specs.List.{range_with_len}
+use Rattle.std.proofs.Common.{refl, sym, ◌∙◌, ap, arith}
+use Rattle.std.specs.declared.alloc.Global.{Global}
+use Rattle.std.proofs.lemmas.List.{length-map}
 use Rattle.std.proofs.lemmas.List.Sums.{sum_by-cons}
+use Rattle.tatp_tables.specs.declared.row.Rows.{Rows}
+use Rattle.tatp_procs.specs.declared.ask.Ask.{Ask}
+use Rattle.tatp_settle.specs.declared.receipt.Receipt.{Receipt}
 use Rattle.tatp_settle.specs.declared.settled.Settled.{Settled}
+use Rattle.tatp_settle.specs.Closings.{closed_site}
 use Rattle.tatp_settle.specs.Receipts.{is_done}
-use Rattle.tatp_settle.specs.Runs.{Run, joined}
+use Rattle.tatp_settle.specs.Answering.{is_of_kind}
+use Rattle.tatp_settle.specs.Runs.{Run, joined, lists_of}
 use Rattle.tatp_settle.specs.Settlements.{IsSettled}
 use Rattle.tatp_settle.proofs.JudgeLaws.{as_many_receipts}
 use Rattle.tatp_bench.specs.declared.plan.BenchPlan.{BenchPlan}
-use Rattle.tatp_bench.specs.Benching.{SettlesPlan, kinds_drawn, run_of}
+use Rattle.tatp_threads.specs.declared.ran.RanParts.{RanParts}
+use Rattle.tatp_bench.specs.declared.fault.BenchFault.{BenchFault}
+use Rattle.tatp_bench.specs.declared.fault.BenchFault.TheVariants.{ExtentMissing, Unsettled, NoMemory, NoThread}
+use Rattle.tatp_bench.specs.Drawing.{rows_drawn, calls_drawn}
+use Rattle.tatp_bench.specs.SettledRuns.{run_left, SettlesRun, RefusesToSettleRun}
+use Rattle.tatp_bench.specs.Benching.{IsRunOf, SettlesPlan, RefusesBench, kinds_drawn}
 use Rattle.tatp_bench.proofs.PlanLaws.{calls_counted}
 
 one_or_other : (b : Bool) → cond {A = ℕ} b 1 0 + cond {A = ℕ} (not b) 1 0 ≡ 1
@@ -30,7 +43,31 @@ all_counted run settled is =
     ∙ as_many_receipts run.calls run.receipts (λ client number unmatched. unmatched (is.one_history.received.matched client number)))
 
 pub plan_counted : (plan : BenchPlan) (settled : Settled) → SettlesPlan plan settled → settled.completed + settled.refused ≡ plan.clients * plan.calls
-plan_counted plan settled is = all_counted (run_of plan is.closed is.receipts) settled is.is_settled ∙ calls_counted plan
+plan_counted plan settled is = all_counted is.run settled is.settles.settles ∙ (ap (λ (calls : List (List Ask)). length (joined calls)) is.of_plan.calls ∙ calls_counted plan)
+
+abbrev kinds_of : List (List Ask) → List ℕ
+kinds_of calls = map (λ kind. count_by (is_of_kind kind) (joined calls)) (range_with_len 0 7)
 
 pub plan_kinds : (plan : BenchPlan) (settled : Settled) → SettlesPlan plan settled → settled.kinds ≡ kinds_drawn plan
-plan_kinds plan settled is = is.is_settled.kinds
+plan_kinds plan settled is = is.settles.settles.kinds ∙ ap kinds_of is.of_plan.calls
+
+-- ---- the run of a plan is forgotten
+-- what threads left of the plan's calls on its population is a run of the plan
+pub left_of_plan : (plan : BenchPlan) (population : Rows) (parts : RanParts) (lists : List (Vec Ask Global))
+    → population ≡ rows_drawn plan → lists_of lists ≡ calls_drawn plan → vec_len parts.sites ≡ plan.partitions → vec_len parts.receipts ≡ plan.clients
+    → IsRunOf plan (run_left population parts lists)
+left_of_plan plan population parts lists same asked sites clients = record {
+  population = same;
+  calls = asked;
+  sites = length-map parts.sites.items closed_site ∙ (sym parts.sites.ok.0 ∙ sites);
+  clients = length-map parts.receipts.items (λ (list : Vec Receipt Global). list.items) ∙ (sym parts.receipts.ok.0 ∙ clients);
+}
+
+pub plan_settled : (plan : BenchPlan) (run : Run) → IsRunOf plan run → (settled : Settled) → SettlesRun run settled → SettlesPlan plan settled
+plan_settled plan run of_plan settled settles = record { run = run; of_plan = of_plan; settles = settles }
+
+pub plan_refused : (plan : BenchPlan) (run : Run) → IsRunOf plan run → (fault : BenchFault) → RefusesToSettleRun run fault → RefusesBench plan fault
+plan_refused plan run of_plan (ExtentMissing e) refused = record { run = run; of_plan = of_plan; refused = refused }
+plan_refused plan run of_plan (Unsettled cause) refused = record { run = run; of_plan = of_plan; refused = refused }
+plan_refused plan run of_plan NoMemory refused = tt
+plan_refused plan run of_plan NoThread refused = tt

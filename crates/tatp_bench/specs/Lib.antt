@@ -1,3 +1,4 @@
 pub mod Plans
 pub mod Drawing
+pub mod SettledRuns
 pub mod Benching

@@ -3,8 +3,7 @@ ghost use Rattle.std.specs.Prelude.{◌≡◌, ◌+◌, ◌*◌, ◌⊎◌, IfOk
 ghost use Rattle.tatp_bench.specs.Plans.{IsPlan};
 ghost use Rattle.tatp_bench.specs.Benching.{IsDrawn, SettlesPlan, RefusesBench, kinds_drawn};
 
-use crate::closing::settle_ran;
-use crate::{BenchFault, BenchPlan, Drawn, draw};
+use crate::{BenchFault, BenchPlan, Drawn, draw, settle_run};
 use std::alloc::Global;
 use std::sync::Wait;
 use std::thread::Threads;
@@ -25,7 +24,8 @@ fn fault_of(refusal: RunRefusal) -> BenchFault
 }
 
 /// Runs what was drawn for a plan under the standard module, by threads that the gate watches, and
-/// settles what the run left.
+/// settles what the run left. Which run of the plan it was no clause says, since threads may meet in any
+/// order: [`settle_run`] says of the run at hand that it is settled, or why it isn't.
 pub fn run_drawn<R: Threads + Wait + Sync, G: Gate + Sync>(
     rt: &R,
     alloc: Global,
@@ -54,7 +54,7 @@ pub fn run_drawn<R: Threads + Wait + Sync, G: Gate + Sync>(
         gate,
     ) {
         Err(refusal) => Err(fault_of(refusal)),
-        Ok(ran) => settle_ran(rt, alloc, plan, &population, ran, lists),
+        Ok(ran) => settle_run(rt, alloc, &population, ran.parts(), lists),
     }
 }
 

@@ -1,9 +1,10 @@
 //! Why a run of the benchmark isn't settled.
 ghost use Rattle.std.specs.Prelude.{◌≡◌};
 ghost use Rattle.tatp_bench.specs.declared.fault.BenchFault.TheVariants.{NoMemory};
+ghost use Rattle.tatp_bench.specs.SettledRuns.{gathering_fault, settling_fault};
 
 use std::alloc::AllocError;
-use tatp_settle::Unsettled;
+use tatp_settle::{GatherError, SettleError, Unsettled};
 use thiserror::Error;
 
 /// Why a run of the benchmark isn't settled. Its text is its number and its name, and the extent or the
@@ -29,5 +30,27 @@ impl From<AllocError> for BenchFault {
 
     fn from(_error: AllocError) -> BenchFault {
         BenchFault::NoMemory
+    }
+}
+
+impl From<GatherError> for BenchFault {
+    ghost from_gives = { λ error fault. fault ≡ gathering_fault error };
+
+    fn from(error: GatherError) -> BenchFault {
+        match error {
+            GatherError::ExtentMissing(extent) => BenchFault::ExtentMissing(extent),
+            GatherError::NoMemory => BenchFault::NoMemory,
+        }
+    }
+}
+
+impl From<SettleError> for BenchFault {
+    ghost from_gives = { λ error fault. fault ≡ settling_fault error };
+
+    fn from(error: SettleError) -> BenchFault {
+        match error {
+            SettleError::Because(cause) => BenchFault::Unsettled(cause),
+            SettleError::NoMemory => BenchFault::NoMemory,
+        }
     }
 }

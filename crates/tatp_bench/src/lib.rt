@@ -10,6 +10,7 @@ mod moves;
 mod plan;
 
 pub use bench::{run_bench, run_drawn};
+pub use closing::settle_run;
 pub use drawing::{Drawn, draw};
 pub use fault::BenchFault;
 pub use plan::BenchPlan;

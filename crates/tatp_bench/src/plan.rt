@@ -5,9 +5,9 @@ use tatp_driver::Distribution;
 /// stops.
 #[derive(Clone, Copy, Debug, PartialEq, Eq)]
 pub struct BenchPlan {
-    /// How many subscribers the database has, 1 to 100,000.
+    /// How many subscribers the database has, 1 to 1,000,000.
     pub subscribers: u64,
-    /// Over how many partitions they are dealt, 1 to 8.
+    /// Over how many partitions they are dealt, 1 to 16.
     pub partitions: u8,
     /// How many clients call at once, 1 to 64.
     pub clients: u8,

@@ -1,4 +1,4 @@
--- What the command `bench` writes, and what each fault leaves. docs/FORMATS.md, "What a run of the benchmark prints".
+-- What the command `bench` writes, and what each fault leaves. docs/FORMATS.md, "What a run reads and writes".
 use Rattle.std.specs.Prelude.{◌≡◌, ℕ, ◌+◌, ◌*◌, List, ◌++◌, Option, codes, decimal}
 use Rattle.std.specs.List.{flat_map}
 use Rattle.tatp_audits.specs.Printing.{field, verdict_text}

@@ -17,7 +17,7 @@ use tatp_tables::Rows;
 pub enum Population {
     /// They stand at the front of the input, up to a line `.`; the calls follow it.
     Read,
-    /// They are drawn: this many subscribers, 1 to 100,000, from the words of this seed. All of the
+    /// They are drawn: this many subscribers, 1 to 1,000,000, from the words of this seed. All of the
     /// input is calls.
     Generated { subscribers: u64, seed: u64 },
 }
@@ -32,7 +32,7 @@ pub(crate) fn open_world<'m>(
     clients: u8,
 ) -> Result<World<'m>, OpenError>
     requires some_partitions { 1 ≤ partitions }
-    requires few_partitions { partitions ≤ 8 }
+    requires few_partitions { partitions ≤ 16 }
     requires few_clients { clients ≤ 64 }
     requires drawn { AreCleanWhereDrawn population rows }
     ensures opened { IfOk result (IsOpened loaded.now rows partitions clients) }

@@ -136,7 +136,7 @@ fn serve_input<W: Write>(
 ) -> Result<(), Fault>
     requires input { length input.now ≤ MOST_BYTES }
     requires population { IsPopulation population }
-    requires partitions { (1 ≤ partitions) × (partitions ≤ 8) }
+    requires partitions { (1 ≤ partitions) × (partitions ≤ 16) }
     ensures served { OnOk result (WritesServed population input.now (W.contents writer.old) (W.contents writer.new)) }
     ensures faults { IfErr result (Leaves population input.now (W.contents writer.old) (W.contents writer.new)) }
 {
@@ -161,7 +161,7 @@ pub fn serve<R: Read, W: Write>(
     partitions: u8,
 ) -> Result<(), Fault>
     requires population { IsPopulation population }
-    requires partitions { (1 ≤ partitions) × (partitions ≤ 8) }
+    requires partitions { (1 ≤ partitions) × (partitions ≤ 16) }
     ensures served { OnOk result (IfSome (R.remaining reader.old) (λ input.
         WritesServed population input (W.contents writer.old) (W.contents writer.new))) }
     ensures faults { IfErr result (λ fault. IfSome (R.remaining reader.old) (λ input.

@@ -58,7 +58,7 @@ fn trace_input<W: Write>(
     requires input { length input.now ≤ MOST_BYTES }
     requires population { IsPopulation population }
     requires some_partitions { 1 ≤ partitions }
-    requires few_partitions { partitions ≤ 8 }
+    requires few_partitions { partitions ≤ 16 }
     requires some_clients { 1 ≤ clients }
     requires few_clients { clients ≤ 64 }
     ensures told { OnOk result (WritesTold population partitions clients input.now (W.contents writer.old) (W.contents writer.new)) }
@@ -86,7 +86,7 @@ pub fn trace<R: Read, W: Write>(
 ) -> Result<(), Fault>
     requires population { IsPopulation population }
     requires some_partitions { 1 ≤ partitions }
-    requires few_partitions { partitions ≤ 8 }
+    requires few_partitions { partitions ≤ 16 }
     requires some_clients { 1 ≤ clients }
     requires few_clients { clients ≤ 64 }
     ensures told { OnOk result (IfSome (R.remaining reader.old) (λ input.

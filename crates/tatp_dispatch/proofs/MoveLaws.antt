@@ -134,8 +134,8 @@ give_carries w p e s s' x t good here site hand gives =
 abbrev pub routed_world : WorldState → List Route → List LandedState → WorldState
 routed_world w routes landings = record w { routes = record w.routes { routes = routes }; landings = landings }
 
-keeps_routed : (w : WorldState) (routes : List Route) (landings : List LandedState) → IsWorld w → NamePartitions (length w.sites) routes landings → AreRoutesRight routes landings (λ e. moves_of (extent_in w.sites w.parcels e)) (stands_at w.sites) → Kept w (routed_world w routes landings)
-keeps_routed w routes landings good name right = record {
+keeps_routed : (w : WorldState) (routes : List Route) (landings : List LandedState) → IsWorld w → length routes ≡ length w.routes.routes → NamePartitions (length w.sites) routes landings → AreRoutesRight routes landings (λ e. moves_of (extent_in w.sites w.parcels e)) (stands_at w.sites) → Kept w (routed_world w routes landings)
+keeps_routed w routes landings good long name right = record {
   world = record {
     lawful = good.lawful;
     few = good.few;
@@ -146,6 +146,8 @@ keeps_routed w routes landings good name right = record {
     clients = good.clients;
     items = good.items;
     calls = good.calls;
+    routed = long ∙ good.routed;
+    route_partitions = good.route_partitions;
     partitions = name;
     routes = right;
     keys = good.keys;
@@ -168,7 +170,7 @@ route_keeps w i t Is_set routes good at st =
       of_routes = λ e route is. at_set (λ (j : ℕ) (z : Route). z.partition < length w.sites) w.routes.routes t.number st.0 (record { partition = t.site; moves = t.moves }) st.1 (good.partitions.of_landings i t at) (λ j z other was. good.partitions.of_routes j z was) e route is;
       of_landings = λ j u is. let r = remove_old w.landings i j u is in good.partitions.of_landings r.0 u r.1;
     } in
-    let k = keeps_routed w new (remove w.landings i) good name (routes_settled w.routes.routes new w.landings (λ e. moves_of (extent_in w.sites w.parcels e)) (stands_at w.sites) i t true at (st.0, st.1, st.2, refl) good.routes) in
+    let k = keeps_routed w new (remove w.landings i) good (length-set w.routes.routes t.number (record { partition = t.site; moves = t.moves })) name (routes_settled w.routes.routes new w.landings (λ e. moves_of (extent_in w.sites w.parcels e)) (stands_at w.sites) i t true at (st.0, st.1, st.2, refl) good.routes) in
     subst (λ (r : RoutesState). Kept w (record w { routes = r; landings = remove w.landings i })) (sym st.3) k
 route_keeps w i t Is_superseded routes good at st =
     let name : NamePartitions (length w.sites) w.routes.routes (remove w.landings i) = record {
@@ -176,5 +178,5 @@ route_keeps w i t Is_superseded routes good at st =
       of_routes = good.partitions.of_routes;
       of_landings = λ j u is. let r = remove_old w.landings i j u is in good.partitions.of_landings r.0 u r.1;
     } in
-    let k = keeps_routed w w.routes.routes (remove w.landings i) good name (routes_settled w.routes.routes w.routes.routes w.landings (λ e. moves_of (extent_in w.sites w.parcels e)) (stands_at w.sites) i t false at (refl, st.0) good.routes) in
+    let k = keeps_routed w w.routes.routes (remove w.landings i) good refl name (routes_settled w.routes.routes w.routes.routes w.landings (λ e. moves_of (extent_in w.sites w.parcels e)) (stands_at w.sites) i t false at (refl, st.0) good.routes) in
     subst (λ (r : RoutesState). Kept w (record w { routes = r; landings = remove w.landings i })) (sym st.1) k

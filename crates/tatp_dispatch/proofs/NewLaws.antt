@@ -3,7 +3,8 @@ use Rattle.std.proofs.Common.{◌≡◌, ◌≢◌, ℕ, zero, suc, ◌+◌, ◌
 use Rattle.std.specs.List.{list_any, range_with_len}
 use Rattle.std.specs.Option.{option_flatten, option_map_or, option_and_then}
 use Rattle.std.proofs.lemmas.Bool.{and_parts, eqb-true, eq-eqb}
-use Rattle.std.proofs.lemmas.List.{length-replicate}
+use Rattle.std.proofs.lemmas.List.{length-replicate, length-map}
+use Rattle.std.proofs.lemmas.List.FromFn.{length-range_with_len}
 use Rattle.tatp_encoding.specs.Modules.{Procedure}
 use Rattle.tatp_loader.specs.Lawful.{IsLawful}
 use Rattle.tatp_tables.specs.Tuples.{Tuple, has, set_of}
@@ -259,6 +260,9 @@ new_clients_in_order partitions client_count sites none = record {
     running_last = λ r runs own. absurd (not_running sites r none runs);
     completed_before = λ number some. absurd (omega (arith, some));
     completed_once = λ number. omega arith;
+    seen = refl;
+    queued_seen = λ item waits own. absurd (not_waiting partitions item waits);
+    running_seen = λ r runs own. absurd (not_running sites r none runs);
   });
   known = λ client past. omega (arith, none_queued partitions client, none_running sites client none);
 }
@@ -273,6 +277,12 @@ route_is n partitions e route at =
   where
     some_same : (x y : Route) → Some x ≡ Some y → x ≡ y
     some_same x y h = cc
+
+-- one for each extent, and one at 0
+length_opened : (n partitions : ℕ) → length (opened_routes n partitions).routes ≡ extent_count n + 1
+length_opened n partitions =
+    let opens : ℕ → Route = λ k. record { partition = opening_partition partitions k; moves = 0 } in
+    length-map (range_with_len 0 (extent_count n + 1)) opens ∙ length-range_with_len 0 (extent_count n + 1)
 
 moved_so : (o : Option ExtentState) (m : ℕ) → moves_of o ≡ Some m → (x : ExtentState) × (o ≡ Some x) × (x.moves ≡ m)
 moved_so None m h = absurd cc
@@ -291,6 +301,7 @@ routes_are_right procedures partitions n u sites some is h = record {
       let none : x.0.moves ≡ 0 = ap (λ (y : ExtentState). y.moves) a.number.is in
       absurd (omega (arith, lt, none, x.2));
   landing = λ i m t at moves. absurd cc;
+  once = λ i j t u at at' number many. absurd cc;
 }
 
 pub partitions_named : (procedures : List Procedure) (partitions n : ℕ) (xs : List ExtentState) (sites : List SiteState) → 1 ≤ partitions → AreSitesOpened procedures partitions xs sites → NamePartitions (length sites) (opened_routes n partitions).routes []
@@ -327,6 +338,8 @@ is_world procedures rows partitions client_count directory sites h =
       clients = new_clients_in_order partitions client_count sites none;
       items = λ item waits. absurd (not_waiting partitions item waits);
       calls = λ r runs. absurd (not_running sites r none runs);
+      routed = length_opened n partitions;
+      route_partitions = sym h.opened.count;
       partitions = partitions_named procedures partitions n (opened_extents u n) sites h.some h.opened;
       routes = routes_are_right procedures partitions n u sites h.some is h.opened;
       keys = subst (λ (v : Database). (key : Key) → answer directory key ≡ home_of_key v.subscribers key) (sym database) h.answers;

@@ -11,6 +11,7 @@ pub mod Seen
 pub mod Obstacles
 pub mod Events
 pub mod Serving
+pub mod InHand
 pub mod Opened
 pub mod Appending
 pub mod Fields

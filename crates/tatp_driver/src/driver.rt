@@ -27,14 +27,14 @@ impl Model for Driver {
 
     ghost view = { λ d. record { generator = d.generator; subscribers = d.subscribers; distribution = d.distribution } };
 
-    ghost invariant = { λ d. (1 ≤ d.subscribers) × (d.subscribers ≤ 100000) };
+    ghost invariant = { λ d. (1 ≤ d.subscribers) × (d.subscribers ≤ 1000000) };
 }
 
 impl Driver {
     /// The driver of a client, counted from 0, which draws from that client's stream of the seed.
     pub fn new(seed: u64, client: u64, subscribers: u64, distribution: Distribution) -> Driver
         requires some { 1 ≤ subscribers }
-        requires few { subscribers ≤ 100000 }
+        requires few { subscribers ≤ 1000000 }
         ensures { result ≡ record { generator = client_generator seed client; subscribers = subscribers; distribution = distribution } }
     {
         Driver {

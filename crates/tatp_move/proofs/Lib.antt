@@ -2,3 +2,4 @@ pub mod RouteLaws
 mod DealLaws
 mod NumberLaws
 mod SiteLaws
+mod RangeLaws

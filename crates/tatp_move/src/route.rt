@@ -43,7 +43,7 @@ impl Model for Routes {
 
     ghost view = { λ a. record { subscribers = a.subscribers; partitions = a.partitions; routes = a.routes.items } };
 
-    ghost invariant = { λ a. (vec_len a.routes ≡ extent_count a.subscribers + 1) × (a.subscribers ≤ 100000) };
+    ghost invariant = { λ a. (vec_len a.routes ≡ extent_count a.subscribers + 1) × (a.subscribers ≤ 1000000) };
 }
 
 impl Routes {
@@ -52,7 +52,7 @@ impl Routes {
 
     /// The routes to the extents of so many subscribers, which open in so many partitions.
     pub fn open(alloc: Global, subscribers: u64, partitions: u8) -> Result<Routes, AllocError>
-        requires few { subscribers ≤ 100000 }
+        requires few { subscribers ≤ 1000000 }
         requires some { 1 ≤ partitions }
         ensures { IfOk result (λ routes. routes ≡ opened_routes subscribers partitions) }
     {

@@ -1,5 +1,5 @@
 //! Laws of the definitions, for the crates above. Nothing runs here: a clause is the law.
-ghost use Rattle.std.specs.Prelude.{◌≡◌, ◌≢◌, ◌↔◌, ℕ, List, map, length, Some, slice_get, slice_set, IsSome, IsPermutation};
+ghost use Rattle.std.specs.Prelude.{◌≡◌, ◌≢◌, ◌↔◌, ◌+◌, ◌<◌, ◌≤◌, ◌++◌, ℕ, All, List, map, length, Option, Some, slice_get, slice_set, IsSome, IsPermutation};
 ghost use Rattle.std.specs.List.{list_any, range_with_len};
 ghost use Rattle.tatp_tables.specs.Tuples.{Tuple, has};
 ghost use Rattle.tatp_tables.specs.Database.{Database, database_of, in_table, of_subscriber, with_subscriber};
@@ -8,6 +8,10 @@ ghost use Rattle.tatp_tables.specs.Clean.{IsClean};
 ghost use Rattle.tatp_tables.specs.declared.table.Table.{Table};
 ghost use Rattle.tatp_tables.specs.declared.row.Rows.{Rows};
 ghost use Rattle.tatp_population.specs.Extents.{ExtentState, IsExtent, LiesIn, extent_of, home_at, with_home_at};
+ghost use Rattle.tatp_procs.specs.declared.entry.Entry.{Entry};
+ghost use Rattle.tatp_population.specs.Histories.{Leads, StampsRise};
+ghost use Rattle.tatp_population.specs.HomelessLog.{RecordsHomeless};
+ghost use Rattle.tatp_population.specs.Chapters.{ChapterState, Joins, EachLeads, EachRises, entries_joined, chapters_listed, homes_due_from};
 ghost use Rattle.tatp_population.specs.HomeRows.{database_of_homes, AreRowsOf, AreSeparateHomes};
 
 /// An extent has a home in the place of each subscriber that lies in it, and that home is the subscriber's.
@@ -40,4 +44,17 @@ pub fn homes_are_parts_of_their_database()
     ensures order { (homes others : List SubscriberRows) → IsPermutation homes others → database_of_homes homes ≡ database_of_homes others }
     ensures part { (homes : List SubscriberRows) (i : ℕ) (home : SubscriberRows) → AreSeparateHomes homes → slice_get homes i ≡ Some home → of_subscriber (database_of_homes homes) home.s_id ≡ home.tables }
     ensures replaced { (homes : List SubscriberRows) (i : ℕ) (home new : SubscriberRows) → AreSeparateHomes homes → slice_get homes i ≡ Some home → database_of_homes (slice_set homes i new) ≡ with_subscriber (database_of_homes homes) home.s_id new.tables }
+{}
+
+/// Chapters that are joined end to end, and a log that goes on from where the last ended, are one history:
+/// their entries lead from the first homes to the last, and their stamps rise.
+pub fn joined_chapters_are_one_history()
+    ensures leads { (before : List SubscriberRows) (chapters : List ChapterState) (opening : List SubscriberRows) (log : List Entry) (homes : List SubscriberRows) → Joins before chapters opening → EachLeads chapters → Leads opening log homes → Leads before (entries_joined chapters ++ log) homes }
+    ensures homeless { (chapters : List ChapterState) (log : List Entry) → All (λ (c : ChapterState). All RecordsHomeless c.entries) chapters → All RecordsHomeless log → All RecordsHomeless (entries_joined chapters ++ log) }
+    ensures rise { (least : ℕ) (chapters : List ChapterState) (log : List Entry) → EachRises least chapters log → StampsRise least (entries_joined chapters ++ log) }
+    ensures join { (at : ℕ → Option ChapterState) (first count : ℕ) (homes opening : List SubscriberRows)
+        → ((i : ℕ) → i < count → (c : ChapterState) × (at (first + i) ≡ Some c))
+        → ((i : ℕ) (c : ChapterState) → i < count → at (first + i) ≡ Some c → Some c.before ≡ homes_due_from at first homes (first + i))
+        → Some opening ≡ homes_due_from at first homes (first + count)
+        → Joins homes (chapters_listed at first count) opening }
 {}

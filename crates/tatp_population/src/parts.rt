@@ -12,11 +12,13 @@ pub struct ExtentParts {
     pub moves: u16,
     /// Whether a call that is no standard transaction has ended on it.
     pub mixed: bool,
-    /// Its homes at the opening.
+    /// How many chapters it handed out.
+    pub chapters: u16,
+    /// Its homes at the last checkpoint.
     pub opening: Vec<Home>,
     /// Its homes now.
     pub homes: Vec<Home>,
-    /// The calls that were logged, in the order of their stamps.
+    /// The calls that were logged since the last checkpoint, in the order of their stamps.
     pub log: Log,
 }
 
@@ -25,6 +27,8 @@ pub struct ExtentParts {
 pub struct HomelessParts {
     /// Whether a call that is no standard transaction has ended.
     pub mixed: bool,
-    /// The calls that were logged, in the order of their stamps.
+    /// How many chapters it handed out.
+    pub chapters: u16,
+    /// The calls that were logged since the last checkpoint, in the order of their stamps.
     pub log: Log,
 }

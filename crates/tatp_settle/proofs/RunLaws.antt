@@ -95,15 +95,19 @@ not_true : (b : Bool) → (b ≡ true → ⊥) → b ≡ false
 not_true true h = absurd (h refl)
 not_true false h = refl
 
+-- a log is of calls without a home, whose stamps rise from some stamp
+abbrev HasHomelessHistory : List Entry → Type 0
+HasHomelessHistory log = (least : ℕ) × IsHomelessHistory least log
+
 -- the log of number 0 is that of the calls without a home
 homeless_log : (sites : List ClosedSiteState) (extents : List ExtentState) → All IsClosedSite sites → All IsExtent extents
     → ((log : ExtentLog) → Contains (map log_of_homeless sites ++ map log_of_extent extents) log → log.extent ≡ 0 → log.mixed ≡ true → ⊥)
-    → IsHomelessHistory (entries_in (find_log 0 sites extents))
+    → HasHomelessHistory (entries_in (find_log 0 sites extents))
 homeless_log [] extents closed are unmixed =
     let none : find_log 0 [] extents ≡ None = log_found extents 0 ∙ ap (option_map log_of_extent) (none_zero extents are) in
-    subst (λ (log : Option ExtentLog). IsHomelessHistory (entries_in log)) (sym none) (record { entries = All-nil RecordsHomeless; rise = tt })
+    subst (λ (log : Option ExtentLog). HasHomelessHistory (entries_in log)) (sym none) (0, record { entries = All-nil RecordsHomeless; rise = tt })
 homeless_log (s ∷ sites) extents closed are unmixed =
-    (All-head IsClosedSite s sites closed).homeless (not_true s.homeless.mixed (unmixed (log_of_homeless s) (0, omega arith, refl) refl))
+    (s.homeless.kept_stamp, (All-head IsClosedSite s sites closed).homeless (not_true s.homeless.mixed (unmixed (log_of_homeless s) (0, omega arith, refl) refl)))
 
 -- ---- the extents of a run
 abbrev homes_now : Run → ℕ → List SubscriberRows
@@ -121,7 +125,7 @@ populated run e l m = ap (λ b. if b then Some (homes_first run e) else None) (b
 -- an extent that stands in what the run left, with its history from the population's homes on
 record Stood (run : Run) (e : ℕ) : Type 0 where
   pub extent : ExtentState
-  pub history : IsHistory extent.opening extent.log extent.homes
+  pub history : IsHistory extent.kept_stamp extent.opening extent.log extent.homes
   pub opening : extent.opening ≡ homes_first run e
   pub entries : entries_numbered run.closed e ≡ extent.log
   pub homes : homes_now run e ≡ extent.homes
@@ -149,7 +153,7 @@ stood run e closed once l m =
       homes = ap (λ (v : Option ExtentState). option_map_or (λ (y : ExtentState). y.homes) v []) is;
     }
 
-homeless_stood : (run : Run) → IsClosed run.closed → IsPopulationOnce run → IsHomelessHistory (entries_numbered run.closed 0)
+homeless_stood : (run : Run) → IsClosed run.closed → IsPopulationOnce run → HasHomelessHistory (entries_numbered run.closed 0)
 homeless_stood run closed once =
     homeless_log (filter of_partition_0 run.closed.sites) (extents_of run.closed) (All-filter of_partition_0 IsClosedSite run.closed.sites closed.sites) (are_extents run.closed closed)
     (λ log stands number mixed. once.unmixed 0 (log, stands, number, mixed))
@@ -200,16 +204,18 @@ parts_of run = record { ids = ids_of_extent (length run.population.subscribers);
 
 module _ (run : Run) (closed : IsClosed run.closed) (once : IsPopulationOnce run) where
   each_rises : EachRises (logs_left run)
-  each_rises zero log g = subst Rises (left_at run 0 log g).1 (0, (homeless_stood run closed once).rise)
+  each_rises zero log g =
+      let h : HasHomelessHistory (entries_numbered run.closed 0) = homeless_stood run closed once in
+      subst Rises (left_at run 0 log g).1 (h.0, h.1.rise)
   each_rises (suc e) log g =
       let at = left_at run (suc e) log g in
       let s : Stood run (suc e) = stood run (suc e) closed once (omega arith) at.0 in
-      subst Rises (sym s.entries ∙ at.1) (0, s.history.rise)
+      subst Rises (sym s.entries ∙ at.1) (s.extent.kept_stamp, s.history.rise)
 
   at_extent : HoldsNowhere (NamesHome (database_of run.population).subscribers run.closed) → (e : ℕ) (log : List Entry) → slice_get (logs_left run) e ≡ Some log → LogAt (parts_of run) (database_of run.population) e log
   at_extent homeless zero log g =
       let at = left_at run 0 log g in
-      subst (AllFindNone (database_of run.population)) at.1 (find_none (database_of run.population) (entries_numbered run.closed 0) (homeless_stood run closed once).entries (λ place entry here.
+      subst (AllFindNone (database_of run.population)) at.1 (find_none (database_of run.population) (entries_numbered run.closed 0) (homeless_stood run closed once).1.entries (λ place entry here.
       none_from (home_of_key (database_of run.population).subscribers (key_asked entry.ask)) (λ names. homeless entry.client entry.number (record {
         found = record { extent = 0; place = place; entry = entry; stands = here; own = record { client = refl; number = refl } };
         homeless = refl;

@@ -22,6 +22,7 @@ pub fn gather<'m>(
 ) -> Result<Closed, NotGathered<'m>>
     ensures closed { IfOk result (λ closed. closed ≡ closed_of sites.entry.items parcels.items) }
     ensures whole { IfOk result IsClosed }
+    ensures sound { All IsClosedSite (closed_of sites.entry.items parcels.items).sites }
     ensures refusal { IfErr result (λ refused. RefusesToGather (closed_of sites.entry.items parcels.items) refused.error) }
     ensures sites { IfErr result (λ refused. refused.sites.items ≡ sites.entry.items) }
     ensures parcels { IfErr result (λ refused. refused.parcels.items ≡ parcels.items) }
@@ -58,6 +59,7 @@ pub fn gather<'m>(
 
 /// The least extent that stands in no site and no parcel.
 fn least_missing(sites: &[Site<'_>], parcels: &[Parcel]) -> Option<u64>
+    ensures sound { All IsClosedSite (closed_of sites.now parcels.now).sites }
     ensures missing { IfSome result (IsLeastMissing (closed_of sites.now parcels.now)) }
     ensures none { IfNone result ((e : ℕ) → IsMissing (closed_of sites.now parcels.now) e → ⊥) }
 {

@@ -1,5 +1,6 @@
 //! Tests, and what they share: rows, sites, and events at a site.
 mod calls;
+mod checkpoints;
 mod events;
 mod gates;
 mod gathering;
@@ -12,4 +13,5 @@ mod sites;
 mod stops;
 mod threads;
 mod trace_lines;
+mod unsettled;
 mod world;

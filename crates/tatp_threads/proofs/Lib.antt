@@ -1,4 +1,6 @@
+pub mod DebuggerLaws
 pub mod EffectLaws
+pub mod ExecutorLaws
 pub mod InboxLaws
 pub mod RefusalLaws
 pub mod SliceLaws

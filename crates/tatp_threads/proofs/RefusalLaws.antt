@@ -23,7 +23,7 @@ opening_refused procedures rows lists opening.TooMany h = h
 opening_refused procedures rows lists (opening.NotClean verdict) h = h
 opening_refused procedures rows lists opening.NoMemory h = h
 
-pub few_extents : (u : Database) (n : ℕ) (extents : List ExtentState) → extents ≡ opened_extents u n → n ≤ 100000 → length extents < 2 ^ 32
+pub few_extents : (u : Database) (n : ℕ) (extents : List ExtentState) → extents ≡ opened_extents u n → n ≤ 1000000 → length extents < 2 ^ 32
 few_extents u n extents is few =
     let count : length extents ≡ extent_count n = ap length is ∙ length-map-range_with_len (λ (e : ℕ). opened_extent e (homes_of_extent u n e)) 1 (extent_count n) in
     omega arith

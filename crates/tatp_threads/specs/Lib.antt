@@ -4,3 +4,6 @@ pub mod Held
 pub mod Effects
 pub mod Asking
 pub mod Copies
+pub mod Executing
+pub mod Debugging
+pub mod Carrying

@@ -2,7 +2,8 @@
 
 /// Is called by the threads as calls go on and end. It must return for the run to go on.
 pub trait Gate {
-    /// An executor is about to make a step of a client's call. It holds its partition's lock.
+    /// An executor is about to make a step of a client's call, from this position of its procedure. It
+    /// holds its partition's lock. A step that is refused, as at a stopped site, is none.
     fn before_step(&self, partition: u8, client: u64, pc: usize);
 
     /// A client's call has ended, and its reply can be taken.

@@ -1,36 +1,74 @@
-//! What an executor does besides its site.
+//! What executors and the debugger do, one thing after another.
 ghost use Rattle.std.specs.Prelude.{◌≡◌, List, Option, None, [], ◌∷◌};
-ghost use Rattle.tatp_threads.specs.Effects.{Grows, Follows, receipt_of};
+ghost use Rattle.tatp_partition.specs.Running.{told_in};
+ghost use Rattle.tatp_threads.specs.Effects.{Grows, Follows, receipt_of, concluding, effects_of_step};
 ghost use Rattle.tatp_threads.specs.declared.outgoing.Effect.{Effect};
-ghost use Rattle.tatp_threads.specs.declared.outgoing.Effect.TheVariants.{Sends, Answers};
-ghost use Rattle.tatp_threads.specs.declared.slot.Answer.TheVariants.{Got};
+ghost use Rattle.tatp_threads.specs.declared.outgoing.Effect.TheVariants.{Sends, Answers, Tells, Receives, Offers, Slices};
 
+use crate::Message;
 use crate::held::Offered;
 use crate::slot::Answer;
-use tatp_partition::{Completion, Item};
+use tatp_partition::{Completion, CompletionPlace, Item, SiteRefusal, Stepped};
 use tatp_settle::Receipt;
 
-/// What an executor does besides its site.
-#[derive(Clone, Copy, Debug)]
+/// What an executor or the debugger did.
+#[derive(Clone, Copy)]
 pub(crate) enum Effect {
     /// A call was sent on, and whether it was put into an inbox.
     Sends(Item, bool),
     /// A client was answered.
     Answers(u64, Answer),
+    /// The gate was told of an end, with the partition and the client.
+    Tells(u8, u64),
+    /// A message was taken out of the inbox, or none will come.
+    Receives(Option<Message>),
+    /// A call was offered to the site.
+    Offers(Item, Offered),
+    /// Steps of a client's call were made, and what the last of them answered.
+    Slices(u64, Result<Stepped, SiteRefusal>),
+    /// The site of a partition was to be stopped, and whether it was.
+    Stops(u8, bool),
+    /// A stopped site was looked at.
+    Looks(u8),
+    /// A stopped site made one step.
+    Steps(u8, Result<Stepped, SiteRefusal>),
+    /// A stopped site was resumed.
+    Resumes(u8),
 }
 
-/// Sends calls on, and answers clients.
-pub(crate) trait Outgoing {
+/// Answers clients, and tells the gate.
+pub(crate) trait Answering {
     /// What was done, where that is known.
     ghost effects: { Self → Option (List Effect) } = { λ _. None };
-
-    /// Puts a call into the inbox that its route names. Whether it was put there.
-    fn send(&mut self, item: Item) -> bool
-        ensures { Grows (effects self.old) (effects self.new) (Sends item result ∷ []) };
 
     /// Puts an answer into a client's slot.
     fn answer(&mut self, client: u64, answer: Answer)
         ensures { Grows (effects self.old) (effects self.new) (Answers client answer ∷ []) };
+
+    /// Tells the gate that a client's call has ended.
+    fn tell(&mut self, partition: u8, client: u64)
+        ensures { Grows (effects self.old) (effects self.new) (Tells partition client ∷ []) };
+}
+
+/// Takes calls out of an inbox, has a site run them, and sends them on.
+pub(crate) trait Executing: Answering {
+    /// The next message of the inbox. None where no end that puts is left.
+    fn receive(&mut self) -> Option<Message>
+        ensures { Grows (Self.effects self.old) (Self.effects self.new) (Receives result ∷ []) };
+
+    /// Offers a call to the site.
+    fn offer(&mut self, item: &Item) -> Offered
+        ensures { Grows (Self.effects self.old) (Self.effects self.new) (Offers item.now result ∷ []) };
+
+    /// Makes steps of a client's call at the site. Where the call ends, its completion is left in its
+    /// place.
+    fn slice(&mut self, client: u64, ended: &mut CompletionPlace) -> Result<(), SiteRefusal>
+        requires { ended.old ≡ None }
+        ensures { Grows (Self.effects self.old) (Self.effects self.new) (Slices client (told_in result ended.new) ∷ []) };
+
+    /// Puts a call into the inbox that its route names. Whether it was put there.
+    fn send(&mut self, item: Item) -> bool
+        ensures { Grows (Self.effects self.old) (Self.effects self.new) (Sends item result ∷ []) };
 }
 
 /// The receipt of a completed call.
@@ -46,24 +84,41 @@ pub(crate) fn receipt_of(completion: &Completion) -> Receipt
     }
 }
 
-/// Gives a completed call's receipt to its client.
-pub(crate) fn conclude<O: Outgoing>(outgoing: &mut O, completion: &Completion)
-    ensures { Grows (O.effects outgoing.old) (O.effects outgoing.new) (Answers completion.now.entry.client (Got (receipt_of completion.now)) ∷ []) }
+/// Gives a completed call's receipt to its client, and then tells the gate.
+#[tactic(auto, using(crate::proofs::EffectLaws::grown_by_two))]
+pub(crate) fn conclude<A: Answering>(answering: &mut A, partition: u8, completion: &Completion)
+    ensures { Grows (A.effects answering.old) (A.effects answering.new) (concluding partition completion.now) }
 {
-    outgoing.answer(completion.entry.client, Answer::Got(receipt_of(completion)));
+    let client = completion.entry.client;
+    answering.answer(client, Answer::Got(receipt_of(completion)));
+    answering.tell(partition, client);
+}
+
+/// Concludes the call where a step has ended it.
+pub(crate) fn follow_step<A: Answering>(
+    answering: &mut A,
+    partition: u8,
+    stepped: &Result<Stepped, SiteRefusal>,
+)
+    ensures { Grows (A.effects answering.old) (A.effects answering.new) (effects_of_step partition stepped.now) }
+{
+    if let Ok(Stepped::Ended(completion)) = stepped {
+        conclude(answering, partition, completion);
+    }
 }
 
 /// Does what follows from what became of a call.
-pub(crate) fn follow<O: Outgoing>(outgoing: &mut O, offered: &Offered)
-    ensures { (effects : List Effect) × Follows offered.now effects × Grows (O.effects outgoing.old) (O.effects outgoing.new) effects }
+pub(crate) fn follow<E: Executing>(executing: &mut E, offered: &Offered)
+    ensures { (effects : List Effect) × Follows offered.now effects
+        × Grows (E.effects executing.old) (E.effects executing.new) effects }
 {
     match offered {
         Offered::Began | Offered::Again(_) => {}
         Offered::Away(item) => {
             let item = *item;
             let client = item.client;
-            if !outgoing.send(item) {
-                outgoing.answer(client, Answer::Dropped);
+            if !executing.send(item) {
+                executing.answer(client, Answer::Dropped);
             }
         }
         Offered::Denied(item) => {
@@ -71,8 +126,8 @@ pub(crate) fn follow<O: Outgoing>(outgoing: &mut O, offered: &Offered)
                 client: item.client,
                 number: item.number,
             };
-            outgoing.answer(item.client, Answer::Got(receipt));
+            executing.answer(item.client, Answer::Got(receipt));
         }
-        Offered::Dropped(item) => outgoing.answer(item.client, Answer::Dropped),
+        Offered::Dropped(item) => executing.answer(item.client, Answer::Dropped),
     }
 }

@@ -189,7 +189,7 @@ pub fn run_calls<'m, R: Threads + Wait + Sync, G: Gate + Sync>(
     gate: &G,
 ) -> Result<Ran<'m>, RunRefusal>
     requires some_partitions { 1 ≤ partitions }
-    requires few_partitions { partitions ≤ 8 }
+    requires few_partitions { partitions ≤ 16 }
     requires some_clients { 1 ≤ length lists.now }
     requires few_clients { length lists.now ≤ 64 }
     ensures sites { IfOk result (λ ran. vec_len ran.parts.sites ≡ partitions) }

@@ -1,5 +1,6 @@
 //! What the threads share.
 
+use crate::partition::Partition;
 use crate::ports::{Arities, Port, Post};
 use crate::slot::{Answer, Slot};
 use std::alloc::Global;
@@ -21,6 +22,23 @@ pub(crate) struct Shared<'a, 'm, G, A: Arities> {
     pub(crate) post: &'a Post<A>,
     pub(crate) slots: &'a [Slot],
     pub(crate) gate: &'a G,
+}
+
+impl<'a, 'm, G, A: Arities> Shared<'a, 'm, G, A> {
+    /// The partition of this number, if there is one.
+    pub(crate) fn partition(&self, number: u8) -> Option<Partition<'a, 'm>> {
+        match (
+            self.sites.get(number as usize),
+            self.wanted.get(number as usize),
+        ) {
+            (Some(site), Some(wanted)) => Some(Partition {
+                number,
+                site,
+                wanted,
+            }),
+            _ => None,
+        }
+    }
 }
 
 /// Puts a call into the inbox that the route of its home names. Whether it was put there.

@@ -2,9 +2,10 @@
 ghost use denote.Param.Send.{IsSend};
 
 use crate::client::serve;
-use crate::debugger::debug_all;
-use crate::executor::{Partition, execute};
-use crate::mover::move_all;
+use crate::debugger::debug_partitions;
+use crate::executor::execute;
+use crate::mover::move_extents;
+use crate::partition::Partition;
 use crate::ports::{Arities, Port};
 use crate::room::Ends;
 use crate::shared::Shared;
@@ -91,15 +92,17 @@ fn run_clients<R: Threads + Wait + Sync, G: Gate + Sync, A: Arities + Send + Syn
     hand: &mut Vec<Parcel>,
 ) -> bool {
     thread::scope(thread::scope_env(), rt, |inner| -> bool {
-        let stops = work.moves.stops.as_slice();
-        let moves = work.moves.moves.as_slice();
+        let moves = work.moves;
         if inner
-            .spawn(move || move_all(rt, shared, moves, hand))
+            .spawn(move || move_extents(rt, shared, moves, hand))
             .is_err()
         {
             return false;
         }
-        if inner.spawn(move || debug_all(rt, shared, stops)).is_err() {
+        if inner
+            .spawn(move || debug_partitions(rt, shared, moves))
+            .is_err()
+        {
             return false;
         }
         let mut number = 0u64;

@@ -7,7 +7,7 @@ use Rattle.tatp_procs.specs.declared.ask.Ask.TheVariants.{Raw}
 use Rattle.tatp_procs.specs.declared.entry.Entry.{Entry}
 use Rattle.tatp_procs.specs.ReplyText.{reply_text}
 use Rattle.tatp_partition.specs.declared.refusal.SiteRefusal.{SiteRefusal}
-use Rattle.tatp_partition.specs.declared.refusal.SiteRefusal.TheVariants.{Running, Stopped, NotRunning, AtBreak, NotHere, Pinned, MoveCountFull, TooManyBreaks, NotStopped, StampFull, WrongHome}
+use Rattle.tatp_partition.specs.declared.refusal.SiteRefusal.TheVariants.{Running, Stopped, NotRunning, AtBreak, NotHere, Pinned, MoveCountFull, TooManyBreaks, LogEnded, ChapterCountFull, NoMemory as Site_no_memory, NotStopped, NoSlot, StampFull, WrongHome}
 use Rattle.tatp_dispatch.specs.declared.event.Answer.{Answer}
 use Rattle.tatp_dispatch.specs.declared.event.Answer.TheVariants.{Queued, Began, Away, Denied, Moved, Ended, Parcel, Landed, Set, Superseded, Done}
 use Rattle.tatp_dispatch.specs.declared.event.Refusal.{Refusal}
@@ -24,7 +24,11 @@ site_refusal_text NotHere = codes "REFUSED 33 NotHere"
 site_refusal_text Pinned = codes "REFUSED 34 Pinned"
 site_refusal_text MoveCountFull = codes "REFUSED 35 MoveCountFull"
 site_refusal_text TooManyBreaks = codes "REFUSED 36 TooManyBreaks"
+site_refusal_text LogEnded = codes "REFUSED 54 LogEnded"
+site_refusal_text ChapterCountFull = codes "REFUSED 55 ChapterCountFull"
+site_refusal_text Site_no_memory = codes "REFUSED 46 NoMemory"
 site_refusal_text NotStopped = codes "REFUSED 49 NotStopped"
+site_refusal_text NoSlot = codes "REFUSED 50 NoSlot"
 site_refusal_text StampFull = codes "REFUSED 51 StampFull"
 site_refusal_text WrongHome = codes "REFUSED 56 WrongHome"
 

@@ -98,7 +98,11 @@ pub(crate) fn site_refusal_text(refusal: &SiteRefusal) -> &'static str
         SiteRefusal::Pinned => "REFUSED 34 Pinned",
         SiteRefusal::MoveCountFull => "REFUSED 35 MoveCountFull",
         SiteRefusal::TooManyBreaks => "REFUSED 36 TooManyBreaks",
+        SiteRefusal::LogEnded => "REFUSED 54 LogEnded",
+        SiteRefusal::ChapterCountFull => "REFUSED 55 ChapterCountFull",
+        SiteRefusal::NoMemory => "REFUSED 46 NoMemory",
         SiteRefusal::NotStopped => "REFUSED 49 NotStopped",
+        SiteRefusal::NoSlot => "REFUSED 50 NoSlot",
         SiteRefusal::StampFull => "REFUSED 51 StampFull",
         SiteRefusal::WrongHome => "REFUSED 56 WrongHome",
     }

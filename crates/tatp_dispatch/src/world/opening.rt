@@ -86,7 +86,7 @@ impl<'m> World<'m> {
         clients: u8,
     ) -> Result<World<'m>, OpenError>
         requires some_partitions { 1 ≤ partitions }
-        requires few_partitions { partitions ≤ 8 }
+        requires few_partitions { partitions ≤ 16 }
         requires few_clients { clients ≤ 64 }
         ensures opened { IfOk result (IsOpened loaded.now rows partitions clients) }
         ensures world { IfOk result IsWorld }
@@ -108,7 +108,7 @@ impl<'m> World<'m> {
         clients: u8,
     ) -> Result<World<'m>, AllocError>
         requires some_partitions { 1 ≤ partitions }
-        requires few_partitions { partitions ≤ 8 }
+        requires few_partitions { partitions ≤ 16 }
         requires few_clients { clients ≤ 64 }
         requires clean { IsClean rows }
         requires few { length rows.subscribers ≤ most_subscribers }

@@ -2,7 +2,7 @@
 
 use super::sites::{lands, module, opened, refused_take, spend_site};
 use std::test::Fail;
-use tatp_partition::{Site, SiteRefusal};
+use tatp_partition::{NotGiven, Site, SiteRefusal};
 
 /// Takes an extent and gives it back, so often; how often that was done.
 fn moved(site: &mut Site<'_>, e: u32, times: u32) -> u32 {
@@ -19,8 +19,12 @@ fn moved(site: &mut Site<'_>, e: u32, times: u32) -> u32 {
     times
 }
 
-/// The number and the moves of the parcel that comes back from a site; whether the other site has it again.
-fn given_back(from: &mut Site<'_>, to: &mut Site<'_>, e: u32) -> Option<(u32, u16, bool)> {
+/// Why a parcel comes back from a site, its number and its moves; whether the other site has it again.
+fn given_back(
+    from: &mut Site<'_>,
+    to: &mut Site<'_>,
+    e: u32,
+) -> Option<(SiteRefusal, u32, u16, bool)> {
     match from.take(e) {
         Err(_) => None,
         Ok(parcel) => match to.give(parcel) {
@@ -28,10 +32,10 @@ fn given_back(from: &mut Site<'_>, to: &mut Site<'_>, e: u32) -> Option<(u32, u1
                 landed.discard();
                 None
             }
-            Err(parcel) => {
+            Err(NotGiven { refusal, parcel }) => {
                 let number = parcel.number();
                 let moves = parcel.moves();
-                Some((number, moves, lands(from, parcel)))
+                Some((refusal, number, moves, lands(from, parcel)))
             }
         },
     }
@@ -68,7 +72,7 @@ fn a_foreign_parcel_comes_back(rt: HostRuntime) -> Result<(), Fail> {
             let back = given_back(&mut site, &mut other, 3);
             spend_site(site);
             spend_site(other);
-            assert_eq!(rt; back, Some((3, 1, true)));
+            assert_eq!(rt; back, Some((SiteRefusal::NoSlot, 3, 1, true)));
             Ok(())
         }
     }

@@ -4,7 +4,7 @@ use super::rows::clean_rows;
 use std::alloc::{AllocError, Global};
 use tatp_loader::Loaded;
 use tatp_move::opened_extents_are_numbered;
-use tatp_partition::{Completion, Item, Offer, Parcel, Site, SiteRefusal, Stepped};
+use tatp_partition::{Completion, Item, NotGiven, Offer, Parcel, Site, SiteRefusal, Stepped};
 use tatp_population::{discard, open};
 use tatp_procs::standard;
 
@@ -90,7 +90,7 @@ pub fn lands(site: &mut Site<'_>, parcel: Parcel) -> bool {
             landed.discard();
             true
         }
-        Err(parcel) => {
+        Err(NotGiven { refusal: _, parcel }) => {
             let _ = parcel.unpack().close();
             false
         }

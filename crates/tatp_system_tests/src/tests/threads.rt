@@ -1,6 +1,6 @@
 //! What a run of threads leaves: sites that were stopped, extents that were moved, and what is copied out of locked
 //! sites.
-ghost use Rattle.std.specs.Prelude.{◌≡◌, vec_len};
+ghost use Rattle.std.specs.Prelude.{◌≡◌, ◌≤◌, length, vec_len};
 
 use super::rows::clean_rows;
 use super::sites::{module, spend_parcels};
@@ -13,7 +13,7 @@ use tatp_partition::Site;
 use tatp_population::ExtentParts;
 use tatp_procs::{Ask, Call, Reply};
 use tatp_settle::Receipt;
-use tatp_threads::{Moves, NoGate, Ran, RanParts, copy_extent, run_calls};
+use tatp_threads::{Gate, Moves, NoGate, Ran, RanParts, copy_extent, run_calls};
 
 /// Moves to both partitions and to none, and stops of each.
 fn moves_and_stops(alloc: Global) -> Result<Moves, AllocError> {
@@ -109,25 +109,45 @@ fn left_by<R: Wait>(rt: &R, alloc: Global, ran: Ran<'_>) -> Left
     left
 }
 
-/// What a run of that call over two partitions leaves.
-fn left_by_run<R: Threads + Wait + Sync>(rt: &R, alloc: Global) -> Result<Left, Fail> {
+/// What a run of clients' calls over two partitions of 130 subscribers leaves.
+fn left_by_run<R: Threads + Wait + Sync, G: Gate + Sync>(
+    rt: &R,
+    alloc: Global,
+    lists: &[Vec<Ask>],
+    moves: &Moves,
+    gate: &G,
+) -> Result<Left, Fail>
+    requires some_clients { 1 ≤ length lists.now }
+    requires few_clients { length lists.now ≤ 64 }
+{
     let loaded = module(alloc)?;
-    let lists = vec![in alloc; vec![in alloc; Ask::Txn(ASK)]?]?;
-    let moves = moves_and_stops(alloc)?;
     let rows = clean_rows(alloc, 130, &[])?;
-    match run_calls(
-        rt,
-        alloc,
-        &loaded,
-        rows,
-        2,
-        lists.as_slice(),
-        &moves,
-        &NoGate,
-    ) {
+    match run_calls(rt, alloc, &loaded, rows, 2, lists, moves, gate) {
         Err(_) => Err("no run".into()),
         Ok(ran) => Ok(left_by(rt, alloc, ran)),
     }
+}
+
+/// How many receipts each client gets in a run with no moves and no stops.
+pub fn receipts_of_run<R: Threads + Wait + Sync, G: Gate + Sync>(
+    rt: &R,
+    alloc: Global,
+    lists: &[Vec<Ask>],
+    gate: &G,
+) -> Result<Vec<usize>, Fail>
+    requires some_clients { 1 ≤ length lists.now }
+    requires few_clients { length lists.now ≤ 64 }
+{
+    let at_rest = Moves {
+        moves: Vec::new(alloc),
+        stops: Vec::new(alloc),
+    };
+    let left = left_by_run(rt, alloc, lists, &at_rest, gate)?;
+    let mut counts = Vec::new(alloc);
+    for receipts in &left.receipts {
+        counts.push(receipts.len())?;
+    }
+    Ok(counts)
 }
 
 /// Whether the receipt is that of the first call, which changed a row of extent 1 and puts nothing out.
@@ -178,7 +198,10 @@ fn expect_first(rt: &impl Abort, parts: &ExtentParts) {
 // A mover that moves nothing, or a debugger that stops nothing, leaves other numbers.
 #[test]
 fn extents_are_moved_and_copied_and_sites_stopped(rt: HostRuntime) -> Result<(), Fail> {
-    let left = left_by_run(&rt, rt.alloc())?;
+    let alloc = rt.alloc();
+    let lists = vec![in alloc; vec![in alloc; Ask::Txn(ASK)]?]?;
+    let moves = moves_and_stops(alloc)?;
+    let left = left_by_run(&rt, alloc, lists.as_slice(), &moves, &NoGate)?;
     expect_left(&rt, &left);
     let [None, Some(third), Some(first), None] = left.copies.as_slice() else {
         return Err("other copies".into());

@@ -1,12 +1,14 @@
-use Rattle.std.proofs.Common.{rules, ◌≡◌, ◌+◌, ◌*◌, None, sym, ◌∙◌, subst, arith, inl, inr}
-use Rattle.std.proofs.lemmas.Result.{IfOk-weaker}
+use Rattle.std.proofs.Common.{rules, ◌≡◌, ◌+◌, ◌*◌, ◌<◌, ◌^◌, None, length, vec_len, sym, ap, ◌∙◌, subst, arith, inl, inr}
+use Rattle.std.proofs.lemmas.Result.{IfOk-weaker, IfErr-weaker}
 use Rattle.tatp_settle.specs.declared.settled.Settled.{Settled}
-use Rattle.tatp_settle.specs.Runs.{lists_of}
+use Rattle.tatp_settle.specs.Runs.{Run, joined, lists_of}
 use Rattle.tatp_threads.specs.Calls.{obstacle_among}
-use Rattle.tatp_bench.specs.Benching.{SettlesPlan, RefusesBench, kinds_drawn}
+use Rattle.tatp_threads.specs.declared.ran.RanParts.{RanParts}
+use Rattle.tatp_bench.specs.Benching.{IsRunOf, SettlesPlan, RefusesBench}
+use Rattle.tatp_bench.specs.SettledRuns.{run_left, SettlesRun, RefusesToSettleRun}
 use Rattle.tatp_bench.specs.Drawing.{rows_drawn, calls_drawn}
-use Rattle.tatp_bench.proofs.PlanLaws.{calls_are_run, rows_are_opened, run_refused, clients_listed}
-use Rattle.tatp_bench.proofs.SettlingLaws.{plan_counted, plan_kinds}
+use Rattle.tatp_bench.proofs.PlanLaws.{few_calls, calls_are_run, rows_are_opened, run_refused, clients_listed}
+use Rattle.tatp_bench.proofs.SettlingLaws.{left_of_plan, plan_settled, plan_refused, plan_counted}
 use Rattle.tatp_bench.proofs.bench.run_drawn.Goals as goal
 
 pub run_calls-requires-clause-some_clients : goal.run_calls-requires-clause-some_clients
@@ -34,13 +36,47 @@ returns-in-Err-clause-refusal g c = elim c.fault_of.ensures as (λ _. RefusesBen
   | inr is ↦ subst (RefusesBench c.args.plan.now) (sym is.1) tt
 ]
 
-pub settle_ran-requires-clause-clients : goal.settle_ran-requires-clause-clients
-settle_ran-requires-clause-clients g c κs within =
+pub settle_run-requires-clause-few : goal.settle_run-requires-clause-few
+settle_run-requires-clause-few g c κs within =
     let same : lists_of c.as_slice-lists.result.now ≡ calls_drawn c.args.plan.now = search rules in
-    c.in-Ok.ensures.receipts ∙ clients_listed c.args.plan.now c.as_slice-lists.result.now same
+    subst (λ lists. length (joined lists) < 2 ^ 64) (sym same) (few_calls c.args.plan.now c.requires.plan)
 
-pub returns-clause-kinds : goal.returns-clause-kinds
-returns-clause-kinds g c = IfOk-weaker c.settle_ran.result (SettlesPlan c.args.plan.now) (λ (settled : Settled). settled.kinds ≡ kinds_drawn c.args.plan.now) (plan_kinds c.args.plan.now) c.settle_ran.ensures.settled
+pub returns-clause-settled : goal.returns-clause-settled
+returns-clause-settled g c =
+    let plan = c.args.plan.now in
+    let lists = c.as_slice-lists.result.now in
+    let parts = c.parts.result in
+    let same : lists_of lists ≡ calls_drawn plan = search rules in
+    let population : c.parts-population.result.0 ≡ rows_drawn plan = search rules in
+    let sites : vec_len parts.sites ≡ plan.partitions = ap (λ (p : RanParts). vec_len p.sites) c.parts.ensures ∙ c.in-Ok.ensures.sites in
+    let receipts : vec_len parts.receipts ≡ plan.clients = ap (λ (p : RanParts). vec_len p.receipts) c.parts.ensures ∙ (c.in-Ok.ensures.receipts ∙ clients_listed plan lists same) in
+    let run : Run = run_left c.parts-population.result.0 parts lists in
+    let of_plan : IsRunOf plan run = left_of_plan plan c.parts-population.result.0 parts lists population same sites receipts in
+    IfOk-weaker c.settle_run.result (SettlesRun run) (SettlesPlan plan) (plan_settled plan run of_plan) c.settle_run.ensures.settled
 
 pub returns-clause-calls : goal.returns-clause-calls
-returns-clause-calls g c = IfOk-weaker c.settle_ran.result (SettlesPlan c.args.plan.now) (λ (settled : Settled). settled.completed + settled.refused ≡ c.args.plan.now.clients * c.args.plan.now.calls) (plan_counted c.args.plan.now) c.settle_ran.ensures.settled
+returns-clause-calls g c =
+    let plan = c.args.plan.now in
+    let lists = c.as_slice-lists.result.now in
+    let parts = c.parts.result in
+    let same : lists_of lists ≡ calls_drawn plan = search rules in
+    let population : c.parts-population.result.0 ≡ rows_drawn plan = search rules in
+    let sites : vec_len parts.sites ≡ plan.partitions = ap (λ (p : RanParts). vec_len p.sites) c.parts.ensures ∙ c.in-Ok.ensures.sites in
+    let receipts : vec_len parts.receipts ≡ plan.clients = ap (λ (p : RanParts). vec_len p.receipts) c.parts.ensures ∙ (c.in-Ok.ensures.receipts ∙ clients_listed plan lists same) in
+    let run : Run = run_left c.parts-population.result.0 parts lists in
+    let of_plan : IsRunOf plan run = left_of_plan plan c.parts-population.result.0 parts lists population same sites receipts in
+    IfOk-weaker c.settle_run.result (SettlesRun run) (λ (settled : Settled). settled.completed + settled.refused ≡ plan.clients * plan.calls)
+    (λ settled settles. plan_counted plan settled (plan_settled plan run of_plan settled settles)) c.settle_run.ensures.settled
+
+pub returns-clause-refusal : goal.returns-clause-refusal
+returns-clause-refusal g c =
+    let plan = c.args.plan.now in
+    let lists = c.as_slice-lists.result.now in
+    let parts = c.parts.result in
+    let same : lists_of lists ≡ calls_drawn plan = search rules in
+    let population : c.parts-population.result.0 ≡ rows_drawn plan = search rules in
+    let sites : vec_len parts.sites ≡ plan.partitions = ap (λ (p : RanParts). vec_len p.sites) c.parts.ensures ∙ c.in-Ok.ensures.sites in
+    let receipts : vec_len parts.receipts ≡ plan.clients = ap (λ (p : RanParts). vec_len p.receipts) c.parts.ensures ∙ (c.in-Ok.ensures.receipts ∙ clients_listed plan lists same) in
+    let run : Run = run_left c.parts-population.result.0 parts lists in
+    let of_plan : IsRunOf plan run = left_of_plan plan c.parts-population.result.0 parts lists population same sites receipts in
+    IfErr-weaker c.settle_run.result (RefusesToSettleRun run) (RefusesBench plan) (plan_refused plan run of_plan) c.settle_run.ensures.refusal

@@ -7,7 +7,7 @@ use tatp_tables::{Row, Rows};
 
 /// Rows of this many subscribers, the last first, each with one row in Access_Info and one in
 /// Special_Facility.
-fn clean_rows(alloc: Global, count: u64) -> Result<Rows, AllocError> {
+pub fn clean_rows(alloc: Global, count: u64) -> Result<Rows, AllocError> {
     let mut rows = Rows::new(alloc);
     for s_id in (1..count.saturating_add(1)).rev() {
         let mut subscriber = [0; 34];
@@ -44,7 +44,7 @@ fn last_extents(rt: HostRuntime) -> Result<(), Fail> {
         (128, (2, 65, 64, 2)),
         (130, (3, 129, 2, 3)),
     ] {
-        let (extents, _directory) = open(rt.alloc(), clean_rows(rt.alloc(), count)?, 8)?;
+        let (extents, _directory) = open(rt.alloc(), clean_rows(rt.alloc(), count)?, 16)?;
         let last = last_shape(&extents);
         discard(extents);
         assert_eq!(rt; last, Some(shape));

@@ -2,7 +2,7 @@
 
 use std::test::Fail;
 use tatp_audits::Verdict;
-use tatp_population::{OpenError, ReadError};
+use tatp_population::{CheckpointError, OpenError, ReadError};
 
 #[test]
 fn texts_of_errors(rt: HostRuntime) -> Result<(), Fail> {
@@ -19,6 +19,13 @@ fn texts_of_errors(rt: HostRuntime) -> Result<(), Fail> {
             "27 NotClean A2 000000000000001",
         ),
         (OpenError::NoMemory, "46 NoMemory"),
+    ] {
+        assert_eq!(rt; format!(in rt.alloc(); "{error}")?.as_str(), text);
+    }
+    for (error, text) in [
+        (CheckpointError::LogEnded, "54 LogEnded"),
+        (CheckpointError::ChapterCountFull, "55 ChapterCountFull"),
+        (CheckpointError::NoMemory, "46 NoMemory"),
     ] {
         assert_eq!(rt; format!(in rt.alloc(); "{error}")?.as_str(), text);
     }

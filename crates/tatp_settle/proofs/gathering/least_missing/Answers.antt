@@ -1,6 +1,7 @@
 use Rattle.std.proofs.Common.{arith}
 use borrow.Author.Count.{below_more}
 use Rattle.tatp_settle.specs.Closings.{closed_of, IsMissing}
+use Rattle.tatp_settle.proofs.ClosingLaws.{are_closed_sites}
 use Rattle.tatp_settle.proofs.StandingLaws.{stands_gathered}
 use Rattle.tatp_settle.proofs.gathering.least_missing.Goals as goal
 
@@ -24,3 +25,9 @@ returns-clause-none c = λ e missing.
     let greatest = c.greatest_number-greatest.ensures.value c.args.parcels.now in
     let within = missing.within in
     c.numbers.invariant e (omega (arith, greatest, within)) missing
+
+pub returns-clause-sound : goal.returns-clause-sound
+returns-clause-sound c = are_closed_sites c.args.sites.now c.what_holds_of_these_sites.ensures
+
+pub returns-then-not-stands-clause-sound : goal.returns-then-not-stands-clause-sound
+returns-then-not-stands-clause-sound c = are_closed_sites c.args.sites.now c.what_holds_of_these_sites.ensures

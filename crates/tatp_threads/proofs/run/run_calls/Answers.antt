@@ -17,7 +17,7 @@ returns-in-Some-clause-refusal g c =
 
 pub run_ruled-requires-clause-few : goal.run_ruled-requires-clause-few
 run_ruled-requires-clause-few g c κs within =
-    let few : length c.args.rows.subscribers ≤ 100000 = search rules in
+    let few : length c.args.rows.subscribers ≤ 1000000 = search rules in
     few_extents (database_of c.args.rows) (length c.args.rows.subscribers) c.in-Ok.opened.0.items (search rules) few
 
 pub returns-clause-refusal : goal.returns-clause-refusal

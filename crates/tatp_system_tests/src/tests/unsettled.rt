@@ -1,0 +1,61 @@
+//! Runs that `bench` doesn't settle, each told with its own cause.
+
+use super::events::{Event, are_few, left, readings};
+use super::rows::clean_rows;
+use super::sites::module;
+use std::alloc::{AllocError, Global};
+use std::test::*;
+use std::thread::Threads;
+use tatp_audits::audit;
+use tatp_bench::{BenchFault, settle_run};
+use tatp_settle::Settled;
+use tatp_threads::RanParts;
+
+/// What is told of a run at one site, in which the first client asked one subscriber and got nothing. None
+/// where one of its events did not happen.
+fn told_of<R: Threads + Sync>(
+    rt: &R,
+    alloc: Global,
+    events: &[Event],
+) -> Result<Option<Result<Settled, BenchFault>>, AllocError> {
+    let population = clean_rows(alloc, 192, &[])?;
+    let calls = readings(alloc, &[&[1]])?;
+    if !are_few(&calls) || !audit(alloc, &population)?.is_clean() {
+        return Ok(None);
+    }
+    let loaded = module(alloc)?;
+    match left(alloc, &loaded, &[0], events)? {
+        None => Ok(None),
+        Some((sites, parcels)) => {
+            let parts = RanParts {
+                sites,
+                parcels,
+                landings: Vec::new(alloc),
+                receipts: Vec::new(alloc),
+            };
+            Ok(Some(settle_run(rt, alloc, &population, parts, &calls)))
+        }
+    }
+}
+
+/// Events, and the text of the fault.
+static UNSETTLED: [(&[Event], &str); 3] = [
+    (&[Event::Lost(2)], "44 ExtentMissing 2"),
+    (&[Event::Taken(2)], "45 Unsettled ParcelLeft 2"),
+    (&[], "45 Unsettled CallMissing 0 0"),
+];
+
+#[test]
+fn runs_that_are_not_settled(rt: HostRuntime) -> Result<(), Fail> {
+    for (events, text) in &UNSETTLED {
+        match told_of(&rt, rt.alloc(), events)? {
+            None => return Err("no run".into()),
+            Some(Ok(_)) => return Err("settled".into()),
+            Some(Err(fault)) => {
+                let said = format!(in rt.alloc(); "{fault}")?;
+                assert_eq!(rt; said.as_str(), *text);
+            }
+        }
+    }
+    Ok(())
+}

@@ -1,0 +1,124 @@
+//! What is done at the site of one partition under its lock. What the site was before isn't known; so
+//! contracts say that the answer is that of some site.
+ghost use Rattle.std.specs.Prelude.{◌≡◌, List, None, IfOk, IfErr};
+ghost use Rattle.tatp_partition.specs.Moving.{LandedState, Takes, Gives};
+ghost use Rattle.tatp_partition.specs.declared.refusal.NotGiven.{NotGiven};
+ghost use Rattle.tatp_partition.specs.Obstacles.{one_obstacle};
+ghost use Rattle.tatp_partition.specs.Running.{AdvancesUnless, told_in};
+ghost use Rattle.tatp_threads.specs.Held.{Offers, IsSlice, OfSomeSite};
+ghost use Rattle.tatp_threads.specs.declared.observer.StepAhead.{StepAhead};
+
+use crate::Gate;
+use crate::held::{Offered, is_wanted, offer, slice};
+use crate::observer::Gated;
+use std::alloc::Global;
+use std::sync::atomic::{AtomicU64, Ordering};
+use std::sync::{Mutex, Wait};
+use std::thread;
+use tatp_debug::look;
+use tatp_partition::{CompletionPlace, Item, Landed, NotGiven, Parcel, Site, SiteRefusal, Stepped};
+
+/// One partition: its site under its lock, and how many other threads want that lock.
+#[derive(Clone, Copy)]
+pub(crate) struct Partition<'a, 'm> {
+    pub(crate) number: u8,
+    pub(crate) site: &'a Mutex<Site<'m>>,
+    pub(crate) wanted: &'a AtomicU64,
+}
+
+impl Partition<'_, '_> {
+    /// Offers a call.
+    pub(crate) fn offer<R: Wait>(&self, rt: &R, alloc: Global, item: &Item) -> Offered
+        ensures { OfSomeSite (λ s s'. Offers s item.now result s') }
+    {
+        offer(&mut *self.site.lock(rt), alloc, item)
+    }
+
+    /// Makes steps of a client's call, the gate before each. Where the call ends, its completion is left
+    /// in its place.
+    pub(crate) fn slice<R: Wait, G: Gate>(
+        &self,
+        rt: &R,
+        gate: &G,
+        client: u64,
+        ended: &mut CompletionPlace,
+    ) -> Result<(), SiteRefusal>
+        requires { ended.old ≡ None }
+        ensures { OfSomeSite (λ s s'. (steps : List StepAhead) × IsSlice client s (told_in result ended.new) s' steps) }
+    {
+        let mut observer = Gated { gate };
+        let made = slice(
+            &mut *self.site.lock(rt),
+            &mut observer,
+            client,
+            self.wanted,
+            ended,
+        );
+        self.give_way(&made, ended);
+        made
+    }
+
+    /// Lets other threads go on, where the call goes on and one of them wants the lock.
+    fn give_way(&self, made: &Result<(), SiteRefusal>, ended: &CompletionPlace) {
+        if made.is_ok() && !ended.is_some() && is_wanted(self.wanted) {
+            thread::yield_now();
+        }
+    }
+
+    /// The extent leaves.
+    pub(crate) fn take<R: Wait>(&self, rt: &R, extent: u32) -> Result<Parcel, SiteRefusal>
+        ensures { OfSomeSite (λ s s'. Takes s extent result s') }
+    {
+        self.want();
+        let taken = self.site.lock(rt).take(extent);
+        self.want_no_more();
+        taken
+    }
+
+    /// The extent lands, or comes back where there is no place for it.
+    pub(crate) fn give<R: Wait>(&self, rt: &R, parcel: Parcel) -> Result<Landed, NotGiven>
+        ensures gives { OfSomeSite (λ s s'. Gives s parcel result s') }
+        ensures landed { IfOk result (λ (landed : LandedState). landed.number ≡ parcel.number) }
+        ensures back { IfErr result (λ (back : NotGiven). back.parcel ≡ parcel) }
+    {
+        self.want();
+        let given = self.site.lock(rt).give(parcel);
+        self.want_no_more();
+        given
+    }
+
+    /// Stops the site: whether it did.
+    pub(crate) fn stop<R: Wait>(&self, rt: &R) -> bool {
+        self.want();
+        let stopped = self.site.lock(rt).stop();
+        self.want_no_more();
+        stopped.is_ok()
+    }
+
+    /// Looks at the running call.
+    pub(crate) fn look<R: Wait>(&self, rt: &R) {
+        let _snapshot = look(&*self.site.lock(rt));
+    }
+
+    /// One step of the running call, though the site is stopped.
+    pub(crate) fn one<R: Wait>(&self, rt: &R) -> Result<Stepped, SiteRefusal>
+        ensures { OfSomeSite (λ s s'. AdvancesUnless (one_obstacle s) s result s') }
+    {
+        self.site.lock(rt).one()
+    }
+
+    /// Ends a stop.
+    pub(crate) fn resume<R: Wait>(&self, rt: &R) {
+        let _resumed = self.site.lock(rt).resume();
+    }
+
+    /// The executor is asked to leave the lock.
+    fn want(&self) {
+        self.wanted.fetch_add(1, Ordering::SeqCst);
+    }
+
+    /// It needn't any more.
+    fn want_no_more(&self) {
+        self.wanted.fetch_sub(1, Ordering::SeqCst);
+    }
+}

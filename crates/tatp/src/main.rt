@@ -3,22 +3,22 @@
 #![tactic(auto)]
 
 ghost use Rattle.std.specs.Prelude.{IfOk};
-ghost use Rattle.tatp.specs.Tasks.{IsTask};
-
-mod command_line;
+ghost use Rattle.tatp_tasks.specs.Tasks.{IsTask};
 
 use clap::Error;
 use clap::error::ErrorKind;
-use command_line::{Task, not_text, task_of};
 use std::alloc::Global;
 use std::process::ExitCode;
 use std::sync::Wait;
 use std::thread::Threads;
-use std::{env, io};
-use tatp_commands::{
-    Fault, run_asm, run_audit, run_check, run_dis, serve, trace, write_bench,
-    write_bench_with_progress,
-};
+use std::{env, fmt, io};
+use tatp_assembly::{run_asm, run_check, run_dis};
+use tatp_bench_report::{run_bench, run_bench_with_progress};
+use tatp_command_line::{not_text, task_of};
+use tatp_console::{run_call, run_trace};
+use tatp_inputs::run_audit;
+use tatp_streams::StreamFault;
+use tatp_tasks::Task;
 
 /// The status where a command stops, or answers that something isn't right.
 const STOPPED: u8 = 1;
@@ -31,12 +31,14 @@ fn main(rt: HostRuntime) -> ExitCode {
     match env::args(&rt) {
         Ok(args) => match args.collect::<Vec<String>>(alloc) {
             Ok(words) => answer(&rt, alloc, task_of(alloc, &words)),
-            Err(_) => tell(&rt, Fault::NoMemory),
+            Err(_) => tell(&rt, &StreamFault::NoMemory),
         },
-        Err(error) if error.kind() == io::ErrorKind::OutOfMemory => tell(&rt, Fault::NoMemory),
+        Err(error) if error.kind() == io::ErrorKind::OutOfMemory => {
+            tell(&rt, &StreamFault::NoMemory)
+        }
         Err(_) => match not_text(alloc) {
             Ok(error) => refuse(&rt, &error),
-            Err(_) => tell(&rt, Fault::NoMemory),
+            Err(_) => tell(&rt, &StreamFault::NoMemory),
         },
     }
 }
@@ -50,11 +52,7 @@ fn answer<R: Input + Print + Eprint + Threads + Wait + Sync>(
     requires { IfOk asked IsTask }
 {
     match asked {
-        Ok(task) => match run(rt, alloc, task) {
-            Ok(true) => ExitCode::SUCCESS,
-            Ok(false) => ExitCode::from(STOPPED),
-            Err(fault) => tell(rt, fault),
-        },
+        Ok(task) => run(rt, alloc, task),
         Err(error) => refuse(rt, &error),
     }
 }
@@ -62,54 +60,64 @@ fn answer<R: Input + Print + Eprint + Threads + Wait + Sync>(
 /// Prints the text of words that were refused, or that ask for a text.
 fn refuse(rt: &(impl Print + Eprint), error: &Error) -> ExitCode {
     if error.kind() == ErrorKind::OutOfMemory {
-        return tell(rt, Fault::NoMemory);
+        return tell(rt, &StreamFault::NoMemory);
     }
     let printed = error.print(rt);
     if error.use_stderr() {
         ExitCode::from(REFUSED)
     } else if printed.is_err() {
-        tell(rt, Fault::WriteFault)
+        tell(rt, &StreamFault::WriteFault)
     } else {
         ExitCode::SUCCESS
     }
 }
 
 /// Prints why the command stops.
-fn tell(rt: &impl Eprint, fault: Fault) -> ExitCode {
+fn tell<F: fmt::Display>(rt: &impl Eprint, fault: &F) -> ExitCode {
     // Where this can't be written either, the status alone has to tell.
     let _printed = eprintln!(rt; "tatp: {fault}");
     ExitCode::from(STOPPED)
 }
 
-/// Runs a command over the standard streams; whether it found nothing wrong.
+/// The status of a command that ended well, or stops.
+fn status<F: fmt::Display + Drop>(rt: &impl Eprint, ended: Result<(), F>) -> ExitCode {
+    match ended {
+        Ok(()) => ExitCode::SUCCESS,
+        Err(fault) => tell(rt, &fault),
+    }
+}
+
+/// Runs a command over the standard streams.
 fn run<R: Input + Print + Eprint + Threads + Wait + Sync>(
     rt: &R,
     alloc: Global,
     task: Task,
-) -> Result<bool, Fault>
+) -> ExitCode
     requires { IsTask task }
 {
     let reader = &mut rt.reader();
     let writer = &mut io::writer(rt);
     match task {
-        Task::Call(population, partitions) => {
-            serve(alloc, reader, writer, population, partitions)?
-        }
-        Task::Trace(population, partitions, clients) => {
-            trace(alloc, reader, writer, population, partitions, clients)?
-        }
-        Task::Asm => run_asm(alloc, reader, writer)?,
-        Task::Dis => run_dis(alloc, reader, writer)?,
-        Task::Check => run_check(alloc, reader, writer)?,
-        Task::Audit => return run_audit(alloc, reader, writer),
+        Task::Call {
+            population,
+            partitions,
+        } => status(rt, run_call(alloc, reader, writer, population, partitions)),
+        Task::Trace(setup) => status(rt, run_trace(alloc, reader, writer, setup)),
+        Task::Asm => status(rt, run_asm(alloc, reader, writer)),
+        Task::Dis => status(rt, run_dis(alloc, reader, writer)),
+        Task::Check => status(rt, run_check(alloc, reader, writer)),
+        Task::Audit => match run_audit(alloc, reader, writer) {
+            Ok(true) => ExitCode::SUCCESS,
+            Ok(false) => ExitCode::from(STOPPED),
+            Err(fault) => tell(rt, &fault),
+        },
         Task::Bench {
             plan,
             progress: false,
-        } => write_bench(rt, alloc, writer, &plan)?,
+        } => status(rt, run_bench(rt, alloc, writer, &plan)),
         Task::Bench {
             plan,
             progress: true,
-        } => write_bench_with_progress(rt, alloc, writer, &plan)?,
+        } => status(rt, run_bench_with_progress(rt, alloc, writer, &plan)),
     }
-    Ok(true)
 }

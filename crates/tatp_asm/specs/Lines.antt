@@ -40,7 +40,8 @@ is_label_byte byte = is_letter byte || is_between 48 57 byte || byte == 95
 -- a letter, and then letters, digits or underscores, 1 to 24
 unfoldable pub is_label : List ℕ → Bool
 is_label [] = false
-is_label (first ∷ more) = is_letter first && (list_all is_label_byte more && nat_lt (length more) MAX_NAME_BYTES)
+is_label (first ∷ more) =
+    is_letter first && (list_all is_label_byte more && nat_lt (length more) MAX_NAME_BYTES)
 
 -- a jump names a label, and no other instruction does
 abbrev pub NamesLabel : Bool → List ℕ → Type 0
@@ -51,5 +52,6 @@ NamesLabel false label = label ≡ []
 abbrev pub IsLine : Line → Type 0
 IsLine (Opens name arity) = (is_name name ≡ true) × (arity ≤ MAX_ARGUMENTS)
 IsLine (Names label) = is_label label ≡ true
-IsLine (Does instr label) = IsInstr instr × (aimed instr 0 ≡ instr) × NamesLabel (has_target instr) label
+IsLine (Does instr label) =
+    IsInstr instr × (aimed instr 0 ≡ instr) × NamesLabel (has_target instr) label
 IsLine Closes = Unit {0}

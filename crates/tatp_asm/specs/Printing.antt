@@ -34,11 +34,13 @@ instruction_line instr = Does (aimed instr 0) (label_of (target_of instr))
 -- code from a position on, with the labels that all of the code names
 abbrev pub body_lines : List Instr → ℕ → List Instr → List Line
 body_lines all position [] = with_label (is_named all position) position []
-body_lines all position (instr ∷ code) = with_label (is_named all position) position (instruction_line instr ∷ body_lines all (suc position) code)
+body_lines all position (instr ∷ code) = with_label (is_named all position) position
+    (instruction_line instr ∷ body_lines all (suc position) code)
 
 abbrev pub module_lines : List Procedure → List Line
 module_lines [] = []
-module_lines (p ∷ more) = Opens p.name p.arity ∷ (body_lines p.code 0 p.code ++ (Closes ∷ module_lines more))
+module_lines (p ∷ more) =
+    Opens p.name p.arity ∷ (body_lines p.code 0 p.code ++ (Closes ∷ module_lines more))
 
 -- ---- text
 -- each line ends with a line feed

@@ -1,4 +1,5 @@
--- Reading an assembly text from front to back, with the first fault that is met: docs/FORMATS.md, "Assembly text".
+-- Reading an assembly text from front to back, with the first fault that is met: docs/FORMATS.md,
+-- "Assembly text".
 use Rattle.std.specs.Prelude.{◌≡◌, ℕ, ◌+◌, ◌==◌, nat_lt, Bool, true, false, if◌then◌else◌, List, [], ◌∷◌, ◌++◌, length, bytes_eq, Option, Some, None, is_some, Result, Ok, Err}
 use Rattle.tatp_instr.specs.declared.instr.Instr.{Instr}
 use Rattle.tatp_encoding.specs.Modules.{Procedure}
@@ -63,29 +64,50 @@ resolved false position p = Ok p.instr
 resolved true (Some position) p = Ok (aimed p.instr position)
 resolved true None p = fault NoSuchLabel p.line
 
+-- an instruction with the target that these labels give it
+abbrev pub resolved_by : List (List ℕ × ℕ) → Pending → Result Instr AsmFault
+resolved_by labels p = resolved (has_target p.instr) (position_of labels p.label) p
+
 abbrev pub resolve : List (List ℕ × ℕ) → List Pending → Result (List Instr) AsmFault
 resolve labels [] = Ok []
-resolve labels (p ∷ more) = resolved (has_target p.instr) (position_of labels p.label) p >>= λ i. resolve labels more >>= λ code. Ok (i ∷ code)
+resolve labels (p ∷ more) =
+    resolved_by labels p >>= λ i. resolve labels more >>= λ code. Ok (i ∷ code)
 
 -- the procedure ends
 abbrev pub close : List Procedure → Open → ℕ → Result State AsmFault
 close closed o n =
     if length o.code == 0 then fault Syntax n else
-    resolve o.labels o.code >>= λ code. Ok (record { closed = closed ++ (record { name = o.name; arity = o.arity; code = code } ∷ []); current = None })
+    resolve o.labels o.code >>= λ code. Ok (record {
+      closed = closed ++ (record { name = o.name; arity = o.arity; code = code } ∷ []);
+      current = None;
+    })
 
 -- ---- one line more, the line n
 abbrev pub step : List Procedure → Option Open → ℕ → Line → Result State AsmFault
 step closed None n (Opens name arity) =
-    if nat_lt (length closed) MAX_PROCEDURES then Ok (record { closed = closed; current = Some (record { name = name; arity = arity; labels = []; code = [] }) }) else
-    fault TooLong n
+    if nat_lt (length closed) MAX_PROCEDURES
+    then Ok (record {
+      closed = closed;
+      current = Some (record { name = name; arity = arity; labels = []; code = [] });
+    })
+    else fault TooLong n
 step closed None n line = fault Syntax n
 step closed (Some o) n (Opens name arity) = fault Syntax n
 step closed (Some o) n (Names label) =
     if is_some (position_of o.labels label) then fault LabelTwice n else
-    Ok (record { closed = closed; current = Some (record o { labels = o.labels ++ ((label, length o.code) ∷ []) }) })
+    Ok (record {
+      closed = closed;
+      current = Some (record o { labels = o.labels ++ ((label, length o.code) ∷ []) });
+    })
 step closed (Some o) n (Does instr label) =
-    if nat_lt (length o.code) MAX_INSTRUCTIONS then Ok (record { closed = closed; current = Some (record o { code = o.code ++ (record { instr = instr; label = label; line = n } ∷ []) }) }) else
-    fault TooLong n
+    if nat_lt (length o.code) MAX_INSTRUCTIONS
+    then Ok (record {
+      closed = closed;
+      current = Some (record o {
+        code = o.code ++ (record { instr = instr; label = label; line = n } ∷ []);
+      });
+    })
+    else fault TooLong n
 step closed (Some o) n Closes = close closed o n
 
 abbrev pub step_of : State → ℕ → Option Line → Result State AsmFault
@@ -103,7 +125,8 @@ finish closed (Some o) n = fault Syntax n
 abbrev pub reads : ℕ → State → List (List ℕ) → Result (List Procedure) AsmFault
 reads n s [] = finish s.closed s.current n
 reads n s ([] ∷ texts) = reads (n + 1) s texts
-reads n s ((byte ∷ bytes) ∷ texts) = step_of s n (line_of_bytes (byte ∷ bytes)) >>= λ t. reads (n + 1) t texts
+reads n s ((byte ∷ bytes) ∷ texts) =
+    step_of s n (line_of_bytes (byte ∷ bytes)) >>= λ t. reads (n + 1) t texts
 
 abbrev pub start : State
 start = record { closed = []; current = None }

@@ -14,24 +14,30 @@ count (_ ∷ lines) = count lines
 
 -- the label stands among the lines after so many instructions
 abbrev pub Stands : List Line → List ℕ → ℕ → Type 0
-Stands lines label position = (before after : List Line) × (lines ≡ before ++ (Names label ∷ after)) × (position ≡ count before)
+Stands lines label position =
+    (before after : List Line)
+    × (lines ≡ before ++ (Names label ∷ after)) × (position ≡ count before)
 
 -- no label stands twice
 abbrev pub NoneTwice : List Line → Type 0
 NoneTwice [] = Unit {0}
-NoneTwice (Names label ∷ lines) = ((position : ℕ) → Stands lines label position → ⊥) × NoneTwice lines
+NoneTwice (Names label ∷ lines) =
+    ((position : ℕ) → Stands lines label position → ⊥) × NoneTwice lines
 NoneTwice (_ ∷ lines) = NoneTwice lines
 
--- what the instruction of a line means among the lines of its procedure: a jump goes where its label stands
+-- what the instruction of a line means among the lines of its procedure: a jump goes where its
+-- label stands
 abbrev pub Means : Bool → List Line → Instr → List ℕ → Instr → Type 0
-Means true body instr label meant = (position : ℕ) × Stands body label position × (meant ≡ aimed instr position)
+Means true body instr label meant =
+    (position : ℕ) × Stands body label position × (meant ≡ aimed instr position)
 Means false body instr label meant = meant ≡ instr
 
 -- the instructions among these lines of a procedure are the code
 abbrev pub IsCode : List Line → List Line → List Instr → Type 0
 IsCode body [] code = code ≡ []
 IsCode body (Does instr label ∷ lines) [] = ⊥
-IsCode body (Does instr label ∷ lines) (meant ∷ code) = Means (has_target instr) body instr label meant × IsCode body lines code
+IsCode body (Does instr label ∷ lines) (meant ∷ code) =
+    Means (has_target instr) body instr label meant × IsCode body lines code
 IsCode body (Names label ∷ lines) code = IsCode body lines code
 IsCode body (_ ∷ lines) code = ⊥
 
@@ -47,7 +53,8 @@ abbrev pub AreTexts : List (List ℕ) → List Line → Type 0
 AreTexts [] lines = lines ≡ []
 AreTexts ([] ∷ texts) lines = AreTexts texts lines
 AreTexts ((byte ∷ bytes) ∷ texts) [] = ⊥
-AreTexts ((byte ∷ bytes) ∷ texts) (line ∷ lines) = (byte ∷ bytes ≡ line_text line) × IsLine line × AreTexts texts lines
+AreTexts ((byte ∷ bytes) ∷ texts) (line ∷ lines) =
+    (byte ∷ bytes ≡ line_text line) × IsLine line × AreTexts texts lines
 
 -- the text is a text of these procedures
 pub record IsTextOf (text : List ℕ) (m : List Procedure) : Type 0 where

@@ -1,5 +1,5 @@
 -- What the definitions see of the program's values.
-use Rattle.std.specs.Prelude.{◌≡◌, ℕ, ◌≤◌, true, List, [], ◌∷◌, length, map, Option, option_map, IfSome, String}
+use Rattle.std.specs.Prelude.{◌≡◌, ℕ, ◌≤◌, true, List, [], ◌∷◌, length, map, Option, Some, option_map, IfSome, String}
 use Rattle.std.specs.String.{string_bytes}
 use Rattle.tatp_encoding.specs.Modules.{Procedure, is_name}
 use Rattle.tatp_encoding.specs.declared.module.TheConstants.{MAX_ARGUMENTS, MAX_INSTRUCTIONS}
@@ -24,7 +24,8 @@ abbrev pub AreFields : Split → List (List ℕ) → Type 0
 AreFields (One a) fields = fields ≡ a.now ∷ []
 AreFields (Two a b) fields = fields ≡ a.now ∷ b.now ∷ []
 AreFields (Three a b c) fields = fields ≡ a.now ∷ b.now ∷ c.now ∷ []
-AreFields More fields = (a b c d : List ℕ) × (rest : List (List ℕ)) × (fields ≡ a ∷ b ∷ c ∷ d ∷ rest)
+AreFields More fields =
+    (a b c d : List ℕ) × (rest : List (List ℕ)) × (fields ≡ a ∷ b ∷ c ∷ d ∷ rest)
 
 abbrev pub operand_view : Operand → words.Operand
 operand_view (operand.Register r) = Register r
@@ -57,7 +58,16 @@ abbrev pub labels_view : {Y : Type 0} → List (String Y × ℕ) → List (List 
 labels_view entries = map label_view entries
 
 abbrev pub draft_view : Draft → Open
-draft_view d = record { name = d.name.bytes; arity = d.arity; labels = labels_view d.labels.entries; code = all_pending d.code.items }
+draft_view d = record {
+  name = d.name.bytes;
+  arity = d.arity;
+  labels = labels_view d.labels.entries;
+  code = all_pending d.code.items;
+}
+
+-- the state in which this procedure is under way after those that have ended
+abbrev pub under_way : List Procedure → Draft → State
+under_way closed d = record { closed = closed; current = Some (draft_view d) }
 
 abbrev pub drafts : Option Draft → Option Open
 drafts d = option_map draft_view d
@@ -67,7 +77,10 @@ state_of closed d = record { closed = closed; current = drafts d }
 
 -- its name, its arity and its length are those of a procedure, or none yet
 abbrev pub Fits : Draft → Type 0
-Fits d = (is_name d.name.bytes ≡ true) × (d.arity ≤ MAX_ARGUMENTS) × (length d.code.items ≤ MAX_INSTRUCTIONS)
+Fits d =
+    (is_name d.name.bytes ≡ true)
+    × (d.arity ≤ MAX_ARGUMENTS)
+    × (length d.code.items ≤ MAX_INSTRUCTIONS)
 
 abbrev pub FitsAny : Option Draft → Type 0
 FitsAny d = IfSome d Fits

@@ -47,18 +47,23 @@ operand_of (mark ∷ text) = operand_after mark text
 -- one to three operands
 unfoldable pub operands_of : List (List ℕ) → Option (List Operand)
 operands_of (a ∷ []) = option_map (λ x. x ∷ []) (operand_of a)
-operands_of (a ∷ b ∷ []) = option_and_then (λ x. option_map (λ y. x ∷ y ∷ []) (operand_of b)) (operand_of a)
-operands_of (a ∷ b ∷ c ∷ []) = option_and_then (λ x. option_and_then (λ y. option_map (λ z. x ∷ y ∷ z ∷ []) (operand_of c)) (operand_of b)) (operand_of a)
+operands_of (a ∷ b ∷ []) =
+    option_and_then (λ x. option_map (λ y. x ∷ y ∷ []) (operand_of b)) (operand_of a)
+operands_of (a ∷ b ∷ c ∷ []) = option_and_then
+    (λ x. option_and_then (λ y. option_map (λ z. x ∷ y ∷ z ∷ []) (operand_of c)) (operand_of b))
+    (operand_of a)
 operands_of fields = None
 
 -- ---- instructions, by the table of their mnemonics and operands
 -- the operands that stand for a row's registers
 abbrev pub for_registers : Row → List Operand → List Operand
-for_registers row operands = if row.word_first then drop 1 operands else take row.shape.registers operands
+for_registers row operands =
+    if row.word_first then drop 1 operands else take row.shape.registers operands
 
 -- those that stand for its u32
 abbrev pub for_word : Row → List Operand → List Operand
-for_word row operands = if row.word_first then take 1 operands else drop row.shape.registers operands
+for_word row operands =
+    if row.word_first then take 1 operands else drop row.shape.registers operands
 
 abbrev pub register_in : Operand → Option ℕ
 register_in (Register a) = Some a
@@ -68,11 +73,15 @@ register_in operand = None
 unfoldable pub registers_of : List Operand → Option (List ℕ)
 registers_of [] = Some (0 ∷ 0 ∷ 0 ∷ [])
 registers_of (a ∷ []) = option_map (λ a. a ∷ 0 ∷ 0 ∷ []) (register_in a)
-registers_of (a ∷ b ∷ []) = option_and_then (λ a. option_map (λ b. a ∷ b ∷ 0 ∷ []) (register_in b)) (register_in a)
-registers_of (a ∷ b ∷ c ∷ []) = option_and_then (λ a. option_and_then (λ b. option_map (λ c. a ∷ b ∷ c ∷ []) (register_in c)) (register_in b)) (register_in a)
+registers_of (a ∷ b ∷ []) =
+    option_and_then (λ a. option_map (λ b. a ∷ b ∷ 0 ∷ []) (register_in b)) (register_in a)
+registers_of (a ∷ b ∷ c ∷ []) = option_and_then
+    (λ a. option_and_then (λ b. option_map (λ c. a ∷ b ∷ c ∷ []) (register_in c)) (register_in b))
+    (register_in a)
 registers_of operands = None
 
--- what operands give for a u32: a number, and the label that they name; beside its label, a target is 0
+-- what operands give for a u32: a number, and the label that they name; beside its label, a target
+-- is 0
 pub record Given : Type 0 where
   pub number : ℕ
   pub label : List ℕ
@@ -94,23 +103,29 @@ given_for word operands = None
 
 -- the instruction of an op with these registers and this number, beside this label
 abbrev pub with_parts : ℕ → List ℕ → Given → Option Line
-with_parts op registers given = option_map (λ instr. Does instr given.label) (instr_of (record { op = op; registers = registers; word = given.number }))
+with_parts op registers given = option_map
+    (λ instr. Does instr given.label)
+    (instr_of (record { op = op; registers = registers; word = given.number }))
 
 -- the instruction of a row with these operands, which are as many as the row has
 unfoldable pub with_row : Row → List Operand → Option Line
 with_row row operands =
     let registers = for_registers row operands in
     if length registers == row.shape.registers
-    then option_and_then (λ given. option_and_then (λ numbers. with_parts row.op numbers given) (registers_of registers)) (given_for row.shape.word (for_word row operands))
+    then option_and_then
+    (λ given. option_and_then (λ numbers. with_parts row.op numbers given) (registers_of registers))
+    (given_for row.shape.word (for_word row operands))
     else None
 
 -- the instruction of a mnemonic with these operands
 unfoldable pub instruction_with : List ℕ → List Operand → Option Line
-instruction_with mnemonic operands = option_and_then (λ row. with_row row operands) (row_named mnemonic)
+instruction_with mnemonic operands =
+    option_and_then (λ row. with_row row operands) (row_named mnemonic)
 
 -- an instruction with operands, which are parted by commas
 unfoldable pub instruction_of : List ℕ → List ℕ → Option Line
-instruction_of mnemonic text = option_and_then (instruction_with mnemonic) (operands_of (fields_of 44 text))
+instruction_of mnemonic text =
+    option_and_then (instruction_with mnemonic) (operands_of (fields_of 44 text))
 
 -- ---- lines
 -- what stands before a colon at the end
@@ -129,12 +144,17 @@ label_or_instruction word None = instruction_with word []
 
 -- a line of one word
 unfoldable pub word_of : List ℕ → Option Line
-word_of word = if bytes_eq word (codes "end") then Some Closes else label_or_instruction word (before_colon word)
+word_of word =
+    if bytes_eq word (codes "end")
+    then Some Closes
+    else label_or_instruction word (before_colon word)
 
 -- a line that begins a procedure
 unfoldable pub opening_of : List ℕ → List ℕ → List ℕ → Option Line
 opening_of word name arity =
-    if bytes_eq word (codes "proc") && is_name name then option_map (Opens name) (below (MAX_ARGUMENTS + 1) arity) else None
+    if bytes_eq word (codes "proc") && is_name name
+    then option_map (Opens name) (below (MAX_ARGUMENTS + 1) arity)
+    else None
 
 abbrev pub line_of_fields : List (List ℕ) → Option Line
 line_of_fields (word ∷ []) = word_of word

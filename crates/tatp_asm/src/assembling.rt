@@ -5,7 +5,7 @@ ghost use Rattle.tatp_encoding.specs.Modules.{Procedure, is_module};
 ghost use Rattle.tatp_lines.specs.Lines.{lines_of};
 ghost use Rattle.tatp_asm.specs.Lines.{IsLine};
 ghost use Rattle.tatp_asm.specs.Texts.{IsTextOf};
-ghost use Rattle.tatp_asm.specs.BeforeCode.{HasNoCodeUpTo, IsBare, is_code};
+ghost use Rattle.tatp_asm.specs.BeforeCode.{IsToldEarly, IsBare, is_code};
 ghost use Rattle.tatp_asm.specs.Reading.{Gives, step, finish, reads, start, assembled};
 ghost use Rattle.tatp_asm.specs.Views.{FitsAny, line_view, drafts, state_of};
 
@@ -26,9 +26,11 @@ fn add_line(
 ) -> Result<(), AsmError>
     requires fits { FitsAny draft.old }
     requires within { IsLine (line_view line) }
-    ensures gives { Gives (λ _. state_of closed.new.items draft.new) result (step closed.old.items (drafts draft.old) number (line_view line)) }
+    ensures gives { Gives (λ _. state_of closed.new.items draft.new) result
+        (step closed.old.items (drafts draft.old) number (line_view line)) }
     ensures fits { OnOk result (FitsAny draft.new) }
-    ensures early { IsBare (drafts draft.old) → is_code (Some (line_view line)) ≡ false → IfErr result (λ e. e ≢ AsmError.NoMemory) }
+    ensures early { IsBare (drafts draft.old) → is_code (Some (line_view line)) ≡ false
+        → IfErr result (λ e. e ≢ AsmError.NoMemory) }
 {
     match draft.take() {
         None => match line {
@@ -55,7 +57,8 @@ fn add_line(
 
 /// The procedures of a text that ends before this line.
 fn finish(closed: Vec<Proc>, draft: Option<Draft>, number: u64) -> Result<Vec<Proc>, AsmFault>
-    ensures { result_map_both (λ procs. procs.items) (λ fault. fault) result ≡ finish closed.items (drafts draft) number }
+    ensures { result_map_both (λ procs. procs.items) (λ fault. fault) result
+        ≡ finish closed.items (drafts draft) number }
 {
     if draft.is_some() || closed.is_empty() {
         return Err(AsmFault {
@@ -69,7 +72,7 @@ fn finish(closed: Vec<Proc>, draft: Option<Draft>, number: u64) -> Result<Vec<Pr
 /// The procedures of a text.
 fn procedures(alloc: Global, text: &[u8]) -> Result<Vec<Proc>, AsmError>
     ensures gives { Gives (λ procs. procs.items) result (reads 1 start (lines_of text.now)) }
-    ensures early { (fault : AsmFault) → reads 1 start (lines_of text.now) ≡ Err fault → HasNoCodeUpTo text.now fault.line → result ≡ Err (AsmError.Fault fault) }
+    ensures early { IsToldEarly text.now (reads 1 start (lines_of text.now)) result }
 {
     let mut closed = Vec::new(alloc);
     let mut draft = None;
@@ -95,7 +98,7 @@ fn procedures(alloc: Global, text: &[u8]) -> Result<Vec<Proc>, AsmError>
 #[tactic(auto, unfolding(crate::specs::Reading::assembled))]
 fn read_module(alloc: Global, text: &[u8]) -> Result<Module, AsmError>
     ensures gives { Gives (λ m. m) result (assembled text.now) }
-    ensures early { (fault : AsmFault) → assembled text.now ≡ Err fault → HasNoCodeUpTo text.now fault.line → result ≡ Err (AsmError.Fault fault) }
+    ensures early { IsToldEarly text.now (assembled text.now) result }
 {
     let procs = procedures(alloc, text)?;
     Ok(Module::new(procs))
@@ -107,11 +110,12 @@ fn read_module(alloc: Global, text: &[u8]) -> Result<Module, AsmError>
 pub fn assemble_bytes(alloc: Global, text: &[u8]) -> Result<Module, AsmError>
     // What is assembled has this text, and what has this text is assembled, unless memory runs out.
     ensures found { IfOk result (λ m. IsTextOf text.now m) }
-    ensures only { (m : List Procedure) → is_module m ≡ true → IsTextOf text.now m → Gives (λ found. found) result (Ok m) }
+    ensures only { (m : List Procedure) → is_module m ≡ true → IsTextOf text.now m
+        → Gives (λ found. found) result (Ok m) }
 
     // Which fault it is. Before the first label or instruction no memory is asked for.
     ensures exact { Gives (λ m. m) result (assembled text.now) }
-    ensures early { (fault : AsmFault) → assembled text.now ≡ Err fault → HasNoCodeUpTo text.now fault.line → result ≡ Err (AsmError.Fault fault) }
+    ensures early { IsToldEarly text.now (assembled text.now) result }
 {
     read_module(alloc, text)
 }
@@ -120,11 +124,12 @@ pub fn assemble_bytes(alloc: Global, text: &[u8]) -> Result<Module, AsmError>
 pub fn assemble(alloc: Global, text: &str) -> Result<Module, AsmError>
     // What is assembled has this text, and what has this text is assembled, unless memory runs out.
     ensures found { IfOk result (λ m. IsTextOf text.now m) }
-    ensures only { (m : List Procedure) → is_module m ≡ true → IsTextOf text.now m → Gives (λ found. found) result (Ok m) }
+    ensures only { (m : List Procedure) → is_module m ≡ true → IsTextOf text.now m
+        → Gives (λ found. found) result (Ok m) }
 
     // Which fault it is. Before the first label or instruction no memory is asked for.
     ensures exact { Gives (λ m. m) result (assembled text.now) }
-    ensures early { (fault : AsmFault) → assembled text.now ≡ Err fault → HasNoCodeUpTo text.now fault.line → result ≡ Err (AsmError.Fault fault) }
+    ensures early { IsToldEarly text.now (assembled text.now) result }
 {
     assemble_bytes(alloc, text.as_bytes())
 }

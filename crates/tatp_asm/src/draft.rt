@@ -1,12 +1,11 @@
 //! A procedure under way.
 ghost use Rattle.std.specs.Prelude.{◌≡◌, ◌++◌, ◌∷◌, [], List, Some, None, length, Err, IfOk};
 ghost use Rattle.tatp_encoding.specs.Modules.{Procedure};
-ghost use Rattle.tatp_asm.specs.Instrs.{has_target};
 ghost use Rattle.tatp_asm.specs.Lines.{Opens, Names, Does, Closes, IsLine};
 ghost use Rattle.std.specs.Result.{result_map_both};
 ghost use Rattle.tatp_asm.specs.BeforeCode.{IsBare};
-ghost use Rattle.tatp_asm.specs.Reading.{Gives, step, resolve, resolved, position_of};
-ghost use Rattle.tatp_asm.specs.Views.{Fits, draft_view, labels_view, pending, all_pending};
+ghost use Rattle.tatp_asm.specs.Reading.{Gives, step, resolve, resolved_by};
+ghost use Rattle.tatp_asm.specs.Views.{Fits, draft_view, under_way, labels_view, pending, all_pending};
 
 use crate::fault::{AsmError, AsmFault, AsmFaultKind};
 use crate::labels::{Labels, position_of, put_label};
@@ -43,7 +42,8 @@ pub(crate) fn fault<T>(kind: AsmFaultKind, line: u64) -> Result<T, AsmError>
 
 /// An instruction with its target.
 fn resolve_one(labels: &Labels, unresolved: &Unresolved) -> Result<Instr, AsmError>
-    ensures { Gives (λ i. i) result (resolved (has_target unresolved.now.instr) (position_of (labels_view labels.now.entries) unresolved.now.label.bytes) (pending unresolved.now)) }
+    ensures { Gives (λ i. i) result
+        (resolved_by (labels_view labels.now.entries) (pending unresolved.now)) }
 {
     match target_of(&unresolved.instr) {
         None => Ok(unresolved.instr),
@@ -56,7 +56,8 @@ fn resolve_one(labels: &Labels, unresolved: &Unresolved) -> Result<Instr, AsmErr
 
 /// Instructions with their targets.
 fn resolve_all(alloc: Global, labels: &Labels, code: &[Unresolved]) -> Result<Vec<Instr>, AsmError>
-    ensures gives { Gives (λ v. v.items) result (resolve (labels_view labels.now.entries) (all_pending code.now)) }
+    ensures gives { Gives (λ v. v.items) result
+        (resolve (labels_view labels.now.entries) (all_pending code.now)) }
     ensures count { IfOk result (λ v. length v.items ≡ length code.now) }
 {
     let mut instrs = Vec::with_capacity(alloc, code.len())?;
@@ -75,7 +76,9 @@ pub(crate) fn open_draft(
     line: u64,
 ) -> Result<Draft, AsmFault>
     requires { IsLine (Opens name.bytes arity) }
-    ensures gives { (procs : List Procedure) → length procs ≡ closed → result_map_both (λ d. record { closed = procs; current = Some (draft_view d) }) (λ fault. fault) result ≡ step procs None line (Opens name.bytes arity) }
+    ensures gives { (procs : List Procedure) → length procs ≡ closed
+        → result_map_both (under_way procs) (λ fault. fault) result
+        ≡ step procs None line (Opens name.bytes arity) }
     ensures fits { IfOk result Fits }
 {
     if closed >= MAX_PROCEDURES {
@@ -98,7 +101,8 @@ pub(crate) fn add_label(
     line: u64,
 ) -> Result<Draft, AsmError>
     requires { Fits draft }
-    ensures gives { (closed : List Procedure) → Gives (λ d. record { closed = closed; current = Some (draft_view d) }) result (step closed (Some (draft_view draft)) line (Names label.bytes)) }
+    ensures gives { (closed : List Procedure) → Gives (under_way closed) result
+        (step closed (Some (draft_view draft)) line (Names label.bytes)) }
     ensures fits { IfOk result Fits }
 {
     let mut draft = draft;
@@ -118,7 +122,8 @@ pub(crate) fn add_instruction(
     line: u64,
 ) -> Result<Draft, AsmError>
     requires { Fits draft }
-    ensures gives { (closed : List Procedure) → Gives (λ d. record { closed = closed; current = Some (draft_view d) }) result (step closed (Some (draft_view draft)) line (Does instr label.bytes)) }
+    ensures gives { (closed : List Procedure) → Gives (under_way closed) result
+        (step closed (Some (draft_view draft)) line (Does instr label.bytes)) }
     ensures fits { IfOk result Fits }
 {
     let mut draft = draft;
@@ -132,8 +137,11 @@ pub(crate) fn add_instruction(
 /// The procedure that ends.
 pub(crate) fn close_draft(alloc: Global, draft: Draft, line: u64) -> Result<Proc, AsmError>
     requires { Fits draft }
-    ensures gives { (closed : List Procedure) → Gives (λ p. record { closed = closed ++ (p ∷ []); current = None }) result (step closed (Some (draft_view draft)) line Closes) }
-    ensures early { IsBare (Some (draft_view draft)) → result ≡ Err (AsmError.Fault (record { kind = AsmFaultKind.Syntax; line = line })) }
+    ensures gives { (closed : List Procedure)
+        → Gives (λ p. record { closed = closed ++ (p ∷ []); current = None }) result
+        (step closed (Some (draft_view draft)) line Closes) }
+    ensures early { IsBare (Some (draft_view draft))
+        → result ≡ Err (AsmError.Fault (record { kind = AsmFaultKind.Syntax; line = line })) }
 {
     if draft.code.is_empty() {
         return fault(AsmFaultKind::Syntax, line);

@@ -1,7 +1,6 @@
 //! The fields of a line, and what one of them can be.
 ghost use Rattle.std.specs.Prelude.{◌≡◌, ◌<◌, ◌∷◌, [], IfSome};
 ghost use Rattle.std.specs.List.{list_all};
-ghost use Rattle.tatp_encoding.specs.Modules.{is_name, is_name_byte};
 ghost use Rattle.tatp_asm.specs.Lines.{is_label, is_label_byte};
 ghost use Rattle.tatp_asm.specs.Words.{below, fields_left};
 ghost use Rattle.tatp_lines.specs.Fields.{fields_of};
@@ -67,12 +66,6 @@ fn are_label_bytes(text: &[u8]) -> bool
     text.iter().all(|b| b.is_ascii_alphanumeric() || *b == b'_')
 }
 
-fn are_name_bytes(text: &[u8]) -> bool
-    ensures { result ≡ list_all is_name_byte text.now }
-{
-    text.iter().all(|b| matches!(*b, b'A'..=b'Z' | b'_'))
-}
-
 /// Whether a text is a label.
 #[tactic(auto, unfolding(crate::specs::Lines::is_label))]
 pub(crate) fn is_label(text: &[u8]) -> bool
@@ -84,11 +77,4 @@ pub(crate) fn is_label(text: &[u8]) -> bool
             first.is_ascii_alphabetic() && are_label_bytes(rest) && rest.len() < MAX_NAME_BYTES
         }
     }
-}
-
-/// Whether a text is a procedure's name.
-pub(crate) fn is_name(text: &[u8]) -> bool
-    ensures { result ≡ is_name text.now }
-{
-    !text.is_empty() && text.len() <= MAX_NAME_BYTES && are_name_bytes(text)
 }

@@ -26,7 +26,8 @@ pub(crate) fn put_label(
     position: u32,
 ) -> Result<(), AsmError>
     requires { position_of (labels_view labels.old.entries) label.now ≡ None }
-    ensures ok { OnOk result (labels_view labels.new.entries ≡ labels_view labels.old.entries ++ ((label.now, position) ∷ [])) }
+    ensures ok { OnOk result (labels_view labels.new.entries
+        ≡ labels_view labels.old.entries ++ ((label.now, position) ∷ [])) }
     ensures err { IfErr result (λ e. e ≡ AsmError.NoMemory) }
 {
     let label = String::from_str(alloc, label)?;

@@ -6,14 +6,14 @@ mod draft;
 mod fault;
 mod fields;
 mod labels;
-mod laws;
 mod line;
 mod name;
 mod operands;
 mod printing;
 mod target;
+mod theorems;
 
 pub use assembling::{assemble, assemble_bytes};
 pub use fault::{AsmError, AsmFault, AsmFaultKind};
-pub use laws::assemble_disassembled;
 pub use printing::disassemble;
+pub use theorems::assemble_disassembled;

@@ -4,10 +4,10 @@ ghost use Rattle.tatp_asm.specs.Lines.{IsLine};
 ghost use Rattle.tatp_asm.specs.Words.{label_line, word_of, opening_of, line_of, line_of_bytes};
 ghost use Rattle.tatp_asm.specs.Views.{line_view};
 
-use crate::fields::{Split, below, is_label, is_name, split_fields};
+use crate::fields::{Split, below, is_label, split_fields};
 use crate::name::{Name, name_of};
 use crate::operands::{instruction, instruction_with};
-use tatp_encoding::MAX_ARGUMENTS;
+use tatp_encoding::{MAX_ARGUMENTS, is_name};
 use tatp_instr::Instr;
 
 /// A line that isn't empty.

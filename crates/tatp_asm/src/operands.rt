@@ -81,8 +81,10 @@ fn parted_at(operands: &[Operand], count: usize) -> (&[Operand], &[Operand])
 
 /// The operands that stand for a row's registers, and those that stand for its u32.
 fn parted<'a>(row: &OpRow, operands: &'a [Operand]) -> (&'a [Operand], &'a [Operand])
-    ensures registers { operands_view result.0.now ≡ for_registers (row_view row.now) (operands_view operands.now) }
-    ensures word { operands_view result.1.now ≡ for_word (row_view row.now) (operands_view operands.now) }
+    ensures registers { operands_view result.0.now
+        ≡ for_registers (row_view row.now) (operands_view operands.now) }
+    ensures word { operands_view result.1.now
+        ≡ for_word (row_view row.now) (operands_view operands.now) }
 {
     if row.word_first {
         let (word, registers) = parted_at(operands, 1);
@@ -133,7 +135,8 @@ fn given_for(word: Word, operands: &[Operand]) -> Option<Given>
 #[tactic(auto, unfolding(crate::specs::Words::with_row))]
 fn with_row(row: &OpRow, operands: &[Operand]) -> Option<Line>
     requires shape { shape_at row.now.op ≡ Some row.now.shape }
-    ensures { option_map line_view result ≡ with_row (row_view row.now) (operands_view operands.now) }
+    ensures { option_map line_view result
+        ≡ with_row (row_view row.now) (operands_view operands.now) }
 {
     let (registers, word) = parted(row, operands);
     if registers.len() != usize::from(row.shape.registers) {
@@ -151,7 +154,8 @@ fn with_row(row: &OpRow, operands: &[Operand]) -> Option<Line>
 /// The instruction of a mnemonic with these operands.
 #[tactic(auto, unfolding(crate::specs::Words::instruction_with))]
 pub(crate) fn instruction_with(mnemonic: &str, operands: &[Operand]) -> Option<Line>
-    ensures { option_map line_view result ≡ instruction_with mnemonic.now (operands_view operands.now) }
+    ensures { option_map line_view result
+        ≡ instruction_with mnemonic.now (operands_view operands.now) }
 {
     with_row(row_named(mnemonic)?, operands)
 }

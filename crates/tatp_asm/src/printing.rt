@@ -7,10 +7,10 @@ ghost use Rattle.tatp_asm.specs.Texts.{IsTextOf};
 ghost use Rattle.tatp_asm.specs.Printing.{is_target, is_named, instruction_line, body_lines, with_label, procedure_lines, lines_text, disassembled};
 
 use crate::target::target_of;
-use itoa::Buffer;
 use std::alloc::{AllocError, Global};
 use tatp_encoding::{MAX_INSTRUCTIONS, Module, Proc};
 use tatp_instr::{Instr, text};
+use tatp_lines::push_decimal;
 
 /// How many positions a label can have: before each instruction, and after the last.
 const POSITIONS: usize = MAX_INSTRUCTIONS + 1;
@@ -18,7 +18,8 @@ const POSITIONS: usize = MAX_INSTRUCTIONS + 1;
 /// Marks the position of a target.
 #[tactic(auto, using(crate::proofs::PushLaws::marked, crate::proofs::PushLaws::not_marked))]
 fn mark(named: &mut [bool; POSITIONS], target: Option<u32>)
-    ensures { (k : ℕ) → k ≤ MAX_INSTRUCTIONS → slice_index_or named.new k false ≡ (is_target target k || slice_index_or named.old k false) }
+    ensures { (k : ℕ) → k ≤ MAX_INSTRUCTIONS → slice_index_or named.new k false
+        ≡ (is_target target k || slice_index_or named.old k false) }
 {
     if let Some(position) = target {
         let position = position as usize;
@@ -30,7 +31,8 @@ fn mark(named: &mut [bool; POSITIONS], target: Option<u32>)
 
 /// Whether a jump of the code names the position, for each that a label can have.
 fn named_positions(code: &[Instr]) -> [bool; POSITIONS]
-    ensures named { (k : ℕ) → k ≤ MAX_INSTRUCTIONS → slice_index_or result k false ≡ is_named code.now k }
+    ensures named { (k : ℕ) → k ≤ MAX_INSTRUCTIONS
+        → slice_index_or result k false ≡ is_named code.now k }
     ensures instrs { All IsInstr code.now }
 {
     let mut named = [false; POSITIONS];
@@ -43,11 +45,12 @@ fn named_positions(code: &[Instr]) -> [bool; POSITIONS]
 /// Appends the label of a position that is named.
 #[tactic(auto, unfolding(crate::specs::Printing::label_at))]
 fn push_label(out: &mut String, named: bool, position: usize) -> Result<(), AllocError>
-    ensures { OnOk result (string_bytes out.new ≡ string_bytes out.old ++ lines_text (with_label named position [])) }
+    ensures { OnOk result (string_bytes out.new
+        ≡ string_bytes out.old ++ lines_text (with_label named position [])) }
 {
     if named {
         out.push_str("L")?;
-        out.push_str(Buffer::new().format(position))?;
+        push_decimal(out, position as u64)?;
         out.push_str(":\n")?;
     }
     Ok(())
@@ -55,7 +58,8 @@ fn push_label(out: &mut String, named: bool, position: usize) -> Result<(), Allo
 
 /// Appends the line of an instruction.
 fn push_instruction(out: &mut String, instr: &Instr) -> Result<(), AllocError>
-    ensures { OnOk result (string_bytes out.new ≡ string_bytes out.old ++ lines_text (instruction_line instr.now ∷ [])) }
+    ensures { OnOk result (string_bytes out.new
+        ≡ string_bytes out.old ++ lines_text (instruction_line instr.now ∷ [])) }
 {
     out.push_str(text(instr).as_str())?;
     out.push_str("\n")?;
@@ -65,7 +69,8 @@ fn push_instruction(out: &mut String, instr: &Instr) -> Result<(), AllocError>
 /// Appends the lines between those that begin and end a procedure.
 fn push_body(out: &mut String, code: &[Instr]) -> Result<(), AllocError>
     requires { length code.now ≤ MAX_INSTRUCTIONS }
-    ensures lines { OnOk result (string_bytes out.new ≡ string_bytes out.old ++ lines_text (body_lines code.now 0 code.now)) }
+    ensures lines { OnOk result (string_bytes out.new
+        ≡ string_bytes out.old ++ lines_text (body_lines code.now 0 code.now)) }
     ensures instrs { All IsInstr code.now }
 {
     let named = named_positions(code);
@@ -78,13 +83,14 @@ fn push_body(out: &mut String, code: &[Instr]) -> Result<(), AllocError>
 
 /// Appends the lines of a procedure.
 fn push_procedure(out: &mut String, procedure: &Proc) -> Result<(), AllocError>
-    ensures lines { OnOk result (string_bytes out.new ≡ string_bytes out.old ++ lines_text (procedure_lines procedure.now)) }
+    ensures lines { OnOk result (string_bytes out.new
+        ≡ string_bytes out.old ++ lines_text (procedure_lines procedure.now)) }
     ensures instrs { OnOk result (All IsInstr procedure.now.code) }
 {
     out.push_str("proc ")?;
     out.push_str(procedure.name())?;
     out.push_str(" ")?;
-    out.push_str(Buffer::new().format(procedure.arity()))?;
+    push_decimal(out, u64::from(procedure.arity()))?;
     out.push_str("\n")?;
     push_body(out, procedure.code())?;
     out.push_str("end\n")?;
@@ -111,7 +117,8 @@ fn module_text(alloc: Global, m: &Module) -> Result<String, AllocError>
 pub fn disassemble(alloc: Global, m: &Module) -> Result<String, AllocError>
     // The text is this module's, and no other's.
     ensures found { IfOk result (λ text. IsTextOf (string_bytes text) m.now) }
-    ensures only { (other : List Procedure) → is_module other ≡ true → IfOk result (λ text. IsTextOf (string_bytes text) other → other ≡ m.now) }
+    ensures only { (other : List Procedure) → is_module other ≡ true
+        → IfOk result (λ text. IsTextOf (string_bytes text) other → other ≡ m.now) }
 
     // Which text it is.
     ensures exact { IfOk result (λ text. string_bytes text ≡ disassembled m.now) }

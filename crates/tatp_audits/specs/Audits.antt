@@ -17,18 +17,22 @@ use Rattle.tatp_audits.specs.declared.verdict.Verdict.TheVariants.{Clean, Ids, N
 -- whether the key is one of 1 to the number of rows, or 1, and isn't the s_id of exactly one row
 abbrev pub is_astray : List Tuple → Tuple → Bool
 is_astray rows [] = false
-is_astray rows (s ∷ []) = nat_le 1 s && (nat_le s (max 1 (length rows)) && not (count_of_key (s ∷ []) rows == 1))
+is_astray rows (s ∷ []) =
+    nat_le 1 s && (nat_le s (max 1 (length rows)) && not (count_of_key (s ∷ []) rows == 1))
 is_astray rows (s ∷ t ∷ more) = false
 
 -- the numbers of Subscriber rows, as keys
 abbrev pub numbers : List Tuple → List Tuple
 numbers rows = map (λ row. slice_index row 1 ∷ []) rows
 
--- whether some row with this key, of m columns, has no parent, whose key is the row's first n columns
+-- whether some row with this key, of m columns, has no parent, whose key is the row's first n
+-- columns
 abbrev pub is_orphan : ℕ → List Tuple → ℕ → List Tuple → Tuple → Bool
-is_orphan n parents m rows = is_wrong (λ row. nat_le 1 (count_of_key (take n row) parents)) (take m) rows
+is_orphan n parents m rows =
+    is_wrong (λ row. nat_le 1 (count_of_key (take n row) parents)) (take m) rows
 
--- the first column, from c on, whose value is outside its domain; the one after the last where none is
+-- the first column, from c on, whose value is outside its domain; the one after the last where none
+-- is
 abbrev pub column_outside : ℕ → Tuple → ℕ
 column_outside c [] = c
 column_outside c (v ∷ more) = if is_in_domain c v then column_outside (suc c) more else c
@@ -41,9 +45,11 @@ place_outside t row = take (key_length t) row ++ column_outside (first_column t)
 abbrev pub is_outside : Table → List Tuple → Tuple → Bool
 is_outside t rows = is_wrong (is_row t) (place_outside t) rows
 
--- whether a row with this s_id has fewer or more rows below it, which begin with its first n columns
+-- whether a row with this s_id has fewer or more rows below it, which begin with its first n
+-- columns
 abbrev pub is_miscounted : ℕ → ℕ → ℕ → List Tuple → List Tuple → Tuple → Bool
-is_miscounted n least most below rows = is_wrong (λ row. is_between least most (count_of_key (take n row) below)) (take 1) rows
+is_miscounted n least most below rows =
+    is_wrong (λ row. is_between least most (count_of_key (take n row) below)) (take 1) rows
 
 -- whether a subscriber or one of its facilities has fewer or more rows below it
 abbrev pub is_short_or_long : Rows → Tuple → Bool
@@ -64,7 +70,10 @@ id_tests r = record { fails = is_astray r.subscribers; verdict = λ k. Ids (slic
 
 -- no number stands twice
 abbrev pub number_tests : Rows → List Test
-number_tests r = record { fails = is_twice (numbers r.subscribers); verdict = λ k. NumberTwice (slice_index k 0) } ∷ []
+number_tests r = record {
+  fails = is_twice (numbers r.subscribers);
+  verdict = λ k. NumberTwice (slice_index k 0);
+} ∷ []
 
 -- no primary key stands twice
 abbrev pub key_tests : Rows → List Test
@@ -85,10 +94,22 @@ parent_tests r =
 -- every value is in its column's domain
 abbrev pub value_tests : Rows → List Test
 value_tests r =
-    record { fails = is_outside Subscriber r.subscribers; verdict = λ k. OutsideDomain (S (take 1 k)) (slice_index k 1) }
-    ∷ record { fails = is_outside AccessInfo r.accesses; verdict = λ k. OutsideDomain (A (take 2 k)) (slice_index k 2) }
-    ∷ record { fails = is_outside SpecialFacility r.facilities; verdict = λ k. OutsideDomain (F (take 2 k)) (slice_index k 2) }
-    ∷ record { fails = is_outside CallForwarding r.forwardings; verdict = λ k. OutsideDomain (C (take 3 k)) (slice_index k 3) }
+    record {
+      fails = is_outside Subscriber r.subscribers;
+      verdict = λ k. OutsideDomain (S (take 1 k)) (slice_index k 1);
+    }
+    ∷ record {
+      fails = is_outside AccessInfo r.accesses;
+      verdict = λ k. OutsideDomain (A (take 2 k)) (slice_index k 2);
+    }
+    ∷ record {
+      fails = is_outside SpecialFacility r.facilities;
+      verdict = λ k. OutsideDomain (F (take 2 k)) (slice_index k 2);
+    }
+    ∷ record {
+      fails = is_outside CallForwarding r.forwardings;
+      verdict = λ k. OutsideDomain (C (take 3 k)) (slice_index k 3);
+    }
     ∷ []
 
 -- each subscriber and each facility has as many rows below it as it may
@@ -97,7 +118,9 @@ count_tests r = record { fails = is_short_or_long r; verdict = λ k. Counts (sli
 
 -- the six audits
 abbrev pub tests : Rows → List Test
-tests r = id_tests r ++ (number_tests r ++ (key_tests r ++ (parent_tests r ++ (value_tests r ++ count_tests r))))
+tests r =
+    id_tests r
+    ++ (number_tests r ++ (key_tests r ++ (parent_tests r ++ (value_tests r ++ count_tests r))))
 
 -- ---- the verdict
 -- no key fails any of the tests
@@ -114,7 +137,9 @@ pub record HaveTheirColumns (r : Rows) : Type 0 where
 -- the verdict is that of the first test that some key fails, on the least such key
 abbrev pub FirstFails : List Test → Verdict → Type 0
 FirstFails [] v = ⊥
-FirstFails (t ∷ more) v = ((k : Tuple) × IsLeast t.fails k × (v ≡ t.verdict k)) ⊎ (NoneFails t.fails × FirstFails more v)
+FirstFails (t ∷ more) v =
+    ((k : Tuple) × IsLeast t.fails k × (v ≡ t.verdict k))
+    ⊎ (NoneFails t.fails × FirstFails more v)
 
 -- what some of the tests tell, if anything
 abbrev pub Told : List Test → Option Verdict → Type 0
@@ -122,7 +147,8 @@ Told tests told = MatchOption told (AllPass tests) (FirstFails tests)
 
 -- clean, with how many rows there are
 abbrev pub clean_of : Rows → Verdict
-clean_of r = Clean (length r.subscribers) (length r.accesses) (length r.facilities) (length r.forwardings)
+clean_of r =
+    Clean (length r.subscribers) (length r.accesses) (length r.facilities) (length r.forwardings)
 
 -- the verdict on rows: on the first audit that fails, and where none does that they are clean
 abbrev pub IsVerdict : Rows → Verdict → Type 0

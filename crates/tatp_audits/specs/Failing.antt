@@ -27,7 +27,8 @@ NoneFails fails = (k : Tuple) → fails k ≡ false
 
 -- the key fails, and is after no other that does
 abbrev pub IsLeast : (Tuple → Bool) → Tuple → Type 0
-IsLeast fails k = (fails k ≡ true) × ((other : Tuple) → fails other ≡ true → is_above k other ≡ false)
+IsLeast fails k =
+    (fails k ≡ true) × ((other : Tuple) → fails other ≡ true → is_above k other ≡ false)
 
 -- the least key that fails, or none where none does
 abbrev pub Finds : (Tuple → Bool) → Option Tuple → Type 0

@@ -15,7 +15,8 @@ abbrev pub key_text : FailedKey → List ℕ
 key_text (S k) = codes "S" ++ field (slice_index k 0)
 key_text (A k) = codes "A" ++ field (slice_index k 0) ++ field (slice_index k 1)
 key_text (F k) = codes "F" ++ field (slice_index k 0) ++ field (slice_index k 1)
-key_text (C k) = codes "C" ++ field (slice_index k 0) ++ field (slice_index k 1) ++ field (slice_index k 2)
+key_text (C k) =
+    codes "C" ++ field (slice_index k 0) ++ field (slice_index k 1) ++ field (slice_index k 2)
 
 abbrev pub verdict_text : Verdict → List ℕ
 verdict_text (Clean s a f c) = codes "CLEAN" ++ field s ++ field a ++ field f ++ field c

@@ -108,7 +108,8 @@ fn audit_values(rows: &Rows) -> Option<Verdict>
     None
 }
 
-/// The least s_id of a subscriber that has fewer or more rows than it may, or one of whose facilities has.
+/// The least s_id of a subscriber that has fewer or more rows than it may, or one of whose
+/// facilities has.
 fn least_short_or_long(alloc: Global, rows: &Rows) -> Result<Option<[u64; 1]>, AllocError>
     ensures { IfOk result (Finds (is_short_or_long rows.now)) }
 {
@@ -123,8 +124,8 @@ fn least_short_or_long(alloc: Global, rows: &Rows) -> Result<Option<[u64; 1]>, A
     Ok(lower(of_subscribers, by_forwardings))
 }
 
-/// Each subscriber has 1 to 4 Access_Info rows and 1 to 4 Special_Facility rows, each facility at most
-/// 3 Call_Forwarding rows.
+/// Each subscriber has 1 to 4 Access_Info rows and 1 to 4 Special_Facility rows, each facility at
+/// most 3 Call_Forwarding rows.
 fn audit_counts(alloc: Global, rows: &Rows) -> Result<Option<Verdict>, AllocError>
     ensures { IfOk result (Told (count_tests rows.now)) }
 {
@@ -159,7 +160,8 @@ fn clean(rows: &Rows) -> Verdict
     }
 }
 
-/// The verdict on rows: that they are clean, or the first audit that fails and the least key that fails it.
+/// The verdict on rows: that they are clean, or the first audit that fails and the least key that
+/// fails it.
 ///
 /// The least key goes by table, then by the parts of the key, then by column.
 pub fn audit(alloc: Global, rows: &Rows) -> Result<Verdict, AllocError>

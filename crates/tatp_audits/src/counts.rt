@@ -14,7 +14,8 @@ fn is_within(count: usize, least: usize, most: usize) -> bool
     least <= count && count <= most
 }
 
-/// The least s_id of a row below which there are fewer or more rows. They begin with its first P columns.
+/// The least s_id of a row below which there are fewer or more rows. They begin with its first P
+/// columns.
 pub(crate) fn least_miscounted<const M: usize, const Q: usize, const P: usize>(
     alloc: Global,
     rows: &[[u64; M]],

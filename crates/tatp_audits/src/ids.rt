@@ -6,7 +6,8 @@ ghost use Rattle.tatp_audits.specs.Audits.{is_astray};
 use crate::keys::{sorted_keys, times_of};
 use std::alloc::{AllocError, Global};
 
-/// The least of 1 to the number of rows, and 1 where there is none, that isn't the s_id of exactly one row.
+/// The least of 1 to the number of rows, and 1 where there is none, that isn't the s_id of exactly
+/// one row.
 pub(crate) fn least_astray<const M: usize>(
     alloc: Global,
     rows: &[[u64; M]],

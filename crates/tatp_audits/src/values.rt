@@ -11,7 +11,8 @@ use tatp_tables::{Table, in_domain};
 /// The first of a row's columns, from this one on, whose value is outside its domain.
 fn first_outside(row: &[u64], first: u8) -> Option<u8>
     requires { first + length row.now ≤ 256 }
-    ensures { MatchOption result (are_in_domain first row.now ≡ true) (λ column. (are_in_domain first row.now ≡ false) × (column ≡ column_outside first row.now)) }
+    ensures { MatchOption result (are_in_domain first row.now ≡ true) (λ column.
+        (are_in_domain first row.now ≡ false) × (column ≡ column_outside first row.now)) }
 {
     for (place, value) in row.iter().enumerate() {
         let column = first + place as u8;

@@ -18,7 +18,8 @@ pub enum FailedKey {
     C([u64; 3]),
 }
 
-/// The verdict on rows: that they are clean, or the first audit that fails and the least key that fails it.
+/// The verdict on rows: that they are clean, or the first audit that fails and the least key that
+/// fails it.
 #[derive(Clone, Copy, Debug, PartialEq, Eq)]
 pub enum Verdict {
     /// The rows pass all audits: how many there are, table by table.

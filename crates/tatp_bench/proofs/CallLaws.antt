@@ -20,7 +20,7 @@ use Rattle.tatp_driver.specs.declared.distribution.Distribution.TheVariants.{Ske
 use Rattle.tatp_driver.specs.DrawnCall.{drawn_subscriber, drawn_call}
 use Rattle.tatp_driver.specs.DrawnWords.{next_words}
 use Rattle.tatp_driver.proofs.DrawnCallLaws.{call_on_accepted}
-use Rattle.tatp_partition.specs.Asks.{has_procedure, bad_argument}
+use Rattle.tatp_procs.specs.Asked.{has_procedure, bad_argument}
 use Rattle.tatp_settle.specs.Runs.{joined, lists_of}
 use Rattle.tatp_threads.specs.declared.refusal.RunRefusal.{RunRefusal}
 use Rattle.tatp_threads.specs.declared.refusal.RunRefusal.TheVariants.{NoProcedure, BadArgument}

@@ -17,8 +17,8 @@ use Rattle.tatp_settle.specs.Runs.{joined, lists_of}
 use Rattle.tatp_threads.specs.declared.refusal.RunRefusal.{RunRefusal}
 use Rattle.tatp_threads.specs.declared.refusal.RunRefusal.TheVariants.{TooMany, NotClean, NoProcedure, BadArgument, NoMemory, NoThread}
 use Rattle.tatp_threads.specs.Calls.{obstacle_among, AreOpened, RefusesRun}
-use Rattle.tatp_bench.specs.declared.plan.BenchPlan.{BenchPlan}
-use Rattle.tatp_bench.specs.Plans.{IsPlan}
+use Rattle.tatp_tasks.specs.declared.plan.BenchPlan.{BenchPlan}
+use Rattle.tatp_tasks.specs.Plans.{IsPlan}
 use Rattle.tatp_bench.specs.Drawing.{stream_numbered, rows_drawn, next_calls, client_calls, calls_drawn}
 use Rattle.tatp_bench.proofs.CallLaws.{count_of_calls, count_joined, has_standard, calls_run, lists_run}
 

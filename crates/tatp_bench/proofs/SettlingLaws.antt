@@ -7,7 +7,7 @@ use Rattle.std.proofs.lemmas.List.{length-map}
 use Rattle.std.proofs.lemmas.List.Sums.{sum_by-cons}
 use Rattle.tatp_tables.specs.declared.row.Rows.{Rows}
 use Rattle.tatp_procs.specs.declared.ask.Ask.{Ask}
-use Rattle.tatp_settle.specs.declared.receipt.Receipt.{Receipt}
+use Rattle.tatp_partition.specs.declared.receipt.Receipt.{Receipt}
 use Rattle.tatp_settle.specs.declared.settled.Settled.{Settled}
 use Rattle.tatp_settle.specs.Closings.{closed_site}
 use Rattle.tatp_settle.specs.Receipts.{is_done}
@@ -15,8 +15,8 @@ use Rattle.tatp_settle.specs.Answering.{is_of_kind}
 use Rattle.tatp_settle.specs.Runs.{Run, joined, lists_of}
 use Rattle.tatp_settle.specs.Settlements.{IsSettled}
 use Rattle.tatp_settle.proofs.JudgeLaws.{as_many_receipts}
-use Rattle.tatp_bench.specs.declared.plan.BenchPlan.{BenchPlan}
-use Rattle.tatp_threads.specs.declared.ran.RanParts.{RanParts}
+use Rattle.tatp_tasks.specs.declared.plan.BenchPlan.{BenchPlan}
+use Rattle.tatp_threads.specs.declared.outcome.RanParts.{RanParts}
 use Rattle.tatp_bench.specs.declared.fault.BenchFault.{BenchFault}
 use Rattle.tatp_bench.specs.declared.fault.BenchFault.TheVariants.{ExtentMissing, Unsettled, NoMemory, NoThread}
 use Rattle.tatp_bench.specs.Drawing.{rows_drawn, calls_drawn}

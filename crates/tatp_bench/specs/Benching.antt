@@ -8,7 +8,7 @@ use Rattle.tatp_settle.specs.Runs.{Run, joined, lists_of}
 use Rattle.tatp_bench.specs.declared.drawing.Drawn.{Drawn}
 use Rattle.tatp_bench.specs.declared.fault.BenchFault.{BenchFault}
 use Rattle.tatp_bench.specs.declared.fault.BenchFault.TheVariants.{ExtentMissing, Unsettled, NoMemory, NoThread}
-use Rattle.tatp_bench.specs.declared.plan.BenchPlan.{BenchPlan}
+use Rattle.tatp_tasks.specs.declared.plan.BenchPlan.{BenchPlan}
 use Rattle.tatp_bench.specs.Drawing.{rows_drawn, calls_drawn, moves_drawn, stops_drawn}
 use Rattle.tatp_bench.specs.SettledRuns.{SettlesRun, RefusesToSettleRun}
 
@@ -21,7 +21,8 @@ pub record IsDrawn (plan : BenchPlan) (drawn : Drawn) : Type 0 where
   pub moves : drawn.moves.moves.items ≡ moves_drawn plan
   pub stops : drawn.moves.stops.items ≡ stops_drawn plan
 
--- a run of the plan: its calls on its population, which left a site for each partition, and a list of receipts for each client
+-- a run of the plan: its calls on its population, which left a site for each partition, and a list
+-- of receipts for each client
 pub record IsRunOf (plan : BenchPlan) (run : Run) : Type 0 where
   pub population : run.population ≡ rows_drawn plan
   pub calls : run.calls ≡ calls_drawn plan
@@ -36,7 +37,8 @@ pub record SettlesPlan (plan : BenchPlan) (settled : Settled) : Type 0 where
 
 -- how many calls there are of each kind, in the order of the mix
 abbrev pub kinds_drawn : BenchPlan → List ℕ
-kinds_drawn plan = map (λ kind. count_by (is_of_kind kind) (joined (calls_drawn plan))) (range_with_len 0 7)
+kinds_drawn plan =
+    map (λ kind. count_by (is_of_kind kind) (joined (calls_drawn plan))) (range_with_len 0 7)
 
 -- a run of the plan isn't settled for this reason. Which run it was isn't said
 pub record HasUnsettledRun (plan : BenchPlan) (fault : BenchFault) : Type 0 where

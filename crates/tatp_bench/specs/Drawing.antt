@@ -1,5 +1,6 @@
--- What is drawn for a run from its seed: the population, the clients' calls, the moves and the stops.
--- Each has a stream of words of its own. docs/FORMATS.md, "Moves and stops from random words", says it in words.
+-- What is drawn for a run from its seed: the population, the clients' calls, the moves and the
+-- stops. Each has a stream of words of its own. docs/FORMATS.md, "Moves and stops from random
+-- words", says it in words.
 use Rattle.std.specs.Prelude.{ℕ, zero, suc, ◌+◌, ◌-◌, List, [], ◌∷◌, ◌++◌, map}
 use Rattle.std.specs.List.{range_with_len}
 use Rattle.rand_core.specs.Stream.{Stream, next_u64}
@@ -15,7 +16,7 @@ use Rattle.tatp_population.specs.Opening.{extent_count}
 use Rattle.tatp_driver.specs.declared.distribution.Distribution.{Distribution}
 use Rattle.tatp_driver.specs.DrawnCall.{drawn_call}
 use Rattle.tatp_driver.specs.DrawnWords.{next_words, words_of, client_generator}
-use Rattle.tatp_bench.specs.declared.plan.BenchPlan.{BenchPlan}
+use Rattle.tatp_tasks.specs.declared.plan.BenchPlan.{BenchPlan}
 
 -- the words of a seed's stream of this number
 abbrev pub stream_numbered : ℕ → ℕ → Stream
@@ -26,7 +27,8 @@ abbrev pub rows_drawn : BenchPlan → Rows
 rows_drawn plan = (population next_u64 plan.subscribers (stream_numbered plan.seed 0)).0
 
 -- ---- the calls
--- the next n calls on these subscribers, and the stream that is left after them: each takes seven words
+-- the next n calls on these subscribers, and the stream that is left after them: each takes seven
+-- words
 unfoldable pub next_calls : Distribution → ℕ → ℕ → Stream → List Call × Stream
 next_calls distribution subscribers zero stream = ([], stream)
 next_calls distribution subscribers (suc n) stream =
@@ -36,7 +38,9 @@ next_calls distribution subscribers (suc n) stream =
 
 -- what a client asks, one call after another, from its own stream: 1 for client 0, and so on
 abbrev pub client_calls : BenchPlan → ℕ → List Ask
-client_calls plan client = map Txn (next_calls plan.distribution plan.subscribers plan.calls (words_of (client_generator plan.seed client))).0
+client_calls plan client =
+    let words = words_of (client_generator plan.seed client) in
+    map Txn (next_calls plan.distribution plan.subscribers plan.calls words).0
 
 -- what each client asks: whatever the partitions, the moves and the stops
 abbrev pub calls_drawn : BenchPlan → List (List Ask)
@@ -53,9 +57,13 @@ next_moves extents partitions (suc n) stream =
     (before.0 ++ (extent.0, partition.0) ∷ [], partition.1)
 
 abbrev pub moves_drawn : BenchPlan → List (ℕ × ℕ)
-moves_drawn plan = (next_moves (extent_count plan.subscribers) plan.partitions plan.moves (stream_numbered plan.seed (plan.clients + 1))).0
+moves_drawn plan =
+    let words = stream_numbered plan.seed (plan.clients + 1) in
+    (next_moves (extent_count plan.subscribers) plan.partitions plan.moves words).0
 
 -- ---- what the debugger does, from the next stream
 -- the partitions that it stops, one after another
 abbrev pub stops_drawn : BenchPlan → List ℕ
-stops_drawn plan = (choices next_u64 plan.stops 0 (plan.partitions - 1) (stream_numbered plan.seed (plan.clients + 2))).0
+stops_drawn plan =
+    let words = stream_numbered plan.seed (plan.clients + 2) in
+    (choices next_u64 plan.stops 0 (plan.partitions - 1) words).0

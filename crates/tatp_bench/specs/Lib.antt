@@ -1,4 +1,3 @@
-pub mod Plans
 pub mod Drawing
 pub mod SettledRuns
 pub mod Benching

@@ -13,7 +13,7 @@ use Rattle.tatp_settle.specs.Causes.{IsFirstCause}
 use Rattle.tatp_settle.specs.Closings.{closed_of, IsClosedSite, IsClosed}
 use Rattle.tatp_settle.specs.Runs.{Run, lists_of}
 use Rattle.tatp_settle.specs.Settlements.{IsSettled, IsLeastMissing}
-use Rattle.tatp_threads.specs.declared.ran.RanParts.{RanParts}
+use Rattle.tatp_threads.specs.declared.outcome.RanParts.{RanParts}
 use Rattle.tatp_bench.specs.declared.fault.BenchFault.{BenchFault}
 use Rattle.tatp_bench.specs.declared.fault.BenchFault.TheVariants.{ExtentMissing, Unsettled, NoMemory, NoThread}
 
@@ -32,7 +32,8 @@ pub record SettlesRun (run : Run) (settled : Settled) : Type 0 where
   pub settles : IsSettled run settled
 
 -- ---- why it isn't settled
--- of the extents that a site has a place for, this is the least that stands at no site and in no parcel
+-- of the extents that a site has a place for, this is the least that stands at no site and in no
+-- parcel
 pub record LacksExtent (run : Run) (e : ℕ) : Type 0 where
   pub sites : All IsClosedSite run.closed.sites
   pub missing : IsLeastMissing run.closed e

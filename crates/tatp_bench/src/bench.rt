@@ -1,6 +1,6 @@
 //! A run of the benchmark.
 ghost use Rattle.std.specs.Prelude.{◌≡◌, ◌+◌, ◌*◌, ◌⊎◌, IfOk, IfErr};
-ghost use Rattle.tatp_bench.specs.Plans.{IsPlan};
+ghost use Rattle.tatp_tasks.specs.Plans.{IsPlan};
 ghost use Rattle.tatp_bench.specs.Benching.{IsDrawn, SettlesPlan, RefusesBench, kinds_drawn};
 
 use crate::{BenchFault, BenchPlan, Drawn, draw, settle_run};
@@ -14,7 +14,8 @@ use tatp_threads::{Gate, RunRefusal, run_calls};
 /// Why a run isn't settled whose calls aren't run: drawn rows and calls are never refused.
 fn fault_of(refusal: RunRefusal) -> BenchFault
     requires { (refusal ≡ RunRefusal.NoMemory) ⊎ (refusal ≡ RunRefusal.NoThread) }
-    ensures { ((refusal ≡ RunRefusal.NoMemory) × (result ≡ BenchFault.NoMemory)) ⊎ ((refusal ≡ RunRefusal.NoThread) × (result ≡ BenchFault.NoThread)) }
+    ensures { ((refusal ≡ RunRefusal.NoMemory) × (result ≡ BenchFault.NoMemory))
+        ⊎ ((refusal ≡ RunRefusal.NoThread) × (result ≡ BenchFault.NoThread)) }
 {
     match refusal {
         RunRefusal::NoMemory => BenchFault::NoMemory,
@@ -24,8 +25,8 @@ fn fault_of(refusal: RunRefusal) -> BenchFault
 }
 
 /// Runs what was drawn for a plan under the standard module, by threads that the gate watches, and
-/// settles what the run left. Which run of the plan it was no clause says, since threads may meet in any
-/// order: [`settle_run`] says of the run at hand that it is settled, or why it isn't.
+/// settles what the run left. Which run of the plan it was no clause says, since threads may meet
+/// in any order: [`settle_run`] says of the run at hand that it is settled, or why it isn't.
 pub fn run_drawn<R: Threads + Wait + Sync, G: Gate + Sync>(
     rt: &R,
     alloc: Global,
@@ -37,7 +38,8 @@ pub fn run_drawn<R: Threads + Wait + Sync, G: Gate + Sync>(
     requires drawn { IsDrawn plan.now drawn }
     ensures settled { IfOk result (SettlesPlan plan.now) }
     ensures kinds { IfOk result (λ settled. settled.kinds ≡ kinds_drawn plan.now) }
-    ensures calls { IfOk result (λ settled. settled.completed + settled.refused ≡ plan.now.clients * plan.now.calls) }
+    ensures calls { IfOk result
+        (λ settled. settled.completed + settled.refused ≡ plan.now.clients * plan.now.calls) }
     ensures refusal { IfErr result (RefusesBench plan.now) }
 {
     let loaded = standard(alloc)?;
@@ -58,9 +60,9 @@ pub fn run_drawn<R: Threads + Wait + Sync, G: Gate + Sync>(
     }
 }
 
-/// Runs the benchmark: draws the population and each client's calls from the plan's seed, runs the calls
-/// by threads while extents move and partitions stop, and settles what the run left. All draws are made
-/// before the first thread starts.
+/// Runs the benchmark: draws the population and each client's calls from the plan's seed, runs the
+/// calls by threads while extents move and partitions stop, and settles what the run left. All
+/// draws are made before the first thread starts.
 pub fn run_bench<R: Threads + Wait + Sync, G: Gate + Sync>(
     rt: &R,
     alloc: Global,
@@ -70,7 +72,8 @@ pub fn run_bench<R: Threads + Wait + Sync, G: Gate + Sync>(
     requires { IsPlan plan.now }
     ensures settled { IfOk result (SettlesPlan plan.now) }
     ensures kinds { IfOk result (λ settled. settled.kinds ≡ kinds_drawn plan.now) }
-    ensures calls { IfOk result (λ settled. settled.completed + settled.refused ≡ plan.now.clients * plan.now.calls) }
+    ensures calls { IfOk result
+        (λ settled. settled.completed + settled.refused ≡ plan.now.clients * plan.now.calls) }
     ensures refusal { IfErr result (RefusesBench plan.now) }
 {
     let drawn = draw(alloc, plan)?;

@@ -2,7 +2,7 @@
 ghost use Rattle.std.specs.Prelude.{◌≡◌, IfOk, map};
 ghost use Rattle.tatp_driver.specs.DrawnWords.{words_of};
 ghost use Rattle.tatp_settle.specs.Runs.{lists_of};
-ghost use Rattle.tatp_bench.specs.Plans.{IsPlan};
+ghost use Rattle.tatp_tasks.specs.Plans.{IsPlan};
 ghost use Rattle.tatp_bench.specs.Drawing.{next_calls, calls_drawn};
 
 use crate::BenchPlan;
@@ -12,7 +12,9 @@ use tatp_procs::Ask;
 
 /// The next so many calls of a driver. All memory is reserved before the first word is taken.
 fn draw_list(alloc: Global, driver: Driver, count: u64) -> Result<Vec<Ask>, AllocError>
-    ensures { IfOk result (λ list. list.items ≡ map Ask.Txn (next_calls driver.distribution driver.subscribers count (words_of driver.generator)).0) }
+    ensures { IfOk result
+        (λ list. list.items ≡ map Ask.Txn (next_calls driver.distribution driver.subscribers count
+        (words_of driver.generator)).0) }
 {
     let mut driver = driver;
     let mut list = Vec::with_capacity(alloc, count as usize)?;

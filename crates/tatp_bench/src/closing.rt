@@ -7,24 +7,14 @@ ghost use Rattle.tatp_bench.specs.SettledRuns.{run_left, SettlesRun, RefusesToSe
 use crate::BenchFault;
 use std::alloc::Global;
 use std::thread::Threads;
-use tatp_move::close_sites;
-use tatp_partition::Parcel;
+use tatp_partition::{close_sites, discard_parcels};
 use tatp_procs::Ask;
 use tatp_settle::{NotGathered, NotSettled, Settled, gather, settle};
 use tatp_tables::Rows;
 use tatp_threads::RanParts;
 
-/// Spends parcels that come to nothing.
-fn discard_parcels(parcels: Vec<Parcel>) {
-    let mut rest = parcels;
-    while let Some(parcel) = rest.pop() {
-        let _ = parcel.unpack().close();
-    }
-    rest.destroy_empty();
-}
-
-/// Gathers what a run of the clients' lists of calls left, and settles it. The parts are consumed, on a
-/// refusal too.
+/// Gathers what a run of the clients' lists of calls left, and settles it. The parts are consumed,
+/// on a refusal too.
 pub fn settle_run<R: Threads + Sync>(
     rt: &R,
     alloc: Global,
@@ -36,7 +26,8 @@ pub fn settle_run<R: Threads + Sync>(
     requires few { length (joined (lists_of lists.now)) < 2 ^ 64 }
     requires landings { vec_len parts.landings ≡ 0 }
     ensures settled { IfOk result (SettlesRun (run_left population.now parts.entry lists.now)) }
-    ensures refusal { IfErr result (RefusesToSettleRun (run_left population.now parts.entry lists.now)) }
+    ensures refusal { IfErr result
+        (RefusesToSettleRun (run_left population.now parts.entry lists.now)) }
 {
     let RanParts {
         sites,

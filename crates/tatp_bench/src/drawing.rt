@@ -1,7 +1,7 @@
 //! What is drawn for a run.
 ghost use Rattle.std.specs.Prelude.{◌≡◌, IfOk};
 ghost use Rattle.tatp_tables.specs.Clean.{IsClean};
-ghost use Rattle.tatp_bench.specs.Plans.{IsPlan};
+ghost use Rattle.tatp_tasks.specs.Plans.{IsPlan};
 ghost use Rattle.tatp_bench.specs.Drawing.{rows_drawn, moves_drawn, stops_drawn};
 ghost use Rattle.tatp_bench.specs.Benching.{IsDrawn};
 
@@ -10,7 +10,7 @@ use crate::calls::draw_calls;
 use crate::moves::{draw_moves, draw_stops};
 use rand_pcg::Pcg64;
 use std::alloc::{AllocError, Global};
-use tatp_population::generate;
+use tatp_population::{extent_count, generate};
 use tatp_procs::Ask;
 use tatp_tables::Rows;
 use tatp_threads::Moves;
@@ -47,7 +47,7 @@ fn draw_work(alloc: Global, plan: &BenchPlan) -> Result<Moves, AllocError>
     ensures moves { IfOk result (λ work. work.moves.items ≡ moves_drawn plan.now) }
     ensures stops { IfOk result (λ work. work.stops.items ≡ stops_drawn plan.now) }
 {
-    let extents = (plan.subscribers as u32 + 63) / 64;
+    let extents = extent_count(plan.subscribers) as u32;
     let mut mover = Pcg64::new(plan.seed as u128, plan.clients as u128 + 1);
     let mut debugger = Pcg64::new(plan.seed as u128, plan.clients as u128 + 2);
     Ok(Moves {
@@ -56,8 +56,9 @@ fn draw_work(alloc: Global, plan: &BenchPlan) -> Result<Moves, AllocError>
     })
 }
 
-/// Draws the population, the calls of the clients, the moves and the stops of a plan, each from a stream
-/// of words of its own. The calls are the same whatever the partitions, the moves and the stops.
+/// Draws the population, the calls of the clients, the moves and the stops of a plan, each from a
+/// stream of words of its own. The calls are the same whatever the partitions, the moves and the
+/// stops.
 pub fn draw(alloc: Global, plan: &BenchPlan) -> Result<Drawn, AllocError>
     requires { IsPlan plan.now }
     ensures { IfOk result (IsDrawn plan.now) }
@@ -71,8 +72,8 @@ pub fn draw(alloc: Global, plan: &BenchPlan) -> Result<Drawn, AllocError>
 }
 
 impl Drawn {
-    /// Its parts: the population, the rows of the run, what the clients ask, and what the mover and the
-    /// debugger do.
+    /// Its parts: the population, the rows of the run, what the clients ask, and what the mover and
+    /// the debugger do.
     pub(crate) fn parts(self) -> (Rows, Rows, Vec<Vec<Ask>>, Moves)
         ensures { result ≡ (self.population, self.rows, self.lists, self.moves) }
     {

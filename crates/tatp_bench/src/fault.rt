@@ -7,8 +7,8 @@ use std::alloc::AllocError;
 use tatp_settle::{GatherError, SettleError, Unsettled};
 use thiserror::Error;
 
-/// Why a run of the benchmark isn't settled. Its text is its number and its name, and the extent or the
-/// cause where there is one.
+/// Why a run of the benchmark isn't settled. Its text is its number and its name, and the extent or
+/// the cause where there is one.
 #[derive(Clone, Copy, Debug, PartialEq, Eq, Error)]
 pub enum BenchFault {
     /// The run left an extent in no partition and on no way.

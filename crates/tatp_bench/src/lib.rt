@@ -1,4 +1,5 @@
-//! A concurrent run of the benchmark: what it is asked to do, what is drawn for it, and its settling.
+//! A concurrent run of the benchmark: what it is asked to do, what is drawn for it, and its
+//! settling.
 #![tactic(auto)]
 
 mod bench;
@@ -7,10 +8,9 @@ mod closing;
 mod drawing;
 mod fault;
 mod moves;
-mod plan;
 
 pub use bench::{run_bench, run_drawn};
 pub use closing::settle_run;
 pub use drawing::{Drawn, draw};
 pub use fault::BenchFault;
-pub use plan::BenchPlan;
+pub use tatp_tasks::BenchPlan;

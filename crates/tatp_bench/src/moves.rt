@@ -1,24 +1,15 @@
 //! What the mover and the debugger do, drawn from random words.
-ghost use Rattle.std.specs.Prelude.{◌≡◌, ◌+◌, ◌-◌, ◌^◌, ◌<◌, ◌≤◌, IfOk};
+ghost use Rattle.std.specs.Prelude.{◌≡◌, ◌-◌, ◌≤◌, IfOk};
 ghost use Rattle.rand_core.specs.Stream.{next_u64};
-ghost use Rattle.tatp_population.specs.Drawn.{choice, choices};
+ghost use Rattle.tatp_population.specs.Drawn.{choices};
 ghost use Rattle.tatp_bench.specs.Drawing.{next_moves};
 
 use rand_core::Rng;
 use std::alloc::{AllocError, Global};
+use tatp_population::choose;
 
-/// One of `low` to `high`.
-fn choose<R: Rng>(low: u64, high: u64, words: &mut R) -> u64
-    requires order { low ≤ high }
-    requires fits { high + 1 < 2 ^ 64 }
-    ensures drawn { (result, R.stream words.new) ≡ choice next_u64 low high (R.stream words.old) }
-    ensures below { result ≤ high }
-{
-    low + words.next_u64() % (high - low + 1)
-}
-
-/// So many moves, each of one of the extents, counted from 1, to one of the partitions. All memory is
-/// reserved before the first word is taken.
+/// So many moves, each of one of the extents, counted from 1, to one of the partitions. All memory
+/// is reserved before the first word is taken.
 pub(crate) fn draw_moves<R: Rng>(
     alloc: Global,
     count: u64,
@@ -28,7 +19,8 @@ pub(crate) fn draw_moves<R: Rng>(
 ) -> Result<Vec<(u32, u8)>, AllocError>
     requires extents { 1 ≤ extents }
     requires partitions { 1 ≤ partitions }
-    ensures { IfOk result (λ moves. moves.items ≡ (next_moves extents partitions count (R.stream words.old)).0) }
+    ensures { IfOk result
+        (λ moves. moves.items ≡ (next_moves extents partitions count (R.stream words.old)).0) }
 {
     let mut moves = Vec::with_capacity(alloc, count as usize)?;
     for _ in 0..count {
@@ -39,7 +31,8 @@ pub(crate) fn draw_moves<R: Rng>(
     Ok(moves)
 }
 
-/// So many stops, each of one of the partitions. All memory is reserved before the first word is taken.
+/// So many stops, each of one of the partitions. All memory is reserved before the first word is
+/// taken.
 pub(crate) fn draw_stops<R: Rng>(
     alloc: Global,
     count: u64,
@@ -47,7 +40,9 @@ pub(crate) fn draw_stops<R: Rng>(
     words: &mut R,
 ) -> Result<Vec<u8>, AllocError>
     requires { 1 ≤ partitions }
-    ensures { IfOk result (λ stops. stops.items ≡ (choices next_u64 count 0 (partitions - 1) (R.stream words.old)).0) }
+    ensures { IfOk result
+        (λ stops. stops.items
+        ≡ (choices next_u64 count 0 (partitions - 1) (R.stream words.old)).0) }
 {
     let mut stops = Vec::with_capacity(alloc, count as usize)?;
     for _ in 0..count {

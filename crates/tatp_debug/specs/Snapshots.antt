@@ -18,10 +18,13 @@ name_of modul procedure = option_map_or (λ (p : Procedure). p.name) (slice_get 
 -- the values of the sixteen registers
 abbrev pub register_values : Frame → List ℕ
 register_values q =
-    value q 0 ∷ value q 1 ∷ value q 2 ∷ value q 3 ∷ value q 4 ∷ value q 5 ∷ value q 6 ∷ value q 7 ∷ value q 8
-    ∷ value q 9 ∷ value q 10 ∷ value q 11 ∷ value q 12 ∷ value q 13 ∷ value q 14 ∷ value q 15 ∷ []
+    value q 0 ∷ value q 1 ∷ value q 2 ∷ value q 3
+    ∷ value q 4 ∷ value q 5 ∷ value q 6 ∷ value q 7
+    ∷ value q 8 ∷ value q 9 ∷ value q 10 ∷ value q 11
+    ∷ value q 12 ∷ value q 13 ∷ value q 14 ∷ value q 15 ∷ []
 
--- the snapshot is of a call of this module in this state, in each part that it has; its line is the text of the next instruction
+-- the snapshot is of a call of this module in this state, in each part that it has; its line is the
+-- text of the next instruction
 pub record IsSnapshot (modul : List Procedure) (q : Frame) (snapshot : Snapshot) : Type 0 where
   pub procedure : snapshot.procedure ≡ q.procedure
   pub name : snapshot.name.bytes ≡ name_of modul q.procedure
@@ -36,5 +39,6 @@ pub record IsSnapshot (modul : List Procedure) (q : Frame) (snapshot : Snapshot)
 
 -- what looking at a site answers: a snapshot of the call that runs; that none runs
 abbrev pub Looks : SiteState → Result Snapshot SiteRefusal → Type 0
-Looks s (Ok snapshot) = IsSomeAnd s.running (λ (r : RunningCall). IsSnapshot s.procedures r.call.frame snapshot)
+Looks s (Ok snapshot) =
+    IsSomeAnd s.running (λ (r : RunningCall). IsSnapshot s.procedures r.call.frame snapshot)
 Looks s (Err refusal) = (refusal ≡ NotRunning) × (s.running ≡ None)

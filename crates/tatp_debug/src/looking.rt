@@ -23,10 +23,12 @@ pub fn look(site: &Site<'_>) -> Result<Snapshot, SiteRefusal>
     }
 }
 
-/// The home of a subscriber as it is now, in mid-call too: [`SiteRefusal::NotHere`] where it is away.
+/// The home of a subscriber as it is now, in mid-call too: [`SiteRefusal::NotHere`] where it is
+/// away.
 pub fn home_rows<'s>(site: &'s Site<'_>, s_id: u64) -> Result<&'s Home, SiteRefusal>
     ensures here { IfOk result (λ home. home_here site.now s_id ≡ Some home.now) }
-    ensures away { IfErr result (λ refusal. (refusal ≡ NotHere) × (home_here site.now s_id ≡ None)) }
+    ensures away { IfErr result (λ refusal.
+        (refusal ≡ NotHere) × (home_here site.now s_id ≡ None)) }
 {
     match site.home(s_id) {
         Some(home) => Ok(home),

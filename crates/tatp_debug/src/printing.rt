@@ -72,7 +72,8 @@ impl fmt::Display for CurrentKeys {
     }
 }
 
-/// Four lines: where it stands, the registers, the current keys, the outputs. The last has no line feed.
+/// Four lines: where it stands, the registers, the current keys, the outputs. The last has no line
+/// feed.
 impl fmt::Display for Snapshot {
     ghost output = { λ snapshot. Some (snapshot_text snapshot) };
 

@@ -1,20 +1,19 @@
 -- The events of a call, one after another, and their answers.
-use Rattle.std.proofs.Common.{◌≡◌, ◌≢◌, ℕ, zero, suc, Bool, true, false, List, [], ◌∷◌, ◌++◌, take, replicate, Option, Some, None, Result, Ok, Err, slice_get, refl, sym, ◌∙◌, ap, subst, arith}
+use Rattle.std.proofs.Common.{◌≡◌, ◌≢◌, ℕ, zero, suc, Bool, true, false, List, [], ◌∷◌, ◌++◌, take, replicate, Some, None, Result, Ok, slice_get, refl, sym, ◌∙◌, ap, subst, arith}
 use Rattle.std.proofs.lemmas.Bool.{false≢true}
 use Rattle.std.proofs.lemmas.List.{append-nil, same_from_push, take-replicate}
 use Rattle.tatp_procs.specs.declared.ask.Ask.{Ask}
 use Rattle.tatp_procs.specs.declared.entry.Entry.{Entry}
 use Rattle.tatp_procs.specs.declared.reply.Reply.{Reply}
 use Rattle.tatp_partition.specs.declared.item.Completion.{Completion}
-use Rattle.tatp_partition.specs.declared.item.Item.{Item}
 use Rattle.tatp_partition.specs.Running.{call_begun}
 use Rattle.tatp_partition.specs.Sites.{SiteState, RunningCall}
 use Rattle.tatp_dispatch.specs.declared.event.Event.{Event}
-use Rattle.tatp_dispatch.specs.declared.event.Event.TheVariants.{Begin, Step}
+use Rattle.tatp_dispatch.specs.declared.event.Event.TheVariants.{Step}
 use Rattle.tatp_dispatch.specs.declared.event.Answer.{Answer}
 use Rattle.tatp_dispatch.specs.declared.event.Answer.TheVariants.{Queued, Began, Away, Denied, Moved, Ended}
 use Rattle.tatp_dispatch.specs.declared.event.Refusal.{Refusal}
-use Rattle.tatp_dispatch.specs.Advancing.{MovesFor}
+use Rattle.tatp_dispatch.specs.Advancing.{AdvancesSo}
 use Rattle.tatp_dispatch.specs.Calling.{CallsBriefly, GoesUpTo, BeginsUpTo, StepsUpTo, GoesBriefly, IsLastReply, IsStopped, IsOneCall}
 use Rattle.tatp_dispatch.specs.Events.{Happens, Submits, BeginsAt, BeginsFront, AdvancesAt, EndsAt}
 use Rattle.tatp_dispatch.specs.Obstacles.{step_obstacle_at}
@@ -31,9 +30,10 @@ one_again zero x xs = refl
 one_again (suc n) x xs = ap (λ t. x ∷ t) (one_again n x xs)
 
 -- ---- steps that went on
-pub moves_join : (a b c : WorldState) (p i j : ℕ) → MovesFor i a p b → MovesFor j b p c → (k : ℕ) × MovesFor k a p c
-moves_join a b c p i zero h same = (i, subst (MovesFor i a p) (sym same) h)
-moves_join a b c p i (suc j) h (mid, before, one) = let k = moves_join a b mid p i j h before in (suc k.0, (mid, k.1, one))
+-- so many steps at a partition, each of which went on
+abbrev pub MovesFor : ℕ → WorldState → ℕ → WorldState → Type 0
+MovesFor zero w p w' = w' ≡ w
+MovesFor (suc steps) w p w' = (mid : WorldState) × MovesFor steps w p mid × AdvancesSo (step_obstacle_at mid p) mid p (Ok Moved) w'
 
 moves_happen : (w mid w' : WorldState) (p k : ℕ) (events : List Event) (answers : List (Result Answer Refusal)) → MovesFor k w p mid → HappenAll mid events answers w' → HappenAll w (replicate k (Step p) ++ events) (replicate k (Ok Moved) ++ answers) w'
 moves_happen w mid w' p zero events answers same h = subst (λ (t : WorldState). HappenAll t events answers w') same h

@@ -1,8 +1,7 @@
 -- What is in hand stays there, and where nothing is in hand routes name the holders.
-use Rattle.std.proofs.Common.{◌≡◌, ◌≢◌, ◌⊎◌, inl, inr, ℕ, ◌+◌, ◌<◌, ◌≤◌, Bool, List, [], ◌∷◌, ◌++◌, length, Option, Some, None, Result, Ok, Err, slice_get, refl, sym, ◌∙◌, ap, subst, arith}
+use Rattle.std.proofs.Common.{◌≡◌, ◌≢◌, ◌⊎◌, inl, inr, ℕ, ◌≤◌, Bool, List, Option, Some, None, Result, Ok, Err, slice_get, refl, sym, ◌∙◌, ap, arith}
 use Rattle.std.specs.Prelude.{remove}
 use Rattle.std.specs.Option.{option_flatten}
-use Rattle.std.proofs.Math.ListN.{set}
 use Rattle.std.proofs.lemmas.Bool.{cases_lt}
 use Rattle.std.proofs.lemmas.Option.{slice_get_cases}
 use Rattle.tatp_procs.specs.declared.ask.Ask.{Ask}
@@ -18,8 +17,8 @@ use Rattle.tatp_dispatch.specs.declared.event.Answer.{Answer}
 use Rattle.tatp_dispatch.specs.declared.event.Answer.TheVariants.{Queued, Began, Away, Denied, Moved, Ended, Parcel, Landed, Set, Superseded, Done}
 use Rattle.tatp_dispatch.specs.declared.event.Refusal.{Refusal}
 use Rattle.tatp_dispatch.specs.declared.event.Refusal.TheVariants.{NoMemory}
-use Rattle.tatp_dispatch.specs.Counts.{one, total, first_of}
-use Rattle.tatp_dispatch.specs.Events.{Happens, Submits, BeginsAt, DeniesAt, AdvancesAt, TakesExtent, TakesAt, GivesExtent, GivesAt, RoutesExtent, RoutesLanding, DoesAt}
+use Rattle.tatp_dispatch.specs.Counts.{one, first_of}
+use Rattle.tatp_dispatch.specs.Events.{Happens, Submits, BeginsAt, DeniesAt, AdvancesAt, TakesExtent, TakesAt, GivesExtent, GivesAt, RoutesExtent, DoesAt}
 use Rattle.tatp_dispatch.specs.InHand.{HoldsParcel, HoldsLanding, HasLanded, WasTold, NoneInHand, NamesTheHolder}
 use Rattle.tatp_dispatch.specs.Obstacles.{step_obstacle_at, one_obstacle_at, stop_obstacle_at, resume_obstacle_at, break_obstacle_at, clear_obstacle_at}
 use Rattle.tatp_dispatch.specs.Placed.{extent_at}

@@ -9,9 +9,9 @@ use Rattle.tatp_partition.specs.Moving.{LandedState, moved, with_extent, Gives}
 use Rattle.tatp_partition.specs.Sites.{SiteState, slot}
 use Rattle.tatp_partition.specs.Sound.{IsSite}
 use Rattle.tatp_move.specs.declared.route.Route.{Route}
-use Rattle.tatp_move.specs.declared.route.Settled.{Settled}
-use Rattle.tatp_move.specs.declared.route.Settled.TheVariants.{Set as Is_set, Superseded as Is_superseded}
-use Rattle.tatp_move.specs.Routing.{RoutesState, Settles}
+use Rattle.tatp_move.specs.declared.route.RouteUpdate.{RouteUpdate}
+use Rattle.tatp_move.specs.declared.route.RouteUpdate.TheVariants.{Set as Is_set, Superseded as Is_superseded}
+use Rattle.tatp_move.specs.Routing.{RoutesState, UpdatesRoute}
 use Rattle.tatp_dispatch.specs.Counts.{one}
 use Rattle.tatp_dispatch.specs.Worlds.{WorldState}
 use Rattle.tatp_dispatch.specs.Placed.{IsWhole}
@@ -162,7 +162,7 @@ keeps_routed w routes landings good long name right = record {
   completions = refl;
 }
 
-pub route_keeps : (w : WorldState) (i : ℕ) (t : LandedState) (settled : Settled) (routes : RoutesState) → IsWorld w → slice_get w.landings i ≡ Some t → Settles w.routes t settled routes → Kept w (record w { routes = routes; landings = remove w.landings i })
+pub route_keeps : (w : WorldState) (i : ℕ) (t : LandedState) (settled : RouteUpdate) (routes : RoutesState) → IsWorld w → slice_get w.landings i ≡ Some t → UpdatesRoute w.routes t settled routes → Kept w (record w { routes = routes; landings = remove w.landings i })
 route_keeps w i t Is_set routes good at st =
     let new : List Route = set w.routes.routes t.number (record { partition = t.site; moves = t.moves }) in
     let name : NamePartitions (length w.sites) new (remove w.landings i) = record {

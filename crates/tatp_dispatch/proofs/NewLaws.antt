@@ -27,11 +27,11 @@ use Rattle.tatp_partition.specs.declared.item.Item.{Item}
 use Rattle.tatp_partition.specs.Opening.{extent_numbered}
 use Rattle.tatp_partition.specs.Sites.{SiteState, RunningCall, slot}
 use Rattle.tatp_partition.proofs.OpenLaws.{range_get, range_past}
-use Rattle.tatp_move.specs.Routing.{opening_partition, opened_routes}
+use Rattle.tatp_move.specs.Routing.{opened_routes}
 use Rattle.tatp_move.specs.declared.route.Route.{Route}
 use Rattle.tatp_dispatch.specs.Counts.{one, one_if, total}
 use Rattle.tatp_dispatch.specs.Gathered.{gathered}
-use Rattle.tatp_move.specs.Dealing.{AreSitesOpened}
+use Rattle.tatp_partition.specs.Dealing.{AreSitesOpened, opening_partition}
 use Rattle.tatp_dispatch.specs.Opened.{new_client, IsOpened}
 use Rattle.tatp_dispatch.specs.Placed.{extent_at, AreExtentsPlaced, WaitsIn, RunsIn, is_call_of, times_waiting, times_queued, times_running, IsClientInOrder, AreClientsInOrder}
 use Rattle.tatp_dispatch.specs.Populated.{IsPopulated}

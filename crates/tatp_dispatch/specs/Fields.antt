@@ -1,6 +1,7 @@
 -- How the fields of the whole show it, and what holds of them.
-use Rattle.std.specs.Prelude.{◌≡◌, ◌+◌, ◌≤◌, length, vec_len, None}
+use Rattle.std.specs.Prelude.{◌≡◌, ℕ, ◌+◌, ◌≤◌, List, Option, length, vec_len, None}
 use Rattle.std.specs.Vec.{vec_capacity}
+use Rattle.tatp_population.specs.Extents.{ExtentState}
 use Rattle.tatp_partition.specs.Sites.{SiteState}
 use Rattle.tatp_dispatch.specs.declared.world.World.TheInside.{Inside}
 use Rattle.tatp_dispatch.specs.Queues.{most_clients}
@@ -21,10 +22,19 @@ world_of a = record {
   completions = a.completions.items;
 }
 
--- there is room for the completion of each running call, for the landing of each parcel in hand, and in each queue for a call of each client
+-- how many calls run at these sites
+abbrev pub running_count : List SiteState → ℕ
+running_count sites = total (λ (s : SiteState). one s.running) sites
+
+-- how many of these places have a parcel
+abbrev pub parcel_count : List (Option ExtentState) → ℕ
+parcel_count parcels = total (λ x. one x) parcels
+
+-- there is room for the completion of each running call, for the landing of each parcel in hand,
+-- and in each queue for a call of each client
 pub record HasRoom (a : Inside) : Type 0 where
-  pub completions : vec_len a.completions + total (λ (s : SiteState). one s.running) a.sites.items ≤ vec_capacity a.completions
-  pub landings : vec_len a.landings + total (λ x. one x) a.parcels ≤ vec_capacity a.landings
+  pub completions : vec_len a.completions + running_count a.sites.items ≤ vec_capacity a.completions
+  pub landings : vec_len a.landings + parcel_count a.parcels ≤ vec_capacity a.landings
   pub clients : length a.clients.items ≤ most_clients
 
 pub record IsSound (a : Inside) : Type 0 where

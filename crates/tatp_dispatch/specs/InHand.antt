@@ -1,14 +1,13 @@
 -- What is in hand: parcels until they land, and landings until they are told to the routes.
-use Rattle.std.specs.Prelude.{◌≡◌, ◌≢◌, ◌⊎◌, ℕ, Some, None, Result, Ok, slice_get}
+use Rattle.std.specs.Prelude.{◌≡◌, ◌≢◌, ◌⊎◌, ℕ, Some, None, Ok, slice_get}
 use Rattle.tatp_population.specs.Extents.{ExtentState}
 use Rattle.tatp_partition.specs.Moving.{LandedState}
 use Rattle.tatp_partition.specs.Sites.{SiteState, slot}
 use Rattle.tatp_move.specs.declared.route.Route.{Route}
 use Rattle.tatp_dispatch.specs.declared.event.Event.{Event}
 use Rattle.tatp_dispatch.specs.declared.event.Event.TheVariants.{Give, Route as Tell}
-use Rattle.tatp_dispatch.specs.declared.event.Answer.{Answer}
 use Rattle.tatp_dispatch.specs.declared.event.Answer.TheVariants.{Landed, Set, Superseded}
-use Rattle.tatp_dispatch.specs.declared.event.Refusal.{Refusal}
+use Rattle.tatp_dispatch.specs.Answers.{Answered}
 use Rattle.tatp_dispatch.specs.Worlds.{WorldState}
 
 -- this parcel of extent e is in hand, and this landing is
@@ -20,12 +19,16 @@ HoldsLanding w landed = (i : ℕ) × (slice_get w.landings i ≡ Some landed)
 
 -- ---- how they leave
 -- the parcel of extent e was given to a site, and landed after its own number of moves
-abbrev pub HasLanded : Event → Result Answer Refusal → ℕ → ExtentState → Type 0
-HasLanded event answered e parcel = (p : ℕ) × (event ≡ Give p e) × (answered ≡ Ok (Landed e parcel.moves))
+abbrev pub HasLanded : Event → Answered → ℕ → ExtentState → Type 0
+HasLanded event answered e parcel =
+    (p : ℕ) × (event ≡ Give p e) × (answered ≡ Ok (Landed e parcel.moves))
 
 -- the landing was told to the routes, which it has set or not
-abbrev pub WasTold : Event → Result Answer Refusal → LandedState → Type 0
-WasTold event answered landed = (event ≡ Tell landed.number landed.moves) × ((answered ≡ Ok (Set landed.number landed.site)) ⊎ (answered ≡ Ok (Superseded landed.number)))
+abbrev pub WasTold : Event → Answered → LandedState → Type 0
+WasTold event answered landed =
+    (event ≡ Tell landed.number landed.moves)
+    × ((answered ≡ Ok (Set landed.number landed.site))
+    ⊎ (answered ≡ Ok (Superseded landed.number)))
 
 -- ---- where nothing is in hand
 -- neither a parcel nor a landing of extent e is in hand

@@ -1,4 +1,7 @@
+pub mod RefusalText
+pub mod Answers
 pub mod Counts
+pub mod Clients
 pub mod Queues
 pub mod Worlds
 pub mod Placed
@@ -13,12 +16,10 @@ pub mod Events
 pub mod Serving
 pub mod InHand
 pub mod Opened
-pub mod Appending
 pub mod Fields
 pub mod Advancing
 pub mod Calling
 pub mod Runs
 pub mod Benchmark
-pub mod Stepping
 pub mod Offering
 pub mod Carrying

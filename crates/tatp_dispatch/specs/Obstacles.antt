@@ -1,17 +1,18 @@
 -- Why an event is refused: the first obstacle that is there, in their order.
 use Rattle.std.specs.Prelude.{ℕ, ◌-◌, ◌^◌, ◌==◌, not, Bool, if◌then◌else◌, List, is_none, Option, Some, None, slice_get}
-use Rattle.std.specs.Option.{option_map, option_map_or, option_and_then}
+use Rattle.std.specs.Option.{option_map, option_map_or}
 use Rattle.tatp_encoding.specs.Modules.{Procedure}
 use Rattle.tatp_procs.specs.declared.ask.Ask.{Ask}
 use Rattle.tatp_partition.specs.declared.item.Item.{Item}
 use Rattle.tatp_partition.specs.declared.refusal.SiteRefusal.{SiteRefusal}
-use Rattle.tatp_partition.specs.Asks.{has_procedure, bad_argument}
+use Rattle.tatp_procs.specs.Asked.{has_procedure, bad_argument}
 use Rattle.tatp_partition.specs.Sites.{SiteState, slot}
 use Rattle.tatp_partition.specs.Obstacles.{begin_obstacle, step_obstacle, one_obstacle, take_obstacle, stop_obstacle, resume_obstacle, break_obstacle}
 use Rattle.tatp_dispatch.specs.declared.event.Refusal.{Refusal}
 use Rattle.tatp_dispatch.specs.declared.event.Refusal.TheVariants.{NoPartition, NoClient, ClientBusy, NothingQueued, NotInHand, NoProcedure, NumbersFull, BadArgument, Site}
 use Rattle.tatp_dispatch.specs.Worlds.{WorldState}
 use Rattle.tatp_dispatch.specs.Counts.{or_else}
+use Rattle.tatp_dispatch.specs.Queues.{front_in}
 use Rattle.tatp_dispatch.specs.declared.client.Client.{Client}
 
 abbrev pub where_holds : Bool → Refusal → Option Refusal
@@ -39,19 +40,24 @@ submit_obstacle w client ask = client_obstacle w ask (slice_get w.clients client
 -- ---- at a site
 -- what stands against an event at this site
 abbrev pub at_site : WorldState → ℕ → (SiteState → Option SiteRefusal) → Option Refusal
-at_site w p obstacle = option_map_or (λ (s : SiteState). option_map Site (obstacle s)) (slice_get w.sites p) (Some NoPartition)
+at_site w p obstacle =
+    option_map_or (λ (s : SiteState). option_map Site (obstacle s)) (slice_get w.sites p)
+    (Some NoPartition)
 
 -- the call at the front of a partition's queue
 abbrev pub front_of : WorldState → ℕ → Option Item
-front_of w p = option_and_then (λ (queue : List Item). slice_get queue 0) (slice_get w.queues p)
+front_of w p = front_in w.queues p
 
--- what stands against beginning the front call of a partition; that its home isn't there is the site's NotHere
+-- what stands against beginning the front call of a partition; that its home isn't there is the
+-- site's NotHere
 abbrev pub front_obstacle : SiteState → Option Item → Option Refusal
 front_obstacle s None = Some NothingQueued
 front_obstacle s (Some item) = option_map Site (begin_obstacle s item)
 
 abbrev pub begin_obstacle_at : WorldState → ℕ → Option Refusal
-begin_obstacle_at w p = option_map_or (λ (s : SiteState). front_obstacle s (front_of w p)) (slice_get w.sites p) (Some NoPartition)
+begin_obstacle_at w p =
+    option_map_or (λ (s : SiteState). front_obstacle s (front_of w p)) (slice_get w.sites p)
+    (Some NoPartition)
 
 abbrev pub step_obstacle_at : WorldState → ℕ → Option Refusal
 step_obstacle_at w p = at_site w p step_obstacle
@@ -76,4 +82,5 @@ clear_obstacle_at w p = at_site w p (λ s. None)
 
 -- ---- in hand
 abbrev pub give_obstacle : WorldState → ℕ → ℕ → Option Refusal
-give_obstacle w p e = or_else (at_site w p (λ s. None)) (where_holds (is_none (slot w.parcels e)) NotInHand)
+give_obstacle w p e =
+    or_else (at_site w p (λ s. None)) (where_holds (is_none (slot w.parcels e)) NotInHand)

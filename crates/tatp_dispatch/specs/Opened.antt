@@ -3,8 +3,9 @@ use Rattle.std.specs.Prelude.{◌≡◌, ℕ, ◌+◌, false, List, [], length, 
 use Rattle.tatp_encoding.specs.Modules.{Procedure}
 use Rattle.tatp_tables.specs.Database.{Database, database_of}
 use Rattle.tatp_tables.specs.declared.row.Rows.{Rows}
+use Rattle.tatp_population.specs.Extents.{ExtentState}
 use Rattle.tatp_population.specs.Opening.{opened_extents, extent_count}
-use Rattle.tatp_move.specs.Dealing.{AreSitesOpened}
+use Rattle.tatp_partition.specs.Dealing.{AreSitesOpened}
 use Rattle.tatp_move.specs.Routing.{opened_routes}
 use Rattle.tatp_dispatch.specs.declared.client.Client.{Client}
 use Rattle.tatp_dispatch.specs.Plain.{PlainWorld}
@@ -19,13 +20,19 @@ at_rest u = record { database = u; calls = λ client. None; completions = [] }
 abbrev pub new_client : Client
 new_client = record { accepted = 0; refused = 0; busy = false; seen = 0 }
 
+-- the extents of these rows
+abbrev pub extents_of : Rows → List ExtentState
+extents_of rows = opened_extents (database_of rows) (length rows.subscribers)
+
 -- a whole that was just opened with these rows in so many partitions and for so many clients:
--- its database is that of the rows, no call runs or waits, none was completed, and each extent stands where its route says
-pub record IsOpened (procedures : List Procedure) (rows : Rows) (partitions client_count : ℕ) (w : WorldState) : Type 0 where
+-- its database is that of the rows, no call runs or waits, none was completed, and each extent
+-- stands where its route says
+pub record IsOpened (procedures : List Procedure) (rows : Rows) (partitions client_count : ℕ)
+    (w : WorldState) : Type 0 where
   pub runs : w.procedures ≡ procedures
   pub shows : shown w ≡ at_rest (database_of rows)
   pub back : set_back w ≡ database_of rows
-  pub sites : AreSitesOpened procedures partitions (opened_extents (database_of rows) (length rows.subscribers)) w.sites
+  pub sites : AreSitesOpened procedures partitions (extents_of rows) w.sites
   pub routes : w.routes ≡ opened_routes (length rows.subscribers) partitions
   pub queues : w.queues ≡ replicate partitions []
   pub clients : w.clients ≡ replicate client_count new_client

@@ -1,21 +1,24 @@
 //! The whole: all sites, what is under way between them, and the clients.
+ghost use Rattle.std.specs.Prelude.{◌≡◌, ◌<◌, ◌≤◌, IfErr, IfOk, length};
+ghost use Rattle.tatp_dispatch.specs.declared.event.Refusal.TheVariants.{NoPartition};
 
 mod applying;
 mod beginning;
 mod calling;
 mod closing;
 mod gathering;
+mod getters;
 mod moving;
 mod opening;
-mod reading;
 mod routing;
 mod stepping;
 mod stopping;
 mod submitting;
 
+use crate::Refusal;
 use crate::client::Client;
 use crate::queue::Queue;
-pub use reading::what_holds_of_every_world;
+pub use getters::what_holds_of_every_world;
 use std::marker::Model;
 use tatp_loader::Loaded;
 use tatp_move::Routes;
@@ -34,8 +37,8 @@ pub struct World<'m> {
     landings: Vec<Landed>,
     clients: Vec<Client>,
     completions: Vec<Entry>,
-    /// Where a site leaves the completion of a call that ends: empty between events. It stands here,
-    /// since a function clears the room of its locals when it begins.
+    /// Where a site leaves the completion of a call that ends: empty between events.
+    /// [`CompletionPlace`] says why.
     ended: CompletionPlace,
 }
 
@@ -51,4 +54,16 @@ impl<'m> Model for World<'m> {
     ghost view = { world_of };
 
     ghost invariant = { IsSound };
+}
+
+/// Whether there is such a partition.
+fn check_partition(sites: &[Site<'_>], p: u64) -> Result<(), Refusal>
+    ensures there { IfOk result (λ _. p < length sites.now) }
+    ensures none { IfErr result (λ refusal. (refusal ≡ NoPartition) × (length sites.now ≤ p)) }
+{
+    if p < sites.len() as u64 {
+        Ok(())
+    } else {
+        Err(Refusal::NoPartition)
+    }
 }

@@ -1,4 +1,5 @@
--- A call from seven random words, 0 to 6. docs/FORMATS.md, "Calls from random words", says it in words.
+-- A call from seven random words, 0 to 6. docs/FORMATS.md, "Calls from random words", says it in
+-- words.
 use Rattle.std.specs.Prelude.{ℕ, ◌+◌, ◌*◌, ◌%◌, ◌≤◌, bit_or, if◌then◌else◌, List, slice_index}
 use Rattle.tatp_lines.specs.Numbers.{is_between}
 use Rattle.tatp_numbers.specs.declared.key.Key.{Key}
@@ -14,7 +15,8 @@ place_in_mix words = slice_index words 0 % 100
 
 -- the s_id, 1 to n, which is the sub_nbr too
 abbrev pub drawn_subscriber : Distribution → ℕ → List ℕ → ℕ
-drawn_subscriber Skewed n words = 1 + bit_or (slice_index words 1 % 65536) (1 + slice_index words 2 % n) % n
+drawn_subscriber Skewed n words =
+    1 + bit_or (slice_index words 1 % 65536) (1 + slice_index words 2 % n) % n
 drawn_subscriber Uniform n words = 1 + slice_index words 1 % n
 
 -- of an Access_Info or a Special_Facility row
@@ -44,11 +46,16 @@ unfoldable pub call_on : ℕ → List ℕ → Call
 call_on s words =
     let place = place_in_mix words in
     if is_between 0 34 place then GetSubscriberData s else
-    if is_between 35 44 place then GetNewDestination s (drawn_row_type words) (drawn_start_time words) (drawn_end_time words) else
+    if is_between 35 44 place
+    then GetNewDestination s (drawn_row_type words) (drawn_start_time words)
+    (drawn_end_time words) else
     if is_between 45 79 place then GetAccessData s (drawn_row_type words) else
-    if is_between 80 81 place then UpdateSubscriberData s (drawn_bit_1 words) (drawn_row_type words) (drawn_data_a words) else
+    if is_between 80 81 place
+    then UpdateSubscriberData s (drawn_bit_1 words) (drawn_row_type words) (drawn_data_a words) else
     if is_between 82 95 place then UpdateLocation s (drawn_vlr_location words) else
-    if is_between 96 97 place then InsertCallForwarding s (drawn_row_type words) (drawn_start_time words) (drawn_end_time words) (drawn_numberx words) else
+    if is_between 96 97 place
+    then InsertCallForwarding s (drawn_row_type words) (drawn_start_time words)
+    (drawn_end_time words) (drawn_numberx words) else
     -- 98 and 99
     DeleteCallForwarding s (drawn_row_type words) (drawn_start_time words)
 

@@ -25,7 +25,11 @@ impl Model for Driver {
 
     ghost Value = { DriverState };
 
-    ghost view = { λ d. record { generator = d.generator; subscribers = d.subscribers; distribution = d.distribution } };
+    ghost view = { λ d. record {
+      generator = d.generator;
+      subscribers = d.subscribers;
+      distribution = d.distribution;
+    } };
 
     ghost invariant = { λ d. (1 ≤ d.subscribers) × (d.subscribers ≤ 1000000) };
 }
@@ -35,7 +39,11 @@ impl Driver {
     pub fn new(seed: u64, client: u64, subscribers: u64, distribution: Distribution) -> Driver
         requires some { 1 ≤ subscribers }
         requires few { subscribers ≤ 1000000 }
-        ensures { result ≡ record { generator = client_generator seed client; subscribers = subscribers; distribution = distribution } }
+        ensures { result ≡ record {
+          generator = client_generator seed client;
+          subscribers = subscribers;
+          distribution = distribution;
+        } }
     {
         Driver {
             generator: Pcg64::new(seed as u128, client as u128 + 1),
@@ -46,8 +54,10 @@ impl Driver {
 
     /// The call of its next seven words.
     pub fn next_call(&mut self) -> Call
-        ensures call { result ≡ drawn_call self.old.distribution self.old.subscribers (next_words 7 (words_of self.old.generator)).0 }
-        ensures left { words_of self.new.generator ≡ (next_words 7 (words_of self.old.generator)).1 }
+        ensures call { result ≡ drawn_call self.old.distribution self.old.subscribers
+            (next_words 7 (words_of self.old.generator)).0 }
+        ensures left { words_of self.new.generator
+            ≡ (next_words 7 (words_of self.old.generator)).1 }
         ensures subscribers { self.new.subscribers ≡ self.old.subscribers }
         ensures distribution { self.new.distribution ≡ self.old.distribution }
         ensures accepted { arguments_accepted result ≡ Ok tt }

@@ -10,7 +10,9 @@ use Rattle.tatp_encoding.specs.declared.decoding.Bad.TheVariants.{BadOp, UnusedN
 
 -- the op, the operand bytes and the number of eight bytes
 abbrev pub parts_in : List ℕ → Parts
-parts_in b = parts_with (slice_index b 0) (slice_index b 1) (slice_index b 2) (slice_index b 3) (from_be_bytes w32 (drop 4 b))
+parts_in b = parts_with
+    (slice_index b 0) (slice_index b 1) (slice_index b 2) (slice_index b 3)
+    (from_be_bytes w32 (drop 4 b))
 
 -- the instruction of an op and its operands, or the first of the three faults that they have
 abbrev pub decoded_parts : Parts → Result Instr Bad

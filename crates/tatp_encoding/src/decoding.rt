@@ -66,7 +66,8 @@ fn has_unused_part(parts: &Parts, shape: Shape) -> bool
 pub fn decode(bytes: &[u8; 8]) -> Result<Instr, Bad>
     // What is read is spelled so, and what is spelled so is read.
     ensures ok { IfOk result (λ instr. bytes.now ≡ spelling instr) }
-    ensures only { (instr : Instr) → IsInstr instr → bytes.now ≡ spelling instr → result ≡ Ok instr }
+    ensures only { (instr : Instr) → IsInstr instr → bytes.now ≡ spelling instr
+        → result ≡ Ok instr }
 
     ensures exact { result ≡ decoded bytes.now }
 

@@ -18,8 +18,8 @@ pub const MAX_ARGUMENTS: u8 = 8;
 /// The most instructions that a procedure has.
 pub const MAX_INSTRUCTIONS: usize = 256;
 
-/// A procedure: a name of 1 to 24 of the letters A..Z and underscore, 0 to 8 arguments, and 1 to 256
-/// instructions.
+/// A procedure: a name of 1 to 24 of the letters A..Z and underscore, 0 to 8 arguments, and 1 to
+/// 256 instructions.
 #[derive(Debug, Drop)]
 pub struct Proc {
     name: ArrayString<MAX_NAME_BYTES>,
@@ -39,13 +39,21 @@ impl Model for Proc {
       code = p.code.items;
     } };
 
-    ghost invariant = { λ p. is_procedure (record { name = p.name.bytes; arity = p.arity; code = p.code.items }) ≡ true };
+    ghost invariant = { λ p. is_procedure (record {
+      name = p.name.bytes;
+      arity = p.arity;
+      code = p.code.items;
+    }) ≡ true };
 }
 
 impl Proc {
     /// A procedure of these parts.
     pub fn new(name: &str, arity: u8, code: Vec<Instr>) -> Proc
-        requires { is_procedure (record { name = name.now; arity = arity; code = code.items }) ≡ true }
+        requires { is_procedure (record {
+          name = name.now;
+          arity = arity;
+          code = code.items;
+        }) ≡ true }
         ensures { result ≡ record { name = name.now; arity = arity; code = code.items } }
     {
         let mut kept = ArrayString::new();

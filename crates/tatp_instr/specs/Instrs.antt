@@ -6,7 +6,11 @@ use Rattle.tatp_instr.specs.declared.instr.Parts.{Parts}
 
 -- an op with these registers and this u32
 abbrev pub parts_with : ℕ → ℕ → ℕ → ℕ → ℕ → Parts
-parts_with op first second third word = record { op = op; registers = first ∷ second ∷ third ∷ []; word = word }
+parts_with op first second third word = record {
+  op = op;
+  registers = first ∷ second ∷ third ∷ [];
+  word = word;
+}
 
 -- an instruction taken apart
 abbrev pub parts_of : Instr → Parts
@@ -36,21 +40,26 @@ parts_of (Fail n) = parts_with 0x15 0 0 0 n
 abbrev pub register_text : ℕ → List ℕ
 register_text number = codes "r" ++ decimal number
 
+-- the text of three registers, which commas part
+abbrev pub three_registers_text : ℕ → ℕ → ℕ → List ℕ
+three_registers_text d a b =
+    register_text d ++ codes "," ++ register_text a ++ codes "," ++ register_text b
+
 -- the text of an instruction
 abbrev pub text_of : Instr → List ℕ
 text_of (Ldi d n) = codes "LDI " ++ register_text d ++ codes ",#" ++ decimal n
 text_of (Mov d a) = codes "MOV " ++ register_text d ++ codes "," ++ register_text a
 text_of (Arg d k) = codes "ARG " ++ register_text d ++ codes ",#" ++ decimal k
-text_of (Add d a b) = codes "ADD " ++ register_text d ++ codes "," ++ register_text a ++ codes "," ++ register_text b
-text_of (Sub d a b) = codes "SUB " ++ register_text d ++ codes "," ++ register_text a ++ codes "," ++ register_text b
-text_of (Eq d a b) = codes "EQ " ++ register_text d ++ codes "," ++ register_text a ++ codes "," ++ register_text b
-text_of (Lt d a b) = codes "LT " ++ register_text d ++ codes "," ++ register_text a ++ codes "," ++ register_text b
+text_of (Add d a b) = codes "ADD " ++ three_registers_text d a b
+text_of (Sub d a b) = codes "SUB " ++ three_registers_text d a b
+text_of (Eq d a b) = codes "EQ " ++ three_registers_text d a b
+text_of (Lt d a b) = codes "LT " ++ three_registers_text d a b
 text_of (Jmp t) = codes "JMP @L" ++ decimal t
 text_of (Jz a t) = codes "JZ " ++ register_text a ++ codes ",@L" ++ decimal t
 text_of (Fsub d a) = codes "FSUB " ++ register_text d ++ codes "," ++ register_text a
 text_of (Fnum d a) = codes "FNUM " ++ register_text d ++ codes "," ++ register_text a
-text_of (Facc d a b) = codes "FACC " ++ register_text d ++ codes "," ++ register_text a ++ codes "," ++ register_text b
-text_of (Ffac d a b) = codes "FFAC " ++ register_text d ++ codes "," ++ register_text a ++ codes "," ++ register_text b
+text_of (Facc d a b) = codes "FACC " ++ three_registers_text d a b
+text_of (Ffac d a b) = codes "FFAC " ++ three_registers_text d a b
 text_of (Fcfw d a) = codes "FCFW " ++ register_text d ++ codes "," ++ register_text a
 text_of (Get d c) = codes "GET " ++ register_text d ++ codes ",#" ++ decimal c
 text_of (Put c a) = codes "PUT #" ++ decimal c ++ codes "," ++ register_text a

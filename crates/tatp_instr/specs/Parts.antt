@@ -28,7 +28,8 @@ is_unused_word Target word = false
 -- a register or the number is not 0 where the shape has none
 abbrev pub has_unused_in : Option Shape → Parts → Bool
 has_unused_in None p = false
-has_unused_in (Some s) p = list_any is_not_zero (drop s.registers p.registers) || is_unused_word s.word p.word
+has_unused_in (Some s) p =
+    list_any is_not_zero (drop s.registers p.registers) || is_unused_word s.word p.word
 
 -- a register or the number is not 0 where the op has none
 abbrev pub has_unused : Parts → Bool
@@ -73,7 +74,8 @@ instr_with op d a b n =
     Fail n
 
 abbrev pub instr_of_parts : Parts → Instr
-instr_of_parts p = instr_with p.op (slice_index p.registers 0) (slice_index p.registers 1) (slice_index p.registers 2) p.word
+instr_of_parts p = instr_with p.op
+    (slice_index p.registers 0) (slice_index p.registers 1) (slice_index p.registers 2) p.word
 
 -- the instruction with these parts, unless a register is outside its range
 abbrev pub instr_of : Parts → Option Instr

@@ -1,4 +1,5 @@
--- The table: the mnemonic and the operands of each op, and what they make of an instruction's parts.
+-- The table: the mnemonic and the operands of each op, and what they make of an instruction's
+-- parts.
 use Rattle.std.specs.Prelude.{◌≡◌, ℕ, zero, suc, Bool, true, false, List, [], ◌∷◌, map, drop, All, codes, bytes_eq, Option, None, slice_get}
 use Rattle.std.specs.List.{find}
 use Rattle.tatp_instr.specs.declared.book.Word.{Word}
@@ -19,11 +20,21 @@ pub record Row : Type 0 where
 
 -- a row whose u32, if there is one, stands after the registers
 abbrev pub row : ℕ → List ℕ → ℕ → Word → Row
-row op mnemonic registers word = record { op = op; mnemonic = mnemonic; shape = shape_with registers word; word_first = false }
+row op mnemonic registers word = record {
+  op = op;
+  mnemonic = mnemonic;
+  shape = shape_with registers word;
+  word_first = false;
+}
 
 -- a row whose u32 stands before them
 abbrev pub row_word_first : ℕ → List ℕ → Word → ℕ → Row
-row_word_first op mnemonic word registers = record { op = op; mnemonic = mnemonic; shape = shape_with registers word; word_first = true }
+row_word_first op mnemonic word registers = record {
+  op = op;
+  mnemonic = mnemonic;
+  shape = shape_with registers word;
+  word_first = true;
+}
 
 -- the rows of the ops 1 to 21, in order
 abbrev pub rows : List Row

@@ -114,7 +114,8 @@ pub fn operands(op: u8) -> Option<Shape>
 
 // The first of some rows with this mnemonic.
 fn find_row(rows: &'static [OpRow], mnemonic: &str) -> Option<&'static OpRow>
-    ensures { option_map (λ row. row_view row.now) result ≡ named mnemonic.now (map row_view rows.now) }
+    ensures { option_map (λ row. row_view row.now) result
+        ≡ named mnemonic.now (map row_view rows.now) }
 {
     for row in rows {
         if row.mnemonic == mnemonic {

@@ -124,9 +124,11 @@ impl Instr {
 fn instr_of(op: u8, first: u8, second: u8, third: u8, word: u32) -> Option<Instr>
     requires known { has_bad_op (parts_with op first second third word) ≡ false }
     requires used { has_unused (parts_with op first second third word) ≡ false }
-    ensures value { IfSome result (λ instr. parts_of instr ≡ parts_with op first second third word) }
+    ensures value { IfSome result
+        (λ instr. parts_of instr ≡ parts_with op first second third word) }
     ensures exact { IfSome result (λ instr. instr ≡ instr_with op first second third word) }
-    ensures none { IsNone result ↔ IsTrue (has_bad_register (parts_with op first second third word)) }
+    ensures none { IsNone result
+        ↔ IsTrue (has_bad_register (parts_with op first second third word)) }
 {
     let key = second;
     let (first, second, third) = (

@@ -9,7 +9,11 @@ is_between least most n = nat_le least n && nat_le n most
 
 -- digits with no leading zero, of a number below 2 ^ 64
 unfoldable pub is_number : List ℕ → Bool
-is_number text = nat_lt 0 (length text) && (all_ascii_digits text && ((not (slice_index text 0 == 48) || (length text == 1)) && nat_lt (digits_value 10 text) (2 ^ 64)))
+is_number text =
+    nat_lt 0 (length text)
+    && (all_ascii_digits text
+    && ((not (slice_index text 0 == 48) || (length text == 1))
+    && nat_lt (digits_value 10 text) (2 ^ 64)))
 
 -- the number that a text is
 unfoldable pub number_of : List ℕ → Option ℕ

@@ -16,7 +16,9 @@ code_bytes (instr ∷ more) = spelling instr ++ code_bytes more
 
 -- the length of the name, the name, the arity, how many instructions there are, and those
 unfoldable pub procedure_bytes : Procedure → List ℕ
-procedure_bytes p = length p.name ∷ (p.name ++ (p.arity ∷ (to_be_bytes w16 (length p.code) ++ code_bytes p.code)))
+procedure_bytes p =
+    length p.name
+    ∷ (p.name ++ (p.arity ∷ (to_be_bytes w16 (length p.code) ++ code_bytes p.code)))
 
 unfoldable pub procedures_bytes : List Procedure → List ℕ
 procedures_bytes [] = []

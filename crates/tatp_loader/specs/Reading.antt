@@ -1,4 +1,5 @@
--- Reading a module from front to back, with the first fault that is met: docs/FORMATS.md, "Modules as bytes".
+-- Reading a module from front to back, with the first fault that is met: docs/FORMATS.md, "Modules
+-- as bytes".
 use Rattle.std.specs.Prelude.{◌≡◌, ℕ, zero, suc, Bool, ◌==◌, nat_lt, nat_le, if◌then◌else◌, List, [], ◌∷◌, length, take, drop, Option, Some, None, Result, Ok, Err, bytes_eq}
 use Rattle.std.specs.Int.{w16, from_be_bytes}
 use Rattle.std.specs.List.{list_all}
@@ -18,7 +19,8 @@ use Rattle.tatp_loader.specs.Rules.{fault, first_fault}
 use Rattle.tatp_loader.specs.ModuleBytes.{magic}
 
 infixl 10 ◌>>=◌
-abbrev pub ◌>>=◌ : {A B : Type 0} → Result A LoadFault → (A → Result B LoadFault) → Result B LoadFault
+abbrev pub ◌>>=◌ : {A B : Type 0} → Result A LoadFault → (A → Result B LoadFault)
+    → Result B LoadFault
 (Ok a) >>= f = f a
 (Err e) >>= f = Err e
 
@@ -56,7 +58,8 @@ byte_at ends (byte ∷ rest) = Ok (byte, rest)
 
 -- so many bytes; the input may end before their last
 abbrev pub bytes_at : LoadFault → ℕ → List ℕ → Result (List ℕ × List ℕ) LoadFault
-bytes_at ends k bytes = if nat_lt (length bytes) k then Err ends else Ok (take k bytes, drop k bytes)
+bytes_at ends k bytes =
+    if nat_lt (length bytes) k then Err ends else Ok (take k bytes, drop k bytes)
 
 -- ---- the procedure n
 unfoldable pub name_at : ℕ → List ℕ → Result (List ℕ × List ℕ) LoadFault
@@ -75,7 +78,9 @@ arity_at n bytes = do
 unfoldable pub length_at : ℕ → List ℕ → Result (ℕ × List ℕ) LoadFault
 length_at n bytes = do
   field ← bytes_at (cut n) 2 bytes
-  passing (bad_header n) (is_between 1 MAX_INSTRUCTIONS (from_be_bytes w16 field.0)) (from_be_bytes w16 field.0, field.1)
+  passing (bad_header n)
+      (is_between 1 MAX_INSTRUCTIONS (from_be_bytes w16 field.0))
+      (from_be_bytes w16 field.0, field.1)
 
 abbrev pub kind_of : Bad → LoadFaultKind
 kind_of bad.BadOp = BadOp

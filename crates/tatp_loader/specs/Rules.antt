@@ -37,7 +37,8 @@ excess outs writes x =
 
 -- the first rule that it breaks
 abbrev pub broken_at : Procedure → ℕ → Instr → Option LoadFaultKind
-broken_at p i x = first_of (misfit p i x) (excess (count_by is_out (take i p.code)) (count_by is_write (take i p.code)) x)
+broken_at p i x = first_of (misfit p i x)
+    (excess (count_by is_out (take i p.code)) (count_by is_write (take i p.code)) x)
 
 -- ---- a procedure
 -- the fault of the procedure n, at the instruction i, where a rule is broken
@@ -48,7 +49,8 @@ fault_at n i (Some kind) = Some (fault kind n i)
 -- the first instruction, of those from the position i on, that breaks a rule
 abbrev pub first_broken : ℕ → Procedure → ℕ → List Instr → Option LoadFault
 first_broken n p i [] = None
-first_broken n p i (x ∷ more) = first_of (fault_at n i (broken_at p i x)) (first_broken n p (suc i) more)
+first_broken n p i (x ∷ more) =
+    first_of (fault_at n i (broken_at p i x)) (first_broken n p (suc i) more)
 
 abbrev pub is_end_at : Option Instr → Bool
 is_end_at None = false
@@ -74,7 +76,8 @@ fault_after before p =
 -- the first fault of the procedures, in order, after these
 abbrev pub first_fault_after : List Procedure → List Procedure → Option LoadFault
 first_fault_after before [] = None
-first_fault_after before (p ∷ more) = first_of (fault_after before p) (first_fault_after (before ++ p ∷ []) more)
+first_fault_after before (p ∷ more) =
+    first_of (fault_after before p) (first_fault_after (before ++ p ∷ []) more)
 
 abbrev pub first_fault : List Procedure → Option LoadFault
 first_fault m = first_fault_after [] m

@@ -1,5 +1,6 @@
 //! What is wrong with a module, or with the bytes of one.
 ghost use Rattle.std.specs.Prelude.{◌≡◌};
+ghost use Rattle.tatp_loader.specs.Rules.{fault};
 ghost use Rattle.tatp_loader.specs.declared.fault.LoadError.TheVariants.{NoMemory, Fault};
 
 use std::alloc::{AllocError, AllocFailed};
@@ -62,6 +63,17 @@ pub struct LoadFault {
     pub kind: LoadFaultKind,
     pub procedure: usize,
     pub instruction: usize,
+}
+
+/// A fault of the procedure n, at the instruction i.
+pub(crate) fn fault(kind: LoadFaultKind, n: usize, i: usize) -> LoadFault
+    ensures { result ≡ fault kind n i }
+{
+    LoadFault {
+        kind,
+        procedure: n,
+        instruction: i,
+    }
 }
 
 /// Why bytes are not loaded.

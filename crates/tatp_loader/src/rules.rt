@@ -5,7 +5,7 @@ ghost use Rattle.tatp_tables.specs.Columns.{is_column, is_fixed};
 ghost use Rattle.tatp_loader.specs.Lawful.{IsLawful, is_out, is_write, is_end};
 ghost use Rattle.tatp_loader.specs.Rules.{misfit, excess, first_broken, missing_end, has_name, fault_after, first_fault};
 
-use crate::fault::{LoadFault, LoadFaultKind};
+use crate::fault::{LoadFault, LoadFaultKind, fault};
 use crate::loaded::Loaded;
 use tatp_encoding::{Module, Proc};
 use tatp_instr::Instr;
@@ -87,11 +87,7 @@ fn first_broken(number: usize, procedure: &Proc) -> Option<LoadFault>
     for (position, instr) in procedure.code().iter().enumerate() {
         let kind = instr_misfit(procedure, position, instr).or(instr_excess(outs, writes, instr));
         if let Some(kind) = kind {
-            return Some(LoadFault {
-                kind,
-                procedure: number,
-                instruction: position,
-            });
+            return Some(fault(kind, number, position));
         }
         outs += usize::from(is_out(instr));
         writes += usize::from(is_write(instr));
@@ -107,11 +103,7 @@ fn missing_end(number: usize, procedure: &Proc) -> Option<LoadFault>
     if is_end(&procedure.code()[last]) {
         return None;
     }
-    Some(LoadFault {
-        kind: LoadFaultKind::NoEnd,
-        procedure: number,
-        instruction: last,
-    })
+    Some(fault(LoadFaultKind::NoEnd, number, last))
 }
 
 /// Whether one of the procedures has the name.
@@ -127,11 +119,7 @@ fn fault_after(before: &[Proc], procedure: &Proc) -> Option<LoadFault>
 {
     let number = before.len();
     if any_has_name(before, procedure.name()) {
-        return Some(LoadFault {
-            kind: LoadFaultKind::NameTwice,
-            procedure: number,
-            instruction: 0,
-        });
+        return Some(fault(LoadFaultKind::NameTwice, number, 0));
     }
     first_broken(number, procedure).or(missing_end(number, procedure))
 }

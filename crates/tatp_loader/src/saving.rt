@@ -3,7 +3,7 @@ ghost use Rattle.std.specs.Prelude.{◌≡◌, ◌++◌, IfOk, OnOk};
 ghost use Rattle.tatp_loader.specs.ModuleBytes.{code_bytes, procedure_bytes, IsModuleOf};
 
 use crate::loaded::Loaded;
-use crate::reading::MAGIC;
+use crate::parsing::MAGIC;
 use std::alloc::{AllocError, Global};
 use tatp_encoding::{Proc, encode};
 use tatp_instr::Instr;

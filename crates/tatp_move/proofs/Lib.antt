@@ -1,5 +1,2 @@
-pub mod RouteLaws
-mod DealLaws
-mod NumberLaws
-mod SiteLaws
+mod RouteLaws
 mod RangeLaws

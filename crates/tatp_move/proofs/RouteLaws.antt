@@ -2,11 +2,8 @@
 use Rattle.std.proofs.Common.{◌≡◌, ℕ, ◌+◌, List, [], ◌∷◌, ◌++◌, map, length, arith, ◌∙◌, ap, sym}
 use Rattle.std.specs.List.{range_with_len}
 use Rattle.std.proofs.lemmas.List.FromFn.{map-range_with_len_more, length-map-range_with_len}
-use Rattle.tatp_move.specs.Routing.{opening_partition}
 use Rattle.tatp_move.specs.declared.route.Route.{Route}
-
-abbrev pub opening_route : ℕ → ℕ → Route
-opening_route partitions e = record { partition = opening_partition partitions e; moves = 0 }
+use Rattle.tatp_move.specs.Routing.{opening_route}
 
 pub one_more : (partitions e : ℕ) (routes : List Route) → routes ≡ map (opening_route partitions) (range_with_len 0 e) → routes ++ opening_route partitions e ∷ [] ≡ map (opening_route partitions) (range_with_len 0 (e + 1))
 one_more partitions e routes h = ap (λ t. t ++ opening_route partitions e ∷ []) h ∙ sym (map-range_with_len_more (opening_route partitions) 0 e e (omega arith))

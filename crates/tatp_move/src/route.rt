@@ -7,6 +7,7 @@ use crate::{MoveRefusal, Plan};
 use std::alloc::{AllocError, Global};
 use std::marker::Model;
 use tatp_partition::Landed;
+use tatp_population::{extent_count, extent_of};
 
 /// Where an extent was last known to have landed, and after how many moves.
 #[derive(Clone, Copy, Debug, PartialEq, Eq)]
@@ -19,7 +20,7 @@ pub struct Route {
 
 /// What became of a landing.
 #[derive(Clone, Copy, Debug, PartialEq, Eq)]
-pub enum Settled {
+pub enum RouteUpdate {
     /// The route is set.
     Set,
     /// The route knew of as many moves or more.
@@ -41,13 +42,18 @@ impl Model for Routes {
 
     ghost Value = { RoutesState };
 
-    ghost view = { λ a. record { subscribers = a.subscribers; partitions = a.partitions; routes = a.routes.items } };
+    ghost view = { λ a. record {
+      subscribers = a.subscribers;
+      partitions = a.partitions;
+      routes = a.routes.items;
+    } };
 
-    ghost invariant = { λ a. (vec_len a.routes ≡ extent_count a.subscribers + 1) × (a.subscribers ≤ 1000000) };
+    ghost invariant = { λ a.
+        (vec_len a.routes ≡ extent_count a.subscribers + 1) × (a.subscribers ≤ 1000000) };
 }
 
 impl Routes {
-    ghost use Rattle.tatp_move.specs.Routing.{opened_routes, route_of, Settles};
+    ghost use Rattle.tatp_move.specs.Routing.{opened_routes, route_of, UpdatesRoute};
     ghost use Rattle.tatp_move.specs.Ranges.{plan_of};
 
     /// The routes to the extents of so many subscribers, which open in so many partitions.
@@ -56,7 +62,7 @@ impl Routes {
         requires some { 1 ≤ partitions }
         ensures { IfOk result (λ routes. routes ≡ opened_routes subscribers partitions) }
     {
-        let count = (subscribers + 63) / 64;
+        let count = extent_count(subscribers);
         let mut routes = Vec::with_capacity(alloc, count as usize + 1)?;
         for e in 0..count + 1 {
             let partition = (e.saturating_sub(1) % partitions as u64) as u8;
@@ -82,29 +88,31 @@ impl Routes {
                 if s_id < 1 || self.subscribers < s_id {
                     return 0;
                 }
-                self.routes[((s_id + 63) / 64) as usize].partition
+                self.routes[extent_of(s_id) as usize].partition
             }
         }
     }
 
     /// Spends a landing: the route is set, unless it knows of as many moves or more.
-    pub fn settle_route(&mut self, landed: Landed) -> Settled
-        ensures { Settles self.old landed result self.new }
+    pub fn settle_route(&mut self, landed: Landed) -> RouteUpdate
+        ensures { UpdatesRoute self.old landed result self.new }
     {
         let place = landed.number() as usize;
         let moves = landed.moves();
         let partition = landed.site();
         landed.discard();
         if place >= self.routes.len() || self.routes[place].moves >= moves {
-            return Settled::Superseded;
+            return RouteUpdate::Superseded;
         }
         self.routes[place] = Route { partition, moves };
-        return Settled::Set;
+        return RouteUpdate::Set;
     }
 
-    /// The extents in which the subscribers lo to hi lie, to be moved from one partition to another.
+    /// The extents in which the subscribers lo to hi lie, to be moved from one partition to
+    /// another.
     pub fn move_range(&self, lo: u64, hi: u64, from: u64, to: u64) -> Result<Plan, MoveRefusal>
-        ensures { result ≡ plan_of self.now (record { lo = lo; hi = hi; from = from; to = to }) }
+        ensures { result
+            ≡ plan_of self.now (record { lo = lo; hi = hi; from = from; to = to }) }
     {
         if lo == 0 || hi < lo || self.subscribers < hi {
             return Err(MoveRefusal::NoExtent);
@@ -117,8 +125,8 @@ impl Routes {
             return Err(MoveRefusal::SamePartition);
         }
         Ok(Plan {
-            first: ((lo + 63) / 64) as u32,
-            last: ((hi + 63) / 64) as u32,
+            first: extent_of(lo) as u32,
+            last: extent_of(hi) as u32,
             from: from as u8,
             to: to as u8,
         })

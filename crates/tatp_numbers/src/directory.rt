@@ -1,6 +1,7 @@
 //! The directory: the home of each key.
 ghost use Rattle.std.specs.Prelude.{◌≡◌, ℕ, IfOk, OnOk, Err, length, nat_eq};
 ghost use Rattle.indexmap.specs.IndexMap.{get};
+ghost use Rattle.tatp_tables.specs.Clean.{IsClean};
 ghost use Rattle.tatp_tables.specs.Tuples.{set_of};
 ghost use Rattle.tatp_numbers.specs.Homes.{home_of_key};
 ghost use Rattle.tatp_numbers.specs.Listing.{answer};
@@ -9,8 +10,9 @@ ghost use Rattle.tatp_numbers.specs.declared.key.Key.{Key};
 
 use crate::{BuildError, Key};
 use indexmap::IndexMap;
-use std::alloc::Global;
+use std::alloc::{AllocError, Global};
 use std::marker::Model;
+use tatp_tables::Rows;
 
 /// Which subscriber has which number. It never changes. Contracts see how many there are and
 /// the s_ids at the numbers.
@@ -38,7 +40,8 @@ impl Directory {
     pub fn build(alloc: Global, rows: &[[u64; 34]]) -> Result<Directory, BuildError>
         requires { IdsRunToLength rows.now }
         ensures count { IfOk result (λ directory. directory.count ≡ length rows.now) }
-        ensures homes { IfOk result (λ directory. (key : Key) → answer directory key ≡ home_of_key (set_of rows.now) key) }
+        ensures homes { IfOk result (λ directory. (key : Key)
+            → answer directory key ≡ home_of_key (set_of rows.now) key) }
         ensures once { OnOk result (NumbersStandOnce rows.now) }
         ensures twice { result ≡ Err BuildError.NumberTwice → NumberRepeats rows.now }
     {
@@ -47,6 +50,20 @@ impl Directory {
             count: rows.len() as u64,
             s_ids,
         })
+    }
+
+    /// The directory of clean rows.
+    pub fn of_clean(alloc: Global, rows: &Rows) -> Result<Directory, AllocError>
+        requires { IsClean rows.now }
+        ensures count { IfOk result (λ directory. directory.count ≡ length rows.now.subscribers) }
+        ensures homes { IfOk result (λ directory. (key : Key)
+            → answer directory key ≡ home_of_key (set_of rows.now.subscribers) key) }
+    {
+        match Directory::build(alloc, rows.subscribers.as_slice()) {
+            Ok(directory) => Ok(directory),
+            Err(BuildError::NoMemory) => Err(AllocError),
+            Err(BuildError::NumberTwice) => unreachable!(),
+        }
     }
 
     /// The s_id of the subscriber that the key names, if it names one.
@@ -68,7 +85,8 @@ impl Directory {
 
 /// The s_id at each number.
 fn s_ids_by_number(alloc: Global, rows: &[[u64; 34]]) -> Result<IndexMap<u64, u64>, BuildError>
-    ensures found { IfOk result (λ s_ids. (number : ℕ) → get nat_eq s_ids number ≡ s_id_at rows.now number) }
+    ensures found { IfOk result (λ s_ids. (number : ℕ)
+        → get nat_eq s_ids number ≡ s_id_at rows.now number) }
     ensures once { OnOk result (NumbersStandOnce rows.now) }
     ensures twice { result ≡ Err BuildError.NumberTwice → NumberRepeats rows.now }
 {

@@ -45,9 +45,9 @@ pub(crate) struct ChapterParts {
     pub(crate) after: Vec<Home>,
 }
 
-/// What the log of an extent was between two checkpoints: its homes at the first, the calls that led from
-/// those on, and the homes to which they led. It can be neither copied nor dropped, so none is doubled or
-/// lost on its way: [`Chapter::discard`] spends it.
+/// What the log of an extent was between two checkpoints: its homes at the first, the calls that
+/// led from those on, and the homes to which they led. It can be neither copied nor dropped, so
+/// none is doubled or lost on its way: [`Chapter::discard`] spends it.
 pub struct Chapter {
     parts: ChapterParts,
 }

@@ -47,10 +47,3 @@ arity_is (UpdateSubscriberData s x t y) = refl
 arity_is (UpdateLocation n v) = refl
 arity_is (InsertCallForwarding n t b e x) = refl
 arity_is (DeleteCallForwarding n t b) = refl
-
-pub takes_arguments : (m : List Procedure) (call : Call) (arguments : List ℕ) (procedure : ℕ) → m ≡ standard_module → procedure ≡ procedure_of call → arguments ≡ arguments_of call
-    → IsSomeAnd (slice_get m procedure) (λ (p : Procedure). p.arity ≡ length arguments)
-takes_arguments m call arguments procedure is place are =
-    subst (λ k. IsSomeAnd (slice_get k procedure) (λ (p : Procedure). p.arity ≡ length arguments)) (sym is)
-    (subst (λ k. IsSomeAnd (slice_get standard_module k) (λ (p : Procedure). p.arity ≡ length arguments)) (sym place)
-    (subst (λ (k : List ℕ). IsSomeAnd (slice_get standard_module (procedure_of call)) (λ (p : Procedure). p.arity ≡ length k)) (sym are) (arity_is call)))

@@ -1,8 +1,7 @@
 -- Lemmas on values in decimal.
-use Rattle.std.proofs.Common.{◌≡◌, ℕ, ◌+◌, ◌<◌, ◌≤◌, ◌^◌, ◌/◌, ◌%◌, ◌∙◌, sym, Bool, true, false, cond, List, [], ◌∷◌, ◌++◌, refl, ap, arith, decimal, append_assoc, Result, Ok, Err}
+use Rattle.std.proofs.Common.{◌≡◌, ℕ, ◌∙◌, sym, Bool, true, false, cond, List, [], ◌∷◌, ◌++◌, refl, ap, decimal, append_assoc, Result, Ok, Err}
 use Rattle.std.specs.Result.{OnOk}
 use Rattle.std.proofs.lemmas.Bool.{false≢true}
-use Rattle.std.proofs.lemmas.Fmt.{decimal_digit, decimal_step}
 use Rattle.tatp_tables.specs.declared.form.Form.{Form}
 use Rattle.tatp_tables.specs.declared.form.Form.TheVariants.{Decimal, FifteenDigits, Letters}
 use Rattle.tatp_tables.specs.Domains.{is_in_domain}
@@ -29,13 +28,3 @@ spaced_in_decimal (Err error) old spaced text c v h s t = tt
 pub in_decimal : (v : ℕ) → decimal v ≡ value_text 255 v
 unfolding value_text is_in_domain
 in_decimal v = refl
-
--- a last digit after the others
-last_digit : (old front text : List ℕ) (n : ℕ) → 10 ≤ n → n < 2 ^ 64 → front ≡ old ++ decimal (n / 10) → text ≡ front ++ decimal (n % 10) → text ≡ old ++ decimal n
-last_digit old front text n low high f t =
-    let last : decimal (n % 10) ≡ (48 + n % 10) ∷ [] = decimal_digit (n % 10) (omega arith) in
-    t ∙ ap (λ digits. front ++ digits) last ∙ ap (λ xs. xs ++ (48 + n % 10) ∷ []) f ∙ append_assoc old (decimal (n / 10)) ((48 + n % 10) ∷ []) ∙ ap (λ digits. old ++ digits) (sym (decimal_step n low high))
-
-pub last_digit_pushed : {E : Type 0} (r : Result (Unit {0}) E) (old front text : List ℕ) (n : ℕ) → 10 ≤ n → n < 2 ^ 64 → front ≡ old ++ decimal (n / 10) → OnOk r (text ≡ front ++ decimal (n % 10)) → OnOk r (text ≡ old ++ decimal n)
-last_digit_pushed (Ok done) old front text n low high f t = last_digit old front text n low high f t
-last_digit_pushed (Err error) old front text n low high f t = tt

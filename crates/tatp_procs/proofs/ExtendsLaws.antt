@@ -1,7 +1,5 @@
 -- Lemmas on a text that was appended to: it can be cut to what it was.
-use Rattle.std.proofs.Common.{◌≡◌, ℕ, ◌+◌, ◌<◌, ◌^◌, ◌∙◌, sym, ap, subst, List, [], ◌∷◌, ◌++◌, length, take, slice_index, append_assoc, arith, lit<, length-append, decimal, Result, Ok, Err}
-use Rattle.std.specs.Result.{OnErr}
-use Rattle.std.proofs.lemmas.Fmt.{IsAscii-decimal}
+use Rattle.std.proofs.Common.{◌≡◌, ℕ, ◌+◌, ◌<◌, ◌∙◌, sym, ap, subst, List, [], ◌∷◌, ◌++◌, length, take, slice_index, append_assoc, arith, lit<, length-append}
 use Rattle.std.proofs.lemmas.List.{take_at, get_or-append-add}
 use Rattle.std.specs.String.Boundary.{IsSplitPoint}
 use Rattle.tatp_procs.specs.Extends.{Extends}
@@ -19,11 +17,6 @@ Extends-then before between text e f = record {
   is = f.is ∙ (ap (λ front. front ++ f.more) e.is ∙ append_assoc before e.more f.more);
   begins = begins_then e.more f.more e.begins f.begins;
 }
-
--- a number in decimal, and nothing more
-pub Extends-decimal : {E : Type 0} (r : Result (Unit {0}) E) (before text longer : List ℕ) (n : ℕ) → n < 2 ^ 64 → text ≡ before ++ decimal n → OnErr r (longer ≡ text) → OnErr r (Extends before longer)
-Extends-decimal (Ok done) before text longer n small e f = tt
-Extends-decimal (Err error) before text longer n small e f = record { more = decimal n; is = f ∙ e; begins = IsAscii-decimal n small 0 }
 
 -- a value after a space
 pub Extends-printed : (before text longer value : List ℕ) → Extends before text → longer ≡ text ++ 32 ∷ value → Extends before longer

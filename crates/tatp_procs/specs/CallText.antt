@@ -11,25 +11,48 @@ use Rattle.tatp_procs.specs.ValuesText.{values_of, values_text, are_printable}
 -- ---- the call of a line
 -- the call whose arguments the fields are: one of each column that they name
 abbrev pub get_subscriber_data_of : List (List ℕ) → Option Call
-get_subscriber_data_of fields = option_map (λ a. GetSubscriberData (slice_index a 0)) (values_of get_subscriber_data_columns fields)
+get_subscriber_data_of fields =
+    option_map
+    (λ a. GetSubscriberData (slice_index a 0))
+    (values_of get_subscriber_data_columns fields)
 
 abbrev pub get_new_destination_of : List (List ℕ) → Option Call
-get_new_destination_of fields = option_map (λ a. GetNewDestination (slice_index a 0) (slice_index a 1) (slice_index a 2) (slice_index a 3)) (values_of get_new_destination_columns fields)
+get_new_destination_of fields =
+    option_map
+    (λ a. GetNewDestination (slice_index a 0) (slice_index a 1) (slice_index a 2) (slice_index a 3))
+    (values_of get_new_destination_columns fields)
 
 abbrev pub get_access_data_of : List (List ℕ) → Option Call
-get_access_data_of fields = option_map (λ a. GetAccessData (slice_index a 0) (slice_index a 1)) (values_of get_access_data_columns fields)
+get_access_data_of fields =
+    option_map
+    (λ a. GetAccessData (slice_index a 0) (slice_index a 1))
+    (values_of get_access_data_columns fields)
 
 abbrev pub update_subscriber_data_of : List (List ℕ) → Option Call
-update_subscriber_data_of fields = option_map (λ a. UpdateSubscriberData (slice_index a 0) (slice_index a 1) (slice_index a 2) (slice_index a 3)) (values_of update_subscriber_data_columns fields)
+update_subscriber_data_of fields =
+    option_map
+    (λ a. UpdateSubscriberData (slice_index a 0) (slice_index a 1) (slice_index a 2)
+    (slice_index a 3))
+    (values_of update_subscriber_data_columns fields)
 
 abbrev pub update_location_of : List (List ℕ) → Option Call
-update_location_of fields = option_map (λ a. UpdateLocation (slice_index a 0) (slice_index a 1)) (values_of update_location_columns fields)
+update_location_of fields =
+    option_map
+    (λ a. UpdateLocation (slice_index a 0) (slice_index a 1))
+    (values_of update_location_columns fields)
 
 abbrev pub insert_call_forwarding_of : List (List ℕ) → Option Call
-insert_call_forwarding_of fields = option_map (λ a. InsertCallForwarding (slice_index a 0) (slice_index a 1) (slice_index a 2) (slice_index a 3) (slice_index a 4)) (values_of insert_call_forwarding_columns fields)
+insert_call_forwarding_of fields =
+    option_map
+    (λ a. InsertCallForwarding (slice_index a 0) (slice_index a 1) (slice_index a 2)
+    (slice_index a 3) (slice_index a 4))
+    (values_of insert_call_forwarding_columns fields)
 
 abbrev pub delete_call_forwarding_of : List (List ℕ) → Option Call
-delete_call_forwarding_of fields = option_map (λ a. DeleteCallForwarding (slice_index a 0) (slice_index a 1) (slice_index a 2)) (values_of delete_call_forwarding_columns fields)
+delete_call_forwarding_of fields =
+    option_map
+    (λ a. DeleteCallForwarding (slice_index a 0) (slice_index a 1) (slice_index a 2))
+    (values_of delete_call_forwarding_columns fields)
 
 -- by its name
 abbrev pub call_of_fields : List (List ℕ) → Option Call

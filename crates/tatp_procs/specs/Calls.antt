@@ -1,4 +1,5 @@
--- A call of a transaction as a call of its standard procedure: which procedure, which subscriber, which arguments.
+-- A call of a transaction as a call of its standard procedure: which procedure, which subscriber,
+-- which arguments.
 use Rattle.std.specs.Prelude.{ℕ, List, [], ◌∷◌}
 use Rattle.tatp_numbers.specs.declared.key.Key.{Key}
 use Rattle.tatp_numbers.specs.declared.key.Key.TheVariants.{Id, Number}

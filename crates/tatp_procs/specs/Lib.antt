@@ -2,6 +2,7 @@ pub mod Calls
 pub mod Asks
 pub mod Padding
 pub mod Arguments
+pub mod Asked
 pub mod Transactions
 pub mod Order
 pub mod Standard

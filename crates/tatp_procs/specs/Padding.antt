@@ -13,8 +13,12 @@ pub record ArePadded (room count : ℕ) (all : List ℕ) : Type 0 where
   pub zeros : all ≡ padded room (take count all)
 
 -- so the values give back what they are kept in
-pub padded_count : (room count : ℕ) (all : List ℕ) → ArePadded room count all → length (take count all) ≡ count
-padded_count room count all h = length-take-le count all (subst (λ n. count ≤ n) (sym h.room_is) h.most)
+pub padded_count
+    : (room count : ℕ) (all : List ℕ) → ArePadded room count all → length (take count all) ≡ count
+padded_count room count all h =
+    length-take-le count all (subst (λ n. count ≤ n) (sym h.room_is) h.most)
 
-pub padded_values : (room count : ℕ) (all : List ℕ) → ArePadded room count all → padded room (take count all) ≡ all
+pub padded_values
+    : (room count : ℕ) (all : List ℕ)
+    → ArePadded room count all → padded room (take count all) ≡ all
 padded_values room count all h = sym h.zeros

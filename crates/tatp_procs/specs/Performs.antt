@@ -12,11 +12,15 @@ use Rattle.tatp_procs.specs.Transactions.{Answer, transaction}
 abbrev pub answer_of : Outcome → Answer
 answer_of o = record { reply = reply_to o.end o.outputs; database = o.database }
 
--- the call, run alone by this module on the database, with the home that its key names there, has this outcome
+-- the call, run alone by this module on the database, with the home that its key names there, has
+-- this outcome
 abbrev pub CallAlone : List Procedure → Call → Database → Outcome → Type 0
-CallAlone modul call u o = Alone modul (procedure_of call) (arguments_of call) (home_of_key u.subscribers (key_of_call call)) u o
+CallAlone modul call u o =
+    Alone modul (procedure_of call) (arguments_of call)
+    (home_of_key u.subscribers (key_of_call call)) u o
 
--- run alone on the database, the call has an outcome, and it is what its transaction answers and leaves
+-- run alone on the database, the call has an outcome, and it is what its transaction answers and
+-- leaves
 pub record Performs (modul : List Procedure) (call : Call) (u : Database) : Type 0 where
   pub some : (o : Outcome) × CallAlone modul call u o
   pub each : (o : Outcome) → CallAlone modul call u o → answer_of o ≡ transaction call u

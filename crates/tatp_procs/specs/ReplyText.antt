@@ -11,7 +11,8 @@ use Rattle.tatp_procs.specs.declared.reply.Reply.TheVariants.{Values, Failed, Tr
 use Rattle.tatp_procs.specs.Arguments.{numberx}
 use Rattle.tatp_procs.specs.ValuesText.{values_text}
 
--- the columns that a transaction answers: those of a Subscriber row; as many numbers as a reply may have; data1 to data4
+-- the columns that a transaction answers: those of a Subscriber row; as many numbers as a reply may
+-- have; data1 to data4
 abbrev pub answer_columns : Call → List ℕ
 answer_columns (GetSubscriberData s) = range_with_len 0 34
 answer_columns (GetNewDestination s t b e) = replicate 40 numberx

@@ -1,4 +1,5 @@
--- The standard module: the seven transactions as procedures. docs/FORMATS.md, "The standard module".
+-- The standard module: the seven transactions as procedures.
+-- docs/FORMATS.md, "The standard module".
 use Rattle.std.specs.Prelude.{ℕ, zero, suc, ◌+◌, List, [], ◌∷◌, ◌++◌, codes}
 use Rattle.tatp_instr.specs.declared.instr.Instr.{Instr}
 use Rattle.tatp_instr.specs.declared.instr.Instr.TheVariants.{Ldi, Mov, Arg, Add, Eq, Lt, Jz, Fsub, Fnum, Facc, Ffac, Fcfw, Get, Put, Ins, Del, Out, Done, Fail}
@@ -13,14 +14,18 @@ columns (suc n) c = Get 2 c ∷ Out 2 ∷ columns n (c + 1)
 abbrev pub get_subscriber_data_code : List Instr
 get_subscriber_data_code = Arg 0 0 ∷ Fsub 1 0 ∷ Jz 1 72 ∷ columns 34 0 ++ Done ∷ Fail 1 ∷ []
 
--- the forwarding that starts at n is put out, where it is a destination; x: the place after the block
+-- the forwarding that starts at n is put out, where it is a destination; x: the place after the
+-- block
 abbrev pub block : ℕ → ℕ → List Instr
-block n x = Ldi 2 n ∷ Fcfw 7 0 ∷ Jz 7 x ∷ Lt 7 2 5 ∷ Jz 7 x ∷ Get 8 49 ∷ Lt 7 6 8 ∷ Jz 7 x ∷ Get 8 50 ∷ Out 8 ∷ Mov 9 4 ∷ []
+block n x =
+    Ldi 2 n ∷ Fcfw 7 0 ∷ Jz 7 x ∷ Lt 7 2 5 ∷ Jz 7 x
+    ∷ Get 8 49 ∷ Lt 7 6 8 ∷ Jz 7 x ∷ Get 8 50 ∷ Out 8 ∷ Mov 9 4 ∷ []
 
 -- a: 21, b: 32, c: 43, none: 45
 abbrev pub get_new_destination_code : List Instr
 get_new_destination_code =
-    Arg 0 0 ∷ Arg 1 1 ∷ Arg 5 2 ∷ Arg 6 3 ∷ Ffac 7 0 1 ∷ Jz 7 45 ∷ Get 7 42 ∷ Jz 7 45 ∷ Ldi 4 1 ∷ Add 5 5 4 ∷ []
+    Arg 0 0 ∷ Arg 1 1 ∷ Arg 5 2 ∷ Arg 6 3
+    ∷ Ffac 7 0 1 ∷ Jz 7 45 ∷ Get 7 42 ∷ Jz 7 45 ∷ Ldi 4 1 ∷ Add 5 5 4 ∷ []
     ++ block 0 21 ++ block 8 32 ++ block 16 43
     ++ Jz 9 45 ∷ Done ∷ Fail 1 ∷ []
 
@@ -59,25 +64,53 @@ delete_call_forwarding_code =
 
 -- ---- the procedures, with their names and how many arguments they take
 abbrev pub get_subscriber_data_procedure : Procedure
-get_subscriber_data_procedure = record { name = codes "GET_SUBSCRIBER_DATA"; arity = 1; code = get_subscriber_data_code }
+get_subscriber_data_procedure = record {
+  name = codes "GET_SUBSCRIBER_DATA";
+  arity = 1;
+  code = get_subscriber_data_code;
+}
 
 abbrev pub get_new_destination_procedure : Procedure
-get_new_destination_procedure = record { name = codes "GET_NEW_DESTINATION"; arity = 4; code = get_new_destination_code }
+get_new_destination_procedure = record {
+  name = codes "GET_NEW_DESTINATION";
+  arity = 4;
+  code = get_new_destination_code;
+}
 
 abbrev pub get_access_data_procedure : Procedure
-get_access_data_procedure = record { name = codes "GET_ACCESS_DATA"; arity = 2; code = get_access_data_code }
+get_access_data_procedure = record {
+  name = codes "GET_ACCESS_DATA";
+  arity = 2;
+  code = get_access_data_code;
+}
 
 abbrev pub update_subscriber_data_procedure : Procedure
-update_subscriber_data_procedure = record { name = codes "UPDATE_SUBSCRIBER_DATA"; arity = 4; code = update_subscriber_data_code }
+update_subscriber_data_procedure = record {
+  name = codes "UPDATE_SUBSCRIBER_DATA";
+  arity = 4;
+  code = update_subscriber_data_code;
+}
 
 abbrev pub update_location_procedure : Procedure
-update_location_procedure = record { name = codes "UPDATE_LOCATION"; arity = 2; code = update_location_code }
+update_location_procedure = record {
+  name = codes "UPDATE_LOCATION";
+  arity = 2;
+  code = update_location_code;
+}
 
 abbrev pub insert_call_forwarding_procedure : Procedure
-insert_call_forwarding_procedure = record { name = codes "INSERT_CALL_FORWARDING"; arity = 5; code = insert_call_forwarding_code }
+insert_call_forwarding_procedure = record {
+  name = codes "INSERT_CALL_FORWARDING";
+  arity = 5;
+  code = insert_call_forwarding_code;
+}
 
 abbrev pub delete_call_forwarding_procedure : Procedure
-delete_call_forwarding_procedure = record { name = codes "DELETE_CALL_FORWARDING"; arity = 3; code = delete_call_forwarding_code }
+delete_call_forwarding_procedure = record {
+  name = codes "DELETE_CALL_FORWARDING";
+  arity = 3;
+  code = delete_call_forwarding_code;
+}
 
 -- in the order of the benchmark's mix
 abbrev pub standard_module : List Procedure

@@ -1,6 +1,7 @@
 -- The seven transactions, on four sets of tuples: what each answers, and the database after it.
--- TATP Benchmark Description 1.0, transactions; their SQL stands with each. A failure leaves the database. The failure
--- numbers, the parent test and the order of the numbers answered are this profile's: docs/FORMATS.md.
+-- TATP Benchmark Description 1.0, transactions; their SQL stands with each. A failure leaves the
+-- database. The failure numbers, the parent test and the order of the numbers answered are this
+-- profile's: docs/FORMATS.md.
 use Rattle.std.specs.Prelude.{ℕ, Bool, false, ◌&&◌, ◌==◌, nat_lt, nat_le, List, [], ◌∷◌, Option, Some, None, map, filter, drop, slice_index, slice_set}
 use Rattle.tatp_tables.specs.Tuples.{Tuple, rows_of, insert_row, remove_row, replace_row}
 use Rattle.tatp_tables.specs.Keys.{has_key, row_at, row_with_number}
@@ -35,8 +36,8 @@ get_subscriber_data u s = reads u (λ row. row) (row_at u.subscribers (s ∷ [])
 
 -- ---- GET_NEW_DESTINATION
 -- SELECT cf.numberx FROM Special_Facility AS sf, Call_Forwarding AS cf
---   WHERE sf.s_id = s AND sf.sf_type = t AND sf.is_active = 1 AND cf.s_id = sf.s_id AND cf.sf_type = sf.sf_type
---   AND cf.start_time <= b AND e < cf.end_time
+--   WHERE sf.s_id = s AND sf.sf_type = t AND sf.is_active = 1
+--   AND cf.s_id = sf.s_id AND cf.sf_type = sf.sf_type AND cf.start_time <= b AND e < cf.end_time
 abbrev pub is_active : Option Tuple → Bool
 is_active None = false
 is_active (Some facility) = slice_index facility 2 == 1
@@ -51,7 +52,10 @@ abbrev pub numberx_of : Tuple → ℕ
 numberx_of forwarding = slice_index forwarding 4
 
 abbrev pub is_destination : Database → ℕ → ℕ → ℕ → ℕ → Tuple → Bool
-is_destination u s t b e cf = has_key (s ∷ t ∷ []) cf && (is_active (row_at u.facilities (s ∷ t ∷ [])) && (nat_le (start_time_of cf) b && nat_lt e (end_time_of cf)))
+is_destination u s t b e cf =
+    has_key (s ∷ t ∷ []) cf
+    && (is_active (row_at u.facilities (s ∷ t ∷ []))
+    && (nat_le (start_time_of cf) b && nat_lt e (end_time_of cf)))
 
 -- the rows of a set stand in the order of their columns, so these rise in start_time
 abbrev pub destinations : Database → ℕ → ℕ → ℕ → ℕ → List ℕ
@@ -87,7 +91,8 @@ updates_both u x y (Some subscriber) (Some facility) = replies (record u {
 }) []
 
 abbrev pub update_subscriber_data : Database → ℕ → ℕ → ℕ → ℕ → Answer
-update_subscriber_data u s x t y = updates_both u x y (row_at u.subscribers (s ∷ [])) (row_at u.facilities (s ∷ t ∷ []))
+update_subscriber_data u s x t y =
+    updates_both u x y (row_at u.subscribers (s ∷ [])) (row_at u.facilities (s ∷ t ∷ []))
 
 -- ---- UPDATE_LOCATION
 -- UPDATE Subscriber SET vlr_location = v WHERE sub_nbr = n
@@ -96,7 +101,9 @@ with_vlr_location subscriber v = slice_set subscriber 33 v
 
 abbrev pub moves : Database → ℕ → Option Tuple → Answer
 moves u v None = fails u 1
-moves u v (Some subscriber) = replies (record u { subscribers = replace_row u.subscribers subscriber (with_vlr_location subscriber v) }) []
+moves u v (Some subscriber) = replies (record u {
+  subscribers = replace_row u.subscribers subscriber (with_vlr_location subscriber v);
+}) []
 
 abbrev pub update_location : Database → ℕ → ℕ → Answer
 update_location u n v = moves u v (row_with_number u.subscribers n)
@@ -108,11 +115,16 @@ update_location u n v = moves u v (row_with_number u.subscribers n)
 abbrev pub inserts_under : Database → Tuple → Option Tuple → Option Tuple → Answer
 inserts_under u row None there = fails u 3
 inserts_under u row (Some facility) (Some there) = fails u 2
-inserts_under u row (Some facility) None = replies (record u { forwardings = insert_row u.forwardings row }) []
+inserts_under u row (Some facility) None = replies (record u {
+  forwardings = insert_row u.forwardings row;
+}) []
 
 abbrev pub inserts_for : Database → ℕ → ℕ → ℕ → ℕ → Option ℕ → Answer
 inserts_for u t b e x None = fails u 1
-inserts_for u t b e x (Some s) = inserts_under u (s ∷ t ∷ b ∷ e ∷ x ∷ []) (row_at u.facilities (s ∷ t ∷ [])) (row_at u.forwardings (s ∷ t ∷ b ∷ []))
+inserts_for u t b e x (Some s) =
+    inserts_under u (s ∷ t ∷ b ∷ e ∷ x ∷ [])
+    (row_at u.facilities (s ∷ t ∷ []))
+    (row_at u.forwardings (s ∷ t ∷ b ∷ []))
 
 abbrev pub insert_call_forwarding : Database → ℕ → ℕ → ℕ → ℕ → ℕ → Answer
 insert_call_forwarding u n t b e x = inserts_for u t b e x (home_of_key u.subscribers (Number n))

@@ -8,7 +8,10 @@ unfoldable pub values_of : List ℕ → List (List ℕ) → Option (List ℕ)
 values_of [] [] = Some []
 values_of [] (field ∷ more) = None
 values_of (c ∷ columns) [] = None
-values_of (c ∷ columns) (field ∷ more) = option_and_then (λ v. option_map (λ rest. v ∷ rest) (values_of columns more)) (value_of c field)
+values_of (c ∷ columns) (field ∷ more) =
+    option_and_then
+    (λ v. option_map (λ rest. v ∷ rest) (values_of columns more))
+    (value_of c field)
 
 -- the values, each after a space; in decimal past the last column
 unfoldable pub values_text : List ℕ → List ℕ → List ℕ

@@ -1,74 +1,11 @@
-//! What a client asks.
-ghost use Rattle.std.specs.Prelude.{◌≡◌, ◌≤◌, length};
+//! What a client asks: which procedure, of which subscriber, and whether a module takes it.
+ghost use Rattle.std.specs.Prelude.{◌≡◌, ◌↔◌, IsTrue, length};
+ghost use Rattle.tatp_procs.specs.Asked.{is_transaction, procedure_asked, arguments_asked, key_asked};
+ghost use Rattle.tatp_procs.specs.Asked.{AreInDomains, Fits, arities_of, has_procedure, bad_argument};
 
-use crate::Call;
-use std::marker::Model;
+use crate::{BadArgument, Call, Raw, args_ok};
+use tatp_loader::Loaded;
 use tatp_numbers::Key;
-
-/// A call of any procedure, which may be none, with any arguments, at most 8.
-#[derive(Clone, Copy, Debug, PartialEq, Eq)]
-pub struct Raw {
-    procedure: u64,
-    count: usize,
-    /// With 0 after the last.
-    args: [u64; 8],
-    key: Key,
-}
-
-impl Model for Raw {
-    ghost use Rattle.std.specs.Prelude.{take, length};
-    ghost use Rattle.tatp_procs.specs.Asks.{RawCall};
-    ghost use Rattle.tatp_procs.specs.Padding.{ArePadded, padded, padded_count, padded_values};
-
-    ghost Value = { RawCall };
-
-    ghost view = { λ a. record { procedure = a.procedure; arguments = take a.count a.args; key = a.key } };
-
-    ghost invariant = { λ a. ArePadded 8 a.count a.args };
-
-    ghost inverse = { λ r. record { procedure = r.procedure; count = length r.arguments; args = padded 8 r.arguments; key = r.key } };
-
-    ghost inverse_ok = { λ a h. λ i. record { procedure = a.procedure; count = padded_count 8 a.count a.args h i; args = padded_values 8 a.count a.args h i; key = a.key } };
-}
-
-impl Raw {
-    /// The call of the procedure with this number.
-    pub fn new(procedure: u64, arguments: &[u64], key: Key) -> Raw
-        requires { length arguments.now ≤ 8 }
-        ensures { result ≡ record { procedure = procedure; arguments = arguments.now; key = key } }
-    {
-        let mut args = [0; 8];
-        args[..arguments.len()].copy_from_slice(arguments);
-        Raw {
-            procedure,
-            count: arguments.len(),
-            args,
-            key,
-        }
-    }
-
-    /// The number of the procedure.
-    pub fn procedure(&self) -> u64
-        ensures { result ≡ self.now.procedure }
-    {
-        self.procedure
-    }
-
-    /// The arguments.
-    pub fn args(&self) -> &[u64]
-        ensures value { result.now ≡ self.now.arguments }
-        ensures most { length self.now.arguments ≤ 8 }
-    {
-        &self.args[..self.count]
-    }
-
-    /// The key of the subscriber whose rows it may use.
-    pub fn key(&self) -> Key
-        ensures { result ≡ self.now.key }
-    {
-        self.key
-    }
-}
 
 /// What a client asks.
 #[derive(Clone, Copy, Debug, PartialEq, Eq)]
@@ -77,4 +14,97 @@ pub enum Ask {
     Txn(Call),
     /// A call of any procedure.
     Raw(Raw),
+}
+
+impl Ask {
+    /// Whether it is a transaction.
+    pub fn is_transaction(&self) -> bool
+        ensures { result ≡ is_transaction self.now }
+    {
+        match self {
+            Ask::Txn(_) => true,
+            Ask::Raw(_) => false,
+        }
+    }
+
+    /// The number of the procedure.
+    pub fn procedure(&self) -> u64
+        ensures { result ≡ procedure_asked self.now }
+    {
+        match self {
+            Ask::Txn(call) => call.procedure() as u64,
+            Ask::Raw(raw) => raw.procedure(),
+        }
+    }
+
+    /// The key of the subscriber.
+    pub fn key(&self) -> Key
+        ensures { result ≡ key_asked self.now }
+    {
+        match self {
+            Ask::Txn(call) => call.key(),
+            Ask::Raw(raw) => raw.key(),
+        }
+    }
+
+    /// Whether a module has the procedure, with as many arguments.
+    pub fn has_procedure(&self, loaded: &Loaded) -> bool
+        ensures { result ≡ has_procedure loaded.now self.now }
+    {
+        let procs = loaded.module().procs();
+        let procedure = self.procedure();
+        procedure < procs.len() as u64
+            && procs[procedure as usize].arity() as usize == self.argument_count()
+    }
+
+    /// A transaction's first argument outside its domain. Those of any other call may be any
+    /// numbers.
+    pub fn bad_argument(&self) -> Option<BadArgument>
+        ensures { result ≡ bad_argument self.now }
+    {
+        match self {
+            Ask::Txn(call) => args_ok(call).err(),
+            Ask::Raw(_) => None,
+        }
+    }
+
+    /// Whether among procedures that take so many arguments there is the one that is asked, with as
+    /// many, which are in their domains where it is a transaction.
+    pub fn fits(&self, arities: &[u8]) -> bool
+        ensures { IsTrue result ↔ Fits arities.now self.now }
+    {
+        let procedure = self.procedure();
+        procedure < arities.len() as u64 && self.is_taken(arities[procedure as usize])
+    }
+
+    /// Whether a module has the procedure, with as many arguments, which are in their domains where
+    /// it is a transaction.
+    pub fn fits_module(&self, loaded: &Loaded) -> bool
+        ensures { IsTrue result ↔ Fits (arities_of loaded.now) self.now }
+    {
+        let procs = loaded.module().procs();
+        let procedure = self.procedure();
+        procedure < procs.len() as u64 && self.is_taken(procs[procedure as usize].arity())
+    }
+
+    /// How many arguments there are.
+    fn argument_count(&self) -> usize
+        ensures { result ≡ length (arguments_asked self.now) }
+    {
+        match self {
+            Ask::Txn(call) => call.args().len(),
+            Ask::Raw(raw) => raw.args().len(),
+        }
+    }
+
+    /// Whether a procedure that takes so many arguments takes what is asked.
+    fn is_taken(&self, arity: u8) -> bool
+        ensures { IsTrue result
+            ↔ ((arity ≡ length (arguments_asked self.now)) × AreInDomains self.now) }
+    {
+        match self {
+            Ask::Txn(call) => arity as usize == call.args().len() && args_ok(call).is_ok(),
+            Ask::Raw(raw) => arity as usize == raw.args().len(),
+        }
+    }
 }

@@ -5,8 +5,8 @@ ghost use Rattle.tatp_procs.specs.Calls.{procedure_of, key_of_call, arguments_of
 use arrayvec::ArrayVec;
 use tatp_numbers::Key;
 
-/// A call of one of the seven transactions, with its arguments. The variants stand in the order of the
-/// benchmark's mix, which is that of the standard procedures.
+/// A call of one of the seven transactions, with its arguments. The variants stand in the order of
+/// the benchmark's mix, which is that of the standard procedures.
 #[derive(Clone, Copy, Debug, PartialEq, Eq)]
 pub enum Call {
     GetSubscriberData {

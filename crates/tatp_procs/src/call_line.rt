@@ -40,7 +40,8 @@ fn call_of_line(line: &str) -> Option<Call>
 /// The line of a call.
 pub fn call_text(alloc: Global, call: &Call) -> Result<String, AllocError>
     ensures text { IfOk result (λ text. string_bytes text ≡ call_text call.now) }
-    ensures read_back { IfOk result (λ text. is_printable_call call.now ≡ true → call_of_line (string_bytes text) ≡ Some call.now) }
+    ensures read_back { IfOk result (λ text. is_printable_call call.now ≡ true
+        → call_of_line (string_bytes text) ≡ Some call.now) }
 {
     with_values(alloc, name(call), columns(call), &call.args())
 }

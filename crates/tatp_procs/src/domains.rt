@@ -7,8 +7,8 @@ use crate::columns::{S_ID, columns};
 use tatp_tables::in_domain;
 use thiserror::Error;
 
-/// An argument is outside its domain: the first of those, counted from 0. Its text is its number, its
-/// name and the argument.
+/// An argument is outside its domain: the first of those, counted from 0. Its text is its number,
+/// its name and the argument.
 #[derive(Clone, Copy, Debug, PartialEq, Eq, Error)]
 #[error("26 BadArgument {0}")]
 pub struct BadArgument(pub usize);

@@ -1,5 +1,5 @@
 //! The standard module: the seven transactions as procedures.
-ghost use Rattle.std.specs.Prelude.{◌≡◌, ◌↔◌, true, length, IsTrue, IfOk, Ok};
+ghost use Rattle.std.specs.Prelude.{◌≡◌, ◌↔◌, true, IsTrue, IfOk, Ok};
 ghost use Rattle.tatp_tables.specs.Database.{Database};
 ghost use Rattle.tatp_encoding.specs.Modules.{is_procedure};
 ghost use Rattle.tatp_procs.specs.declared.call.Call.{Call};
@@ -23,11 +23,14 @@ use writes::{
     delete_call_forwarding, insert_call_forwarding, update_location, update_subscriber_data,
 };
 
-/// The standard module. Run alone on a consistent database, each of its procedures is its transaction, for
-/// all arguments in their domains.
+/// The standard module. Run alone on a consistent database, each of its procedures is its
+/// transaction, for all arguments in their domains.
 pub fn standard(alloc: Global) -> Result<Loaded, AllocError>
     ensures value { IfOk result (λ loaded. loaded ≡ standard_module) }
-    ensures transactions { IfOk result (λ loaded. (call : Call) (u : Database) → IsConsistent u → arguments_accepted call ≡ Ok tt → Performs loaded call u) }
+    ensures transactions { IfOk result (λ loaded. (call : Call) (u : Database)
+        → IsConsistent u
+        → arguments_accepted call ≡ Ok tt
+        → Performs loaded call u) }
 {
     let procs = procedures(alloc)?;
     Ok(check(Module::new(procs)).unwrap())
@@ -100,7 +103,8 @@ fn procedure(alloc: Global, name: &str, arity: u8, code: &[Instr]) -> Result<Pro
 }
 
 fn consists_of(procedure: &Proc, name: &str, arity: u8, code: &[Instr]) -> bool
-    ensures { IsTrue result ↔ (procedure.now ≡ record { name = name.now; arity = arity; code = code.now }) }
+    ensures { IsTrue result
+        ↔ (procedure.now ≡ record { name = name.now; arity = arity; code = code.now }) }
 {
     procedure.name() == name && procedure.arity() == arity && is_code(procedure.code(), code)
 }

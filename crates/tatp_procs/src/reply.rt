@@ -27,7 +27,10 @@ impl Model for Outputs {
 
     ghost inverse = { λ xs. record { count = length xs; values = padded 40 xs } };
 
-    ghost inverse_ok = { λ a h. λ i. record { count = padded_count 40 a.count a.values h i; values = padded_values 40 a.count a.values h i } };
+    ghost inverse_ok = { λ a h. λ i. record {
+      count = padded_count 40 a.count a.values h i;
+      values = padded_values 40 a.count a.values h i;
+    } };
 }
 
 impl Outputs {
@@ -104,8 +107,8 @@ impl Reply {
         }
     }
 
-    /// The reply to a call that ended so, with these outputs, in place of this one. Outputs go where outputs
-    /// stand, so that only as many are copied as there are.
+    /// The reply to a call that ended so, with these outputs, in place of this one. Outputs go
+    /// where outputs stand, so that only as many are copied as there are.
     pub fn set(&mut self, end: End, outputs: &[u64])
         requires { length outputs.now ≤ 40 }
         ensures { self.new ≡ reply_to end outputs.now }
@@ -119,8 +122,8 @@ impl Reply {
         }
     }
 
-    /// The same. It stands apart, since a function clears the room of its locals when it begins, and makes
-    /// a whole reply.
+    /// The same, whatever stands there. It stands apart from [`Reply::set`], since it makes a whole
+    /// reply, and a function clears the room of all its locals when it begins.
     #[inline(never)]
     fn replace(&mut self, end: End, outputs: &[u64])
         requires { length outputs.now ≤ 40 }

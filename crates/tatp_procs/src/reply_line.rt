@@ -6,10 +6,10 @@ ghost use Rattle.tatp_procs.specs.Extends.{Extends};
 ghost use Rattle.tatp_procs.specs.ReplyText.{answer_columns, reply_columns, reply_text};
 
 use crate::columns::NUMBERX;
-use crate::numbers::push_decimal;
 use crate::values::push_values;
 use crate::{Ask, Call, Reply};
 use std::alloc::{AllocError, Global};
+use tatp_lines::push_decimal;
 use tatp_machine::Trap;
 
 /// The line of a reply to what was asked.
@@ -24,7 +24,8 @@ pub fn reply_text(alloc: Global, ask: &Ask, reply: &Reply) -> Result<String, All
 /// Appends the line of a reply to what was asked. An error leaves the text as it was.
 #[tactic(auto, using(crate::proofs::ExtendsLaws::may_be_cut, crate::proofs::ExtendsLaws::cut_back))]
 pub fn push_reply(text: &mut String, ask: &Ask, reply: &Reply) -> Result<(), AllocError>
-    ensures ok { OnOk result (string_bytes text.new ≡ string_bytes text.old ++ reply_text ask.now reply.now) }
+    ensures ok { OnOk result
+        (string_bytes text.new ≡ string_bytes text.old ++ reply_text ask.now reply.now) }
     ensures err { OnErr result (string_bytes text.new ≡ string_bytes text.old) }
 {
     let before = text.len();
@@ -35,10 +36,11 @@ pub fn push_reply(text: &mut String, ask: &Ask, reply: &Reply) -> Result<(), All
     pushed
 }
 
-/// The same. An error may leave the line's beginning.
+/// Appends the line of a reply to what was asked. An error may leave the line's beginning.
 #[tactic(auto, using(crate::proofs::PrintingLaws::words_and_values))]
 fn push_line(text: &mut String, ask: &Ask, reply: &Reply) -> Result<(), AllocError>
-    ensures ok { OnOk result (string_bytes text.new ≡ string_bytes text.old ++ reply_text ask.now reply.now) }
+    ensures ok { OnOk result
+        (string_bytes text.new ≡ string_bytes text.old ++ reply_text ask.now reply.now) }
     ensures err { OnErr result (Extends (string_bytes text.old) (string_bytes text.new)) }
 {
     match reply {

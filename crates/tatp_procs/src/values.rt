@@ -1,13 +1,13 @@
 //! Values in text, one after another, each in the form of the column that stands at its place.
 ghost use Rattle.std.specs.Prelude.{◌≡◌, ◌<◌, ◌^◌, ◌∷◌, ◌++◌, All, IfOk, OnOk, OnErr, slice_index_or};
 ghost use Rattle.std.specs.String.{string_bytes};
-ghost use Rattle.tatp_tables.specs.Text.{form_of, is_decimal, value_text};
+ghost use Rattle.tatp_tables.specs.Text.{value_text};
 ghost use Rattle.tatp_procs.specs.Extends.{Extends};
 ghost use Rattle.tatp_procs.specs.ValuesText.{values_of, values_text};
 
-use crate::numbers::push_decimal;
 use std::alloc::{AllocError, Global};
-use tatp_tables::{Fields, push_value, read_value};
+use tatp_lines::push_decimal;
+use tatp_tables::{Fields, is_decimal, push_value, read_value};
 
 /// Names no column, so that its values stand in decimal.
 pub(crate) const NO_COLUMN: u8 = 255;
@@ -37,7 +37,8 @@ pub(crate) fn with_values(
     columns: &[u8],
     values: &[u64],
 ) -> Result<String, AllocError>
-    ensures text { IfOk result (λ text. string_bytes text ≡ words.now ++ values_text columns.now values.now) }
+    ensures text { IfOk result
+        (λ text. string_bytes text ≡ words.now ++ values_text columns.now values.now) }
 
     // Tells a caller what the type says of the values.
     ensures in_range { All (λ value. value < 2 ^ 64) values.now }
@@ -54,7 +55,8 @@ pub(crate) fn push_values(
     columns: &[u8],
     values: &[u64],
 ) -> Result<(), AllocError>
-    ensures ok { OnOk result (string_bytes text.new ≡ string_bytes text.old ++ values_text columns.now values.now) }
+    ensures ok { OnOk result
+        (string_bytes text.new ≡ string_bytes text.old ++ values_text columns.now values.now) }
     ensures err { OnErr result (Extends (string_bytes text.old) (string_bytes text.new)) }
 {
     for (place, value) in values.iter().enumerate() {
@@ -65,7 +67,8 @@ pub(crate) fn push_values(
 
 /// Appends a space and the value. An error may leave the space and the first digits.
 fn push_spaced(text: &mut String, column: u8, value: u64) -> Result<(), AllocError>
-    ensures ok { OnOk result (string_bytes text.new ≡ string_bytes text.old ++ 32 ∷ value_text column value) }
+    ensures ok { OnOk result
+        (string_bytes text.new ≡ string_bytes text.old ++ 32 ∷ value_text column value) }
     ensures err { OnErr result (Extends (string_bytes text.old) (string_bytes text.new)) }
 {
     text.push(' ')?;
@@ -73,13 +76,6 @@ fn push_spaced(text: &mut String, column: u8, value: u64) -> Result<(), AllocErr
         return push_decimal(text, value);
     }
     push_value(text, column, value)
-}
-
-/// Whether all values of a column stand in decimal.
-fn is_decimal(column: u8) -> bool
-    ensures { result ≡ is_decimal (form_of column) }
-{
-    !matches!(column, 1 | 38 | 39 | 45 | 50)
 }
 
 fn column_at(columns: &[u8], place: usize) -> u8

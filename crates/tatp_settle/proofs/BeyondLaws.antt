@@ -8,27 +8,30 @@ use Rattle.tatp_population.specs.Extents.{ExtentState}
 use Rattle.tatp_settle.specs.declared.extents.ExtentCause.{ExtentCause}
 use Rattle.tatp_settle.specs.declared.extents.ExtentCause.TheVariants.{OpenedElse, IsAsMixed, InParcel, StandsTwice}
 use Rattle.tatp_settle.specs.Closings.{ClosedState, ExtentLog, logs_of, extents_numbered, IsClosed}
-use Rattle.tatp_settle.specs.Runs.{extents_populated, homes_populated}
+use Rattle.tatp_settle.specs.Runs.{Run, extents_populated, homes_populated}
 use Rattle.tatp_settle.specs.ExtentTests.{IsExtentCause}
 use Rattle.tatp_settle.proofs.StandingLaws.{has_number, none_standing, times_standing_is, any_counted}
 use Rattle.tatp_settle.proofs.TestLaws.{decides_passes}
 use Rattle.tatp_settle.proofs.OpenedLaws.{not_populated}
 use Rattle.tatp_settle.proofs.MixedLaws.{parcel_is}
 
-pub not_beyond : (cause : ExtentCause) (p : Rows) (c : ClosedState) (e : ℕ) → IsClosed c → 1 ≤ e → extents_populated p < e → extents_numbered c e ≡ [] → IsExtentCause cause p c e → ⊥
-not_beyond OpenedElse p c e h l above none is =
+pub not_beyond : (cause : ExtentCause) (run : Run) (e : ℕ) → IsClosed run.closed → 1 ≤ e → extents_populated run.population < e → extents_numbered run.closed e ≡ [] → IsExtentCause cause run e → ⊥
+not_beyond OpenedElse run e h l above none is =
+    let p : Rows = run.population in
     let no : homes_populated p e ≡ None = not_populated p e (λ _ k. omega (arith, above, k)) in
     is (record {
       stands = λ s. absurd (let k : false ≡ true = ap is_some (sym no) ∙ s in cc);
       homes = subst (All (λ (x : ExtentState). homes_populated p e ≡ Some x.opening)) (sym none) (All-nil (λ (x : ExtentState). homes_populated p e ≡ Some x.opening));
     })
-not_beyond IsAsMixed p c e h l above none is =
+not_beyond IsAsMixed run e h l above none is =
+    let c : ClosedState = run.closed in
     let none = none_standing c e l none in
     let some = (any_counted (λ (log : ExtentLog). log.extent == e) (logs_of c)).0 ((decides_passes (λ (log : ExtentLog). log.extent == e) (logs_of c)).1 (is.0, is.1, eq-eqb is.0.extent e is.2)) in
     omega (arith, none, some)
-not_beyond InParcel p c e h l above none is =
+not_beyond InParcel run e h l above none is =
+    let c : ClosedState = run.closed in
     let none = none_standing c e l none in
     let some = (any_counted (has_number e) c.parcels).0 ((parcel_is c e).1 is) in
     let times = times_standing_is c e h.sites in
     omega (arith, none, some, times)
-not_beyond StandsTwice p c e h l above none is = let none = none_standing c e l none in omega (arith, none, is)
+not_beyond StandsTwice run e h l above none is = let none = none_standing run.closed e l none in omega (arith, none, is)

@@ -4,20 +4,20 @@ use Rattle.std.proofs.lemmas.Option.{same_Some, none-some}
 use Rattle.tatp_procs.specs.declared.ask.Ask.{Ask}
 use Rattle.tatp_procs.specs.declared.entry.Entry.{Entry}
 use Rattle.tatp_procs.specs.contracts.ask.Ask as ask
-use Rattle.tatp_settle.specs.declared.receipt.Receipt.{Receipt}
-use Rattle.tatp_settle.specs.declared.receipt.Receipt.TheVariants.{Done, Refused}
+use Rattle.tatp_partition.specs.declared.receipt.Receipt.{Receipt}
+use Rattle.tatp_partition.specs.declared.receipt.Receipt.TheVariants.{Done, Refused}
 use Rattle.tatp_settle.specs.declared.places.LogPlace.{LogPlace}
 use Rattle.tatp_settle.specs.Closings.{ClosedState, entries_numbered}
 use Rattle.tatp_settle.specs.Runs.{at_call}
 use Rattle.tatp_settle.specs.Answering.{AreMatched, EntryFound}
 use Rattle.tatp_settle.specs.CallPlaces.{HoldsNowhere}
 use Rattle.tatp_settle.specs.Causes.{IsUnmatched, IsOtherThanLogged, Differs}
-use Rattle.tatp_settle.specs.Placing.{AllPlaced}
+use Rattle.tatp_settle.specs.Placing.{AllPlaced, Cells}
 use Rattle.tatp_settle.specs.Agreeing.{Agrees}
 use Rattle.tatp_settle.proofs.StableLaws.{equal_or_not}
 use Rattle.tatp_settle.proofs.ReceivedLaws.{matched_unless, in_cell, one_entry, is_of, differs_from_entry, differs_without}
 
-module _ (closed : ClosedState) (calls : List (List Ask)) (receipts : List (List Receipt)) (cells : ℕ → ℕ → Option (Option LogPlace)) (unmatched : HoldsNowhere (IsUnmatched calls receipts)) (all : AllPlaced closed receipts cells) where
+module _ (closed : ClosedState) (calls : List (List Ask)) (receipts : List (List Receipt)) (cells : Cells) (unmatched : HoldsNowhere (IsUnmatched calls receipts)) (all : AllPlaced closed receipts cells) where
   matched : (client number : ℕ) → AreMatched client number (at_call calls client number) (at_call receipts client number)
   matched client number = matched_unless client number (at_call calls client number) (at_call receipts client number) (unmatched client number)
 

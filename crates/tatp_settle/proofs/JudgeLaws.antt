@@ -5,7 +5,7 @@ use Rattle.std.proofs.lemmas.List.{length-append}
 use Rattle.tatp_tables.specs.Clean.{IsClean}
 use Rattle.tatp_tables.specs.Database.{database_of}
 use Rattle.tatp_procs.specs.declared.ask.Ask.{Ask}
-use Rattle.tatp_settle.specs.declared.receipt.Receipt.{Receipt}
+use Rattle.tatp_partition.specs.declared.receipt.Receipt.{Receipt}
 use Rattle.tatp_settle.specs.declared.places.CallPlace.{CallPlace}
 use Rattle.tatp_settle.specs.declared.cause.Unsettled.{Unsettled}
 use Rattle.tatp_settle.specs.declared.cause.Unsettled.TheVariants.{Opening, Mixed, ParcelLeft, Doubled, CallMissing, ReplyDiffers, StampOrder, HasHome}
@@ -13,11 +13,14 @@ use Rattle.tatp_settle.specs.Closings.{IsClosed}
 use Rattle.tatp_settle.specs.Runs.{Run, at_call, joined, rows_left}
 use Rattle.tatp_settle.specs.Answering.{AreMatched}
 use Rattle.tatp_settle.specs.Placing.{ArePlaced}
+use Rattle.tatp_settle.specs.Interleaving.{IsOneHistoryInAnyOrder}
 use Rattle.tatp_settle.specs.Settlements.{IsOneHistory}
 use Rattle.tatp_settle.specs.CallPlaces.{IsFirstCall, HoldsNowhere}
 use Rattle.tatp_settle.specs.Causes.{NamesHome, IsUnmatched, IsFirstCause}
 use Rattle.tatp_settle.specs.CauseOrder.{NoneOfFirst, IsFirstOf}
 use Rattle.tatp_settle.proofs.CauseLaws.{none_named, first_named}
+use Rattle.tatp_settle.proofs.ReceivedLaws.{population_once}
+use Rattle.tatp_settle.proofs.RunLaws.{runs_are_one_history_in_any_order}
 use Rattle.tatp_settle.proofs.SettledLaws.{one_history}
 
 pub home_cause_is : (run : Run) (v : Option CallPlace) → IsFirstCall (NamesHome (database_of run.population).subscribers run.closed) v → NoneOfFirst 8 run
@@ -76,6 +79,13 @@ judged run population closed none placed clean =
     (λ e h. none (Opening e) (omega arith) h) (λ e h. none (Mixed e) (omega arith) h) (λ e h. none (ParcelLeft e) (omega arith) h) (λ e h. none (Doubled e) (omega arith) h)
     (λ c n h. none (CallMissing c n) (omega arith) h) placed.1 (λ c n h. none (ReplyDiffers c n) (omega arith) h) (λ c n h. none (StampOrder c n) (omega arith) h)
     (λ c n h. none (HasHome c n) (omega arith) h) clean
+
+-- where no cause is found, the logs are one history in any order that keeps their own
+pub judged_in_any_order : (run : Run) → IsClean run.population → IsClosed run.closed → NoneOfFirst 9 run → IsOneHistoryInAnyOrder run
+judged_in_any_order run population closed none =
+    runs_are_one_history_in_any_order run population closed
+    (population_once run (λ e h. none (Opening e) (omega arith) h) (λ e h. none (Mixed e) (omega arith) h) (λ e h. none (ParcelLeft e) (omega arith) h) (λ e h. none (Doubled e) (omega arith) h))
+    (λ c n h. none (HasHome c n) (omega arith) h)
 
 -- what a pass that found nothing says
 pub none_found : (kinds : ℕ) (run : Run) (v : Option Unsettled) → v ≡ None → IsFirstOf kinds run v → NoneOfFirst kinds run

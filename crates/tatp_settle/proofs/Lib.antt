@@ -27,3 +27,4 @@ pub mod KindLaws
 pub mod JudgeLaws
 pub mod PlacingLaws
 pub mod DifferLaws
+pub mod MissingLaws

@@ -8,7 +8,7 @@ use Rattle.std.proofs.lemmas.List.{at_drop_more}
 use Rattle.std.proofs.lemmas.List.Folds.{find-append}
 use Rattle.tatp_population.specs.Extents.{ExtentState, IsExtent}
 use Rattle.tatp_partition.specs.Sites.{slot}
-use Rattle.tatp_settle.specs.Closings.{ClosedSiteState, ClosedState, ExtentLog, extents_in_slots, extents_of, extents_numbered, extent_numbered, entries_numbered, most_places, above_all, log_of_homeless, log_of_extent, IsClosedSite, IsClosed}
+use Rattle.tatp_settle.specs.Closings.{ClosedSiteState, ClosedState, ExtentLog, extents_in_slots, extents_of, extents_numbered, extent_numbered, entries_numbered, most_places, above_all, log_of_homeless, log_of_extent, IsClosedSite, IsClosed, extents_at}
 use Rattle.tatp_settle.proofs.StandingLaws.{has_number, here, in_site, in_sites, none_at_zero}
 
 pub find_filtered : {A : Type 0} (p : A → Bool) (xs : List A) → find p xs ≡ slice_get (filter p xs) 0
@@ -28,15 +28,15 @@ found_in_site : (s : ClosedSiteState) (e : ℕ) → IsClosedSite s → find (has
 found_in_site s e h = find_filtered (has_number e) (extents_in_slots s.slots) ∙ (ap (λ (xs : List ExtentState). slice_get xs 0) (in_site s e h) ∙ first_listed (slot s.slots e))
 
 abbrev pub found_in : List ClosedSiteState → ℕ → Option ExtentState
-found_in sites e = find (has_number e) (flat_map (λ (s : ClosedSiteState). extents_in_slots s.slots) sites)
+found_in sites e = find (has_number e) (extents_at sites)
 
 pub found_first : (s : ClosedSiteState) (sites : List ClosedSiteState) (e : ℕ) → IsClosedSite s → found_in (s ∷ sites) e ≡ option_or (slot s.slots e) (found_in sites e)
 found_first s sites e h =
-    find-append (has_number e) (extents_in_slots s.slots) (flat_map (λ (s : ClosedSiteState). extents_in_slots s.slots) sites)
+    find-append (has_number e) (extents_in_slots s.slots) (extents_at sites)
     ∙ ap (λ (v : Option ExtentState). option_or v (found_in sites e)) (found_in_site s e h)
 
 pub found_anywhere : (c : ClosedState) (e : ℕ) → extent_numbered c e ≡ option_or (found_in c.sites e) (find (has_number e) c.parcels)
-found_anywhere c e = find-append (has_number e) (flat_map (λ (s : ClosedSiteState). extents_in_slots s.slots) c.sites) c.parcels
+found_anywhere c e = find-append (has_number e) (extents_at c.sites) c.parcels
 
 pub site_of : (sites : List ClosedSiteState) (i : ℕ) (s : ClosedSiteState) → i < length sites → s ≡ get_or sites i s → All IsClosedSite sites → IsClosedSite s
 site_of sites i s l is all = subst IsClosedSite (sym is) (All-get_or IsClosedSite sites i s l all)

@@ -1,4 +1,4 @@
--- The histories of separate extents, merged, are one history of the database: by induction along the history, of which each entry is a transaction on its extent's homes.
+-- The histories of separate extents, interleaved in any order, are one history of the database: by induction along the history, of which each entry is a transaction on its extent's homes.
 use Rattle.std.proofs.Common.{◌≡◌, ◌≢◌, ℕ, zero, suc, List, [], ◌∷◌, map, drop, Some, slice_get, slice_set, refl, sym, ◌∙◌, ap, subst, arith, ◌⊎◌, inl, inr}
 use Rattle.tatp_tables.specs.Database.{Database, of_subscriber, with_subscriber}
 use Rattle.tatp_tables.specs.Home.{SubscriberRows, HaveSId, home_in}
@@ -17,6 +17,7 @@ use Rattle.tatp_procs.proofs.ConsistentAfterLaws.{consistent_after, keys_after}
 use Rattle.tatp_procs.proofs.LocalityLaws.{transactions_are_local, rows_stay_own, fails_without_home, named_anywhere}
 use Rattle.tatp_population.specs.Histories.{with_tables, Records, Leads}
 use Rattle.tatp_settle.specs.Merging.{PlacedEntry, Begins, AllAreEmpty, without_first, Merges}
+use Rattle.tatp_settle.specs.Interleaving.{Interleaves}
 use Rattle.tatp_settle.specs.Separate.{Parts, AreSeparate, homes_at, FindsNone, AllFindNone, LogAt, LogsAt, LeadsToLast}
 
 -- ---- lists
@@ -157,12 +158,12 @@ module _ (parts : Parts) (apart : AreSeparate parts) where
   ended u logs all empty e [] g = all (suc e) [] g
   ended u logs all empty e (entry ∷ more) g = absurd (empty (record { extent = suc e; entry = entry }) (more, g))
 
-  -- THE LAW: logs that lead from a database's homes, merged, are a history of the database, which leads to their last homes
-  pub merged_logs_are_one_history : (history : List PlacedEntry) (u : Database) (logs : List (List Entry)) → IsConsistent u → Merges logs history → LogsAt parts u logs → LeadsToLast parts u logs history
-  merged_logs_are_one_history [] u logs is m all = record { after = u; consistent = is; answered = record { calls = []; asked = refl; answered = refl }; homes = ended u logs all m; keys = λ key. refl }
-  merged_logs_are_one_history (p ∷ more) u logs is m all =
-      let step : Step u logs p = any_step u logs p is all m.0.begins in
-      let rest : LeadsToLast parts step.after (without_first logs p.extent) more = merged_logs_are_one_history more step.after (without_first logs p.extent) step.consistent m.1 step.left in
+  -- THE LAW: logs that lead from a database's homes, interleaved in any order, are a history of the database, which leads to their last homes
+  pub every_interleaving_is_one_history : (history : List PlacedEntry) (u : Database) (logs : List (List Entry)) → IsConsistent u → Interleaves logs history → LogsAt parts u logs → LeadsToLast parts u logs history
+  every_interleaving_is_one_history [] u logs is m all = record { after = u; consistent = is; answered = record { calls = []; asked = refl; answered = refl }; homes = ended u logs all m; keys = λ key. refl }
+  every_interleaving_is_one_history (p ∷ more) u logs is m all =
+      let step : Step u logs p = any_step u logs p is all m.0 in
+      let rest : LeadsToLast parts step.after (without_first logs p.extent) more = every_interleaving_is_one_history more step.after (without_first logs p.extent) step.consistent m.1 step.left in
       record {
         after = rest.after;
         consistent = rest.consistent;
@@ -175,3 +176,8 @@ module _ (parts : Parts) (apart : AreSeparate parts) where
         homes = λ e log g. let found = has_without logs p.extent (suc e) log g in rest.homes e found.0 found.1;
         keys = λ key. rest.keys key ∙ step.keys key;
       }
+
+-- a merge is one of the interleavings
+pub merges_interleave : (history : List PlacedEntry) (logs : List (List Entry)) → Merges logs history → Interleaves logs history
+merges_interleave [] logs m = m
+merges_interleave (p ∷ more) logs m = (m.0.begins, merges_interleave more (without_first logs p.extent) m.1)

@@ -1,7 +1,7 @@
 -- Whether a log of a number is mixed.
 use Rattle.std.proofs.Common.{◌≡◌, ℕ, zero, suc, ◌+◌, ◌==◌, ◌||◌, ◌&&◌, Bool, true, false, List, [], ◌∷◌, map, filter, All, refl, sym, ◌∙◌, ap, subst, arith, add-one}
 use Rattle.std.specs.Bool.{Decides}
-use Rattle.std.specs.List.{flat_map, list_any}
+use Rattle.std.specs.List.{list_any}
 use Rattle.std.specs.Option.{option_map_or}
 use Rattle.std.proofs.lemmas.Bool.{ne_eqb, eq-eqb, eqb-true}
 use Rattle.std.proofs.lemmas.Bool.Decides.{Decides-like}
@@ -9,7 +9,7 @@ use Rattle.std.proofs.lemmas.List.Elements.{All-head, All-tail}
 use Rattle.std.proofs.lemmas.List.Folds.{list_any-append}
 use Rattle.tatp_population.specs.Extents.{ExtentState}
 use Rattle.tatp_partition.specs.Sites.{slot}
-use Rattle.tatp_settle.specs.Closings.{ClosedSiteState, ClosedState, ExtentLog, extents_in_slots, extents_of, logs_of, log_of_homeless, log_of_extent, IsClosedSite, IsClosed}
+use Rattle.tatp_settle.specs.Closings.{ClosedSiteState, ClosedState, ExtentLog, extents_in_slots, extents_of, logs_of, log_of_homeless, log_of_extent, IsClosedSite, IsClosed, extents_at}
 use Rattle.tatp_settle.specs.Causes.{IsMixed, IsInParcel}
 use Rattle.tatp_settle.specs.ExtentTests.{mixed_here, mixed_as}
 use Rattle.tatp_settle.proofs.StandingLaws.{has_number, in_site}
@@ -68,7 +68,7 @@ tested c e h =
     list_any-append (log_mixed e) (map log_of_homeless (filter (λ (s : ClosedSiteState). s.partition == 0) c.sites)) (map log_of_extent (extents_of c))
     ∙ ((λ i. at_homeless e c.sites i || any_mapped (log_mixed e) log_of_extent (extents_of c) i)
     ∙ (ap (λ b. list_any (homeless_mixed e) c.sites || b)
-    (list_any-append (mixed_as e) (flat_map (λ (s : ClosedSiteState). extents_in_slots s.slots) c.sites) c.parcels
+    (list_any-append (mixed_as e) (extents_at c.sites) c.parcels
     ∙ ap (λ b. b || list_any (mixed_as e) c.parcels) (any_joined (mixed_as e) (λ (s : ClosedSiteState). extents_in_slots s.slots) c.sites ∙ in_each e c.sites h.sites))
     ∙ (or_assoc (list_any (homeless_mixed e) c.sites) (list_any (extent_mixed e) c.sites) (list_any (mixed_as e) c.parcels)
     ∙ ap (λ b. b || list_any (mixed_as e) c.parcels) (any_both (homeless_mixed e) (extent_mixed e) c.sites))))

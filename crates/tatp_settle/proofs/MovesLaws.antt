@@ -12,8 +12,8 @@ use Rattle.tatp_population.specs.Extents.{ExtentState}
 use Rattle.tatp_population.specs.Opening.{homes_of_extent}
 use Rattle.tatp_tables.specs.Database.{database_of}
 use Rattle.tatp_tables.specs.Home.{SubscriberRows}
-use Rattle.tatp_settle.specs.Closings.{ClosedSiteState, extents_of, log_of_homeless, log_of_extent, extent_numbered, extents_numbered}
-use Rattle.tatp_settle.specs.Runs.{Run, extents_populated, homes_populated}
+use Rattle.tatp_settle.specs.Closings.{ClosedSiteState, extents_of, log_of_homeless, log_of_extent, extents_numbered, moves_numbered}
+use Rattle.tatp_settle.specs.Runs.{Run, extents_populated, homes_populated, moves_left}
 use Rattle.tatp_settle.specs.Settlements.{IsPopulationOnce, moves_made}
 use Rattle.tatp_settle.proofs.StandingLaws.{has_number, count_cons}
 use Rattle.tatp_settle.proofs.LogLaws.{log_has}
@@ -129,10 +129,10 @@ are_within run once k d l =
     within_populated run.population x.number x.opening opened
 
 -- each extent stands once: its moves are counted by its number
-pub moves_by_number : (run : Run) → IsPopulationOnce run → sum_by (λ e. option_map_or (λ (x : ExtentState). x.moves) (extent_numbered run.closed e) 0) (range_with_len 1 (extents_populated run.population)) ≡ moves_made run
+pub moves_by_number : (run : Run) → IsPopulationOnce run → moves_left run ≡ moves_made run
 moves_by_number run once =
-    sum_same (λ e. option_map_or (λ (x : ExtentState). x.moves) (extent_numbered run.closed e) 0) (λ e. sum_by (λ (x : ExtentState). x.moves) (extents_numbered run.closed e)) (range_with_len 1 (extents_populated run.population)) (λ e.
-    sym (only_one (λ (x : ExtentState). x.moves) (has_number e) (extents_of run.closed) (at_most_once e)))
+    sum_same (moves_numbered run.closed) (λ e. sum_by (λ (x : ExtentState). x.moves) (extents_numbered run.closed e)) (range_with_len 1 (extents_populated run.population))
+    (λ e. sym (only_one (λ (x : ExtentState). x.moves) (has_number e) (extents_of run.closed) (at_most_once e)))
     ∙ by_number (λ (x : ExtentState). x.moves) 1 (extents_populated run.population) (extents_of run.closed) (are_within run once)
   where
     at_most_once : (e : ℕ) → length (extents_numbered run.closed e) ≤ 1

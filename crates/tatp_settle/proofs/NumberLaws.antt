@@ -1,6 +1,6 @@
 -- Extents by number, one after another.
 use Rattle.std.proofs.Common.{◌≡◌, ℕ, ◌+◌, ◌==◌, Bool, true, false, cond, List, [], ◌∷◌, ◌++◌, find, sum_by, Option, Some, None, refl, sym, ◌∙◌, ap, arith}
-use Rattle.std.specs.List.{fold, flat_map, range_with_len}
+use Rattle.std.specs.List.{flat_map, range_with_len}
 use Rattle.std.proofs.lemmas.Bool.{eqb-true}
 use Rattle.std.proofs.lemmas.List.Sums.{fold-append, sum_by-append, sum_by-cons}
 use Rattle.std.proofs.lemmas.List.FromFn.{map-range_with_len_more}
@@ -10,7 +10,7 @@ use Rattle.tatp_tables.specs.Home.{SubscriberRows}
 use Rattle.tatp_tables.specs.Rows.{with_home}
 use Rattle.tatp_tables.specs.declared.row.Rows.{Rows}
 use Rattle.tatp_population.specs.Extents.{ExtentState}
-use Rattle.tatp_population.specs.HomeRows.{rows_of_homes}
+use Rattle.tatp_population.specs.HomeRows.{rows_of_homes, with_homes}
 use Rattle.tatp_settle.specs.Closings.{ClosedState, extents_of, extent_numbered}
 use Rattle.tatp_settle.proofs.StandingLaws.{has_number}
 
@@ -33,9 +33,9 @@ range_more n =
 
 -- one extent's homes more
 pub rows_more : (f : ℕ → List SubscriberRows) (n : ℕ) (rows : Rows) → rows ≡ rows_of_homes (flat_map f (range_with_len 1 n))
-    → fold (λ all (home : SubscriberRows). with_home all home.tables) rows (f (n + 1)) ≡ rows_of_homes (flat_map f (range_with_len 1 (n + 1)))
+    → with_homes rows (f (n + 1)) ≡ rows_of_homes (flat_map f (range_with_len 1 (n + 1)))
 rows_more f n rows is =
-    ap (λ (r : Rows). fold (λ all (home : SubscriberRows). with_home all home.tables) r (f (n + 1))) is
+    ap (λ (r : Rows). with_homes r (f (n + 1))) is
     ∙ (sym (fold-append (λ all (home : SubscriberRows). with_home all home.tables) (record { subscribers = []; accesses = []; facilities = []; forwardings = [] }) (flat_map f (range_with_len 1 n)) (f (n + 1)))
     ∙ ap rows_of_homes
     (ap (λ (xs : List SubscriberRows). flat_map f (range_with_len 1 n) ++ xs) (sym (append-nil (f (n + 1))))

@@ -8,9 +8,9 @@ use Rattle.tatp_procs.specs.declared.ask.Ask.{Ask}
 use Rattle.tatp_procs.specs.declared.entry.Entry.{Entry}
 use Rattle.tatp_procs.specs.contracts.ask.Ask as ask
 use Rattle.tatp_population.specs.Extents.{ExtentState}
-use Rattle.tatp_settle.specs.declared.receipt.Receipt.{Receipt}
-use Rattle.tatp_settle.specs.declared.receipt.Receipt.TheVariants.{Done, Refused}
-use Rattle.tatp_settle.specs.contracts.receipt.Receipt as receipt
+use Rattle.tatp_partition.specs.declared.receipt.Receipt.{Receipt}
+use Rattle.tatp_partition.specs.declared.receipt.Receipt.TheVariants.{Done, Refused}
+use Rattle.tatp_partition.specs.contracts.receipt.Receipt as receipt
 use Rattle.tatp_settle.specs.declared.places.LogPlace.{LogPlace}
 use Rattle.tatp_settle.specs.Closings.{ClosedState, entries_numbered, times_standing, StandsAt}
 use Rattle.tatp_settle.specs.Runs.{Run, at_call}
@@ -18,7 +18,7 @@ use Rattle.tatp_settle.specs.Receipts.{IsOf}
 use Rattle.tatp_settle.specs.Answering.{AreMatched, EntryFound, receipt_of, IsAnswered, HasReceipt}
 use Rattle.tatp_settle.specs.CallPlaces.{HoldsNowhere}
 use Rattle.tatp_settle.specs.Causes.{OpenedAsPopulated, IsMixed, IsInParcel, IsUnmatched, ReceiptDiffers, Differs}
-use Rattle.tatp_settle.specs.Placing.{AllPlaced}
+use Rattle.tatp_settle.specs.Placing.{AllPlaced, Cells}
 use Rattle.tatp_settle.specs.Settlements.{IsPopulationOnce, IsReceived}
 use Rattle.tatp_settle.proofs.StableLaws.{equal_numbers, at_most, equal_unless}
 
@@ -36,7 +36,7 @@ of_call client number None got r m is = absurd (subst (AreMatched client number 
 of_call client number (Some a) got r m is = subst (AreMatched client number (Some a)) is m
 
 -- ---- entries in their cells
-module _ (closed : ClosedState) (receipts : List (List Receipt)) (cells : ℕ → ℕ → Option (Option LogPlace)) (all : AllPlaced closed receipts cells) where
+module _ (closed : ClosedState) (receipts : List (List Receipt)) (cells : Cells) (all : AllPlaced closed receipts cells) where
   pub in_cell : (client number : ℕ) (f : EntryFound closed client number) → cells client number ≡ Some (Some (record { extent = f.extent; index = f.place }))
   in_cell client number f = (λ i. cells (sym f.own.client i) (sym f.own.number i)) ∙ all.placed f.extent f.place f.entry f.stands
 
@@ -138,7 +138,7 @@ module _ (closed : ClosedState) (receipts : List (List Receipt)) (cells : ℕ �
           by (Some r) is = is ∙ ap Some (as_logged entry.client entry.number f r is)
 
 -- nothing is found: each client's receipts are its calls in order, and each entry has its receipt
-pub received : (run : Run) (cells : ℕ → ℕ → Option (Option LogPlace)) → HoldsNowhere (IsUnmatched run.calls run.receipts) → AllPlaced run.closed run.receipts cells → HoldsNowhere (Differs run.closed run.calls run.receipts) → IsReceived run
+pub received : (run : Run) (cells : Cells) → HoldsNowhere (IsUnmatched run.calls run.receipts) → AllPlaced run.closed run.receipts cells → HoldsNowhere (Differs run.closed run.calls run.receipts) → IsReceived run
 received run cells unmatched all agree =
     let matched : (client number : ℕ) → AreMatched client number (at_call run.calls client number) (at_call run.receipts client number) =
     λ client number. matched_unless client number (at_call run.calls client number) (at_call run.receipts client number) (unmatched client number) in

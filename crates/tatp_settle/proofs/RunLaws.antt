@@ -1,6 +1,6 @@
 -- The logs that a run left are those of separate extents of its population, merged into one history of it.
 use Rattle.std.proofs.Common.{◌≡◌, ℕ, zero, suc, ◌+◌, ◌≤◌, ◌==◌, ◌&&◌, nat_le, Bool, true, false, cond, if◌then◌else◌, List, [], ◌∷◌, ◌++◌, map, length, filter, find, All, Contains, Option, Some, None, IsSome, is_some, slice_get, zero-add, refl, sym, ◌∙◌, ap, subst, arith}
-use Rattle.std.specs.List.{range_with_len, flat_map}
+use Rattle.std.specs.List.{range_with_len}
 use Rattle.std.specs.Option.{option_map, option_map_or}
 use Rattle.std.proofs.lemmas.Bool.Decides.{nat_tests}
 use Rattle.std.proofs.lemmas.Bool.{eqb-true, false≢true}
@@ -32,8 +32,8 @@ use Rattle.tatp_population.specs.Opening.{homes_of_extent}
 use Rattle.tatp_population.specs.HomeRows.{database_of_homes, AreRowsOf}
 use Rattle.tatp_population.proofs.HomeRowsLaws.{rows_are_the_database}
 use Rattle.tatp_population.proofs.CleanRowsLaws.{rows_of_clean}
-use Rattle.tatp_partition.specs.Asks.{key_asked}
-use Rattle.tatp_settle.specs.Closings.{ClosedSiteState, ClosedState, ExtentLog, extents_in_slots, extents_of, logs_of, log_of_homeless, log_of_extent, extent_numbered, extents_numbered, entries_numbered, IsClosedSite, IsClosed}
+use Rattle.tatp_procs.specs.Asked.{key_asked}
+use Rattle.tatp_settle.specs.Closings.{ClosedSiteState, ClosedState, ExtentLog, extents_in_slots, extents_of, logs_of, log_of_homeless, log_of_extent, extent_numbered, extents_numbered, entries_numbered, IsClosedSite, IsClosed, extents_at, homes_numbered}
 use Rattle.tatp_settle.specs.Merging.{PlacedEntry, IsMergeable, IsAnsweredInOrder, OneHistory}
 use Rattle.tatp_settle.specs.Runs.{Run, extents_populated, homes_populated, logs_left, homes_left, rows_left}
 use Rattle.tatp_settle.specs.Answering.{HasReceipt}
@@ -43,7 +43,8 @@ use Rattle.tatp_settle.specs.Settlements.{IsPopulationOnce, IsReceived}
 use Rattle.tatp_settle.specs.Separate.{Parts, AllFindNone, LogAt, LeadsToLast}
 use Rattle.tatp_settle.proofs.StandingLaws.{has_number as is_numbered}
 use Rattle.tatp_settle.proofs.LogLaws.{log_has, log_found, log_of_number, none_zero}
-use Rattle.tatp_settle.proofs.MergeLaws.{map_get, merged_logs_are_one_history}
+use Rattle.tatp_settle.specs.Interleaving.{IsOneHistoryInAnyOrder}
+use Rattle.tatp_settle.proofs.MergeLaws.{map_get, every_interleaving_is_one_history, merges_interleave}
 use Rattle.tatp_settle.proofs.TakingLaws.{logs_can_be_merged}
 use Rattle.tatp_settle.proofs.TurnLaws.{Rises, EachRises, StandsIn, clients_are_in_turn}
 use Rattle.tatp_settle.proofs.PartLaws.{range_got, range_gives, ids_of_extent, extents_are_separate, extents_joined, rows_stay}
@@ -76,13 +77,13 @@ in_slots (Some x ∷ slots) each = All-append IsExtent (x ∷ []) (extents_in_sl
     one x h zero d l = h
     one x h (suc i) d l = absurd (omega (arith, l))
 
-at_sites : (sites : List ClosedSiteState) → All IsClosedSite sites → All IsExtent (flat_map (λ (s : ClosedSiteState). extents_in_slots s.slots) sites)
+at_sites : (sites : List ClosedSiteState) → All IsClosedSite sites → All IsExtent (extents_at sites)
 at_sites [] all = All-nil IsExtent
 at_sites (s ∷ sites) all =
-    All-append IsExtent (extents_in_slots s.slots) (flat_map (λ (s : ClosedSiteState). extents_in_slots s.slots) sites) (in_slots s.slots (All-head IsClosedSite s sites all).extents) (at_sites sites (All-tail IsClosedSite s sites all))
+    All-append IsExtent (extents_in_slots s.slots) (extents_at sites) (in_slots s.slots (All-head IsClosedSite s sites all).extents) (at_sites sites (All-tail IsClosedSite s sites all))
 
 are_extents : (c : ClosedState) → IsClosed c → All IsExtent (extents_of c)
-are_extents c closed = All-append IsExtent (flat_map (λ (s : ClosedSiteState). extents_in_slots s.slots) c.sites) c.parcels (at_sites c.sites closed.sites) closed.parcels
+are_extents c closed = All-append IsExtent (extents_at c.sites) c.parcels (at_sites c.sites closed.sites) closed.parcels
 
 -- ---- the log of a number
 abbrev find_log : ℕ → List ClosedSiteState → List ExtentState → Option ExtentLog
@@ -110,9 +111,6 @@ homeless_log (s ∷ sites) extents closed are unmixed =
     (s.homeless.kept_stamp, (All-head IsClosedSite s sites closed).homeless (not_true s.homeless.mixed (unmixed (log_of_homeless s) (0, omega arith, refl) refl)))
 
 -- ---- the extents of a run
-abbrev homes_now : Run → ℕ → List SubscriberRows
-homes_now run e = option_map_or (λ (x : ExtentState). x.homes) (extent_numbered run.closed e) []
-
 abbrev homes_first : Run → ℕ → List SubscriberRows
 homes_first run e = homes_of_extent (database_of run.population) (length run.population.subscribers) e
 
@@ -128,7 +126,7 @@ record Stood (run : Run) (e : ℕ) : Type 0 where
   pub history : IsHistory extent.kept_stamp extent.opening extent.log extent.homes
   pub opening : extent.opening ≡ homes_first run e
   pub entries : entries_numbered run.closed e ≡ extent.log
-  pub homes : homes_now run e ≡ extent.homes
+  pub homes : homes_numbered run.closed e ≡ extent.homes
 
 abbrev of_partition_0 : ClosedSiteState → Bool
 of_partition_0 s = s.partition == 0
@@ -200,7 +198,7 @@ left_gives run e l =
     ∙ ap (λ n. Some (entries_numbered run.closed n)) (zero-add e)
 
 abbrev parts_of : Run → Parts
-parts_of run = record { ids = ids_of_extent (length run.population.subscribers); last = homes_now run }
+parts_of run = record { ids = ids_of_extent (length run.population.subscribers); last = homes_numbered run.closed }
 
 module _ (run : Run) (closed : IsClosed run.closed) (once : IsPopulationOnce run) where
   each_rises : EachRises (logs_left run)
@@ -226,8 +224,8 @@ module _ (run : Run) (closed : IsClosed run.closed) (once : IsPopulationOnce run
       let s : Stood run (suc e) = stood run (suc e) closed once (omega arith) at.0 in
       let leads : Leads s.extent.opening s.extent.log s.extent.homes = s.history.leads in
       let from_first : Leads (homes_first run (suc e)) s.extent.log s.extent.homes = subst (λ b. Leads b s.extent.log s.extent.homes) s.opening leads in
-      let to_now : Leads (homes_first run (suc e)) s.extent.log (homes_now run (suc e)) = subst (λ a. Leads (homes_first run (suc e)) s.extent.log a) (sym s.homes) from_first in
-      subst (λ l. Leads (homes_first run (suc e)) l (homes_now run (suc e))) (sym s.entries ∙ at.1) to_now
+      let to_now : Leads (homes_first run (suc e)) s.extent.log (homes_numbered run.closed (suc e)) = subst (λ a. Leads (homes_first run (suc e)) s.extent.log a) (sym s.homes) from_first in
+      subst (λ l. Leads (homes_first run (suc e)) l (homes_numbered run.closed (suc e))) (sym s.entries ∙ at.1) to_now
 
   known : IsReceived run → (p : PlacedEntry) → StandsIn (logs_left run) p → HasReceipt run.receipts p
   known received p s =
@@ -235,28 +233,33 @@ module _ (run : Run) (closed : IsClosed run.closed) (once : IsPopulationOnce run
       received.known p.extent s.place p.entry (ap (λ log. slice_get log s.place) at.1 ∙ s.at_place)
 
 -- the homes now are those of a database in which each extent has its last
-homes_are : (run : Run) (after : Database) → ((e : ℕ) (log : List Entry) → slice_get (logs_left run) (suc e) ≡ Some log → homes_now run (suc e) ≡ homes_of_extent after (length run.population.subscribers) (suc e))
+homes_are : (run : Run) (after : Database) → ((e : ℕ) (log : List Entry) → slice_get (logs_left run) (suc e) ≡ Some log → homes_numbered run.closed (suc e) ≡ homes_of_extent after (length run.population.subscribers) (suc e))
     → homes_left run ≡ homes_in after 1 (length run.population.subscribers)
-homes_are run after last = extents_joined after (length run.population.subscribers) (homes_now run) each
+homes_are run after last = extents_joined after (length run.population.subscribers) (homes_numbered run.closed) each
   where
-    each : (e : ℕ) → 1 ≤ e → e ≤ extents_populated run.population → homes_now run e ≡ homes_of_extent after (length run.population.subscribers) e
+    each : (e : ℕ) → 1 ≤ e → e ≤ extents_populated run.population → homes_numbered run.closed e ≡ homes_of_extent after (length run.population.subscribers) e
     each zero l m = absurd (omega (arith, l))
     each (suc e) l m = last e (entries_numbered run.closed (suc e)) (left_gives run (suc e) m)
+
+-- THE LAW: the logs that a run left are one history in every order that keeps each log's own, from the population to the rows that it left
+pub runs_are_one_history_in_any_order : (run : Run) → IsClean run.population → IsClosed run.closed → IsPopulationOnce run → HoldsNowhere (NamesHome (database_of run.population).subscribers run.closed) → IsOneHistoryInAnyOrder run
+runs_are_one_history_in_any_order run clean closed once homeless history interleaves =
+    let n : ℕ = length run.population.subscribers in
+    let u : Database = database_of run.population in
+    let led : LeadsToLast (parts_of run) u (logs_left run) history =
+    every_interleaving_is_one_history (parts_of run) (extents_are_separate n) history u (logs_left run) (IsConsistent-clean run.population clean) interleaves (at_extent run closed once homeless) in
+    let rows : AreRowsOf (range_with_len 1 n) led.after = rows_stay (range_with_len 1 n) u led.after (rows_of_clean run.population clean) led.consistent led.keys in
+    let now : database_of (rows_left run) ≡ led.after = ap database_of_homes (homes_are run led.after led.homes) ∙ rows_are_the_database led.after (range_with_len 1 n) rows in
+    subst (IsAnsweredInOrder u history) (sym now) led.answered
 
 -- THE LAW: the logs that a run left are one history, from the population to the rows that it left
 pub runs_are_one_history : (run : Run) → IsClean run.population → IsClosed run.closed → IsPopulationOnce run → IsReceived run → HoldsNowhere (StampFalls run.receipts) → HoldsNowhere (NamesHome (database_of run.population).subscribers run.closed)
     → OneHistory (database_of run.population) (logs_left run) (database_of (rows_left run))
 runs_are_one_history run clean closed once received stamps homeless =
-    let n : ℕ = length run.population.subscribers in
-    let u : Database = database_of run.population in
     let merged : IsMergeable (logs_left run) = logs_can_be_merged (logs_left run) in
-    let led : LeadsToLast (parts_of run) u (logs_left run) merged.0 =
-    merged_logs_are_one_history (parts_of run) (extents_are_separate n) merged.0 u (logs_left run) (IsConsistent-clean run.population clean) merged.1 (at_extent run closed once homeless) in
-    let rows : AreRowsOf (range_with_len 1 n) led.after = rows_stay (range_with_len 1 n) u led.after (rows_of_clean run.population clean) led.consistent led.keys in
-    let now : database_of (rows_left run) ≡ led.after = ap database_of_homes (homes_are run led.after led.homes) ∙ rows_are_the_database led.after (range_with_len 1 n) rows in
     record {
       history = merged.0;
       merges = merged.1;
-      answered = subst (IsAnsweredInOrder u merged.0) (sym now) led.answered;
+      answered = runs_are_one_history_in_any_order run clean closed once homeless merged.0 (merges_interleave merged.0 (logs_left run) merged.1);
       in_turn = clients_are_in_turn run.receipts (logs_left run) merged.0 (each_rises run closed once) stamps (known run closed once received) merged.1;
     }

@@ -3,8 +3,8 @@ use Rattle.std.proofs.Common.{◌≡◌, ℕ, ◌<◌, ◌≤◌, ◌+◌, true,
 use Rattle.std.proofs.lemmas.Grind.{common_steps}
 use Rattle.std.proofs.lemmas.Option.{same_Some}
 use Rattle.tatp_procs.specs.declared.reply.Reply.{Reply}
-use Rattle.tatp_settle.specs.declared.receipt.Receipt.{Receipt}
-use Rattle.tatp_settle.specs.declared.receipt.Receipt.TheVariants.{Done, Refused}
+use Rattle.tatp_partition.specs.declared.receipt.Receipt.{Receipt}
+use Rattle.tatp_partition.specs.declared.receipt.Receipt.TheVariants.{Done, Refused}
 use Rattle.tatp_settle.specs.Receipts.{IsLater}
 use Rattle.tatp_settle.specs.Runs.{at_call}
 use Rattle.tatp_settle.specs.Causes.{StampFalls}
@@ -32,9 +32,6 @@ pub record LastAt (receipts : List (List Receipt)) (client number last : ℕ) : 
 pub record IsLast (receipts : List (List Receipt)) (client number : ℕ) (last : Option ℕ) : Type 0 where
   pub seen : (earlier : ℕ) (r : Receipt) → earlier < number → at_call receipts client earlier ≡ Some r → StampAtMost r last
   pub from : (stamp : ℕ) → last ≡ Some stamp → LastAt receipts client number stamp
-
-pub last_start : (receipts : List (List Receipt)) (c : ℕ) → IsLast receipts c 0 None
-last_start receipts c = record { seen = λ j r l e. absurd (omega (arith, l)); from = λ t e. absurd cc }
 
 pub falls_none : (receipts : List (List Receipt)) (c n : ℕ) → at_call receipts c n ≡ None → StampFalls receipts c n → ⊥
 falls_none receipts c n none f = let t : at_call receipts c n ≡ Some f.second = f.got_second in cc

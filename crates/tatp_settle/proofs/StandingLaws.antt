@@ -10,7 +10,7 @@ use Rattle.std.proofs.lemmas.List.Concat.{length-flat_map}
 use Rattle.tatp_population.specs.Extents.{ExtentState}
 use Rattle.tatp_partition.specs.Sites.{SiteState, slot}
 use Rattle.tatp_partition.specs.Sound.{IsSite}
-use Rattle.tatp_settle.specs.Closings.{ClosedSiteState, ClosedState, ExtentLog, extents_in_slots, extents_of, log_of_homeless, log_of_extent, times_standing, is_here, closed_site, closed_of, IsClosedSite}
+use Rattle.tatp_settle.specs.Closings.{ClosedSiteState, ClosedState, ExtentLog, extents_in_slots, extents_of, log_of_homeless, log_of_extent, times_standing, is_here, closed_site, closed_of, IsClosedSite, extents_at}
 use Rattle.tatp_settle.proofs.ClosingLaws.{are_closed_sites}
 
 -- the extents in slots have the numbers of their slots, counted from k
@@ -61,11 +61,11 @@ in_site s e h = ap (λ (n : ℕ). filter (has_number n) (extents_in_slots s.slot
 
 -- what sites and parcels have under a number
 pub in_sites : (sites : List ClosedSiteState) (parcels : List ExtentState) (e : ℕ) → All IsClosedSite sites
-    → filter (has_number e) (flat_map (λ (s : ClosedSiteState). extents_in_slots s.slots) sites ++ parcels) ≡ flat_map (here e) sites ++ filter (has_number e) parcels
+    → filter (has_number e) (extents_at sites ++ parcels) ≡ flat_map (here e) sites ++ filter (has_number e) parcels
 in_sites [] parcels e all = refl
 in_sites (s ∷ sites) parcels e all =
-    ap (filter (has_number e)) (append_assoc (extents_in_slots s.slots) (flat_map (λ (s : ClosedSiteState). extents_in_slots s.slots) sites) parcels)
-    ∙ filter-append (has_number e) (extents_in_slots s.slots) (flat_map (λ (s : ClosedSiteState). extents_in_slots s.slots) sites ++ parcels)
+    ap (filter (has_number e)) (append_assoc (extents_in_slots s.slots) (extents_at sites) parcels)
+    ∙ filter-append (has_number e) (extents_in_slots s.slots) (extents_at sites ++ parcels)
     ∙ (λ i. in_site s e (All-head IsClosedSite s sites all) i ++ in_sites sites parcels e (All-tail IsClosedSite s sites all) i)
     ∙ sym (append_assoc (here e s) (flat_map (here e) sites) (filter (has_number e) parcels))
 
@@ -99,10 +99,6 @@ homeless_counted e (s ∷ sites) =
 
 here_counted : (e : ℕ) (sites : List ClosedSiteState) → length (flat_map (here e) sites) ≡ sum_by (λ (s : ClosedSiteState). length (here e s)) sites
 here_counted e sites = length-flat_map (here e) sites
-
-length_of : {A : Type 0} (v : Option A) → length (option_to_list v) ≡ cond (is_some v) 1 0
-length_of None = refl
-length_of (Some x) = refl
 
 -- no extent has the number 0
 pub none_at_zero : (s : ClosedSiteState) → IsClosedSite s → slot s.slots 0 ≡ None

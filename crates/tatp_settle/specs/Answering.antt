@@ -4,14 +4,15 @@ use Rattle.tatp_procs.specs.declared.ask.Ask.{Ask}
 use Rattle.tatp_procs.specs.declared.ask.Ask.TheVariants.{Txn, Raw}
 use Rattle.tatp_procs.specs.declared.entry.Entry.{Entry}
 use Rattle.tatp_procs.specs.Calls.{procedure_of}
-use Rattle.tatp_settle.specs.declared.receipt.Receipt.{Receipt}
-use Rattle.tatp_settle.specs.declared.receipt.Receipt.TheVariants.{Done, Refused}
+use Rattle.tatp_partition.specs.declared.receipt.Receipt.{Receipt}
+use Rattle.tatp_partition.specs.declared.receipt.Receipt.TheVariants.{Done, Refused}
 use Rattle.tatp_settle.specs.Receipts.{IsOf}
 use Rattle.tatp_settle.specs.Merging.{PlacedEntry}
 use Rattle.tatp_settle.specs.Closings.{ClosedState, StandsAt}
 use Rattle.tatp_settle.specs.Runs.{at_call}
 
--- whether the call is of this kind, counted in the order of the mix; a call of any procedure has none
+-- whether the call is of this kind, counted in the order of the mix; a call of any procedure has
+-- none
 abbrev pub is_of_kind : ℕ → Ask → Bool
 is_of_kind kind (Txn call) = procedure_of call == kind
 is_of_kind kind (Raw raw) = false
@@ -40,9 +41,13 @@ pub record EntryFound (closed : ClosedState) (client number : ℕ) : Type 0 wher
 abbrev pub receipt_of : PlacedEntry → Receipt
 receipt_of p = Done p.entry.client p.entry.number p.entry.reply p.extent p.entry.stamp
 
--- the call is refused and stands in no log; or the receipt equals an entry of its call, which stands in the log of the receipt's extent
+-- the call is refused and stands in no log; or the receipt equals an entry of its call, which
+-- stands in the log of the receipt's extent
 abbrev pub IsAnswered : ClosedState → Ask → Receipt → Type 0
-IsAnswered closed ask (Done client number reply extent stamp) = (place : ℕ) × StandsAt closed extent place (record { client = client; number = number; ask = ask; reply = reply; stamp = stamp })
+IsAnswered closed ask (Done client number reply extent stamp) =
+    (place : ℕ)
+    × StandsAt closed extent place
+    (record { client = client; number = number; ask = ask; reply = reply; stamp = stamp })
 IsAnswered closed ask (Refused client number) = EntryFound closed client number → ⊥
 
 -- the entry has its receipt
@@ -51,4 +56,6 @@ HasReceipt receipts p = at_call receipts p.entry.client p.entry.number ≡ Some 
 
 -- two entries of one call stand in one place
 abbrev pub EntriesStandOnce : ClosedState → Type 0
-EntriesStandOnce closed = (client number : ℕ) (one other : EntryFound closed client number) → (one.extent ≡ other.extent) × (one.place ≡ other.place)
+EntriesStandOnce closed =
+    (client number : ℕ) (one other : EntryFound closed client number)
+    → (one.extent ≡ other.extent) × (one.place ≡ other.place)

@@ -4,7 +4,8 @@ use Rattle.tatp_settle.specs.declared.places.CallPlace.{CallPlace}
 
 -- the first call stands before the second: by client, and then by call number
 abbrev pub IsSooner : ℕ → ℕ → ℕ → ℕ → Type 0
-IsSooner client number client' number' = (client < client') ⊎ ((client ≡ client') × (number < number'))
+IsSooner client number client' number' =
+    (client < client') ⊎ ((client ≡ client') × (number < number'))
 
 -- it holds of the call, and of none before it
 pub record IsLeastCall (P : ℕ → ℕ → Type 0) (client number : ℕ) : Type 0 where
@@ -34,5 +35,6 @@ pub record IsLeastAmong (P : ℕ → ℕ → Type 0) (from to client number : �
 
 -- the least call of these clients of which it holds, if it holds of any
 abbrev pub IsFirstAmong : (ℕ → ℕ → Type 0) → ℕ → ℕ → Option CallPlace → Type 0
-IsFirstAmong P from to None = (client number : ℕ) → from ≤ client → client < to → P client number → ⊥
+IsFirstAmong P from to None =
+    (client number : ℕ) → from ≤ client → client < to → P client number → ⊥
 IsFirstAmong P from to (Some place) = IsLeastAmong P from to place.client place.number

@@ -1,9 +1,10 @@
 -- The kinds of causes, in their order.
-use Rattle.std.specs.Prelude.{ℕ, ◌<◌, Option, Some, None}
+use Rattle.std.specs.Prelude.{ℕ, ◌<◌, Option, Some, None, IfNone}
 use Rattle.tatp_settle.specs.declared.cause.Unsettled.{Unsettled}
 use Rattle.tatp_settle.specs.declared.cause.Unsettled.TheVariants.{Opening, Mixed, ParcelLeft, Doubled, CallMissing, ReceiptMissing, ReplyDiffers, StampOrder, HasHome, Audit}
 use Rattle.tatp_settle.specs.Runs.{Run}
 use Rattle.tatp_settle.specs.Causes.{Holds, IsFirstCause}
+use Rattle.tatp_settle.specs.Placing.{ArePlaced}
 
 -- which kind of cause it is, counted in their order
 abbrev pub kind_of : Unsettled → ℕ
@@ -26,3 +27,13 @@ NoneOfFirst kinds run = (cause : Unsettled) → kind_of cause < kinds → Holds 
 abbrev pub IsFirstOf : ℕ → Run → Option Unsettled → Type 0
 IsFirstOf kinds run None = NoneOfFirst kinds run
 IsFirstOf kinds run (Some cause) = IsFirstCause run cause
+
+-- where no cause of the first so many kinds holds: the first cause, if one of these kinds does
+abbrev pub IsFirstAfter : ℕ → ℕ → Run → Option Unsettled → Type 0
+IsFirstAfter before kinds run cause = NoneOfFirst before run → IsFirstOf kinds run cause
+
+-- where no extent is a cause: the first cause that a call is by its receipt and its entries; where
+-- no call is one, each entry has its place in some table of calls
+pub record IsFirstInCalls (run : Run) (cause : Option Unsettled) : Type 0 where
+  pub first : IsFirstAfter 4 8 run cause
+  pub placed : IfNone cause (ArePlaced run.closed run.receipts)

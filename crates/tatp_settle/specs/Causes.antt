@@ -11,9 +11,9 @@ use Rattle.tatp_audits.specs.Audits.{IsVerdict, says_clean}
 use Rattle.tatp_procs.specs.declared.ask.Ask.{Ask}
 use Rattle.tatp_procs.specs.declared.entry.Entry.{Entry}
 use Rattle.tatp_population.specs.Extents.{ExtentState}
-use Rattle.tatp_partition.specs.Asks.{key_asked}
-use Rattle.tatp_settle.specs.declared.receipt.Receipt.{Receipt}
-use Rattle.tatp_settle.specs.declared.receipt.Receipt.TheVariants.{Done, Refused}
+use Rattle.tatp_procs.specs.Asked.{key_asked}
+use Rattle.tatp_partition.specs.declared.receipt.Receipt.{Receipt}
+use Rattle.tatp_partition.specs.declared.receipt.Receipt.TheVariants.{Done, Refused}
 use Rattle.tatp_settle.specs.declared.cause.Unsettled.{Unsettled}
 use Rattle.tatp_settle.specs.declared.cause.Unsettled.TheVariants.{Opening, Mixed, ParcelLeft, Doubled, CallMissing, ReceiptMissing, ReplyDiffers, StampOrder, HasHome, Audit}
 use Rattle.tatp_settle.specs.Closings.{ClosedState, ExtentLog, extents_numbered, logs_of, times_standing, StandsAt}
@@ -25,7 +25,8 @@ use Rattle.tatp_settle.specs.Receipts.{IsLater}
 -- the extent stands exactly where the population has it, and opened with the population's homes
 pub record OpenedAsPopulated (population : Rows) (closed : ClosedState) (e : ℕ) : Type 0 where
   pub stands : IsSome (homes_populated population e) → 1 ≤ length (extents_numbered closed e)
-  pub homes : All (λ (x : ExtentState). homes_populated population e ≡ Some x.opening) (extents_numbered closed e)
+  pub homes : All (λ (x : ExtentState). homes_populated population e ≡ Some x.opening)
+      (extents_numbered closed e)
 
 -- a log of the extent is mixed
 abbrev pub IsMixed : ClosedState → ℕ → Type 0
@@ -38,10 +39,12 @@ IsInParcel c e = (x : ExtentState) × Contains c.parcels x × (x.number ≡ e)
 -- ---- of calls
 -- a call without its receipt, or a receipt without its call
 abbrev pub IsUnmatched : List (List Ask) → List (List Receipt) → ℕ → ℕ → Type 0
-IsUnmatched calls receipts client number = AreMatched client number (at_call calls client number) (at_call receipts client number) → ⊥
+IsUnmatched calls receipts client number =
+    AreMatched client number (at_call calls client number) (at_call receipts client number) → ⊥
 
 -- an entry of the call, and no receipt
-pub record LacksReceipt (closed : ClosedState) (receipts : List (List Receipt)) (client number : ℕ) : Type 0 where
+pub record LacksReceipt (closed : ClosedState) (receipts : List (List Receipt)) (client number : ℕ)
+    : Type 0 where
   pub found : EntryFound closed client number
   pub lacks : at_call receipts client number ≡ None
 
@@ -53,27 +56,35 @@ pub record HasTwoEntries (closed : ClosedState) (client number : ℕ) : Type 0 w
 
 -- an entry of the call without a receipt, or a second entry of it
 abbrev pub HasEntryTooMany : ClosedState → List (List Receipt) → ℕ → ℕ → Type 0
-HasEntryTooMany closed receipts client number = LacksReceipt closed receipts client number ⊎ HasTwoEntries closed client number
+HasEntryTooMany closed receipts client number =
+    LacksReceipt closed receipts client number ⊎ HasTwoEntries closed client number
 
--- the receipt of a completed call, which no entry of its extent's log equals; or that of a refused call, which has an entry
+-- the receipt of a completed call, which no entry of its extent's log equals; or that of a refused
+-- call, which has an entry
 abbrev pub IsOtherThanLogged : ClosedState → ℕ → ℕ → Receipt → Type 0
-IsOtherThanLogged closed client number (Done client' number' reply extent stamp) = (place : ℕ) (entry : Entry) → StandsAt closed extent place entry → receipt_of (record { extent = extent; entry = entry }) ≢ Done client' number' reply extent stamp
+IsOtherThanLogged closed client number (Done client' number' reply extent stamp) =
+    (place : ℕ) (entry : Entry) → StandsAt closed extent place entry
+    → receipt_of (record { extent = extent; entry = entry })
+    ≢ Done client' number' reply extent stamp
 IsOtherThanLogged closed client number (Refused client' number') = EntryFound closed client number
 
 -- the call has such a receipt
-pub record ReceiptDiffers (closed : ClosedState) (receipts : List (List Receipt)) (client number : ℕ) : Type 0 where
+pub record ReceiptDiffers (closed : ClosedState) (receipts : List (List Receipt))
+    (client number : ℕ) : Type 0 where
   pub receipt : Receipt
   pub got : at_call receipts client number ≡ Some receipt
   pub differs : IsOtherThanLogged closed client number receipt
 
 -- an entry of the call asks something else than the call
-pub record AskDiffers (closed : ClosedState) (calls : List (List Ask)) (client number : ℕ) : Type 0 where
+pub record AskDiffers (closed : ClosedState) (calls : List (List Ask)) (client number : ℕ)
+    : Type 0 where
   pub found : EntryFound closed client number
   pub differs : at_call calls client number ≢ Some found.entry.ask
 
 -- the receipt or the ask of the call isn't what its entry says
 abbrev pub Differs : ClosedState → List (List Ask) → List (List Receipt) → ℕ → ℕ → Type 0
-Differs closed calls receipts client number = ReceiptDiffers closed receipts client number ⊎ AskDiffers closed calls client number
+Differs closed calls receipts client number =
+    ReceiptDiffers closed receipts client number ⊎ AskDiffers closed calls client number
 
 -- the call's stamp isn't above that of an earlier call of its client
 pub record StampFalls (receipts : List (List Receipt)) (client number : ℕ) : Type 0 where
@@ -85,8 +96,10 @@ pub record StampFalls (receipts : List (List Receipt)) (client number : ℕ) : T
   pub got_second : at_call receipts client number ≡ Some second
   pub falls : IsLater first second → ⊥
 
--- an entry of the call stands in the log of the calls without a home, and its key names one of these subscribers
-pub record NamesHome (subscribers : Tuples) (closed : ClosedState) (client number : ℕ) : Type 0 where
+-- an entry of the call stands in the log of the calls without a home, and its key names one of
+-- these subscribers
+pub record NamesHome (subscribers : Tuples) (closed : ClosedState) (client number : ℕ)
+    : Type 0 where
   pub found : EntryFound closed client number
   pub homeless : found.extent ≡ 0
   pub names : IsSome (home_of_key subscribers (key_asked found.entry.ask))
@@ -102,10 +115,12 @@ Holds run (CallMissing client number) = IsUnmatched run.calls run.receipts clien
 Holds run (ReceiptMissing client number) = HasEntryTooMany run.closed run.receipts client number
 Holds run (ReplyDiffers client number) = Differs run.closed run.calls run.receipts client number
 Holds run (StampOrder client number) = StampFalls run.receipts client number
-Holds run (HasHome client number) = NamesHome (database_of run.population).subscribers run.closed client number
+Holds run (HasHome client number) =
+    NamesHome (database_of run.population).subscribers run.closed client number
 Holds run (Audit verdict) = IsVerdict (rows_left run) verdict × (says_clean verdict ≡ false)
 
--- where a cause stands in their order: which it is, and then the extent, or the client and the call number
+-- where a cause stands in their order: which it is, and then the extent, or the client and the call
+-- number
 abbrev pub place_of : Unsettled → List ℕ
 place_of (Opening e) = 0 ∷ e ∷ []
 place_of (Mixed e) = 1 ∷ e ∷ []
@@ -122,7 +137,8 @@ place_of (Audit verdict) = 9 ∷ []
 abbrev pub StandsBefore : Unsettled → Unsettled → Type 0
 StandsBefore cause other = slice_cmp nat_cmp (place_of cause) (place_of other) ≡ Less
 
--- the cause holds, and none that stands before it does: so it is the first of its kind too, for the least place
+-- the cause holds, and none that stands before it does: so it is the first of its kind too, for the
+-- least place
 pub record IsFirstCause (run : Run) (cause : Unsettled) : Type 0 where
   pub holds : Holds run cause
   pub first : (other : Unsettled) → StandsBefore other cause → Holds run other → ⊥

@@ -1,19 +1,21 @@
 -- The causes that an extent is, as tests.
-use Rattle.std.specs.Prelude.{ℕ, ◌<◌, ◌==◌, ◌&&◌, ◌||◌, ◌≤◌, Bool, true, false, List, Option, Some, None, if◌then◌else◌}
+use Rattle.std.specs.Prelude.{ℕ, ◌==◌, ◌&&◌, ◌||◌, ◌≤◌, Bool, true, false, List, if◌then◌else◌}
 use Rattle.std.specs.Option.{option_map_or}
 use Rattle.std.specs.Cmp.Lexicographic.{pointwise}
 use Rattle.tatp_tables.specs.Home.{SubscriberRows, same_home}
-use Rattle.tatp_tables.specs.declared.row.Rows.{Rows}
 use Rattle.tatp_population.specs.Extents.{ExtentState}
 use Rattle.tatp_partition.specs.Sites.{slot}
 use Rattle.tatp_settle.specs.declared.extents.ExtentCause.{ExtentCause}
 use Rattle.tatp_settle.specs.declared.extents.ExtentCause.TheVariants.{OpenedElse, IsAsMixed, InParcel, StandsTwice}
-use Rattle.tatp_settle.specs.Closings.{ClosedSiteState, ClosedState, times_standing}
+use Rattle.tatp_settle.specs.Closings.{ClosedSiteState, times_standing}
+use Rattle.tatp_settle.specs.Runs.{Run}
 use Rattle.tatp_settle.specs.Causes.{OpenedAsPopulated, IsMixed, IsInParcel}
 
 -- whether a log of this number that is mixed stood at the site
 abbrev pub mixed_here : ClosedSiteState → ℕ → Bool
-mixed_here s e = ((e == 0) && ((s.partition == 0) && s.homeless.mixed)) || option_map_or (λ (x : ExtentState). x.mixed) (slot s.slots e) false
+mixed_here s e =
+    ((e == 0) && ((s.partition == 0) && s.homeless.mixed))
+    || option_map_or (λ (x : ExtentState). x.mixed) (slot s.slots e) false
 
 -- whether the extent has this number and is mixed
 abbrev pub mixed_as : ℕ → ExtentState → Bool
@@ -32,17 +34,8 @@ abbrev pub opened_as : List SubscriberRows → ℕ → ExtentState → Bool
 opened_as homes e x = if x.number == e then opened_with homes x else true
 
 -- the cause holds of the extent of this number
-abbrev pub IsExtentCause : ExtentCause → Rows → ClosedState → ℕ → Type 0
-IsExtentCause OpenedElse population closed e = OpenedAsPopulated population closed e → ⊥
-IsExtentCause IsAsMixed population closed e = IsMixed closed e
-IsExtentCause InParcel population closed e = IsInParcel closed e
-IsExtentCause StandsTwice population closed e = 2 ≤ times_standing closed e
-
--- the least extent of which it holds, if it holds of any
-pub record IsLeastExtent (P : ℕ → Type 0) (e : ℕ) : Type 0 where
-  pub holds : P e
-  pub least : (other : ℕ) → other < e → P other → ⊥
-
-abbrev pub IsFirstExtent : (ℕ → Type 0) → Option ℕ → Type 0
-IsFirstExtent P None = (e : ℕ) → P e → ⊥
-IsFirstExtent P (Some e) = IsLeastExtent P e
+abbrev pub IsExtentCause : ExtentCause → Run → ℕ → Type 0
+IsExtentCause OpenedElse run e = OpenedAsPopulated run.population run.closed e → ⊥
+IsExtentCause IsAsMixed run e = IsMixed run.closed e
+IsExtentCause InParcel run e = IsInParcel run.closed e
+IsExtentCause StandsTwice run e = 2 ≤ times_standing run.closed e

@@ -12,9 +12,12 @@ entries_of log = option_map_or (λ (x : LogState). x.entries) log []
 
 -- the entries of the log at a number's place, none beyond the last
 abbrev pub log_in : List (Option (Bor LogState)) → ℕ → List Entry
-log_in logs e = option_map_or (λ (log : Option (Bor LogState)). entries_of (option_copied log)) (slice_get logs e) []
+log_in logs e =
+    option_map_or (λ (log : Option (Bor LogState)). entries_of (option_copied log))
+    (slice_get logs e) []
 
--- at each number's place stands its log, up to the least number above all, and beyond it all logs are empty
+-- at each number's place stands its log, up to the least number above all, and beyond it all logs
+-- are empty
 pub record HasLogs (closed : ClosedState) (logs : List (Option (Bor LogState))) : Type 0 where
   pub count : length logs ≡ least_above closed
   pub are : (e : ℕ) → entries_numbered closed e ≡ log_in logs e

@@ -1,20 +1,22 @@
 -- A run that is to be settled: what it began with, and what it left.
-use Rattle.std.specs.Prelude.{ℕ, ◌+◌, ◌&&◌, nat_le, if◌then◌else◌, List, [], map, length, Option, Some, None, slice_get, Vec}
+use Rattle.std.specs.Prelude.{◌≡◌, ℕ, ◌+◌, ◌&&◌, nat_le, if◌then◌else◌, List, map, length, sum_by, Option, Some, None, slice_get, Vec}
 use Rattle.std.specs.List.{flat_map, range_with_len}
-use Rattle.std.specs.Option.{option_map_or, option_and_then}
+use Rattle.std.specs.Option.{option_and_then}
 use Rattle.std.specs.declared.alloc.Global.{Global}
 use Rattle.tatp_tables.specs.Database.{database_of}
 use Rattle.tatp_tables.specs.Home.{SubscriberRows}
+use Rattle.tatp_tables.specs.Loading.{homes_in}
 use Rattle.tatp_tables.specs.declared.row.Rows.{Rows}
 use Rattle.tatp_procs.specs.declared.ask.Ask.{Ask}
 use Rattle.tatp_procs.specs.declared.entry.Entry.{Entry}
-use Rattle.tatp_population.specs.Extents.{ExtentState}
 use Rattle.tatp_population.specs.Opening.{extent_count, homes_of_extent}
 use Rattle.tatp_population.specs.HomeRows.{rows_of_homes}
-use Rattle.tatp_settle.specs.declared.receipt.Receipt.{Receipt}
-use Rattle.tatp_settle.specs.Closings.{ClosedState, extent_numbered, entries_numbered}
+use Rattle.tatp_partition.specs.declared.receipt.Receipt.{Receipt}
+use Rattle.tatp_settle.specs.declared.run.Run.{Run as HeldRun}
+use Rattle.tatp_settle.specs.Closings.{ClosedState, entries_numbered, homes_numbered, moves_numbered}
 
--- the population's rows, what sites and parcels left, and for each client its receipts and its calls
+-- the population's rows, what sites and parcels left, and for each client its receipts and its
+-- calls
 pub record Run : Type 0 where
   pub population : Rows
   pub closed : ClosedState
@@ -25,38 +27,62 @@ pub record Run : Type 0 where
 abbrev pub lists_of : {A : Type 0} → List (Vec A Global) → List (List A)
 lists_of lists = map (λ list. list.items) lists
 
+-- the run of these calls on this population that left this
+abbrev pub run_of : Rows → ClosedState → List (Vec Receipt Global) → List (Vec Ask Global) → Run
+run_of population closed receipts calls = record {
+  population = population;
+  closed = closed;
+  receipts = lists_of receipts;
+  calls = lists_of calls;
+}
+
+-- the run that is at hand by references
+abbrev pub shown : HeldRun → Run
+shown run = run_of run.population.now run.closed.now run.receipts.now run.calls.now
+
 -- all elements of some lists
 abbrev pub joined : {A : Type 0} → List (List A) → List A
 joined lists = flat_map (λ list. list) lists
 
 -- what stands for a client and one of its call numbers; a list that is lacking counts as empty
 abbrev pub at_call : {A : Type 0} → List (List A) → ℕ → ℕ → Option A
-at_call lists client number = option_and_then (λ list. slice_get list number) (slice_get lists client)
+at_call lists client number =
+    option_and_then (λ list. slice_get list number) (slice_get lists client)
 
 -- ---- the population
 -- how many extents it makes
 abbrev pub extents_populated : Rows → ℕ
 extents_populated population = extent_count (length population.subscribers)
 
+-- these are all its homes, in the order of its subscribers
+abbrev pub AreHomesOf : Rows → List SubscriberRows → Type 0
+AreHomesOf population homes =
+    homes ≡ homes_in (database_of population) 1 (length population.subscribers)
+
 -- the homes of one of its extents; none where there is no such extent
 abbrev pub homes_populated : Rows → ℕ → Option (List SubscriberRows)
-homes_populated population e = if nat_le 1 e && nat_le e (extents_populated population) then Some (homes_of_extent (database_of population) (length population.subscribers) e) else None
+homes_populated population e =
+    if nat_le 1 e && nat_le e (extents_populated population)
+    then Some (homes_of_extent (database_of population) (length population.subscribers) e)
+    else None
 
 -- ---- what was left
--- the logs of the extents 0, 1 and so on, as many as the population has; extent 0 is that of the calls without a home
+-- the logs of the extents 0, 1 and so on, as many as the population has; extent 0 is that of the
+-- calls without a home
 abbrev pub logs_left : Run → List (List Entry)
-logs_left run = map (entries_numbered run.closed) (range_with_len 0 (extents_populated run.population + 1))
+logs_left run =
+    map (entries_numbered run.closed) (range_with_len 0 (extents_populated run.population + 1))
 
 -- the homes that stand now where the population has its extents, extent by extent
-abbrev pub homes_standing : Rows → ClosedState → List SubscriberRows
-homes_standing population closed = flat_map (λ e. option_map_or (λ (x : ExtentState). x.homes) (extent_numbered closed e) []) (range_with_len 1 (extents_populated population))
-
 abbrev pub homes_left : Run → List SubscriberRows
-homes_left run = homes_standing run.population run.closed
+homes_left run =
+    flat_map (homes_numbered run.closed) (range_with_len 1 (extents_populated run.population))
 
 -- the rows now
-abbrev pub rows_standing : Rows → ClosedState → Rows
-rows_standing population closed = rows_of_homes (homes_standing population closed)
-
 abbrev pub rows_left : Run → Rows
-rows_left run = rows_standing run.population run.closed
+rows_left run = rows_of_homes (homes_left run)
+
+-- how often the extents were moved that stand where the population has them, counted one by one
+abbrev pub moves_left : Run → ℕ
+moves_left run =
+    sum_by (moves_numbered run.closed) (range_with_len 1 (extents_populated run.population))

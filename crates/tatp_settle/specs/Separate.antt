@@ -20,7 +20,10 @@ pub record Parts : Type 0 where
 
 -- different places are of different subscribers
 abbrev pub AreSeparate : Parts → Type 0
-AreSeparate parts = (e e' i j s : ℕ) → slice_get (parts.ids e) i ≡ Some s → slice_get (parts.ids e') j ≡ Some s → (e ≡ e') × (i ≡ j)
+AreSeparate parts =
+    (e e' i j s : ℕ)
+    → slice_get (parts.ids e) i ≡ Some s → slice_get (parts.ids e') j ≡ Some s
+    → (e ≡ e') × (i ≡ j)
 
 -- the homes of an extent in a database
 abbrev pub homes_at : Parts → Database → ℕ → List SubscriberRows
@@ -37,7 +40,8 @@ abbrev pub AllFindNone : Database → List Entry → Type 0
 AllFindNone u [] = Unit {0}
 AllFindNone u (entry ∷ more) = FindsNone u entry × AllFindNone u more
 
--- the log of an extent leads from its homes in the database to its last; that of extent 0 finds none
+-- the log of an extent leads from its homes in the database to its last; that of extent 0 finds
+-- none
 abbrev pub LogAt : Parts → Database → ℕ → List Entry → Type 0
 LogAt parts u zero log = AllFindNone u log
 LogAt parts u (suc e) log = Leads (homes_at parts u (suc e)) log (parts.last (suc e))
@@ -47,10 +51,14 @@ LogsAt parts u logs = (e : ℕ) (log : List Entry) → slice_get logs e ≡ Some
 
 -- the extents that have a log end with their last homes in the database
 abbrev pub HaveLast : Parts → List (List Entry) → Database → Type 0
-HaveLast parts logs after = (e : ℕ) (log : List Entry) → slice_get logs (suc e) ≡ Some log → parts.last (suc e) ≡ homes_at parts after (suc e)
+HaveLast parts logs after =
+    (e : ℕ) (log : List Entry) → slice_get logs (suc e) ≡ Some log
+    → parts.last (suc e) ≡ homes_at parts after (suc e)
 
--- the history is one of transactions from the database to one with the last homes, where each key names the subscriber that it named
-pub record LeadsToLast (parts : Parts) (before : Database) (logs : List (List Entry)) (history : List PlacedEntry) : Type 0 where
+-- the history is one of transactions from the database to one with the last homes, where each key
+-- names the subscriber that it named
+pub record LeadsToLast (parts : Parts) (before : Database) (logs : List (List Entry))
+    (history : List PlacedEntry) : Type 0 where
   pub after : Database
   pub consistent : IsConsistent after
   pub answered : IsAnsweredInOrder before history after

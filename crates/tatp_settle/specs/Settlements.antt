@@ -9,7 +9,7 @@ use Rattle.tatp_tables.specs.declared.row.Rows.{Rows}
 use Rattle.tatp_procs.specs.declared.ask.Ask.{Ask}
 use Rattle.tatp_procs.specs.declared.entry.Entry.{Entry}
 use Rattle.tatp_population.specs.Extents.{ExtentState}
-use Rattle.tatp_settle.specs.declared.receipt.Receipt.{Receipt}
+use Rattle.tatp_partition.specs.declared.receipt.Receipt.{Receipt}
 use Rattle.tatp_settle.specs.declared.settled.Settled.{Settled}
 use Rattle.tatp_settle.specs.declared.refusals.GatherError.{GatherError}
 use Rattle.tatp_settle.specs.declared.refusals.GatherError.TheVariants.{ExtentMissing, NoMemory as NoMemoryToGather}
@@ -31,15 +31,22 @@ pub record IsPopulationOnce (run : Run) : Type 0 where
 
 -- each client's receipts are its calls in order, and each entry has its receipt
 pub record IsReceived (run : Run) : Type 0 where
-  pub matched : (client number : ℕ) → AreMatched client number (at_call run.calls client number) (at_call run.receipts client number)
-  pub answered : (client number : ℕ) (ask : Ask) (receipt : Receipt) → at_call run.calls client number ≡ Some ask → at_call run.receipts client number ≡ Some receipt → IsAnswered run.closed ask receipt
-  pub known : (e place : ℕ) (entry : Entry) → StandsAt run.closed e place entry → HasReceipt run.receipts (record { extent = e; entry = entry })
+  pub matched : (client number : ℕ)
+      → AreMatched client number (at_call run.calls client number)
+      (at_call run.receipts client number)
+  pub answered : (client number : ℕ) (ask : Ask) (receipt : Receipt)
+      → at_call run.calls client number ≡ Some ask
+      → at_call run.receipts client number ≡ Some receipt → IsAnswered run.closed ask receipt
+  pub known : (e place : ℕ) (entry : Entry) → StandsAt run.closed e place entry
+      → HasReceipt run.receipts (record { extent = e; entry = entry })
   pub once : EntriesStandOnce run.closed
 
--- the logs are one history of transactions, from the population to the rows now, which are clean; and it is what the clients received
+-- the logs are one history of transactions, from the population to the rows now, which are clean;
+-- and it is what the clients received
 pub record IsOneHistory (run : Run) : Type 0 where
   pub extents : IsPopulationOnce run
-  pub history : OneHistory (database_of run.population) (logs_left run) (database_of (rows_left run))
+  pub history : OneHistory (database_of run.population) (logs_left run)
+      (database_of (rows_left run))
   pub received : IsReceived run
   pub clean : IsClean (rows_left run)
 

@@ -1,17 +1,18 @@
 //! The causes that an extent is.
-ghost use Rattle.std.specs.Prelude.{◌≡◌, ◌<◌, ◌≤◌, ◌^◌, ◌==◌, ◌||◌, ◌&&◌, ◌↔◌, IsTrue, length, count_by};
+ghost use Rattle.std.specs.Prelude.{◌≡◌, ◌≤◌, ◌==◌, ◌&&◌, ◌↔◌, IsTrue, count_by};
 ghost use Rattle.std.specs.List.{list_any, list_all};
-ghost use Rattle.tatp_tables.specs.Database.{database_of};
-ghost use Rattle.tatp_tables.specs.Loading.{homes_in};
 ghost use Rattle.tatp_population.specs.Extents.{ExtentState};
 ghost use Rattle.tatp_settle.specs.Closings.{ClosedSiteState, is_here, times_standing};
-ghost use Rattle.tatp_settle.specs.Causes.{OpenedAsPopulated, IsMixed, IsInParcel};
-ghost use Rattle.tatp_settle.specs.ExtentTests.{mixed_here, mixed_as, opened_with, opened_here, opened_as, IsExtentCause, IsFirstExtent};
+ghost use Rattle.tatp_settle.specs.Causes.{OpenedAsPopulated, IsMixed};
+ghost use Rattle.tatp_settle.specs.CallPlaces.{IsFirstNumber};
+ghost use Rattle.tatp_settle.specs.Runs.{AreHomesOf, shown};
+ghost use Rattle.tatp_settle.specs.ExtentTests.{mixed_here, mixed_as, opened_with, opened_here, opened_as, IsExtentCause};
 
-use crate::logs::{extent_of, log_count};
+use crate::logs::{extent_numbered, log_count};
+use crate::run::Run;
 use crate::{Closed, ClosedSite};
-use tatp_population::Extent;
-use tatp_tables::{Home, Rows};
+use tatp_population::{EXTENT_SIZE, Extent, extent_count};
+use tatp_tables::Home;
 
 /// The causes that an extent is.
 #[derive(Clone, Copy)]
@@ -26,65 +27,52 @@ pub(crate) enum ExtentCause {
     StandsTwice,
 }
 
-/// The least extent that is such a cause.
-pub(crate) fn first_extent(
-    cause: ExtentCause,
-    population: &Rows,
-    homes: &[Home],
-    closed: &Closed,
-) -> Option<u64>
-    requires { homes.now ≡ homes_in (database_of population.now) 1 (length population.now.subscribers) }
-    ensures { IsFirstExtent (IsExtentCause cause population.now closed.now) result }
+/// The least extent that is such a cause, by the homes of the population.
+pub(crate) fn first_extent(cause: ExtentCause, run: &Run<'_>, homes: &[Home]) -> Option<u64>
+    requires { AreHomesOf run.now.population.now homes.now }
+    ensures { IsFirstNumber (IsExtentCause cause (shown run.now)) result }
 {
-    closed.what_holds();
-    let count = log_count(closed).max((homes.len() as u64 + 63) / 64 + 1);
-    'numbers: for number in 0..count {
-        if is_cause(cause, population, homes, closed, number) {
-            return Some(number);
-        }
-    }
-    None
+    run.closed.what_holds();
+    let count = log_count(run.closed).max(extent_count(homes.len() as u64) + 1);
+    (0..count).find(|number| is_cause(cause, run, homes, *number))
 }
 
 /// Whether the extent of a number is such a cause.
-fn is_cause(
-    cause: ExtentCause,
-    population: &Rows,
-    homes: &[Home],
-    closed: &Closed,
-    number: u64,
-) -> bool
-    requires { homes.now ≡ homes_in (database_of population.now) 1 (length population.now.subscribers) }
-    ensures { IsTrue result ↔ IsExtentCause cause population.now closed.now number }
+fn is_cause(cause: ExtentCause, run: &Run<'_>, homes: &[Home], number: u64) -> bool
+    requires { AreHomesOf run.now.population.now homes.now }
+    ensures { IsTrue result ↔ IsExtentCause cause (shown run.now) number }
 {
     match cause {
-        ExtentCause::OpenedElse => !is_opened(population, homes, closed, number),
-        ExtentCause::IsAsMixed => is_mixed(closed, number),
-        ExtentCause::InParcel => is_one_of(closed.parcels(), number),
-        ExtentCause::StandsTwice => is_doubled(closed, number),
+        ExtentCause::OpenedElse => !is_opened(run, homes, number),
+        ExtentCause::IsAsMixed => is_mixed(run.closed, number),
+        ExtentCause::InParcel => is_one_of(run.closed.parcels(), number),
+        ExtentCause::StandsTwice => is_doubled(run.closed, number),
     }
 }
 
-/// Whether the extent stands exactly where the population has it, and opened with the population's homes.
-fn is_opened(population: &Rows, homes: &[Home], closed: &Closed, number: u64) -> bool
-    requires { homes.now ≡ homes_in (database_of population.now) 1 (length population.now.subscribers) }
-    ensures { IsTrue result ↔ OpenedAsPopulated population.now closed.now number }
+/// Whether the extent stands exactly where the population has it, and opened with the population's
+/// homes.
+fn is_opened(run: &Run<'_>, homes: &[Home], number: u64) -> bool
+    requires { AreHomesOf run.now.population.now homes.now }
+    ensures { IsTrue result
+        ↔ OpenedAsPopulated run.now.population.now run.now.closed.now number }
 {
-    closed.what_holds();
-    // The clauses speak of the population; the homes are all of it that is read.
-    let _ = population;
-    let stands = extent_of(closed, number).is_some();
-    if number == 0 || number - 1 >= (homes.len() as u64 + 63) / 64 {
+    run.closed.what_holds();
+    let stands = extent_numbered(run.closed, number).is_some();
+    if number == 0 || number - 1 >= extent_count(homes.len() as u64) {
         return !stands;
     }
-    let first = 64 * (number as usize - 1);
-    let own = &homes[first..(first + 64).min(homes.len())];
-    stands && are_opened(closed, own, number)
+    let size = EXTENT_SIZE as usize;
+    let first = size * (number as usize - 1);
+    let own = &homes[first..(first + size).min(homes.len())];
+    stands && are_opened(run.closed, own, number)
 }
 
 /// Whether all extents that have a number opened with these homes.
 fn are_opened(closed: &Closed, homes: &[Home], number: u64) -> bool
-    ensures { result ≡ (list_all (opened_here homes.now number) closed.now.sites && list_all (opened_as homes.now number) closed.now.parcels) }
+    ensures { result
+        ≡ (list_all (opened_here homes.now number) closed.now.sites
+        && list_all (opened_as homes.now number) closed.now.parcels) }
 {
     are_opened_at(closed.sites(), homes, number) && are_opened_in(closed.parcels(), homes, number)
 }
@@ -110,13 +98,7 @@ fn is_opened_here(site: &ClosedSite, homes: &[Home], number: u64) -> bool
 fn are_opened_in(extents: &[Extent], homes: &[Home], number: u64) -> bool
     ensures { result ≡ list_all (opened_as homes.now number) extents.now }
 {
-    extents.iter().all(|extent| {
-        if extent.number() as u64 == number {
-            has_opened_with(extent, homes)
-        } else {
-            true
-        }
-    })
+    extents.iter().all(|extent| extent.number() as u64 != number || has_opened_with(extent, homes))
 }
 
 /// Whether the extent opened with these homes.
@@ -130,7 +112,6 @@ fn has_opened_with(extent: &Extent, homes: &[Home]) -> bool
 fn is_mixed(closed: &Closed, number: u64) -> bool
     ensures { IsTrue result ↔ IsMixed closed.now number }
 {
-    closed.what_holds();
     is_mixed_at(closed.sites(), number) || is_mixed_in(closed.parcels(), number)
 }
 
@@ -174,7 +155,6 @@ fn is_one_of(extents: &[Extent], number: u64) -> bool
 fn is_doubled(closed: &Closed, number: u64) -> bool
     ensures { IsTrue result ↔ (2 ≤ times_standing closed.now number) }
 {
-    closed.what_holds();
     let at_sites = times_at(closed.sites(), number);
     let in_parcels = times_in(closed.parcels(), number);
     at_sites.saturating_add(in_parcels) >= 2

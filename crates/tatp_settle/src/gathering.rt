@@ -1,20 +1,20 @@
 //! What sites and parcels leave is gathered.
-ghost use Rattle.std.specs.Prelude.{◌≡◌, ◌+◌, ◌<◌, ◌≤◌, ◌^◌, ◌==◌, ◌||◌, ℕ, IfOk, IfErr, IfSome, IfNone, [], All, List, length, map, vec_len};
+ghost use Rattle.std.specs.Prelude.{◌≡◌, ◌+◌, ◌<◌, ◌≤◌, ◌^◌, ◌==◌, ◌||◌, ◌↔◌, IsTrue, ℕ, IfOk, IfErr, IfSome, IfNone, [], All, List, length, map, vec_len};
 ghost use Rattle.std.specs.Vec.{vec_capacity};
 ghost use Rattle.std.specs.List.{list_any};
 ghost use Rattle.tatp_population.specs.Extents.{ExtentState, IsExtent};
 ghost use Rattle.tatp_partition.specs.Sites.{SiteState};
 ghost use Rattle.tatp_partition.specs.Sound.{IsSite};
-ghost use Rattle.tatp_settle.specs.Closings.{closed_of, closed_site, greatest_place, is_here, IsClosedSite, IsMissing, IsClosed};
+ghost use Rattle.tatp_settle.specs.Closings.{closed_of, closed_site, greatest_place, is_here, times_standing, IsClosedSite, IsMissing, IsClosed};
 ghost use Rattle.tatp_settle.specs.Settlements.{IsLeastMissing, RefusesToGather};
 
 use crate::{Closed, ClosedSite, GatherError, NotGathered};
 use std::alloc::Global;
 use tatp_partition::{Parcel, Site, what_holds_of_every_parcel, what_holds_of_every_site};
-use tatp_population::{Extent, homes_stand_in_their_places};
+use tatp_population::{Extent, first_subscriber};
 
-/// What these sites and parcels leave: each extent and each log in its place, running calls set back.
-/// Refused, sites and parcels come back.
+/// What these sites and parcels leave: each extent and each log in its place, running calls set
+/// back. Refused, sites and parcels come back.
 pub fn gather<'m>(
     alloc: Global,
     sites: Vec<Site<'m>>,
@@ -23,7 +23,8 @@ pub fn gather<'m>(
     ensures closed { IfOk result (λ closed. closed ≡ closed_of sites.entry.items parcels.items) }
     ensures whole { IfOk result IsClosed }
     ensures sound { All IsClosedSite (closed_of sites.entry.items parcels.items).sites }
-    ensures refusal { IfErr result (λ refused. RefusesToGather (closed_of sites.entry.items parcels.items) refused.error) }
+    ensures refusal { IfErr result (λ refused.
+        RefusesToGather (closed_of sites.entry.items parcels.items) refused.error) }
     ensures sites { IfErr result (λ refused. refused.sites.items ≡ sites.entry.items) }
     ensures parcels { IfErr result (λ refused. refused.parcels.items ≡ parcels.items) }
 {
@@ -64,32 +65,36 @@ fn least_missing(sites: &[Site<'_>], parcels: &[Parcel]) -> Option<u64>
     ensures none { IfNone result ((e : ℕ) → IsMissing (closed_of sites.now parcels.now) e → ⊥) }
 {
     what_holds_of_these_sites(sites);
-    let greatest = greatest_number(sites);
-    'numbers: for number in 0..greatest + 1 {
-        if !stands(sites, parcels, number) {
-            return Some(number);
-        }
-    }
-    None
+    let greatest = greatest_number(sites) as u64;
+    (0..greatest + 1).find(|number| is_missing(sites, parcels, *number))
 }
 
 /// The greatest number of an extent that one of the sites has a place for, 0 without a site.
-fn greatest_number(sites: &[Site<'_>]) -> u64
-    ensures value { (parcels : List ExtentState) → result ≡ greatest_place (closed_of sites.now parcels) }
-    ensures most { result < 2 ^ 32 }
+fn greatest_number(sites: &[Site<'_>]) -> u32
+    ensures { (parcels : List ExtentState)
+        → result ≡ greatest_place (closed_of sites.now parcels) }
 {
-    let mut greatest = 0;
-    'sites: for site in sites {
-        let number = site.slots() as u64;
-        greatest = number.max(greatest);
-    }
-    greatest
+    sites
+        .iter()
+        .fold(0, |most: u32, site| most.max(site.slots()))
+}
+
+/// Whether an extent stands in no site and no parcel.
+fn is_missing(sites: &[Site<'_>], parcels: &[Parcel], number: u64) -> bool
+    requires few { number < 2 ^ 32 }
+    requires sound { All IsSite sites.now }
+    ensures { IsTrue result
+        ↔ (times_standing (closed_of sites.now parcels.now) number ≡ 0) }
+{
+    !stands(sites, parcels, number)
 }
 
 /// Whether an extent stands in a site or a parcel.
 fn stands(sites: &[Site<'_>], parcels: &[Parcel], number: u64) -> bool
     requires { number < 2 ^ 32 }
-    ensures { result ≡ (list_any (λ (site : SiteState). is_here (closed_site site) number) sites.now || list_any (λ (x : ExtentState). x.number == number) parcels.now) }
+    ensures { result
+        ≡ (list_any (λ (site : SiteState). is_here (closed_site site) number) sites.now
+        || list_any (λ (x : ExtentState). x.number == number) parcels.now) }
 {
     stands_at_one(sites, number) || is_one_of(parcels, number)
 }
@@ -97,7 +102,8 @@ fn stands(sites: &[Site<'_>], parcels: &[Parcel], number: u64) -> bool
 /// Whether an extent stands in one of the sites.
 fn stands_at_one(sites: &[Site<'_>], number: u64) -> bool
     requires { number < 2 ^ 32 }
-    ensures { result ≡ list_any (λ (site : SiteState). is_here (closed_site site) number) sites.now }
+    ensures { result
+        ≡ list_any (λ (site : SiteState). is_here (closed_site site) number) sites.now }
 {
     sites.iter().any(|site| stands_at(site, number))
 }
@@ -120,17 +126,17 @@ fn what_holds_of_these_sites(sites: &[Site<'_>])
     }
 }
 
-/// Whether an extent stands in a site. The log of the calls without a home stands in that of partition 0.
+/// Whether an extent stands in a site. The log of the calls without a home stands in that of
+/// partition 0.
 fn stands_at(site: &Site<'_>, number: u64) -> bool
     requires { number < 2 ^ 32 }
     ensures { result ≡ is_here (closed_site site.now) number }
 {
     what_holds_of_every_site(site);
-    homes_stand_in_their_places();
     if number == 0 {
         site.partition() == 0
     } else {
-        site.home(64 * (number - 1) + 1).is_some()
+        site.home(first_subscriber(number as u32)).is_some()
     }
 }
 

@@ -13,7 +13,8 @@ pub(crate) fn at<T>(lists: &[Vec<T>], client: u64, number: u64) -> Option<&T>
 /// How many lists there are.
 pub(crate) fn count_of<T>(lists: &[Vec<T>]) -> u64
     ensures count { result ≡ length lists.now }
-    ensures beyond { (client number : ℕ) → result ≤ client → at_call (lists_of lists.now) client number ≡ None }
+    ensures beyond { (client number : ℕ)
+        → result ≤ client → at_call (lists_of lists.now) client number ≡ None }
 {
     lists.len() as u64
 }
@@ -21,7 +22,8 @@ pub(crate) fn count_of<T>(lists: &[Vec<T>]) -> u64
 /// How much stands for a client.
 pub(crate) fn len_of<T>(lists: &[Vec<T>], client: u64) -> u64
     ensures count { result ≡ option_map_or length (slice_get (lists_of lists.now) client) 0 }
-    ensures beyond { (number : ℕ) → result ≤ number → at_call (lists_of lists.now) client number ≡ None }
+    ensures beyond { (number : ℕ)
+        → result ≤ number → at_call (lists_of lists.now) client number ≡ None }
 {
     match lists.get(client as usize) {
         Some(list) => list.len() as u64,

@@ -57,10 +57,7 @@ impl<'a> LogTable<'a> {
     fn log(&self, number: u64) -> Option<&Log>
         ensures { entries_of (option_copied result) ≡ entries_numbered self.now number }
     {
-        match self.logs.get(number as usize) {
-            Some(log) => *log,
-            None => None,
-        }
+        *self.logs.get(number as usize)?
     }
 
     /// How many entries stand under a number.
@@ -77,10 +74,7 @@ impl<'a> LogTable<'a> {
     pub(crate) fn entry(&self, number: u64, index: usize) -> Option<Entry>
         ensures { result ≡ slice_get (entries_numbered self.now number) index }
     {
-        match self.log(number) {
-            Some(log) => log.get(index),
-            None => None,
-        }
+        self.log(number)?.get(index)
     }
 
     /// Whose call the entry in a place under a number is: its client, and the call's number.

@@ -1,10 +1,9 @@
 //! What sites and parcels have under a number: extents and logs.
 ghost use Rattle.std.specs.Prelude.{◌≡◌, ◌≤◌, ◌^◌, ◌==◌, ℕ, find, [], All};
-ghost use Rattle.std.specs.List.{flat_map};
 ghost use Rattle.std.specs.Option.{option_copied, option_map_or};
 ghost use Rattle.tatp_population.specs.Extents.{ExtentState};
 ghost use Rattle.tatp_settle.specs.LogTables.{entries_of};
-ghost use Rattle.tatp_settle.specs.Closings.{ClosedSiteState, extents_in_slots, extents_numbered, extent_numbered, entries_numbered, most_places, above_all, least_above, IsClosedSite};
+ghost use Rattle.tatp_settle.specs.Closings.{ClosedSiteState, extents_at, extents_numbered, extent_numbered, entries_numbered, most_places, above_all, least_above, IsClosedSite};
 
 use crate::{Closed, ClosedSite};
 use tatp_population::{Extent, Log};
@@ -13,18 +12,16 @@ use tatp_population::{Extent, Log};
 fn first_of(extents: &[Extent], number: u64) -> Option<&Extent>
     ensures { option_copied result ≡ find (λ (x : ExtentState). x.number == number) extents.now }
 {
-    'extents: for extent in extents {
-        if extent.number() as u64 == number {
-            return Some(extent);
-        }
-    }
-    None
+    extents
+        .iter()
+        .find(|extent| extent.number() as u64 == number)
 }
 
 /// The first extent that stood in these sites under a number.
 fn extent_at(sites: &[ClosedSite], number: u64) -> Option<&Extent>
     requires { All IsClosedSite sites.now }
-    ensures { option_copied result ≡ find (λ (x : ExtentState). x.number == number) (flat_map (λ (site : ClosedSiteState). extents_in_slots site.slots) sites.now) }
+    ensures { option_copied result
+        ≡ find (λ (x : ExtentState). x.number == number) (extents_at sites.now) }
 {
     'sites: for site in sites {
         if let Some(extent) = site.extent(number) {
@@ -35,10 +32,9 @@ fn extent_at(sites: &[ClosedSite], number: u64) -> Option<&Extent>
 }
 
 /// The first extent that has a number.
-pub(crate) fn extent_of(closed: &Closed, number: u64) -> Option<&Extent>
+pub(crate) fn extent_numbered(closed: &Closed, number: u64) -> Option<&Extent>
     ensures { option_copied result ≡ extent_numbered closed.now number }
 {
-    closed.what_holds();
     match extent_at(closed.sites(), number) {
         Some(extent) => Some(extent),
         None => first_of(closed.parcels(), number),
@@ -47,7 +43,9 @@ pub(crate) fn extent_of(closed: &Closed, number: u64) -> Option<&Extent>
 
 /// The first log of calls without a home, if there is one.
 fn homeless_of(sites: &[ClosedSite]) -> Option<&Log>
-    ensures { entries_of (option_copied result) ≡ option_map_or (λ (site : ClosedSiteState). site.homeless.log) (find (λ (site : ClosedSiteState). site.partition == 0) sites.now) [] }
+    ensures { entries_of (option_copied result)
+        ≡ option_map_or (λ (site : ClosedSiteState). site.homeless.log)
+        (find (λ (site : ClosedSiteState). site.partition == 0) sites.now) [] }
 {
     'sites: for site in sites {
         if site.partition() == 0 {
@@ -57,29 +55,26 @@ fn homeless_of(sites: &[ClosedSite]) -> Option<&Log>
     None
 }
 
-/// The first log that has a number, if there is one; that of the calls without a home has the number 0.
+/// The first log that has a number, if there is one; that of the calls without a home has the
+/// number 0.
 pub(crate) fn log_of(closed: &Closed, number: u64) -> Option<&Log>
     ensures { entries_of (option_copied result) ≡ entries_numbered closed.now number }
 {
-    closed.what_holds();
     if number == 0 {
         return homeless_of(closed.sites());
     }
-    match extent_of(closed, number) {
-        Some(extent) => Some(extent.log()),
-        None => None,
-    }
+    let extent = extent_numbered(closed, number)?;
+    Some(extent.log())
 }
 
-/// How many places the site has that has the most: a number above that of each extent that stood there.
+/// How many places the site has that has the most: a number above that of each extent that stood
+/// there.
 fn places_of(sites: &[ClosedSite]) -> u64
     ensures { result ≡ most_places sites.now }
 {
-    let mut count = 0;
-    'sites: for site in sites {
-        count = site.places().max(count);
-    }
-    count
+    sites
+        .iter()
+        .fold(0, |most: u64, site| most.max(site.places()))
 }
 
 /// The least number above those of these extents.
@@ -101,7 +96,6 @@ pub(crate) fn log_count(closed: &Closed) -> u64
     ensures entries { (e : ℕ) → result ≤ e → entries_numbered closed.now e ≡ [] }
     ensures extents { (e : ℕ) → result ≤ e → extents_numbered closed.now e ≡ [] }
 {
-    closed.what_holds();
     places_of(closed.sites())
         .max(numbers_of(closed.parcels()))
         .max(1)

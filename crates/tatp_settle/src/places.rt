@@ -1,4 +1,6 @@
 //! Where calls and entries stand.
+ghost use Rattle.std.specs.Prelude.{◌≡◌, ◌⊎◌, ℕ, Some};
+ghost use Rattle.tatp_settle.specs.Placing.{IsAtMost};
 
 /// One of a client's calls.
 #[derive(Clone, Copy, Debug, PartialEq, Eq)]
@@ -16,4 +18,25 @@ pub(crate) struct LogPlace {
     pub(crate) extent: u64,
     /// How many entries stand before it.
     pub(crate) index: usize,
+}
+
+/// The lesser of two calls.
+pub(crate) fn lesser(least: Option<CallPlace>, other: CallPlace) -> Option<CallPlace>
+    ensures keeps { (client number : ℕ)
+        → IsAtMost least client number → IsAtMost result client number }
+    ensures at { IsAtMost result other.client other.number }
+    ensures is { (result ≡ least) ⊎ (result ≡ Some other) }
+{
+    match least {
+        None => Some(other),
+        Some(place) => {
+            if other.client < place.client
+                || other.client == place.client && other.number < place.number
+            {
+                Some(other)
+            } else {
+                Some(place)
+            }
+        }
+    }
 }

@@ -16,12 +16,13 @@ pub(crate) struct Table {
 impl Table {
     /// An empty cell for each call that has an element in these lists.
     pub(crate) fn fresh<T>(alloc: Global, lists: &[Vec<T>]) -> Result<Table, AllocError>
-        ensures fresh { IfOk result (λ table. IsFresh (at_call (lists_of lists.now)) (cells_of table)) }
+        ensures fresh { IfOk result (λ table.
+            IsFresh (at_call (lists_of lists.now)) (cells_of table)) }
         ensures len { IfOk result (λ table. vec_len table.rows ≡ length lists.now) }
     {
         let mut rows: Vec<Vec<Option<LogPlace>>> = Vec::with_capacity(alloc, lists.len())?;
-        'lists: for i in 0..lists.len() {
-            rows.push(fresh_row(alloc, lists[i].len())?)?;
+        'lists: for list in lists {
+            rows.push(fresh_row(alloc, list.len())?)?;
         }
         Ok(Table { rows })
     }

@@ -5,6 +5,7 @@ mod events;
 mod gates;
 mod gathering;
 mod moves;
+mod real_time;
 mod routes;
 mod rows;
 mod runs;

@@ -5,8 +5,12 @@ use Rattle.tatp_tables.specs.Keys.{has_key}
 use Rattle.tatp_tables.specs.Database.{Database}
 use Rattle.tatp_tables.specs.Home.{IsHome}
 
+-- cells of one table, each with a row or none
+abbrev pub Cells : Type 0
+Cells = List (Option Tuple)
+
 -- the rows that stand in cells
-abbrev pub present : List (Option Tuple) → List Tuple
+abbrev pub present : Cells → List Tuple
 present [] = []
 present (None ∷ more) = present more
 present (Some row ∷ more) = row ∷ present more
@@ -24,7 +28,7 @@ forwarding_keys =
     ∷ (3 ∷ 0 ∷ []) ∷ (3 ∷ 8 ∷ []) ∷ (3 ∷ 16 ∷ []) ∷ (4 ∷ 0 ∷ []) ∷ (4 ∷ 8 ∷ []) ∷ (4 ∷ 16 ∷ []) ∷ []
 
 -- each row stands at the place of its key
-abbrev pub StandAt : ℕ → List (List ℕ) → List (Option Tuple) → Type 0
+abbrev pub StandAt : ℕ → List (List ℕ) → Cells → Type 0
 StandAt s [] [] = Unit {0}
 StandAt s [] (c ∷ cells) = ⊥
 StandAt s (k ∷ keys) [] = ⊥
@@ -38,7 +42,7 @@ put_cell place false v (Some row) = Some row
 put_cell place true v (Some row) = Some (slice_set row place v)
 
 -- the database of a home's cells
-abbrev pub tables_in : Option Tuple → List (Option Tuple) → List (Option Tuple) → List (Option Tuple) → Database
+abbrev pub tables_in : Option Tuple → Cells → Cells → Cells → Database
 tables_in subscriber accesses facilities forwardings = record {
   subscribers = set_of (present (subscriber ∷ []));
   accesses = set_of (present accesses);
@@ -47,9 +51,13 @@ tables_in subscriber accesses facilities forwardings = record {
 }
 
 -- the cells hold a home's rows, each at its place
-pub record HoldHome (s : ℕ) (subscriber : Option Tuple) (accesses facilities forwardings : List (Option Tuple)) : Type 0 where
+pub record HoldHome
+    (s : ℕ) (subscriber : Option Tuple) (accesses facilities forwardings : Cells) : Type 0 where
   pub subscriber_place : StandAt s subscriber_keys (subscriber ∷ [])
   pub access_places : StandAt s type_keys accesses
   pub facility_places : StandAt s type_keys facilities
   pub forwarding_places : StandAt s forwarding_keys forwardings
-  pub home : IsHome (record { s_id = s; tables = tables_in subscriber accesses facilities forwardings })
+  pub home : IsHome (record {
+    s_id = s;
+    tables = tables_in subscriber accesses facilities forwardings;
+  })

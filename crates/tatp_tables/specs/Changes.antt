@@ -1,5 +1,6 @@
--- Reading one column, and the three changes of a database: a column set, a Call_Forwarding row inserted, one deleted.
--- Each change has an answer, which refuses by the first test that fails, and a database after it; a refusal leaves the database.
+-- Reading one column, and the three changes of a database: a column set, a Call_Forwarding row
+-- inserted, one deleted. Each change has an answer, which refuses by the first test that fails, and
+-- a database after it; a refusal leaves the database.
 use Rattle.std.specs.Prelude.{ℕ, Bool, true, false, List, [], ◌∷◌, Option, Some, None, Result, Ok, Err, slice_index, slice_set, if◌then◌else◌}
 use Rattle.std.specs.Option.{option_map}
 use Rattle.tatp_tables.specs.Tuples.{Tuple, Tuples, insert_row, remove_row, replace_row}
@@ -13,17 +14,22 @@ use Rattle.tatp_tables.specs.declared.refusal.Refusal.TheVariants.{NoCurrent, Do
 
 -- the value of a column in the row with this key, where there is such a column
 abbrev pub cell : Database → ℕ → List ℕ → Option ℕ
-cell u c key = if is_column c then option_map (λ row. slice_index row (place_of c)) (current_row (table_of c) u key) else None
+cell u c key =
+    if is_column c
+    then option_map (λ row. slice_index row (place_of c)) (current_row (table_of c) u key)
+    else None
 
 -- ---- a column of the row with a key is set
--- what it answers, by the row that was found and whether the value is in the domain: the value before
+-- what it answers, by the row that was found and whether the value is in the domain: the value
+-- before
 abbrev pub put_answer_at : ℕ → Bool → Option Tuple → Result ℕ Refusal
 put_answer_at place fits None = Err NoCurrent
 put_answer_at place false (Some row) = Err Domain
 put_answer_at place true (Some row) = Ok (slice_index row place)
 
 abbrev pub put_answer : Database → ℕ → List ℕ → ℕ → Result ℕ Refusal
-put_answer u c key v = put_answer_at (place_of c) (is_in_domain c v) (current_row (table_of c) u key)
+put_answer u c key v =
+    put_answer_at (place_of c) (is_in_domain c v) (current_row (table_of c) u key)
 
 -- the rows after it
 abbrev pub put_rows : ℕ → Bool → ℕ → Tuples → Option Tuple → Tuples
@@ -32,7 +38,8 @@ put_rows place false v u (Some row) = u
 put_rows place true v u (Some row) = replace_row u row (slice_set row place v)
 
 abbrev pub put_tables : Database → ℕ → List ℕ → ℕ → Database
-put_tables u c key v = with_table (table_of c) u (put_rows (place_of c) (is_in_domain c v) v (in_table (table_of c) u) (current_row (table_of c) u key))
+put_tables u c key v = with_table (table_of c) u (put_rows
+    (place_of c) (is_in_domain c v) v (in_table (table_of c) u) (current_row (table_of c) u key))
 
 -- ---- a Call_Forwarding row is inserted
 -- its parent: the facility (s_id, sf_type)
@@ -51,7 +58,8 @@ insert_answer_at true (Some facility) (Some row) = Err KeyExists
 insert_answer_at true (Some facility) None = Ok tt
 
 abbrev pub insert_answer : Database → Tuple → Result (Unit {0}) Refusal
-insert_answer u row = insert_answer_at (are_in_domain 46 row) (parent_of u row) (row_at u.forwardings (forwarding_key row))
+insert_answer u row = insert_answer_at
+    (are_in_domain 46 row) (parent_of u row) (row_at u.forwardings (forwarding_key row))
 
 -- the rows after it
 abbrev pub insert_rows_at : Tuples → Tuple → Result (Unit {0}) Refusal → Tuples
@@ -59,7 +67,8 @@ insert_rows_at u row (Err refusal) = u
 insert_rows_at u row (Ok done) = insert_row u row
 
 abbrev pub insert_tables : Database → Tuple → Database
-insert_tables u row = record u { forwardings = insert_rows_at u.forwardings row (insert_answer u row) }
+insert_tables u row =
+    record u { forwardings = insert_rows_at u.forwardings row (insert_answer u row) }
 
 -- ---- the Call_Forwarding row with a key is deleted
 -- what it answers, by the row that was found: that row
@@ -76,4 +85,5 @@ delete_rows u None = u
 delete_rows u (Some row) = remove_row u row
 
 abbrev pub delete_tables : Database → List ℕ → Database
-delete_tables u key = record u { forwardings = delete_rows u.forwardings (current_row CallForwarding u key) }
+delete_tables u key =
+    record u { forwardings = delete_rows u.forwardings (current_row CallForwarding u key) }

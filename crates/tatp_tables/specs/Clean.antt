@@ -12,7 +12,8 @@ count_of_key key rows = count_by (has_key key) rows
 
 -- each of 1 to the number of Subscriber rows, and 1 in any case, is the s_id of exactly one of them
 abbrev pub IdsRunFromOne : Rows → Type 0
-IdsRunFromOne r = (s : ℕ) → 1 ≤ s → s ≤ max 1 (length r.subscribers) → count_of_key (s ∷ []) r.subscribers ≡ 1
+IdsRunFromOne r = (s : ℕ) → 1 ≤ s → s ≤ max 1 (length r.subscribers)
+    → count_of_key (s ∷ []) r.subscribers ≡ 1
 
 -- no number stands twice
 abbrev pub NumbersStandOnce : Rows → Type 0
@@ -24,7 +25,8 @@ pub record KeysStandOnce (r : Rows) : Type 0 where
   pub facilities : (s kind : ℕ) → count_of_key (s ∷ kind ∷ []) r.facilities ≤ 1
   pub forwardings : (s kind start : ℕ) → count_of_key (s ∷ kind ∷ start ∷ []) r.forwardings ≤ 1
 
--- each Access_Info and Special_Facility row has its subscriber, each Call_Forwarding row its facility
+-- each Access_Info and Special_Facility row has its subscriber, each Call_Forwarding row its
+-- facility
 pub record ParentsStand (r : Rows) : Type 0 where
   pub accesses : All (λ row. 1 ≤ count_of_key (take 1 row) r.subscribers) r.accesses
   pub facilities : All (λ row. 1 ≤ count_of_key (take 1 row) r.subscribers) r.facilities
@@ -41,11 +43,15 @@ pub record ValuesFit (r : Rows) : Type 0 where
 abbrev pub IsCountWithin : ℕ → ℕ → ℕ → Type 0
 IsCountWithin least most n = (least ≤ n) × (n ≤ most)
 
--- each subscriber has 1 to 4 Access_Info rows and 1 to 4 Special_Facility rows, each facility at most 3 Call_Forwarding rows
+-- each subscriber has 1 to 4 Access_Info rows and 1 to 4 Special_Facility rows, each facility at
+-- most 3 Call_Forwarding rows
 pub record CountsFit (r : Rows) : Type 0 where
-  pub accesses : All (λ row. IsCountWithin 1 4 (count_of_key (take 1 row) r.accesses)) r.subscribers
-  pub facilities : All (λ row. IsCountWithin 1 4 (count_of_key (take 1 row) r.facilities)) r.subscribers
-  pub forwardings : All (λ row. IsCountWithin 0 3 (count_of_key (take 2 row) r.forwardings)) r.facilities
+  pub accesses :
+      All (λ row. IsCountWithin 1 4 (count_of_key (take 1 row) r.accesses)) r.subscribers
+  pub facilities :
+      All (λ row. IsCountWithin 1 4 (count_of_key (take 1 row) r.facilities)) r.subscribers
+  pub forwardings :
+      All (λ row. IsCountWithin 0 3 (count_of_key (take 2 row) r.forwardings)) r.facilities
 
 -- rows that pass the six audits
 pub record IsClean (r : Rows) : Type 0 where

@@ -1,4 +1,5 @@
--- A database: four finite sets of tuples. The rows of one subscriber in it, and the database with those replaced.
+-- A database: four finite sets of tuples. The rows of one subscriber in it, and the database with
+-- those replaced.
 use Rattle.std.specs.Prelude.{ℕ, not, List, [], ◌∷◌, Option, take}
 use Rattle.tatp_tables.specs.Tuples.{Tuple, Tuples, no_rows, retain_rows, set_of, union}
 use Rattle.tatp_tables.specs.Keys.{has_key, row_at}
@@ -14,7 +15,12 @@ pub record Database : Type 0 where
   pub forwardings : Tuples
 
 abbrev pub no_tables : Database
-no_tables = record { subscribers = no_rows; accesses = no_rows; facilities = no_rows; forwardings = no_rows }
+no_tables = record {
+  subscribers = no_rows;
+  accesses = no_rows;
+  facilities = no_rows;
+  forwardings = no_rows;
+}
 
 -- the database of four lists of rows
 abbrev pub database_of : Rows → Database
@@ -63,6 +69,6 @@ with_subscriber u s v = record {
   forwardings = union (rows_without_s_id s u.forwardings) v.forwardings;
 }
 
--- the row of a table with a key of three parts, of which a table's key takes the first
+-- the row of a table with the key that these values begin with: a key of three parts, or a row
 abbrev pub current_row : Table → Database → List ℕ → Option Tuple
 current_row t u key = row_at (in_table t u) (take (key_length t) key)

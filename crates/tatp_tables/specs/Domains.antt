@@ -1,4 +1,5 @@
--- The values that each column may have. TATP Benchmark Description 1.0, schema and population; docs/FORMATS.md.
+-- The values that each column may have. TATP Benchmark Description 1.0, schema and population;
+-- docs/FORMATS.md.
 use Rattle.std.specs.Prelude.{ℕ, suc, zero, ◌/◌, ◌%◌, Bool, true, false, ◌&&◌, ◌||◌, ◌==◌, nat_le, List, [], ◌∷◌, length, if◌then◌else◌}
 use Rattle.tatp_lines.specs.Numbers.{is_between}
 use Rattle.tatp_tables.specs.Tuples.{Tuple}
@@ -13,7 +14,8 @@ are_letters (suc n) v = is_between 65 90 (v % 256) && are_letters n (v / 256)
 -- whether column c may have the value v
 unfoldable pub is_in_domain : ℕ → ℕ → Bool
 is_in_domain c v =
-    -- Subscriber: s_id, sub_nbr, bit_1..bit_10, hex_1..hex_10, byte2_1..byte2_10, msc_location and vlr_location
+    -- Subscriber: s_id, sub_nbr, bit_1..bit_10, hex_1..hex_10, byte2_1..byte2_10, msc_location and
+    -- vlr_location
     if c == 0 then is_between 1 4294967295 v else
     if c == 1 then is_between 0 999999999999999 v else
     if nat_le c 11 then is_between 0 1 v else

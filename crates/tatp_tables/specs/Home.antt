@@ -3,7 +3,7 @@ use Rattle.std.specs.Prelude.{◌≡◌, ℕ, nat_eq, Bool, true, is_some, [], �
 use Rattle.std.specs.Cmp.Lexicographic.{pointwise}
 use Rattle.std.specs.Ordering.{on, eq_of_both}
 use Rattle.std.specs.Coded.{Coded, code_by, coded×, coded_ℕ}
-use Rattle.tatp_tables.specs.Tuples.{Tuple, Tuples, tuples_code, rows_of, has}
+use Rattle.tatp_tables.specs.Tuples.{Tuple, Tuples, tuples_code, rows_of, has, insert_row}
 use Rattle.tatp_tables.specs.Keys.{has_key, row_at}
 use Rattle.tatp_tables.specs.Columns.{key_length}
 use Rattle.tatp_tables.specs.Domains.{is_row}
@@ -17,9 +17,22 @@ pub record SubscriberRows : Type 0 where
   pub tables : Database
 
 abbrev pub subscriber_rows_code : Coded SubscriberRows
-subscriber_rows_code = code_by (ℕ × (Tuples × (Tuples × (Tuples × Tuples)))) (coded× coded_ℕ (coded× tuples_code (coded× tuples_code (coded× tuples_code tuples_code))))
-    (λ h. (h.s_id, (h.tables.subscribers, (h.tables.accesses, (h.tables.facilities, h.tables.forwardings)))))
-    (λ p. record { s_id = p.0; tables = record { subscribers = p.1.0; accesses = p.1.1.0; facilities = p.1.1.1.0; forwardings = p.1.1.1.1 } })
+subscriber_rows_code = code_by
+    (ℕ × (Tuples × (Tuples × (Tuples × Tuples))))
+    (coded× coded_ℕ (coded× tuples_code (coded× tuples_code (coded× tuples_code tuples_code))))
+    (λ h. (
+      h.s_id,
+      (h.tables.subscribers, (h.tables.accesses, (h.tables.facilities, h.tables.forwardings))),
+    ))
+    (λ p. record {
+      s_id = p.0;
+      tables = record {
+        subscribers = p.1.0;
+        accesses = p.1.1.0;
+        facilities = p.1.1.1.0;
+        forwardings = p.1.1.1.1;
+      };
+    })
     (λ _. refl)
 
 -- whether two sets have the same rows
@@ -45,9 +58,14 @@ home_in u s = record { s_id = s; tables = of_subscriber u s }
 abbrev pub home_with : SubscriberRows → Table → Tuples → SubscriberRows
 home_with home t rows = record { s_id = home.s_id; tables = with_table t home.tables rows }
 
+-- a home with one more row of a table
+abbrev pub home_with_row : SubscriberRows → Table → Tuple → SubscriberRows
+home_with_row home t row = home_with home t (insert_row (in_table t home.tables) row)
+
 -- each row has this s_id
 abbrev pub HaveSId : ℕ → Database → Type 0
-HaveSId s u = (t : Table) (row : Tuple) → has (in_table t u) row ≡ true → has_key (s ∷ []) row ≡ true
+HaveSId s u = (t : Table) (row : Tuple) → has (in_table t u) row ≡ true
+    → has_key (s ∷ []) row ≡ true
 
 -- each row has its table's columns, each value in its domain
 abbrev pub AreRows : Database → Type 0
@@ -55,12 +73,14 @@ AreRows u = (t : Table) (row : Tuple) → has (in_table t u) row ≡ true → is
 
 -- no two rows of a table have one primary key
 abbrev pub KeysAreUnique : Database → Type 0
-KeysAreUnique u = (t : Table) (row other : Tuple) → has (in_table t u) row ≡ true → has (in_table t u) other ≡ true
+KeysAreUnique u = (t : Table) (row other : Tuple)
+    → has (in_table t u) row ≡ true → has (in_table t u) other ≡ true
     → take (key_length t) row ≡ take (key_length t) other → row ≡ other
 
 -- each row of these has its parent, whose key is the row's first n columns, among those
 abbrev pub HaveParents : ℕ → Tuples → Tuples → Type 0
-HaveParents n parents rows = (row : Tuple) → has rows row ≡ true → is_some (row_at parents (take n row)) ≡ true
+HaveParents n parents rows = (row : Tuple) → has rows row ≡ true
+    → is_some (row_at parents (take n row)) ≡ true
 
 -- Access_Info and Special_Facility rows have their subscriber, Call_Forwarding rows their facility
 pub record ParentsExist (u : Database) : Type 0 where

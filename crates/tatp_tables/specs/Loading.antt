@@ -3,7 +3,7 @@ use Rattle.std.specs.Prelude.{ℕ, ◌+◌, ◌*◌, ◌-◌, min, List, map, ta
 use Rattle.std.specs.Int.{div_ceil}
 use Rattle.std.specs.List.{range_with_len}
 use Rattle.tatp_tables.specs.Tuples.{no_rows, set_of}
-use Rattle.tatp_tables.specs.Database.{Database, database_of}
+use Rattle.tatp_tables.specs.Database.{Database, no_tables, database_of}
 use Rattle.tatp_tables.specs.Home.{SubscriberRows, home_in}
 use Rattle.tatp_tables.specs.declared.row.Rows.{Rows}
 use Rattle.tatp_tables.specs.declared.table.Table.{Table}
@@ -11,10 +11,18 @@ use Rattle.tatp_tables.specs.declared.table.Table.TheVariants.{Subscriber, Acces
 
 -- the database of the tables before this one, and of this one's first i rows
 abbrev pub read_until : Table → Rows → ℕ → Database
-read_until Subscriber r i = record { subscribers = set_of (take i r.subscribers); accesses = no_rows; facilities = no_rows; forwardings = no_rows }
-read_until AccessInfo r i = record { subscribers = set_of r.subscribers; accesses = set_of (take i r.accesses); facilities = no_rows; forwardings = no_rows }
-read_until SpecialFacility r i = record { subscribers = set_of r.subscribers; accesses = set_of r.accesses; facilities = set_of (take i r.facilities); forwardings = no_rows }
-read_until CallForwarding r i = record { subscribers = set_of r.subscribers; accesses = set_of r.accesses; facilities = set_of r.facilities; forwardings = set_of (take i r.forwardings) }
+read_until Subscriber r i = record no_tables { subscribers = set_of (take i r.subscribers) }
+read_until AccessInfo r i = record no_tables {
+  subscribers = set_of r.subscribers;
+  accesses = set_of (take i r.accesses);
+}
+read_until SpecialFacility r i = record (database_of r) {
+  facilities = set_of (take i r.facilities);
+  forwardings = no_rows;
+}
+read_until CallForwarding r i = record (database_of r) {
+  forwardings = set_of (take i r.forwardings);
+}
 
 -- the database of the tables up to this one
 abbrev pub read_with : Table → Rows → Database

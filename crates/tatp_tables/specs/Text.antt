@@ -10,6 +10,7 @@ use Rattle.tatp_lines.specs.Fields as separated
 use Rattle.tatp_tables.specs.Tuples.{Tuple}
 use Rattle.tatp_tables.specs.Columns.{first_column, column_count}
 use Rattle.tatp_tables.specs.Domains.{is_in_domain}
+use Rattle.tatp_tables.specs.declared.table.Table.{Table}
 use Rattle.tatp_tables.specs.declared.table.Table.TheVariants.{Subscriber, AccessInfo, SpecialFacility, CallForwarding}
 use Rattle.tatp_tables.specs.declared.row.Row.{Row}
 use Rattle.tatp_tables.specs.declared.row.Row.TheVariants.{S, A, F, C}
@@ -28,7 +29,8 @@ fifteen_digits n = replicate (15 - length (decimal n)) 48 ++ decimal n
 
 -- exactly k digits
 unfoldable pub digits_of : ℕ → List ℕ → Option ℕ
-digits_of k text = if (length text == k) && all_ascii_digits text then Some (digits_value 10 text) else None
+digits_of k text =
+    if (length text == k) && all_ascii_digits text then Some (digits_value 10 text) else None
 
 -- k letters packed as bytes, the first letter highest
 unfoldable pub letters_text : ℕ → ℕ → List ℕ
@@ -42,11 +44,17 @@ packed before (byte ∷ more) = packed (256 * before + byte) more
 
 -- exactly k letters A..Z
 unfoldable pub letters_of : ℕ → List ℕ → Option ℕ
-letters_of k text = if (length text == k) && list_all (is_between 65 90) text then Some (packed 0 text) else None
+letters_of k text =
+    if (length text == k) && list_all (is_between 65 90) text then Some (packed 0 text) else None
 
--- the form of a column's text: sub_nbr and numberx have 15 digits, data3 has 3 letters, data4 and data_b have 5
+-- the form of a column's text: sub_nbr and numberx have 15 digits, data3 has 3 letters, data4 and
+-- data_b have 5
 abbrev pub form_of : ℕ → Form
-form_of c = if c == 1 || c == 50 then FifteenDigits else if c == 38 then Letters 3 else if c == 39 || c == 45 then Letters 5 else Decimal
+form_of c =
+    if c == 1 || c == 50 then FifteenDigits else
+    if c == 38 then Letters 3 else
+    if c == 39 || c == 45 then Letters 5 else
+    Decimal
 
 abbrev pub is_decimal : Form → Bool
 is_decimal Decimal = true
@@ -101,15 +109,22 @@ abbrev pub columns_of : ℕ → ℕ → List (List ℕ) → Option Tuple
 columns_of zero c [] = Some []
 columns_of zero c (field ∷ more) = None
 columns_of (suc k) c [] = None
-columns_of (suc k) c (field ∷ more) = option_and_then (λ v. option_map (λ rest. v ∷ rest) (columns_of k (suc c) more)) (value_of c field)
+columns_of (suc k) c (field ∷ more) =
+    option_and_then
+    (λ v. option_map (λ rest. v ∷ rest) (columns_of k (suc c) more))
+    (value_of c field)
+
+-- exactly the values of a table's columns
+abbrev pub columns_in : Table → List (List ℕ) → Option Tuple
+columns_in t fields = columns_of (column_count t) (first_column t) fields
 
 abbrev pub row_of_fields : List (List ℕ) → Option Row
 row_of_fields [] = None
 row_of_fields (letter ∷ fields) =
-    if bytes_eq letter (codes "S") then option_map S (columns_of (column_count Subscriber) (first_column Subscriber) fields) else
-    if bytes_eq letter (codes "A") then option_map A (columns_of (column_count AccessInfo) (first_column AccessInfo) fields) else
-    if bytes_eq letter (codes "F") then option_map F (columns_of (column_count SpecialFacility) (first_column SpecialFacility) fields) else
-    if bytes_eq letter (codes "C") then option_map C (columns_of (column_count CallForwarding) (first_column CallForwarding) fields) else
+    if bytes_eq letter (codes "S") then option_map S (columns_in Subscriber fields) else
+    if bytes_eq letter (codes "A") then option_map A (columns_in AccessInfo fields) else
+    if bytes_eq letter (codes "F") then option_map F (columns_in SpecialFacility fields) else
+    if bytes_eq letter (codes "C") then option_map C (columns_in CallForwarding fields) else
     None
 
 -- the row that a line is

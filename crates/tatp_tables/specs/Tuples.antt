@@ -1,4 +1,5 @@
--- A finite set of tuples, a tuple being the list of its columns. It is a finite map with nothing at each tuple.
+-- A finite set of tuples, a tuple being the list of its columns. It is a finite map with nothing at
+-- each tuple.
 use Rattle.std.specs.Prelude.{ℕ, Bool, List, [], ◌∷◌}
 use Rattle.std.specs.Cmp.Lexicographic.{slice_cmp}
 use Rattle.std.specs.Ordering.{nat_cmp, eq_by_cmp}

@@ -38,7 +38,8 @@ pub fn put_at<const N: usize, const CELLS: usize>(
     requires cell { at < CELLS }
     requires place { place < N }
     ensures answer { result ≡ put_answer_at place fits (slice_index_or cells.old at None) }
-    ensures cells { cells.new ≡ slice_set cells.old at (put_cell place fits value (slice_index_or cells.old at None)) }
+    ensures cells { cells.new
+        ≡ slice_set cells.old at (put_cell place fits value (slice_index_or cells.old at None)) }
 {
     put_in_cell(&mut cells[at], place, value, fits)
 }

@@ -30,7 +30,8 @@ impl<'a> Fields<'a> {
 
     /// The next field. None is left from the first `None` on.
     pub fn next(&mut self) -> Option<&'a str>
-        ensures field { MatchOption result (self.old ≡ []) (λ field. self.old ≡ field.now ∷ self.new) }
+        ensures field { MatchOption result (self.old ≡ [])
+            (λ field. self.old ≡ field.now ∷ self.new) }
         ensures end { IfNone result (self.new ≡ []) }
     {
         let line = self.rest?;

@@ -19,8 +19,9 @@ use crate::place::{forwarding_place, type_place};
 pub use loading::{homes, homes_in_lists};
 use std::marker::Model;
 
-/// The rows of one s_id: at most one Subscriber row, four Access_Info and four Special_Facility rows
-/// by type, and three Call_Forwarding rows a facility by start time. It takes no memory of its own.
+/// The rows of one s_id: at most one Subscriber row, four Access_Info and four Special_Facility
+/// rows by type, and three Call_Forwarding rows a facility by start time. It takes no memory of its
+/// own.
 ///
 /// A key names its own s_id: one with another s_id than the home's finds nothing.
 #[derive(Debug, Drop)]
@@ -98,8 +99,10 @@ impl Home {
         ensures own { IfSome result (λ i. s_id ≡ self.now.s_id) }
         ensures place { IfSome result (λ i. slice_get type_keys i ≡ Some (kind ∷ [])) }
         ensures within { IfSome result (λ i. i < 4) }
-        ensures no_access { IfNone result (row_at self.now.tables.accesses (s_id ∷ kind ∷ []) ≡ None) }
-        ensures no_facility { IfNone result (row_at self.now.tables.facilities (s_id ∷ kind ∷ []) ≡ None) }
+        ensures no_access { IfNone result
+            (row_at self.now.tables.accesses (s_id ∷ kind ∷ []) ≡ None) }
+        ensures no_facility { IfNone result
+            (row_at self.now.tables.facilities (s_id ∷ kind ∷ []) ≡ None) }
     {
         if s_id == self.s_id {
             type_place(kind)
@@ -111,7 +114,8 @@ impl Home {
     /// The place of a key (s_id, sf_type, start_time) among the Call_Forwarding cells.
     fn place_of_forwarding(&self, key: [u64; 3]) -> Option<usize>
         ensures own { IfSome result (λ i. slice_index key 0 ≡ self.now.s_id) }
-        ensures place { IfSome result (λ i. slice_get forwarding_keys i ≡ Some (slice_index key 1 ∷ slice_index key 2 ∷ [])) }
+        ensures place { IfSome result (λ i. slice_get forwarding_keys i
+            ≡ Some (slice_index key 1 ∷ slice_index key 2 ∷ [])) }
         ensures within { IfSome result (λ i. i < 12) }
         ensures none { IfNone result (row_at self.now.tables.forwardings key ≡ None) }
     {
@@ -179,14 +183,15 @@ impl Home {
 
     /// Whether there is a Call_Forwarding row with this s_id, sf_type and start_time.
     pub fn has_forward(&self, s_id: u64, sf_type: u64, start_time: u64) -> bool
-        ensures { result ≡ is_some (row_at self.now.tables.forwardings (s_id ∷ sf_type ∷ start_time ∷ [])) }
+        ensures { result
+            ≡ is_some (row_at self.now.tables.forwardings (s_id ∷ sf_type ∷ start_time ∷ [])) }
     {
         self.forwarding([s_id, sf_type, start_time]).is_some()
     }
 
     /// The value of a column in the row of its table with this key, of which the table takes the
-    /// first parts; the parts that it lacks are 0 by custom and are not read. None where there is no
-    /// such column (above 50).
+    /// first parts; the parts that it lacks are 0 by custom and are not read. None where there is
+    /// no such column (above 50).
     #[inline(always)]
     pub fn get(&self, column: u8, key: [u64; 3]) -> Option<u64>
         ensures { result ≡ cell self.now.tables column key }

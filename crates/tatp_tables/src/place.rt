@@ -44,7 +44,8 @@ pub fn forwarding_place(kind: u64, start: u64) -> Option<usize>
 /// The place of a Call_Forwarding row, where each of its columns is in its domain.
 pub fn place_of_row(row: &[u64; 5]) -> Option<usize>
     ensures domain { is_some result ≡ are_in_domain 46 row.now }
-    ensures some { IfSome result (λ i. slice_get forwarding_keys i ≡ Some (slice_index row.now 1 ∷ slice_index row.now 2 ∷ [])) }
+    ensures some { IfSome result (λ i. slice_get forwarding_keys i
+        ≡ Some (slice_index row.now 1 ∷ slice_index row.now 2 ∷ [])) }
     ensures within { IfSome result (λ i. i < 12) }
 {
     if in_domain(46, row[0]) && in_domain(49, row[3]) && in_domain(50, row[4]) {

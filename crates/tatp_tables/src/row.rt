@@ -108,7 +108,8 @@ pub struct Rows {
 impl Rows {
     /// No rows.
     pub fn new(alloc: Global) -> Rows
-        ensures { result ≡ record { subscribers = []; accesses = []; facilities = []; forwardings = [] } }
+        ensures { result
+            ≡ record { subscribers = []; accesses = []; facilities = []; forwardings = [] } }
     {
         Rows {
             subscribers: RowList::new(alloc),

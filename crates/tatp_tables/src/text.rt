@@ -31,7 +31,8 @@ fn read_columns<const N: usize>(fields: &mut Fields, table: Table) -> Option<[u6
 #[tactic(auto, using(crate::proofs::ColumnLaws::none_printed, crate::proofs::ColumnLaws::column_printed, crate::proofs::ColumnLaws::all_printed))]
 fn push_columns(text: &mut String, first: u8, columns: &[u64]) -> Result<(), AllocError>
     requires { first + length columns.now ≤ 256 }
-    ensures { OnOk result (string_bytes text.new ≡ string_bytes text.old ++ columns_text first columns.now) }
+    ensures { OnOk result
+        (string_bytes text.new ≡ string_bytes text.old ++ columns_text first columns.now) }
 {
     for (place, value) in columns.iter().enumerate() {
         text.push_str(" ")?;
@@ -48,7 +49,8 @@ fn lettered(
     columns: &[u64],
 ) -> Result<String, AllocError>
     requires { length columns.now ≤ 34 }
-    ensures text { IfOk result (λ text. string_bytes text ≡ letter.now ++ columns_text (first_column table) columns.now) }
+    ensures text { IfOk result (λ text. string_bytes text
+        ≡ letter.now ++ columns_text (first_column table) columns.now) }
 
     // Tells a caller that matched on a row what the type says of its columns.
     ensures in_range { All (λ value. value < 2 ^ 64) columns.now }
@@ -61,7 +63,8 @@ fn lettered(
 /// The text of a row.
 pub fn row_text(alloc: Global, row: &Row) -> Result<String, AllocError>
     ensures text { IfOk result (λ text. string_bytes text ≡ text_of row.now) }
-    ensures read_back { IfOk result (λ text. is_printable_row row.now ≡ true → row_of (string_bytes text) ≡ Some row.now) }
+    ensures read_back { IfOk result (λ text. is_printable_row row.now ≡ true
+        → row_of (string_bytes text) ≡ Some row.now) }
 {
     match row {
         Row::S(columns) => lettered(alloc, "S", Table::Subscriber, columns),

@@ -1,17 +1,16 @@
 //! The text of one value, in its column's form.
-ghost use Rattle.std.specs.Prelude.{◌≡◌, ◌<◌, ◌≤◌, ◌^◌, ◌++◌, true, decimal, OnOk, OnErr};
+ghost use Rattle.std.specs.Prelude.{◌≡◌, ◌<◌, ◌≤◌, ◌^◌, ◌++◌, true, OnOk, OnErr};
 ghost use Rattle.std.specs.Str.{IsAscii};
 ghost use Rattle.std.specs.String.{string_bytes};
 ghost use Rattle.tatp_tables.specs.Domains.{are_letters, is_in_domain};
 ghost use Rattle.tatp_tables.specs.Text.{value_of, value_text, text_in, letters_text, fifteen_digits, form_of};
 
+use crate::digits::{read_fifteen_digits, write_digits};
 use crate::domain::in_domain;
 use crate::form::{Form, form_of};
 use crate::letters::{read_letters, write_letters};
-use crate::numbers::{read_fifteen_digits, write_digits};
-use itoa::Buffer;
 use std::alloc::AllocError;
-use tatp_lines::read_number;
+use tatp_lines::{push_decimal, read_number};
 
 /// The value of a column that the text is.
 #[tactic(auto, unfolding(crate::specs::Text::value_of))]
@@ -38,17 +37,10 @@ fn push_ascii(text: &mut String, bytes: &[u8]) -> Result<(), AllocError>
     }
 }
 
-fn push_decimal(text: &mut String, number: u64) -> Result<(), AllocError>
-    ensures ok { OnOk result (string_bytes text.new ≡ string_bytes text.old ++ decimal number) }
-    ensures err { OnErr result (string_bytes text.new ≡ string_bytes text.old) }
-{
-    let mut buffer = Buffer::new();
-    text.push_str(buffer.format(number))
-}
-
 fn push_fifteen_digits(text: &mut String, number: u64) -> Result<(), AllocError>
     requires { number < 10 ^ 15 }
-    ensures ok { OnOk result (string_bytes text.new ≡ string_bytes text.old ++ fifteen_digits number) }
+    ensures ok { OnOk result
+        (string_bytes text.new ≡ string_bytes text.old ++ fifteen_digits number) }
     ensures err { OnErr result (string_bytes text.new ≡ string_bytes text.old) }
 {
     let mut digits = [0; 15];
@@ -59,7 +51,8 @@ fn push_fifteen_digits(text: &mut String, number: u64) -> Result<(), AllocError>
 fn push_letters(text: &mut String, count: usize, value: u64) -> Result<(), AllocError>
     requires short { count ≤ 5 }
     requires letters { are_letters count value ≡ true }
-    ensures ok { OnOk result (string_bytes text.new ≡ string_bytes text.old ++ letters_text count value) }
+    ensures ok { OnOk result
+        (string_bytes text.new ≡ string_bytes text.old ++ letters_text count value) }
     ensures err { OnErr result (string_bytes text.new ≡ string_bytes text.old) }
 {
     let mut room = [0; 5];
@@ -71,7 +64,8 @@ fn push_letters(text: &mut String, count: usize, value: u64) -> Result<(), Alloc
 #[tactic(auto, using(crate::proofs::ValueLaws::letters_in_domain, crate::proofs::ValueLaws::fifteen_digits_in_domain))]
 fn push_in_form(text: &mut String, column: u8, value: u64) -> Result<(), AllocError>
     requires { is_in_domain column value ≡ true }
-    ensures ok { OnOk result (string_bytes text.new ≡ string_bytes text.old ++ text_in (form_of column) value) }
+    ensures ok { OnOk result
+        (string_bytes text.new ≡ string_bytes text.old ++ text_in (form_of column) value) }
     ensures err { OnErr result (string_bytes text.new ≡ string_bytes text.old) }
 {
     match form_of(column) {
@@ -84,7 +78,8 @@ fn push_in_form(text: &mut String, column: u8, value: u64) -> Result<(), AllocEr
 /// Appends the text of a column's value. An error leaves the text as it was.
 #[tactic(auto, unfolding(crate::specs::Text::value_text))]
 pub fn push_value(text: &mut String, column: u8, value: u64) -> Result<(), AllocError>
-    ensures ok { OnOk result (string_bytes text.new ≡ string_bytes text.old ++ value_text column value) }
+    ensures ok { OnOk result
+        (string_bytes text.new ≡ string_bytes text.old ++ value_text column value) }
     ensures err { OnErr result (string_bytes text.new ≡ string_bytes text.old) }
 {
     if in_domain(column, value) {

@@ -1,7 +1,1 @@
-pub mod DebuggerLaws
-pub mod EffectLaws
-pub mod ExecutorLaws
-pub mod InboxLaws
 pub mod RefusalLaws
-pub mod SliceLaws
-pub mod TalkLaws

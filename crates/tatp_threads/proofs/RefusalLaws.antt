@@ -8,7 +8,7 @@ use Rattle.tatp_tables.specs.Database.{Database}
 use Rattle.tatp_tables.specs.declared.row.Rows.{Rows}
 use Rattle.tatp_procs.specs.declared.ask.Ask.{Ask}
 use Rattle.tatp_procs.specs.declared.domains.BadArgument.{BadArgument as Bad}
-use Rattle.tatp_partition.specs.Asks.{has_procedure, bad_argument}
+use Rattle.tatp_procs.specs.Asked.{has_procedure, bad_argument}
 use Rattle.tatp_population.specs.Extents.{ExtentState}
 use Rattle.tatp_population.specs.Opening.{RefusesRows, extent_count, homes_of_extent, opened_extent, opened_extents}
 use Rattle.tatp_population.specs.declared.open_error.OpenError.{OpenError}

@@ -9,13 +9,15 @@ use Rattle.tatp_procs.specs.declared.ask.Ask.{Ask}
 use Rattle.tatp_population.specs.Opening.{most_subscribers, RefusesRows}
 use Rattle.tatp_population.specs.declared.open_error.OpenError.{OpenError}
 use Rattle.tatp_population.specs.declared.open_error.OpenError.TheVariants as opening
-use Rattle.tatp_partition.specs.Asks.{has_procedure, bad_argument}
+use Rattle.tatp_procs.specs.Asked.{has_procedure, bad_argument}
 use Rattle.tatp_threads.specs.declared.refusal.RunRefusal.{RunRefusal}
 use Rattle.tatp_threads.specs.declared.refusal.RunRefusal.TheVariants.{TooMany, NotClean, NoProcedure, BadArgument, NoMemory, NoThread}
 
 -- what stands against a call
 abbrev pub obstacle_to : List Procedure → Ask → Option RunRefusal
-obstacle_to procedures ask = if has_procedure procedures ask then option_map BadArgument (bad_argument ask) else Some NoProcedure
+obstacle_to procedures ask =
+    if has_procedure procedures ask then option_map BadArgument (bad_argument ask)
+    else Some NoProcedure
 
 -- the first obstacle of some
 abbrev pub first_of : List (Option RunRefusal) → Option RunRefusal
@@ -29,7 +31,8 @@ obstacle_in procedures asks = first_of (map (obstacle_to procedures) asks)
 
 -- what stands against the first call of the first client that can't be run
 abbrev pub obstacle_among : List Procedure → List (Vec Ask Global) → Option RunRefusal
-obstacle_among procedures lists = first_of (map (λ (list : Vec Ask Global). obstacle_in procedures list.items) lists)
+obstacle_among procedures lists =
+    first_of (map (λ (list : Vec Ask Global). obstacle_in procedures list.items) lists)
 
 -- why a run is refused whose rows aren't opened
 abbrev pub opening_refusal : OpenError → RunRefusal
@@ -41,11 +44,15 @@ opening_refusal opening.NoMemory = NoMemory
 abbrev pub AreOpened : Rows → Type 0
 AreOpened rows = (length rows.subscribers ≤ most_subscribers) × IsClean rows
 
--- why a run of the clients' lists on these rows is refused: the rows first, then the first call that can't be run, then that a thread couldn't be started; memory may run out at any time
+-- why a run of the clients' lists on these rows is refused: the rows first, then the first call
+-- that can't be run, then that a thread couldn't be started; memory may run out at any time
 abbrev pub RefusesRun : List Procedure → Rows → List (Vec Ask Global) → RunRefusal → Type 0
 RefusesRun procedures rows lists TooMany = RefusesRows rows opening.TooMany
 RefusesRun procedures rows lists (NotClean verdict) = RefusesRows rows (opening.NotClean verdict)
-RefusesRun procedures rows lists NoProcedure = AreOpened rows × (obstacle_among procedures lists ≡ Some NoProcedure)
-RefusesRun procedures rows lists (BadArgument bad) = AreOpened rows × (obstacle_among procedures lists ≡ Some (BadArgument bad))
+RefusesRun procedures rows lists NoProcedure =
+    AreOpened rows × (obstacle_among procedures lists ≡ Some NoProcedure)
+RefusesRun procedures rows lists (BadArgument bad) =
+    AreOpened rows × (obstacle_among procedures lists ≡ Some (BadArgument bad))
 RefusesRun procedures rows lists NoMemory = RefusesRows rows opening.NoMemory
-RefusesRun procedures rows lists NoThread = AreOpened rows × (obstacle_among procedures lists ≡ None)
+RefusesRun procedures rows lists NoThread =
+    AreOpened rows × (obstacle_among procedures lists ≡ None)

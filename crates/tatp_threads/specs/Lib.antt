@@ -1,9 +1,4 @@
 pub mod Inboxes
 pub mod Calls
-pub mod Held
-pub mod Effects
-pub mod Asking
+pub mod Locked
 pub mod Copies
-pub mod Executing
-pub mod Debugging
-pub mod Carrying

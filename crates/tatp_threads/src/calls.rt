@@ -1,12 +1,11 @@
 //! Whether the calls of a run can be run.
 ghost use Rattle.std.specs.Prelude.{◌≡◌, IfOk};
-ghost use Rattle.tatp_partition.specs.Asks.{arities_of};
+ghost use Rattle.tatp_procs.specs.Asked.{arities_of};
 ghost use Rattle.tatp_threads.specs.Calls.{obstacle_to, obstacle_in, obstacle_among};
 
 use crate::RunRefusal;
 use std::alloc::{AllocError, Global};
 use tatp_loader::Loaded;
-use tatp_partition::{bad_argument, has_procedure};
 use tatp_procs::Ask;
 
 /// How many arguments each procedure of a module takes.
@@ -25,10 +24,10 @@ pub(crate) fn arities_of(alloc: Global, loaded: &Loaded) -> Result<Vec<u8>, Allo
 fn obstacle_to(loaded: &Loaded, ask: &Ask) -> Option<RunRefusal>
     ensures { result ≡ obstacle_to loaded.now ask.now }
 {
-    if !has_procedure(loaded, ask) {
+    if !ask.has_procedure(loaded) {
         return Some(RunRefusal::NoProcedure);
     }
-    match bad_argument(ask) {
+    match ask.bad_argument() {
         None => None,
         Some(bad) => Some(RunRefusal::BadArgument(bad)),
     }

@@ -25,10 +25,11 @@ fn copy_of(alloc: Global, site: &Site<'_>, extent: u32) -> Result<Option<ExtentP
     }
 }
 
-/// A copy of the parts of an extent, while other threads run calls at its site: the log, the homes at the
-/// last checkpoint, and the homes to which the log led from those. None where the extent isn't at this
-/// site, and where a call runs on one of its homes. The contract of `copy_of`, which is lent the site, says
-/// that it is None there alone; here nothing is known of the site before its lock is taken.
+/// A copy of the parts of an extent, while other threads run calls at its site: the log, the homes
+/// at the last checkpoint, and the homes to which the log led from those. None where the extent
+/// isn't at this site, and where a call runs on one of its homes. The contract of `copy_of`, which
+/// is lent the site, says that it is None there alone; here nothing is known of the site before its
+/// lock is taken.
 pub fn copy_extent<R: Wait>(
     rt: &R,
     alloc: Global,

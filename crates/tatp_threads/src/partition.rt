@@ -1,32 +1,52 @@
-//! What is done at the site of one partition under its lock. What the site was before isn't known; so
-//! contracts say that the answer is that of some site.
+//! What is done at the site of one partition under its lock. What the site was before isn't known;
+//! so contracts say that the answer is that of some site.
 ghost use Rattle.std.specs.Prelude.{◌≡◌, List, None, IfOk, IfErr};
 ghost use Rattle.tatp_partition.specs.Moving.{LandedState, Takes, Gives};
 ghost use Rattle.tatp_partition.specs.declared.refusal.NotGiven.{NotGiven};
 ghost use Rattle.tatp_partition.specs.Obstacles.{one_obstacle};
 ghost use Rattle.tatp_partition.specs.Running.{AdvancesUnless, told_in};
-ghost use Rattle.tatp_threads.specs.Held.{Offers, IsSlice, OfSomeSite};
-ghost use Rattle.tatp_threads.specs.declared.observer.StepAhead.{StepAhead};
+ghost use Rattle.tatp_partition.specs.Stopping.{Stops, Resumes};
+ghost use Rattle.tatp_debug.specs.Snapshots.{Looks};
+ghost use Rattle.tatp_workers.specs.Offering.{Offers};
+ghost use Rattle.tatp_workers.specs.Slices.{IsSlice};
+ghost use Rattle.tatp_workers.specs.declared.observer.StepAhead.{StepAhead};
+ghost use Rattle.tatp_threads.specs.Locked.{OfSomeSite};
 
-use crate::Gate;
-use crate::held::{Offered, is_wanted, offer, slice};
-use crate::observer::Gated;
 use std::alloc::Global;
 use std::sync::atomic::{AtomicU64, Ordering};
 use std::sync::{Mutex, Wait};
 use std::thread;
-use tatp_debug::look;
+use tatp_debug::{Snapshot, look};
 use tatp_partition::{CompletionPlace, Item, Landed, NotGiven, Parcel, Site, SiteRefusal, Stepped};
+use tatp_workers::{Gate, Gated, Offered, is_wanted, offer, slice};
 
 /// One partition: its site under its lock, and how many other threads want that lock.
-#[derive(Clone, Copy)]
-pub(crate) struct Partition<'a, 'm> {
+pub(crate) struct Partition<'m> {
     pub(crate) number: u8,
-    pub(crate) site: &'a Mutex<Site<'m>>,
-    pub(crate) wanted: &'a AtomicU64,
+    site: Mutex<Site<'m>>,
+    wanted: AtomicU64,
 }
 
-impl Partition<'_, '_> {
+impl<'m> Partition<'m> {
+    /// The partition of this site, whose lock nobody wants.
+    pub(crate) fn new(site: Site<'m>) -> Partition<'m> {
+        Partition {
+            number: site.partition(),
+            site: Mutex::new(site),
+            wanted: AtomicU64::new(0),
+        }
+    }
+
+    /// Its site.
+    pub(crate) fn into_site(self) -> Site<'m> {
+        let Partition {
+            number: _,
+            site,
+            wanted: _,
+        } = self;
+        site.into_inner()
+    }
+
     /// Offers a call.
     pub(crate) fn offer<R: Wait>(&self, rt: &R, alloc: Global, item: &Item) -> Offered
         ensures { OfSomeSite (λ s s'. Offers s item.now result s') }
@@ -34,8 +54,8 @@ impl Partition<'_, '_> {
         offer(&mut *self.site.lock(rt), alloc, item)
     }
 
-    /// Makes steps of a client's call, the gate before each. Where the call ends, its completion is left
-    /// in its place.
+    /// Makes steps of a client's call, the gate before each. Where the call ends, its completion is
+    /// left in its place.
     pub(crate) fn slice<R: Wait, G: Gate>(
         &self,
         rt: &R,
@@ -44,14 +64,15 @@ impl Partition<'_, '_> {
         ended: &mut CompletionPlace,
     ) -> Result<(), SiteRefusal>
         requires { ended.old ≡ None }
-        ensures { OfSomeSite (λ s s'. (steps : List StepAhead) × IsSlice client s (told_in result ended.new) s' steps) }
+        ensures { OfSomeSite (λ s s'. (steps : List StepAhead)
+            × IsSlice client s (told_in result ended.new) s' steps) }
     {
         let mut observer = Gated { gate };
         let made = slice(
             &mut *self.site.lock(rt),
             &mut observer,
             client,
-            self.wanted,
+            &self.wanted,
             ended,
         );
         self.give_way(&made, ended);
@@ -60,7 +81,7 @@ impl Partition<'_, '_> {
 
     /// Lets other threads go on, where the call goes on and one of them wants the lock.
     fn give_way(&self, made: &Result<(), SiteRefusal>, ended: &CompletionPlace) {
-        if made.is_ok() && !ended.is_some() && is_wanted(self.wanted) {
+        if made.is_ok() && !ended.is_some() && is_wanted(&self.wanted) {
             thread::yield_now();
         }
     }
@@ -87,17 +108,21 @@ impl Partition<'_, '_> {
         given
     }
 
-    /// Stops the site: whether it did.
-    pub(crate) fn stop<R: Wait>(&self, rt: &R) -> bool {
+    /// Stops the site.
+    pub(crate) fn stop<R: Wait>(&self, rt: &R) -> Result<(), SiteRefusal>
+        ensures { OfSomeSite (λ s s'. Stops s result s') }
+    {
         self.want();
         let stopped = self.site.lock(rt).stop();
         self.want_no_more();
-        stopped.is_ok()
+        stopped
     }
 
     /// Looks at the running call.
-    pub(crate) fn look<R: Wait>(&self, rt: &R) {
-        let _snapshot = look(&*self.site.lock(rt));
+    pub(crate) fn look<R: Wait>(&self, rt: &R) -> Result<Snapshot, SiteRefusal>
+        ensures { OfSomeSite (λ s s'. Looks s result) }
+    {
+        look(&*self.site.lock(rt))
     }
 
     /// One step of the running call, though the site is stopped.
@@ -108,8 +133,10 @@ impl Partition<'_, '_> {
     }
 
     /// Ends a stop.
-    pub(crate) fn resume<R: Wait>(&self, rt: &R) {
-        let _resumed = self.site.lock(rt).resume();
+    pub(crate) fn resume<R: Wait>(&self, rt: &R) -> Result<(), SiteRefusal>
+        ensures { OfSomeSite (λ s s'. Resumes s result s') }
+    {
+        self.site.lock(rt).resume()
     }
 
     /// The executor is asked to leave the lock.

@@ -1,27 +1,27 @@
 //! The calls of clients are run by threads.
 ghost use Rattle.std.specs.Prelude.{◌≡◌, ◌⊎◌, ◌≤◌, ◌<◌, ◌+◌, ◌^◌, IfOk, IfErr, OnOk, None, length, vec_len, vec_capacity};
-ghost use Rattle.tatp_partition.specs.Asks.{arities_of};
-ghost use Rattle.tatp_partition.specs.Opening.{AreNumbered};
-ghost use Rattle.tatp_population.specs.Opening.{most_subscribers};
+ghost use Rattle.tatp_procs.specs.Asked.{arities_of};
 ghost use Rattle.tatp_threads.specs.Calls.{obstacle_among, opening_refusal, AreOpened, RefusesRun};
 
+use crate::admission::Arities;
 use crate::calls::obstacle_among;
-use crate::ports::Arities;
-use crate::room::Room;
+use crate::partition::Partition;
+use crate::reserved::{ClientSeat, Reserved};
 use crate::shared::Shared;
-use crate::starting::{Work, run_threads};
-use crate::{Gate, Moves, Ran, RanParts, RunRefusal};
+use crate::starting::{Crew, run_threads};
+use crate::{Ran, RanParts, RunRefusal};
 use std::alloc::{AllocError, Global};
 use std::marker::Brand;
 use std::sync::{Mutex, Wait};
 use std::thread::Threads;
 use tatp_loader::Loaded;
-use tatp_move::{Routes, close_sites, open_sites, opened_extents_are_numbered};
+use tatp_move::Routes;
 use tatp_numbers::Directory;
-use tatp_partition::{Parcel, Site};
-use tatp_population::{Extent, OpenError, discard, open};
+use tatp_partition::{Receipt, Site, close_sites, discard_parcels, open_sites};
+use tatp_population::{OpenError, discard, open};
 use tatp_procs::Ask;
 use tatp_tables::Rows;
+use tatp_workers::{Gate, Moves};
 
 /// Why a run is refused whose rows aren't opened.
 fn refusal_of(error: OpenError) -> RunRefusal
@@ -35,95 +35,120 @@ fn refusal_of(error: OpenError) -> RunRefusal
 }
 
 /// Each site under a lock of its own.
-fn lock_all<'m>(sites: Vec<Site<'m>>, room: Vec<Mutex<Site<'m>>>) -> Vec<Mutex<Site<'m>>>
+fn lock_all<'m>(sites: Vec<Site<'m>>, room: Vec<Partition<'m>>) -> Vec<Partition<'m>>
     requires { vec_len room + vec_len sites ≤ vec_capacity room }
     ensures { vec_len result ≡ vec_len room.entry + vec_len sites.entry }
 {
-    let mut locked = room;
+    let mut partitions = room;
     let mut rest = sites.into_iter();
     while let Some(site) = rest.next() {
-        locked.push_reserved(Mutex::new(site));
+        partitions.push_reserved(Partition::new(site));
     }
     rest.destroy_empty();
-    locked
+    partitions
 }
 
 /// The sites out of their locks.
-fn unlock_all<'m>(sites: Vec<Mutex<Site<'m>>>, room: Vec<Site<'m>>) -> Vec<Site<'m>>
-    requires { vec_len room + vec_len sites ≤ vec_capacity room }
-    ensures { vec_len result ≡ vec_len room.entry + vec_len sites.entry }
+fn unlock_all<'m>(partitions: Vec<Partition<'m>>, room: Vec<Site<'m>>) -> Vec<Site<'m>>
+    requires { vec_len room + vec_len partitions ≤ vec_capacity room }
+    ensures { vec_len result ≡ vec_len room.entry + vec_len partitions.entry }
 {
-    let mut unlocked = room;
-    let mut rest = sites.into_iter();
-    while let Some(site) = rest.next() {
-        unlocked.push_reserved(site.into_inner());
+    let mut sites = room;
+    let mut rest = partitions.into_iter();
+    while let Some(partition) = rest.next() {
+        sites.push_reserved(partition.into_site());
     }
     rest.destroy_empty();
-    unlocked
+    sites
 }
 
-/// Spends parcels that come to nothing.
-pub(crate) fn discard_parcels(parcels: Vec<Parcel>) {
-    let mut rest = parcels;
-    while let Some(parcel) = rest.pop() {
-        let _ = parcel.unpack().close();
+/// The receipts of all clients.
+fn receipts_of<A: Arities>(
+    clients: Vec<ClientSeat<A>>,
+    room: Vec<Vec<Receipt>>,
+) -> Vec<Vec<Receipt>>
+    requires { vec_len room + vec_len clients ≤ vec_capacity room }
+    ensures { vec_len result ≡ vec_len room + vec_len clients }
+{
+    let mut receipts = room;
+    for client in clients {
+        receipts.push_reserved(client.receipts);
     }
-    rest.destroy_empty();
+    receipts
 }
 
-/// A database that is opened: where calls go, and its sites.
-struct Opened<'m> {
+/// What a run is set up with: its module, where calls go, its sites, what the clients ask, and what
+/// the mover and the debugger do.
+struct Setup<'m, 'w> {
+    loaded: &'m Loaded,
     directory: Directory,
     routes: Routes,
     sites: Vec<Site<'m>>,
+    lists: &'w [Vec<Ask>],
+    moves: &'w Moves,
 }
 
 /// Runs the calls of clients, which can all be run, over sites, and gives back what they leave.
-fn run_opened<'m, R: Threads + Wait + Sync, G: Gate + Sync, A: Arities + Send + Sync>(
+fn run_ruled<'m, R: Threads + Wait + Sync, G: Gate + Sync, A: Arities + Send + Sync>(
     rt: &R,
     alloc: Global,
-    opened: Opened<'m>,
-    room: Room<'m, A>,
-    work: &Work<'_>,
+    setup: Setup<'m, '_>,
     gate: &G,
 ) -> Result<Ran<'m>, RunRefusal>
-    requires locked { vec_len opened.sites ≤ vec_capacity room.locked.items }
-    requires unlocked { vec_len opened.sites ≤ vec_capacity room.unlocked.items }
-    ensures sites { IfOk result (λ ran. vec_len ran.parts.sites ≡ vec_len opened.entry.sites) }
-    ensures receipts { IfOk result (λ ran. vec_len ran.parts.receipts ≡ vec_len room.entry.receipts) }
+    requires clients { length setup.lists.now ≤ 64 }
+    requires rule { arities_of setup.loaded.now ≡ A.arities }
+    ensures sites { IfOk result (λ ran. vec_len ran.parts.sites ≡ vec_len setup.entry.sites) }
+    ensures receipts { IfOk result
+        (λ ran. vec_len ran.parts.receipts ≡ length setup.entry.lists.now) }
     ensures landings { IfOk result (λ ran. vec_len ran.parts.landings ≡ 0) }
-    ensures refusal { IfErr result (λ refusal. refusal ≡ RunRefusal.NoThread) }
+    ensures refusal { IfErr result
+        (λ refusal. (refusal ≡ RunRefusal.NoMemory) ⊎ (refusal ≡ RunRefusal.NoThread)) }
 {
-    let Opened {
+    let Setup {
+        loaded,
         directory,
         routes,
         sites,
-    } = opened;
-    let Room {
-        post,
-        ends,
-        slots,
-        wanted,
-        mut receipts,
-        locked,
-        unlocked,
+        lists,
+        moves,
+    } = setup;
+    let Reserved {
+        admission,
+        quit,
+        executors,
+        mut clients,
+        mailboxes,
+        receipts,
+        partitions,
+        sites: unlocked,
         hand,
-    } = room;
+    } = match Reserved::<A>::make(alloc, loaded, sites.len(), lists) {
+        Ok(reserved) => reserved,
+        Err(_) => {
+            close_sites(sites);
+            return Err(RunRefusal::NoMemory);
+        }
+    };
     let routes = Mutex::new(routes);
-    let locked = lock_all(sites, locked.into_vec());
+    let partitions = lock_all(sites, partitions.into_vec());
     let mut hand = hand.into_vec();
     let shared = Shared {
         alloc,
-        sites: locked.as_slice(),
-        wanted: wanted.as_slice(),
+        partitions: partitions.as_slice(),
         routes: &routes,
         directory: &directory,
-        post: &post,
-        slots: slots.as_slice(),
+        admission: &admission,
+        mailboxes: mailboxes.as_slice(),
+        moves,
         gate,
     };
-    let started = run_threads(rt, &shared, work, ends, receipts.as_mut_slice(), &mut hand);
-    let sites = unlock_all(locked, unlocked.into_vec());
+    let crew = Crew {
+        quit,
+        executors,
+        lists,
+    };
+    let started = run_threads(rt, &shared, crew, clients.as_mut_slice(), &mut hand);
+    let sites = unlock_all(partitions, unlocked.into_vec());
     if !started {
         close_sites(sites);
         discard_parcels(hand);
@@ -133,51 +158,13 @@ fn run_opened<'m, R: Threads + Wait + Sync, G: Gate + Sync, A: Arities + Send + 
         sites,
         parcels: hand,
         landings: Vec::new(alloc),
-        receipts,
+        receipts: receipts_of(clients, receipts),
     }))
 }
 
-/// Opens the sites and takes the threads' room, and runs the calls.
-fn run_ruled<'m, R: Threads + Wait + Sync, G: Gate + Sync, A: Arities + Send + Sync>(
-    rt: &R,
-    alloc: Global,
-    loaded: &'m Loaded,
-    extents: Vec<Extent>,
-    directory: Directory,
-    routes: Routes,
-    partitions: u8,
-    work: &Work<'_>,
-    gate: &G,
-) -> Result<Ran<'m>, RunRefusal>
-    requires some { 1 ≤ partitions }
-    requires clients { length work.now.lists.now ≤ 64 }
-    requires rule { arities_of loaded.now ≡ A.arities }
-    requires few { length extents.items < 2 ^ 32 }
-    requires numbers { AreNumbered (length extents.items) extents.items }
-    ensures sites { IfOk result (λ ran. vec_len ran.parts.sites ≡ partitions) }
-    ensures receipts { IfOk result (λ ran. vec_len ran.parts.receipts ≡ length work.now.lists.now) }
-    ensures landings { IfOk result (λ ran. vec_len ran.parts.landings ≡ 0) }
-    ensures refusal { IfErr result (λ refusal. (refusal ≡ RunRefusal.NoMemory) ⊎ (refusal ≡ RunRefusal.NoThread)) }
-{
-    let room = match Room::<A>::make(alloc, loaded, partitions, work.lists) {
-        Ok(room) => room,
-        Err(_) => {
-            discard(extents);
-            return Err(RunRefusal::NoMemory);
-        }
-    };
-    let sites = open_sites(alloc, loaded, partitions, extents)?;
-    let opened = Opened {
-        directory,
-        routes,
-        sites,
-    };
-    run_opened(rt, alloc, opened, room, work, gate)
-}
-
 /// Runs the clients' lists of calls on these rows, by an executor for each of so many partitions, a
-/// thread for each client, a mover and a debugger, and gives back what they leave. The rows are consumed,
-/// on a refusal too.
+/// thread for each client, a mover and a debugger, and gives back what they leave. The rows are
+/// consumed, on a refusal too.
 pub fn run_calls<'m, R: Threads + Wait + Sync, G: Gate + Sync>(
     rt: &R,
     alloc: Global,
@@ -215,9 +202,14 @@ pub fn run_calls<'m, R: Threads + Wait + Sync, G: Gate + Sync>(
             return Err(RunRefusal::NoMemory);
         }
     };
-    opened_extents_are_numbered();
-    let work = Work { lists, moves };
-    run_ruled::<R, G, Brand>(
-        rt, alloc, loaded, extents, directory, routes, partitions, &work, gate,
-    )
+    let sites = open_sites(alloc, loaded, partitions, extents)?;
+    let setup = Setup {
+        loaded,
+        directory,
+        routes,
+        sites,
+        lists,
+        moves,
+    };
+    run_ruled::<R, G, Brand>(rt, alloc, setup, gate)
 }

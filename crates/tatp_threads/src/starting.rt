@@ -1,47 +1,45 @@
 //! The threads are started, and end.
 ghost use denote.Param.Send.{IsSend};
 
-use crate::client::serve;
+use crate::admission::{Arities, Port};
+use crate::client::run_client;
 use crate::debugger::debug_partitions;
 use crate::executor::execute;
 use crate::mover::move_extents;
-use crate::partition::Partition;
-use crate::ports::{Arities, Port};
-use crate::room::Ends;
+use crate::reserved::{ClientSeat, ExecutorSeat};
 use crate::shared::Shared;
-use crate::{Gate, Message, Moves};
 use std::sync::Wait;
 use std::thread;
 use std::thread::Threads;
 use tatp_partition::Parcel;
 use tatp_procs::Ask;
-use tatp_settle::Receipt;
+use tatp_workers::{Gate, Message};
 
-/// What the clients, the mover and the debugger are to do.
+/// What the threads start with: an end at each inbox, by which it gets Quit, the executors' seats,
+/// and what each client asks.
 #[derive(Drop)]
-pub(crate) struct Work<'w> {
+pub(crate) struct Crew<'w, A: Arities> {
+    pub(crate) quit: Vec<Port<A>>,
+    pub(crate) executors: Vec<ExecutorSeat<A>>,
     pub(crate) lists: &'w [Vec<Ask>],
-    pub(crate) moves: &'w Moves,
 }
 
 /// Runs all threads to their ends: the executors until all clients, the mover and the debugger have
-/// ended. Whether each thread could be started; where one couldn't, those that were run to their ends.
+/// ended. Whether each thread could be started; where one couldn't, those that could run to their
+/// ends.
 pub(crate) fn run_threads<R: Threads + Wait + Sync, G: Gate + Sync, A: Arities + Send + Sync>(
     rt: &R,
     shared: &Shared<G, A>,
-    work: &Work<'_>,
-    ends: Ends<A>,
-    receipts: &mut [Vec<Receipt>],
+    crew: Crew<'_, A>,
+    clients: &mut [ClientSeat<A>],
     hand: &mut Vec<Parcel>,
 ) -> bool {
-    let Ends {
+    let Crew {
         mut quit,
-        readers,
         executors,
-        mut clients,
-    } = ends;
+        lists,
+    } = crew;
     let quit = quit.as_mut_slice();
-    let clients = clients.as_mut_slice();
     thread::scope(
         thread::scope_env(),
         rt,
@@ -49,30 +47,17 @@ pub(crate) fn run_threads<R: Threads + Wait + Sync, G: Gate + Sync, A: Arities +
             requires { IsSend A.row }
         {
             let mut started = true;
-            let mut number = 0u8;
-            for (((site, wanted), reader), ports) in shared
-                .sites
-                .iter()
-                .zip(shared.wanted)
-                .zip(readers)
-                .zip(executors)
-            {
-                let partition = Partition {
-                    number,
-                    site,
-                    wanted,
-                };
+            for (partition, seat) in shared.partitions.iter().zip(executors) {
                 if started
                     && outer
-                        .spawn(move || execute(rt, shared, partition, reader, ports))
+                        .spawn(move || execute(rt, shared, partition, seat))
                         .is_err()
                 {
                     started = false;
                 }
-                number = number.saturating_add(1);
             }
             if started {
-                started = run_clients(rt, shared, work, clients, receipts, hand);
+                started = run_clients(rt, shared, lists, clients, hand);
             }
             for port in quit.iter_mut() {
                 let _put = port.put(rt, Message::Quit);
@@ -86,41 +71,25 @@ pub(crate) fn run_threads<R: Threads + Wait + Sync, G: Gate + Sync, A: Arities +
 fn run_clients<R: Threads + Wait + Sync, G: Gate + Sync, A: Arities + Send + Sync>(
     rt: &R,
     shared: &Shared<G, A>,
-    work: &Work<'_>,
-    clients: &mut [Vec<Port<A>>],
-    receipts: &mut [Vec<Receipt>],
+    lists: &[Vec<Ask>],
+    clients: &mut [ClientSeat<A>],
     hand: &mut Vec<Parcel>,
 ) -> bool {
     thread::scope(thread::scope_env(), rt, |inner| -> bool {
-        let moves = work.moves;
-        if inner
-            .spawn(move || move_extents(rt, shared, moves, hand))
-            .is_err()
-        {
+        if inner.spawn(move || move_extents(rt, shared, hand)).is_err() {
             return false;
         }
-        if inner
-            .spawn(move || debug_partitions(rt, shared, moves))
-            .is_err()
-        {
+        if inner.spawn(move || debug_partitions(rt, shared)).is_err() {
             return false;
         }
-        let mut number = 0u64;
-        for (((list, slot), ports), out) in work
-            .lists
-            .iter()
-            .zip(shared.slots)
-            .zip(clients.iter_mut())
-            .zip(receipts.iter_mut())
-        {
+        for ((list, mailbox), seat) in lists.iter().zip(shared.mailboxes).zip(clients.iter_mut()) {
             let asks = list.as_slice();
             if inner
-                .spawn(move || serve(rt, shared, number, asks, slot, ports.as_mut_slice(), out))
+                .spawn(move || run_client(rt, shared, mailbox, asks, seat))
                 .is_err()
             {
                 return false;
             }
-            number = number.saturating_add(1);
         }
         true
     })

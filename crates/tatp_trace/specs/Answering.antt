@@ -1,5 +1,5 @@
 -- What is answered to a line of `trace`, and what it makes of the whole.
-use Rattle.std.specs.Prelude.{◌≡◌, ℕ, List, [], ◌∷◌, ◌++◌, replicate, Option, Some, None, Result, if◌then◌else◌}
+use Rattle.std.specs.Prelude.{◌≡◌, ℕ, List, [], ◌∷◌, ◌++◌, replicate, Option, Some, None, if◌then◌else◌}
 use Rattle.std.specs.List.{flat_map}
 use Rattle.std.specs.Str.{is_utf8}
 use Rattle.tatp_audits.specs.declared.verdict.Verdict.{Verdict}
@@ -7,8 +7,7 @@ use Rattle.tatp_audits.specs.Audits.{IsVerdict}
 use Rattle.tatp_audits.specs.Printing.{verdict_text}
 use Rattle.tatp_dispatch.specs.declared.event.Event.{Event as AnEvent}
 use Rattle.tatp_dispatch.specs.declared.event.Event.TheVariants.{Step}
-use Rattle.tatp_dispatch.specs.declared.event.Answer.{Answer}
-use Rattle.tatp_dispatch.specs.declared.event.Refusal.{Refusal}
+use Rattle.tatp_dispatch.specs.Answers.{Answered}
 use Rattle.tatp_dispatch.specs.Events.{Happens}
 use Rattle.tatp_dispatch.specs.Gathered.{gathered_rows}
 use Rattle.tatp_dispatch.specs.Serving.{Tells}
@@ -25,16 +24,22 @@ line_in bytes = if is_utf8 bytes then line_of bytes else None
 
 -- ---- events
 -- the event happens and is answered so, and the line of that answer is told
-pub record TellsEvent (w : WorldState) (event : AnEvent) (answered : Result Answer Refusal) (told : List ℕ) (w' : WorldState) : Type 0 where
+pub record TellsEvent (w : WorldState) (event : AnEvent) (answered : Answered) (told : List ℕ)
+    (w' : WorldState) : Type 0 where
   pub happens : Happens w event answered w'
   pub tells : Tells w answered w'
   pub line : told ≡ told_line (answered_text w'.completions answered)
 
 -- events, one after another: a line for each
-abbrev pub TellsEvents : WorldState → List AnEvent → List (Result Answer Refusal) → List ℕ → WorldState → Type 0
+abbrev pub TellsEvents : WorldState → List AnEvent → List Answered → List ℕ → WorldState → Type 0
 TellsEvents w [] [] told w' = (told ≡ []) × (w' ≡ w)
 TellsEvents w (event ∷ events) (answered ∷ answers) told w' =
-    (between : WorldState) × (first : List ℕ) × (rest : List ℕ) × TellsEvent w event answered first between × (told ≡ first ++ rest) × TellsEvents between events answers rest w'
+    (between : WorldState)
+    × (first : List ℕ)
+    × (rest : List ℕ)
+    × TellsEvent w event answered first between
+    × (told ≡ first ++ rest)
+    × TellsEvents between events answers rest w'
 TellsEvents w [] (answered ∷ answers) told w' = ⊥
 TellsEvents w (event ∷ events) [] told w' = ⊥
 
@@ -52,20 +57,29 @@ pub record TellsVerdict (w : WorldState) (told : List ℕ) : Type 0 where
   pub line : told ≡ told_line (verdict_text verdict)
 
 -- what is answered to a line
-abbrev pub TellsLine : WorldState → Option TraceLine → List (Result Answer Refusal) → List ℕ → WorldState → Type 0
+abbrev pub TellsLine : WorldState → Option TraceLine → List Answered → List ℕ → WorldState → Type 0
 TellsLine w (Some (Event event)) answers told w' = TellsEvents w (event ∷ []) answers told w'
-TellsLine w (Some (Steps p count)) answers told w' = TellsEvents w (replicate count (Step p)) answers told w'
+TellsLine w (Some (Steps p count)) answers told w' =
+    TellsEvents w (replicate count (Step p)) answers told w'
 TellsLine w (Some (Look p)) answers told w' = TellsLook w p told × (answers ≡ []) × (w' ≡ w)
-TellsLine w (Some (Home p s_id)) answers told w' = (told ≡ home_told w p s_id) × (answers ≡ []) × (w' ≡ w)
+TellsLine w (Some (Home p s_id)) answers told w' =
+    (told ≡ home_told w p s_id) × (answers ≡ []) × (w' ≡ w)
 TellsLine w (Some Audit) answers told w' = TellsVerdict w told × (answers ≡ []) × (w' ≡ w)
 TellsLine w None answers told w' = (told ≡ told_line bad_line_text) × (answers ≡ []) × (w' ≡ w)
 
 -- lines, one after another
-abbrev pub TellsLines : WorldState → List (List ℕ) → List (Result Answer Refusal) → List ℕ → WorldState → Type 0
+abbrev pub TellsLines : WorldState → List (List ℕ) → List Answered → List ℕ → WorldState → Type 0
 TellsLines w [] answers told w' = (answers ≡ []) × (told ≡ []) × (w' ≡ w)
 TellsLines w (line ∷ lines) answers told w' =
-    (between : WorldState) × (here : List (Result Answer Refusal)) × (later : List (Result Answer Refusal)) × (first : List ℕ) × (rest : List ℕ)
-    × TellsLine w (line_in line) here first between × (answers ≡ here ++ later) × (told ≡ first ++ rest) × TellsLines between lines later rest w'
+    (between : WorldState)
+    × (here : List Answered)
+    × (later : List Answered)
+    × (first : List ℕ)
+    × (rest : List ℕ)
+    × TellsLine w (line_in line) here first between
+    × (answers ≡ here ++ later)
+    × (told ≡ first ++ rest)
+    × TellsLines between lines later rest w'
 
 -- the events of all lines
 abbrev pub events_in : List (List ℕ) → List AnEvent
@@ -73,22 +87,25 @@ events_in lines = flat_map (λ line. events_of (line_in line)) lines
 
 -- ---- texts that were appended to
 -- old and new are such a text: new has besides what is told of the event
-pub record AppendsEvent (w : WorldState) (event : AnEvent) (old new : List ℕ) (w' : WorldState) : Type 0 where
-  pub answered : Result Answer Refusal
+pub record AppendsEvent (w : WorldState) (event : AnEvent) (old new : List ℕ) (w' : WorldState)
+    : Type 0 where
+  pub answered : Answered
   pub told : List ℕ
   pub tells : TellsEvent w event answered told w'
   pub appended : new ≡ old ++ told
 
 -- of so many steps of the site of partition p
-pub record AppendsSteps (w : WorldState) (p count : ℕ) (old new : List ℕ) (w' : WorldState) : Type 0 where
-  pub answers : List (Result Answer Refusal)
+pub record AppendsSteps (w : WorldState) (p count : ℕ) (old new : List ℕ) (w' : WorldState)
+    : Type 0 where
+  pub answers : List Answered
   pub told : List ℕ
   pub tells : TellsEvents w (replicate count (Step p)) answers told w'
   pub appended : new ≡ old ++ told
 
 -- of a line
-pub record AppendsLine (w : WorldState) (line : Option TraceLine) (old new : List ℕ) (w' : WorldState) : Type 0 where
-  pub answers : List (Result Answer Refusal)
+pub record AppendsLine (w : WorldState) (line : Option TraceLine) (old new : List ℕ)
+    (w' : WorldState) : Type 0 where
+  pub answers : List Answered
   pub told : List ℕ
   pub tells : TellsLine w line answers told w'
   pub appended : new ≡ old ++ told

@@ -13,4 +13,7 @@ rows_text row (columns ∷ more) = text_of (row columns) ++ 10 ∷ rows_text row
 
 -- table by table, each by key
 abbrev pub home_text : Database → List ℕ
-home_text u = rows_text S (rows_of u.subscribers) ++ (rows_text A (rows_of u.accesses) ++ (rows_text F (rows_of u.facilities) ++ rows_text C (rows_of u.forwardings)))
+home_text u =
+    rows_text S (rows_of u.subscribers)
+    ++ (rows_text A (rows_of u.accesses)
+    ++ (rows_text F (rows_of u.facilities) ++ rows_text C (rows_of u.forwardings)))

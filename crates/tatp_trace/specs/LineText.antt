@@ -30,7 +30,9 @@ key_number (Number n) = n
 
 abbrev pub ask_text : ℕ → Ask → List ℕ
 ask_text client (Txn call) = codes "submit " ++ (decimal client ++ 32 ∷ call_text call)
-ask_text client (Raw call) = codes "raw " ++ (decimal client ++ 32 ∷ (decimal call.procedure ++ 32 ∷ with_numbers (key_word call.key) (key_number call.key ∷ call.arguments)))
+ask_text client (Raw call) =
+    codes "raw " ++ (decimal client ++ 32 ∷ (decimal call.procedure ++ 32
+    ∷ with_numbers (key_word call.key) (key_number call.key ∷ call.arguments)))
 
 abbrev pub event_text : AnEvent → List ℕ
 event_text (Submit client ask) = ask_text client ask

@@ -8,19 +8,23 @@ use Rattle.tatp_partition.specs.Sites.{SiteState, home_here}
 use Rattle.tatp_debug.specs.declared.snapshot.Snapshot.{Snapshot}
 use Rattle.tatp_debug.specs.Printing.{snapshot_text}
 use Rattle.tatp_debug.specs.Snapshots.{Looks}
-use Rattle.tatp_dispatch.specs.declared.event.Refusal.TheVariants.{NoPartition}
+use Rattle.tatp_dispatch.specs.declared.event.Refusal.TheVariants.{NoPartition, Site}
 use Rattle.tatp_dispatch.specs.Worlds.{WorldState}
-use Rattle.tatp_trace.specs.AnswerText.{refusal_text, site_refusal_text}
+use Rattle.tatp_trace.specs.AnswerText.{refused_text}
 use Rattle.tatp_trace.specs.HomeText.{home_text}
 
 -- one line
 abbrev pub told_line : List ℕ → List ℕ
 told_line text = text ++ 10 ∷ []
 
+-- where there is no such partition
+abbrev pub no_partition_line : List ℕ
+no_partition_line = told_line (refused_text NoPartition)
+
 -- ---- the running call
 abbrev pub seen_text : Result Snapshot SiteRefusal → List ℕ
 seen_text (Ok snapshot) = told_line (snapshot_text snapshot)
-seen_text (Err refusal) = told_line (site_refusal_text refusal)
+seen_text (Err refusal) = told_line (refused_text (Site refusal))
 
 -- what looking at the site answers
 pub record TellsSeen (s : SiteState) (told : List ℕ) : Type 0 where
@@ -30,13 +34,16 @@ pub record TellsSeen (s : SiteState) (told : List ℕ) : Type 0 where
 
 -- of the site of partition p
 abbrev pub TellsLook : WorldState → ℕ → List ℕ → Type 0
-TellsLook w p told = MatchOption (slice_get w.sites p) (told ≡ told_line (refusal_text NoPartition)) (λ s. TellsSeen s told)
+TellsLook w p told =
+    MatchOption (slice_get w.sites p) (told ≡ no_partition_line) (λ s. TellsSeen s told)
 
 -- ---- the home of a subscriber
 abbrev pub found_text : Option SubscriberRows → List ℕ
-found_text None = told_line (site_refusal_text NotHere)
+found_text None = told_line (refused_text (Site NotHere))
 found_text (Some home) = home_text home.tables
 
 -- at the site of partition p
 abbrev pub home_told : WorldState → ℕ → ℕ → List ℕ
-home_told w p s_id = option_map_or (λ (s : SiteState). found_text (home_here s s_id)) (slice_get w.sites p) (told_line (refusal_text NoPartition))
+home_told w p s_id =
+    option_map_or (λ (s : SiteState). found_text (home_here s s_id)) (slice_get w.sites p)
+    no_partition_line

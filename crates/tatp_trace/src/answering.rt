@@ -22,7 +22,8 @@ fn line_in(line: &[u8]) -> Option<TraceLine>
 /// An event happens, and its answer's line is appended.
 #[tactic(auto, using(crate::proofs::AnsweringLaws::event_appended))]
 fn answer_event(world: &mut World<'_>, event: Event, pending: &mut String) -> Result<(), AllocError>
-    ensures { OnOk result (AppendsEvent world.old event (string_bytes pending.old) (string_bytes pending.new) world.new) }
+    ensures { OnOk result (AppendsEvent world.old event
+        (string_bytes pending.old) (string_bytes pending.new) world.new) }
 {
     let answered = world.apply(event);
     push_answer(pending, world.completions(), &answered)?;
@@ -38,7 +39,8 @@ fn answer_steps(
     count: u64,
     pending: &mut String,
 ) -> Result<(), AllocError>
-    ensures { OnOk result (AppendsSteps world.old partition count (string_bytes pending.old) (string_bytes pending.new) world.new) }
+    ensures { OnOk result (AppendsSteps world.old partition count
+        (string_bytes pending.old) (string_bytes pending.new) world.new) }
 {
     'steps: for done in 0..count {
         answer_event(world, Event::Step(partition), pending)?;
@@ -63,7 +65,8 @@ fn answer(
     line: TraceLine,
     pending: &mut String,
 ) -> Result<(), AllocError>
-    ensures { OnOk result (AppendsLine world.old (Some line) (string_bytes pending.old) (string_bytes pending.new) world.new) }
+    ensures { OnOk result (AppendsLine world.old (Some line)
+        (string_bytes pending.old) (string_bytes pending.new) world.new) }
 {
     match line {
         TraceLine::Event(event) => answer_event(world, event, pending),
@@ -95,7 +98,8 @@ pub fn answer_line(
     line: &[u8],
     pending: &mut String,
 ) -> Result<(), AllocError>
-    ensures { OnOk result (AppendsLine world.old (line_in line.now) (string_bytes pending.old) (string_bytes pending.new) world.new) }
+    ensures { OnOk result (AppendsLine world.old (line_in line.now)
+        (string_bytes pending.old) (string_bytes pending.new) world.new) }
 {
     match line_in(line) {
         Some(line) => answer(alloc, world, line, pending),

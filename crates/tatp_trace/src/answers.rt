@@ -1,45 +1,55 @@
 //! The line of what is answered to an event.
-ghost use Rattle.std.specs.Prelude.{◌≡◌, ◌<◌, ◌∷◌, ◌++◌, OnErr, OnOk, decimal, length, slice_index};
+ghost use Rattle.std.specs.Prelude.{◌≡◌, ◌<◌, ◌∷◌, ◌++◌, IfOk, OnErr, OnOk, decimal, length, slice_index};
 ghost use Rattle.std.specs.String.{string_bytes};
 ghost use Rattle.tatp_procs.specs.Extends.{Extends};
-ghost use Rattle.tatp_trace.specs.AnswerText.{answer_text, answered_text, last_asked, refusal_text, site_refusal_text};
+ghost use Rattle.tatp_trace.specs.AnswerText.{answer_text, answered_text, last_asked, refused_text};
 
-use itoa::Buffer;
-use std::alloc::AllocError;
+use std::alloc::{AllocError, Global};
 use tatp_dispatch::{Answer, Refusal};
+use tatp_lines::push_decimal;
 use tatp_numbers::Key;
-use tatp_partition::SiteRefusal;
 use tatp_procs::{Ask, Entry, Raw, push_reply};
 
 /// Appends the line of what is answered to an event, where these calls are completed. An error
 /// leaves the text as it was.
-#[tactic(auto, using(tatp_procs::proofs::ExtendsLaws::may_be_cut, tatp_procs::proofs::ExtendsLaws::cut_back))]
 pub fn push_answer(
     text: &mut String,
     completions: &[Entry],
     answered: &Result<Answer, Refusal>,
 ) -> Result<(), AllocError>
-    ensures ok { OnOk result (string_bytes text.new ≡ string_bytes text.old ++ answered_text completions.now answered.now) }
+    ensures ok { OnOk result (string_bytes text.new
+        ≡ string_bytes text.old ++ answered_text completions.now answered.now) }
+    ensures err { OnErr result (string_bytes text.new ≡ string_bytes text.old) }
+{
+    match answered {
+        Ok(answer) => push_accepted(text, completions, answer),
+        Err(refusal) => push_refusal(text, refusal),
+    }
+}
+
+/// Appends the line of an answer. An error leaves the text as it was.
+#[tactic(auto, using(tatp_procs::proofs::ExtendsLaws::may_be_cut, tatp_procs::proofs::ExtendsLaws::cut_back))]
+fn push_accepted(
+    text: &mut String,
+    completions: &[Entry],
+    answer: &Answer,
+) -> Result<(), AllocError>
+    ensures ok { OnOk result (string_bytes text.new
+        ≡ string_bytes text.old ++ answer_text completions.now answer.now) }
     ensures err { OnErr result (string_bytes text.new ≡ string_bytes text.old) }
 {
     let before = text.len();
-    let pushed = match answered {
-        Ok(answer) => push_accepted(text, completions, answer),
-        Err(refusal) => push_refusal(text, refusal),
-    };
+    let pushed = push_pieces(text, completions, answer);
     if pushed.is_err() {
         text.truncate(before);
     }
     pushed
 }
 
-/// The line of an answer. An error may leave the line's beginning.
-fn push_accepted(
-    text: &mut String,
-    completions: &[Entry],
-    answer: &Answer,
-) -> Result<(), AllocError>
-    ensures ok { OnOk result (string_bytes text.new ≡ string_bytes text.old ++ answer_text completions.now answer.now) }
+/// Appends the pieces of that line. An error may leave the first of them.
+fn push_pieces(text: &mut String, completions: &[Entry], answer: &Answer) -> Result<(), AllocError>
+    ensures ok { OnOk result (string_bytes text.new
+        ≡ string_bytes text.old ++ answer_text completions.now answer.now) }
     ensures err { OnErr result (Extends (string_bytes text.old) (string_bytes text.new)) }
 {
     match answer {
@@ -67,45 +77,21 @@ fn push_accepted(
     }
 }
 
-/// The line of a refusal. An error may leave the line's beginning.
+/// Appends the line of a refusal. An error leaves the text as it was.
 fn push_refusal(text: &mut String, refusal: &Refusal) -> Result<(), AllocError>
-    ensures ok { OnOk result (string_bytes text.new ≡ string_bytes text.old ++ refusal_text refusal.now) }
-    ensures err { OnErr result (Extends (string_bytes text.old) (string_bytes text.new)) }
+    ensures ok { OnOk result
+        (string_bytes text.new ≡ string_bytes text.old ++ refused_text refusal.now) }
+    ensures err { OnErr result (string_bytes text.new ≡ string_bytes text.old) }
 {
-    match refusal {
-        Refusal::NoPartition => text.push_str("REFUSED 38 NoPartition"),
-        Refusal::NoClient => text.push_str("REFUSED 40 NoClient"),
-        Refusal::ClientBusy => text.push_str("REFUSED 41 ClientBusy"),
-        Refusal::NothingQueued => text.push_str("REFUSED 42 NothingQueued"),
-        Refusal::NotInHand => text.push_str("REFUSED 43 NotInHand"),
-        Refusal::NoMemory => text.push_str("REFUSED 46 NoMemory"),
-        Refusal::NoProcedure => text.push_str("REFUSED 48 NoProcedure"),
-        Refusal::NumbersFull => text.push_str("REFUSED 51 StampFull"),
-        Refusal::BadArgument(bad) => push_number(text, "REFUSED 26 BadArgument ", bad.0 as u64),
-        Refusal::Site(refusal) => text.push_str(site_refusal_text(refusal)),
-    }
+    let line = refused_text(*text.allocator(), refusal)?;
+    text.push_str(line.as_str())
 }
 
-pub(crate) fn site_refusal_text(refusal: &SiteRefusal) -> &'static str
-    ensures { result.now ≡ site_refusal_text refusal.now }
+/// The line of a refusal.
+pub(crate) fn refused_text(alloc: Global, refusal: &Refusal) -> Result<String, AllocError>
+    ensures { IfOk result (λ text. string_bytes text ≡ refused_text refusal.now) }
 {
-    match refusal {
-        SiteRefusal::Running => "REFUSED 29 Running",
-        SiteRefusal::Stopped => "REFUSED 30 Stopped",
-        SiteRefusal::NotRunning => "REFUSED 31 NotRunning",
-        SiteRefusal::AtBreak => "REFUSED 32 AtBreak",
-        SiteRefusal::NotHere => "REFUSED 33 NotHere",
-        SiteRefusal::Pinned => "REFUSED 34 Pinned",
-        SiteRefusal::MoveCountFull => "REFUSED 35 MoveCountFull",
-        SiteRefusal::TooManyBreaks => "REFUSED 36 TooManyBreaks",
-        SiteRefusal::LogEnded => "REFUSED 54 LogEnded",
-        SiteRefusal::ChapterCountFull => "REFUSED 55 ChapterCountFull",
-        SiteRefusal::NoMemory => "REFUSED 46 NoMemory",
-        SiteRefusal::NotStopped => "REFUSED 49 NotStopped",
-        SiteRefusal::NoSlot => "REFUSED 50 NoSlot",
-        SiteRefusal::StampFull => "REFUSED 51 StampFull",
-        SiteRefusal::WrongHome => "REFUSED 56 WrongHome",
-    }
+    format!(in alloc; "REFUSED {refusal}")
 }
 
 /// What the last completed call asked; where none is completed, a call that is no transaction.
@@ -118,35 +104,29 @@ fn last_asked(completions: &[Entry]) -> Ask
     }
 }
 
-/// Words and a number. An error may leave the words.
+/// Appends words and a number. An error may leave the words.
 #[tactic(auto, using(crate::proofs::AppendLaws::words_extend, crate::proofs::AppendLaws::words_and_number))]
 fn push_number(text: &mut String, words: &str, number: u64) -> Result<(), AllocError>
     requires some { 0 < length words.now }
     requires ascii { slice_index words.now 0 < 128 }
-    ensures ok { OnOk result (string_bytes text.new ≡ string_bytes text.old ++ (words.now ++ decimal number)) }
+    ensures ok { OnOk result
+        (string_bytes text.new ≡ string_bytes text.old ++ (words.now ++ decimal number)) }
     ensures err { OnErr result (Extends (string_bytes text.old) (string_bytes text.new)) }
 {
     text.push_str(words)?;
     push_decimal(text, number)
 }
 
-/// Words and two numbers. An error may leave the beginning of them.
+/// Appends words and two numbers. An error may leave the first of them.
 #[tactic(auto, using(crate::proofs::AppendLaws::words_extend, crate::proofs::AppendLaws::words_and_number))]
 fn push_numbers(text: &mut String, words: &str, first: u64, second: u64) -> Result<(), AllocError>
     requires some { 0 < length words.now }
     requires ascii { slice_index words.now 0 < 128 }
-    ensures ok { OnOk result (string_bytes text.new ≡ string_bytes text.old ++ (words.now ++ (decimal first ++ 32 ∷ decimal second))) }
+    ensures ok { OnOk result (string_bytes text.new
+        ≡ string_bytes text.old ++ (words.now ++ (decimal first ++ 32 ∷ decimal second))) }
     ensures err { OnErr result (Extends (string_bytes text.old) (string_bytes text.new)) }
 {
     push_number(text, words, first)?;
     text.push_str(" ")?;
     push_decimal(text, second)
-}
-
-fn push_decimal(text: &mut String, number: u64) -> Result<(), AllocError>
-    ensures ok { OnOk result (string_bytes text.new ≡ string_bytes text.old ++ decimal number) }
-    ensures err { OnErr result (string_bytes text.new ≡ string_bytes text.old) }
-{
-    let mut buffer = Buffer::new();
-    text.push_str(buffer.format(number))
 }

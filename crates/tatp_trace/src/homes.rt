@@ -24,7 +24,8 @@ pub(crate) fn home_text(alloc: Global, home: &Home) -> Result<String, AllocError
 }
 
 fn push_row(alloc: Global, text: &mut String, row: &Row) -> Result<(), AllocError>
-    ensures { OnOk result (string_bytes text.new ≡ string_bytes text.old ++ (text_of row.now ++ 10 ∷ [])) }
+    ensures { OnOk result
+        (string_bytes text.new ≡ string_bytes text.old ++ (text_of row.now ++ 10 ∷ [])) }
 {
     let line = row_text(alloc, row)?;
     text.push_str(line.as_str())?;

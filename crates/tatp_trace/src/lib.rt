@@ -4,16 +4,16 @@
 mod answering;
 mod answers;
 mod homes;
-mod laws;
 mod line;
 mod looking;
+mod parsing;
 mod printing;
-mod reading;
+mod theorems;
 
 pub use answering::answer_line;
 pub use answers::push_answer;
-pub use laws::{lines_are_read_as_printed, told_lines_are_a_run};
 pub use line::TraceLine;
 pub use looking::{home_lines, look_text};
+pub use parsing::read_trace_line;
 pub use printing::trace_line_text;
-pub use reading::read_trace_line;
+pub use theorems::{lines_are_read_as_printed, told_lines_are_a_run};

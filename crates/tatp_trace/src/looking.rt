@@ -3,23 +3,21 @@ ghost use Rattle.std.specs.Prelude.{◌≡◌, IfOk};
 ghost use Rattle.std.specs.String.{string_bytes};
 ghost use Rattle.tatp_trace.specs.Looking.{TellsLook, TellsSeen, found_text, home_told, told_line};
 ghost use Rattle.tatp_partition.specs.Sites.{home_here};
-ghost use Rattle.tatp_trace.specs.AnswerText.{site_refusal_text};
+ghost use Rattle.tatp_trace.specs.AnswerText.{refused_text};
 
-use crate::answers::site_refusal_text;
+use crate::answers::refused_text;
 use crate::homes::home_text;
 use std::alloc::{AllocError, Global};
 use tatp_debug::{home_rows, look};
-use tatp_dispatch::World;
-use tatp_partition::{Site, SiteRefusal};
-
-const NO_PARTITION: &str = "REFUSED 38 NoPartition\n";
+use tatp_dispatch::{Refusal, World};
+use tatp_partition::Site;
 
 /// The running call of a partition's site, in four lines; or why there is none to be seen.
 pub fn look_text(alloc: Global, world: &World<'_>, partition: u64) -> Result<String, AllocError>
     ensures { IfOk result (λ text. TellsLook world.now partition (string_bytes text)) }
 {
     match world.site(partition) {
-        None => String::from_str(alloc, NO_PARTITION),
+        None => refused_line(alloc, Refusal::NoPartition),
         Some(site) => seen_text(alloc, site),
     }
 }
@@ -29,7 +27,7 @@ fn seen_text(alloc: Global, site: &Site<'_>) -> Result<String, AllocError>
 {
     match look(site) {
         Ok(snapshot) => format!(in alloc; "{snapshot}\n"),
-        Err(refusal) => refused_text(alloc, &refusal),
+        Err(refusal) => refused_line(alloc, Refusal::Site(refusal)),
     }
 }
 
@@ -43,7 +41,7 @@ pub fn home_lines(
     ensures { IfOk result (λ text. string_bytes text ≡ home_told world.now partition s_id) }
 {
     match world.site(partition) {
-        None => String::from_str(alloc, NO_PARTITION),
+        None => refused_line(alloc, Refusal::NoPartition),
         Some(site) => found_text(alloc, site, s_id),
     }
 }
@@ -53,14 +51,14 @@ fn found_text(alloc: Global, site: &Site<'_>, s_id: u64) -> Result<String, Alloc
 {
     match home_rows(site, s_id) {
         Ok(home) => home_text(alloc, home),
-        Err(refusal) => refused_text(alloc, &refusal),
+        Err(refusal) => refused_line(alloc, Refusal::Site(refusal)),
     }
 }
 
-fn refused_text(alloc: Global, refusal: &SiteRefusal) -> Result<String, AllocError>
-    ensures { IfOk result (λ text. string_bytes text ≡ told_line (site_refusal_text refusal.now)) }
+fn refused_line(alloc: Global, refusal: Refusal) -> Result<String, AllocError>
+    ensures { IfOk result (λ text. string_bytes text ≡ told_line (refused_text refusal)) }
 {
-    let mut text = String::from_str(alloc, site_refusal_text(refusal))?;
+    let mut text = refused_text(alloc, &refusal)?;
     text.push_str("\n")?;
     Ok(text)
 }

@@ -94,7 +94,8 @@ fn with_numbers(alloc: Global, word: &str, numbers: &[u64]) -> Result<String, Al
 /// Appends numbers, each after a space.
 #[tactic(auto, using(crate::proofs::PushLaws::none_pushed, crate::proofs::PushLaws::one_pushed, crate::proofs::PushLaws::all_pushed))]
 fn push_numbers(text: &mut String, numbers: &[u64]) -> Result<(), AllocError>
-    ensures { OnOk result (string_bytes text.new ≡ string_bytes text.old ++ numbers_text numbers.now) }
+    ensures { OnOk result
+        (string_bytes text.new ≡ string_bytes text.old ++ numbers_text numbers.now) }
 {
     for number in numbers {
         write!(text, " {number}")?;

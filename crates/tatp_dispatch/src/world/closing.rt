@@ -1,8 +1,16 @@
 //! The whole is closed.
 
 use super::World;
-use crate::hand::{close_parcels, discard_landings};
-use tatp_move::close_sites;
+use tatp_partition::{Landed, close_sites};
+
+/// Spends landings.
+fn discard_landings(landings: Vec<Landed>) {
+    let mut rest = landings;
+    while let Some(landed) = rest.pop() {
+        landed.discard();
+    }
+    rest.destroy_empty();
+}
 
 impl<'m> World<'m> {
     ghost use Rattle.tatp_dispatch.specs.Serving.{IsWorld};
@@ -24,7 +32,7 @@ impl<'m> World<'m> {
             ended: _,
         } = self;
         close_sites(sites);
-        close_parcels(parcels);
+        parcels.discard();
         discard_landings(landings);
     }
 }

@@ -7,12 +7,11 @@ ghost use Rattle.tatp_dispatch.specs.Opened.{new_client};
 
 use super::World;
 use crate::client::Client;
-use crate::hand::{close_parcels, empty_hand};
 use crate::queue::Queue;
 use std::alloc::{AllocError, Global};
 use tatp_loader::Loaded;
-use tatp_move::{Routes, open_sites};
-use tatp_partition::CompletionPlace;
+use tatp_move::Routes;
+use tatp_partition::{CompletionPlace, Slots, open_sites};
 use tatp_population::{OpenError, admit, discard, open_clean};
 use tatp_tables::Rows;
 
@@ -43,28 +42,31 @@ fn new_clients(alloc: Global, clients: u8) -> Result<Vec<Client>, AllocError>
     Ok(made)
 }
 
-/// The routes, the queues and the clients of a whole that is opened.
+/// What stands between the clients and the sites: the routes, the queues and the clients
+/// themselves.
 #[derive(Drop)]
-struct Dispatcher {
+struct FrontEnd {
     routes: Routes,
     queues: Vec<Queue>,
     clients: Vec<Client>,
 }
 
-impl Dispatcher {
+impl FrontEnd {
     fn open(
         alloc: Global,
         subscribers: u64,
         partitions: u8,
         clients: u8,
-    ) -> Result<Dispatcher, AllocError>
+    ) -> Result<FrontEnd, AllocError>
         requires few { subscribers ≤ most_subscribers }
         requires some { 1 ≤ partitions }
-        ensures routes { IfOk result (λ dispatcher. dispatcher.routes ≡ opened_routes subscribers partitions) }
-        ensures queues { IfOk result (λ dispatcher. dispatcher.queues.items ≡ replicate partitions []) }
-        ensures clients { IfOk result (λ dispatcher. dispatcher.clients.items ≡ replicate clients new_client) }
+        ensures routes { IfOk result
+            (λ front. front.routes ≡ opened_routes subscribers partitions) }
+        ensures queues { IfOk result (λ front. front.queues.items ≡ replicate partitions []) }
+        ensures clients { IfOk result
+            (λ front. front.clients.items ≡ replicate clients new_client) }
     {
-        Ok(Dispatcher {
+        Ok(FrontEnd {
             routes: Routes::open(alloc, subscribers, partitions)?,
             queues: empty_queues(alloc, partitions)?,
             clients: new_clients(alloc, clients)?,
@@ -98,8 +100,9 @@ impl<'m> World<'m> {
         Ok(World::open_clean(alloc, loaded, rows, partitions, clients)?)
     }
 
-    /// The whole with these rows, as [`World::open`] opens it, where the rows are known to be clean, as
-    /// drawn ones are, and so aren't audited. The rows are consumed, where memory is refused too.
+    /// The whole with these rows, as [`World::open`] opens it, where the rows are known to be
+    /// clean, as drawn ones are, and so aren't audited. The rows are consumed, where memory is
+    /// refused too.
     pub fn open_clean(
         alloc: Global,
         loaded: &'m Loaded,
@@ -116,15 +119,9 @@ impl<'m> World<'m> {
         ensures world { IfOk result IsWorld }
     {
         let subscribers = rows.subscribers.len() as u64;
+        let front = FrontEnd::open(alloc, subscribers, partitions, clients)?;
         let (extents, directory) = open_clean(alloc, rows)?;
-        let dispatcher = match Dispatcher::open(alloc, subscribers, partitions, clients) {
-            Ok(dispatcher) => dispatcher,
-            Err(error) => {
-                discard(extents);
-                return Err(error);
-            }
-        };
-        let parcels = match empty_hand(alloc, extents.len() as u32) {
+        let parcels = match Slots::empty(alloc, extents.len() as u32) {
             Ok(parcels) => parcels,
             Err(error) => {
                 discard(extents);
@@ -134,22 +131,23 @@ impl<'m> World<'m> {
         let sites = match open_sites(alloc, loaded, partitions, extents) {
             Ok(sites) => sites,
             Err(error) => {
-                close_parcels(parcels);
+                parcels.discard();
                 return Err(error);
             }
         };
+        // For the proof: a module that is loaded is lawful.
         let _module = loaded.module();
-        return Ok(World {
+        Ok(World {
             loaded,
             directory,
             sites,
-            queues: dispatcher.queues,
-            routes: dispatcher.routes,
+            queues: front.queues,
+            routes: front.routes,
             parcels,
             landings: Vec::new(alloc),
-            clients: dispatcher.clients,
+            clients: front.clients,
             completions: Vec::new(alloc),
             ended: CompletionPlace::empty(),
-        });
+        })
     }
 }

@@ -1,9 +1,8 @@
 //! The rows of the table that change a row of the home, FAIL, and traps.
-ghost use Rattle.std.specs.Prelude.{◌≡◌, length, Some, slice_get};
-ghost use Rattle.tatp_tables.specs.Database.{Database};
-ghost use Rattle.tatp_machine.specs.Instructions.{Turn, Stops, act};
-ghost use Rattle.tatp_machine.specs.Machines.{Turns};
-ghost use Rattle.tatp_machine.specs.Sound.{Fits};
+ghost use Rattle.std.specs.Prelude.{◌≡◌, Some};
+ghost use Rattle.tatp_machine.specs.Instructions.{Stops, IsNext};
+ghost use Rattle.tatp_machine.specs.Machines.{Turns, Performs};
+ghost use Rattle.tatp_machine.specs.Sound.{FitsAt};
 
 use super::Machine;
 use crate::change::{Change, byte};
@@ -15,7 +14,8 @@ impl<'m> Machine<'m> {
     /// Ends the call with a failure or a trap.
     pub(super) fn fail(&mut self, home: &mut Home, n: u32) -> Progress
         requires { self.old.frame.home ≡ Some home.old.s_id }
-        ensures turns { Turns (Stops (End.Failed n)) self.old home.old.tables result self.new home.new.tables }
+        ensures turns { Turns (Stops (End.Failed n))
+            self.old home.old.tables result self.new home.new.tables }
         ensures same { home.new.s_id ≡ home.old.s_id }
     {
         self.end_undone(home, End::Failed(n))
@@ -23,7 +23,8 @@ impl<'m> Machine<'m> {
 
     pub(super) fn trap(&mut self, home: &mut Home, trap: Trap) -> Progress
         requires { self.old.frame.home ≡ Some home.old.s_id }
-        ensures turns { Turns (Stops (End.Trapped trap)) self.old home.old.tables result self.new home.new.tables }
+        ensures turns { Turns (Stops (End.Trapped trap))
+            self.old home.old.tables result self.new home.new.tables }
         ensures same { home.new.s_id ≡ home.old.s_id }
     {
         self.end_undone(home, End::Trapped(trap))
@@ -31,9 +32,10 @@ impl<'m> Machine<'m> {
 
     pub(super) fn put(&mut self, home: &mut Home, column: u32, a: Register) -> Progress
         requires home { self.old.frame.home ≡ Some home.old.s_id }
-        requires here { slice_get self.old.frame.code self.old.frame.pc ≡ Some (Instr.Put column a) }
-        requires fits { Fits (length self.old.frame.arguments) (length self.old.frame.code) self.old.frame.pc (Instr.Put column a) }
-        ensures turns { Turns (act (Instr.Put column a) self.old.frame home.old.tables) self.old home.old.tables result self.new home.new.tables }
+        requires here { IsNext self.old.frame (Instr.Put column a) }
+        requires fits { FitsAt self.old.frame (Instr.Put column a) }
+        ensures performs { Performs (Instr.Put column a)
+            self.old home.old.tables result self.new home.new.tables }
         ensures same { home.new.s_id ≡ home.old.s_id }
     {
         let Some(key) = self.key_of_column(column) else {
@@ -54,9 +56,10 @@ impl<'m> Machine<'m> {
 
     pub(super) fn ins(&mut self, home: &mut Home, d: Register, a: RowRegisters) -> Progress
         requires home { self.old.frame.home ≡ Some home.old.s_id }
-        requires here { slice_get self.old.frame.code self.old.frame.pc ≡ Some (Instr.Ins d a) }
-        requires fits { Fits (length self.old.frame.arguments) (length self.old.frame.code) self.old.frame.pc (Instr.Ins d a) }
-        ensures turns { Turns (act (Instr.Ins d a) self.old.frame home.old.tables) self.old home.old.tables result self.new home.new.tables }
+        requires here { IsNext self.old.frame (Instr.Ins d a) }
+        requires fits { FitsAt self.old.frame (Instr.Ins d a) }
+        ensures performs { Performs (Instr.Ins d a)
+            self.old home.old.tables result self.new home.new.tables }
         ensures same { home.new.s_id ≡ home.old.s_id }
     {
         let row = self.five_values(a);
@@ -77,9 +80,10 @@ impl<'m> Machine<'m> {
 
     pub(super) fn del(&mut self, home: &mut Home) -> Progress
         requires home { self.old.frame.home ≡ Some home.old.s_id }
-        requires here { slice_get self.old.frame.code self.old.frame.pc ≡ Some Instr.Del }
-        requires fits { Fits (length self.old.frame.arguments) (length self.old.frame.code) self.old.frame.pc Instr.Del }
-        ensures turns { Turns (act Instr.Del self.old.frame home.old.tables) self.old home.old.tables result self.new home.new.tables }
+        requires here { IsNext self.old.frame Instr.Del }
+        requires fits { FitsAt self.old.frame Instr.Del }
+        ensures performs { Performs Instr.Del
+            self.old home.old.tables result self.new home.new.tables }
         ensures same { home.new.s_id ≡ home.old.s_id }
     {
         let Some(key) = self.current(Table::CallForwarding) else {

@@ -17,7 +17,8 @@ impl<'m> Machine<'m> {
         arguments: &[u64],
         home: Option<u64>,
     )
-        requires { IsSomeAnd (slice_get loaded.now procedure) (λ (p : Procedure). p.arity ≡ length arguments.now) }
+        requires { IsSomeAnd (slice_get loaded.now procedure)
+            (λ (p : Procedure). p.arity ≡ length arguments.now) }
         ensures { self.new ≡ machine_at_entry loaded.now procedure arguments.now home }
     {
         let proc = &loaded.module().procs()[procedure];

@@ -6,8 +6,8 @@ use tatp_asm::{AsmError, AsmFault, AsmFaultKind, assemble, assemble_disassembled
 /// Each mnemonic, with a jump backwards and one to the end.
 const EACH_MNEMONIC: &str = "proc ALL 8\nL0:\nLDI r0,#4294967295\nMOV r1,r2\nARG r3,#7\n\
     ADD r4,r5,r6\nSUB r7,r8,r9\nEQ r10,r11,r12\nLT r13,r14,r15\nJMP @L21\nJZ r1,@L0\nFSUB r1,r0\n\
-    FNUM r2,r0\nFACC r3,r0,r1\nFFAC r4,r0,r1\nFCFW r5,r13\nGET r6,#50\nPUT #44,r4\nINS r7,r11\nDEL\n\
-    OUT r8\nDONE\nFAIL #0\nL21:\nend\n";
+    FNUM r2,r0\nFACC r3,r0,r1\nFFAC r4,r0,r1\nFCFW r5,r13\nGET r6,#50\nPUT #44,r4\nINS r7,r11\n\
+    DEL\nOUT r8\nDONE\nFAIL #0\nL21:\nend\n";
 
 #[test]
 fn texts_and_what_is_printed_of_their_modules(rt: HostRuntime) -> Result<(), Fail> {

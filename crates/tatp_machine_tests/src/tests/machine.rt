@@ -1,5 +1,5 @@
-//! Calls of one procedure, each row of the instruction table among them, on the home of subscriber 2
-//! and without a home.
+//! Calls of one procedure, each row of the instruction table among them, on the home of subscriber
+//! 2 and without a home.
 
 mod changes;
 mod ends;

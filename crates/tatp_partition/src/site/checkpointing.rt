@@ -12,8 +12,8 @@ impl<'m> Site<'m> {
     ghost use Rattle.tatp_partition.specs.Checkpointing.{Checkpoints, KeepsLastStamps, entries_here};
     ghost use Rattle.tatp_partition.specs.Sound.{IsSite};
 
-    /// How many calls of an extent were logged since its last checkpoint; none where it isn't here. The
-    /// calls without a home, which partition 0 logs, count as those of extent 0.
+    /// How many calls of an extent were logged since its last checkpoint; none where it isn't here.
+    /// The calls without a home, which partition 0 logs, count as those of extent 0.
     pub fn log_len(&self, e: u32) -> u64
         ensures { result ≡ length (entries_here self.now e) }
     {
@@ -33,8 +33,8 @@ impl<'m> Site<'m> {
         }
     }
 
-    /// An extent hands out what was logged since its last checkpoint, where no call runs; a stopped site
-    /// does it too. Refused, nothing changes.
+    /// An extent hands out what was logged since its last checkpoint, where no call runs; a stopped
+    /// site does it too. Refused, nothing changes.
     pub fn checkpoint(&mut self, alloc: Global, e: u32) -> Result<Chapter, SiteRefusal>
         ensures checkpoints { Checkpoints self.old e result self.new }
         ensures stamp { KeepsLastStamps self.old self.new }

@@ -57,7 +57,8 @@ fn copy_at(code: &mut [Instr], place: usize, block: &[Instr; 11])
     code[place..place + 11].copy_from_slice(block);
 }
 
-/// Puts out the forwarding with this start time, where it is a destination; `after` is the place after the block.
+/// Puts out the forwarding with this start time, where it is a destination; `after` is the place
+/// after the block.
 fn block(start: u32, after: u32) -> [Instr; 11]
     ensures { result ≡ block start after }
 {

@@ -1,7 +1,7 @@
 //! The standard module as assembly text.
 
-/// The assembly text of the standard module. Its labels are jumped to from above: `none` where a row is
-/// missing, `a`, `b` and `c` after the blocks of GET_NEW_DESTINATION.
+/// The assembly text of the standard module. Its labels are jumped to from above: `none` where a
+/// row is missing, `a`, `b` and `c` after the blocks of GET_NEW_DESTINATION.
 pub const STANDARD: &str = "\
 proc GET_SUBSCRIBER_DATA 1
 ARG r0,#0

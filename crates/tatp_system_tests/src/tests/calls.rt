@@ -16,8 +16,8 @@ fn reading(s_id: u64, home: Option<u64>, seen: u64) -> Item {
     }
 }
 
-/// Steps the running call to its end: its extent, its client and number, its stamp, and whether it was answered
-/// so.
+/// Steps the running call to its end: its extent, its client and number, its stamp, and whether it
+/// was answered so.
 pub fn told(site: &mut Site<'_>, reply: &Reply) -> Option<(u32, u64, u64, u64, bool)> {
     let completion = ended(site)?;
     let entry = &completion.entry;

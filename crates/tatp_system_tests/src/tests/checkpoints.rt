@@ -34,8 +34,8 @@ fn raw() -> Item {
     asked(Ask::Raw(Raw::new(2, &[129, 1], Key::Id(129))), 0)
 }
 
-/// The extent, the index, the location of subscriber 129 before, how many calls there were, and the location
-/// after.
+/// The extent, the index, the location of subscriber 129 before, how many calls there were, and the
+/// location after.
 type Told = (u32, u16, Option<u64>, u64, Option<u64>);
 
 /// What a chapter tells, which is then spent.

@@ -5,9 +5,8 @@ ghost use Rattle.tatp_settle.specs.Runs.{joined, lists_of};
 use super::sites::{begins, ended, lands, opened, spend_parcels, spend_site};
 use std::alloc::{AllocError, Global};
 use tatp_loader::Loaded;
-use tatp_move::close_sites;
 use tatp_numbers::Key;
-use tatp_partition::{Item, Parcel, Site};
+use tatp_partition::{Item, Parcel, Site, close_sites};
 use tatp_procs::{Ask, Call, Raw, Reply};
 use tatp_settle::Receipt;
 
@@ -42,7 +41,8 @@ fn raw(s_id: u64) -> Ask {
     Ask::Raw(Raw::new(2, &[s_id, 2], Key::Id(s_id)))
 }
 
-/// Runs a call, by its client, its number and the stamp that was seen, in at most 256 steps; whether it ended.
+/// Runs a call, by its client, its number and the stamp that was seen, in at most 256 steps;
+/// whether it ended.
 fn ends(
     alloc: Global,
     site: &mut Site<'_>,
@@ -155,8 +155,8 @@ fn all_opened<'m>(
     Ok(sites)
 }
 
-/// The sites of these partitions and the parcels that are under way, once the events have happened at
-/// the last of the sites. None where one did not happen.
+/// The sites of these partitions and the parcels that are under way, once the events have happened
+/// at the last of the sites. None where one did not happen.
 pub fn left<'m>(
     alloc: Global,
     loaded: &'m Loaded,

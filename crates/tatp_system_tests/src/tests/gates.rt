@@ -12,7 +12,8 @@ use tatp_driver::Distribution;
 use tatp_procs::{Ask, Call};
 use tatp_threads::Gate;
 
-/// Holds the first step of the run, in whichever partition it comes, until a call ends in the other one.
+/// Holds the first step of the run, in whichever partition it comes, until a call ends in the other
+/// one.
 #[derive(Drop)]
 struct HoldFirst<'a, R: Clock> {
     clock: &'a R,
@@ -123,8 +124,8 @@ impl<R: Clock> Gate for HoldSecond<'_, R> {
     }
 }
 
-// Two executors and two partitions at once: all calls by one thread, or under one lock, are late here. A gate that
-// isn't called before a second step counts no step.
+// Two executors and two partitions at once: all calls by one thread, or under one lock, are late
+// here. A gate that isn't called before a second step counts no step.
 #[test]
 fn a_partition_goes_on_while_a_second_step_is_held(rt: HostRuntime) -> Result<(), Fail> {
     let alloc = rt.alloc();
@@ -178,8 +179,8 @@ impl<R: Clock> Gate for HoldEnds<'_, R> {
     }
 }
 
-// Each call is in another partition than the one before. Where the gate is told of an end before the reply is in the
-// slot, the client asks nothing more while the end is held.
+// Each call is in another partition than the one before. Where the gate is told of an end before
+// the reply is in the slot, the client asks nothing more while the end is held.
 #[test]
 fn an_end_is_told_once_the_reply_can_be_taken(rt: HostRuntime) -> Result<(), Fail> {
     let alloc = rt.alloc();

@@ -4,11 +4,11 @@ use super::events::{Event, left};
 use super::sites::{module, spend_parcels};
 use std::alloc::{AllocError, Global};
 use std::test::Fail;
-use tatp_move::close_sites;
+use tatp_partition::close_sites;
 use tatp_settle::{Closed, NotGathered, gather};
 
-/// The text of why nothing is gathered, how many sites came back, how many parcels, and the extent of the
-/// first parcel. None where all was gathered.
+/// The text of why nothing is gathered, how many sites came back, how many parcels, and the extent
+/// of the first parcel. None where all was gathered.
 fn refused(
     alloc: Global,
     gathered: Result<Closed, NotGathered<'_>>,
@@ -34,8 +34,8 @@ fn refused(
     }
 }
 
-/// The same of what a run at the sites of these partitions leaves. None also where one of its events did not
-/// happen.
+/// The same of what a run at the sites of these partitions leaves. None also where one of its
+/// events did not happen.
 fn refused_of(
     alloc: Global,
     partitions: &[u8],

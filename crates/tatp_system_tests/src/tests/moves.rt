@@ -19,7 +19,8 @@ fn moved(site: &mut Site<'_>, e: u32, times: u32) -> u32 {
     times
 }
 
-/// Why a parcel comes back from a site, its number and its moves; whether the other site has it again.
+/// Why a parcel comes back from a site, its number and its moves; whether the other site has it
+/// again.
 fn given_back(
     from: &mut Site<'_>,
     to: &mut Site<'_>,

@@ -11,7 +11,7 @@ use std::process::Abort;
 use std::test::Fail;
 use std::thread::Threads;
 use tatp_audits::{Verdict, audit};
-use tatp_move::close_sites;
+use tatp_partition::close_sites;
 use tatp_procs::Ask;
 use tatp_settle::{Closed, NotGathered, NotSettled, Receipt, Settled, gather, settle};
 use tatp_tables::Rows;
@@ -47,8 +47,8 @@ fn told<R: Threads + Sync>(
     }
 }
 
-/// What a run at the sites of these partitions leaves, gathered. None where one of its events did not happen, or
-/// an extent is missing.
+/// What a run at the sites of these partitions leaves, gathered. None where one of its events did
+/// not happen, or an extent is missing.
 fn closed(
     alloc: Global,
     partitions: &[u8],
@@ -74,7 +74,8 @@ fn closed(
     }
 }
 
-/// What is told of a run from these rows. None where nothing is gathered of it, or the rows aren't clean.
+/// What is told of a run from these rows. None where nothing is gathered of it, or the rows aren't
+/// clean.
 fn told_of<R: Threads + Sync>(
     rt: &R,
     alloc: Global,
@@ -387,7 +388,8 @@ static SETTLED: (&[Event], &[&[u64]], &[&[Got]]) = (
     ],
 );
 
-/// What a settled run counts: three calls that read nothing and one refused, of one kind, and three moves.
+/// What a settled run counts: three calls that read nothing and one refused, of one kind, and three
+/// moves.
 fn expect_counts(rt: &impl Abort, settled: &Settled) {
     assert_eq!(rt;
         (settled.completed(), settled.refused(), settled.moves()),

@@ -3,8 +3,10 @@
 use super::rows::clean_rows;
 use std::alloc::{AllocError, Global};
 use tatp_loader::Loaded;
-use tatp_move::opened_extents_are_numbered;
-use tatp_partition::{Completion, Item, NotGiven, Offer, Parcel, Site, SiteRefusal, Stepped};
+use tatp_partition::{
+    Completion, Item, NotGiven, Offer, Parcel, Site, SiteRefusal, Stepped,
+    opened_extents_are_numbered,
+};
 use tatp_population::{discard, open};
 use tatp_procs::standard;
 

@@ -1,5 +1,5 @@
-//! What a run of threads leaves: sites that were stopped, extents that were moved, and what is copied out of locked
-//! sites.
+//! What a run of threads leaves: sites that were stopped, extents that were moved, and what is
+//! copied out of locked sites.
 ghost use Rattle.std.specs.Prelude.{◌≡◌, ◌≤◌, length, vec_len};
 
 use super::rows::clean_rows;
@@ -150,7 +150,8 @@ pub fn receipts_of_run<R: Threads + Wait + Sync, G: Gate + Sync>(
     Ok(counts)
 }
 
-/// Whether the receipt is that of the first call, which changed a row of extent 1 and puts nothing out.
+/// Whether the receipt is that of the first call, which changed a row of extent 1 and puts nothing
+/// out.
 fn is_first(receipt: &Receipt) -> bool {
     match *receipt {
         Receipt::Done {

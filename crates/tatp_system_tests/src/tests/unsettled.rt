@@ -11,8 +11,8 @@ use tatp_bench::{BenchFault, settle_run};
 use tatp_settle::Settled;
 use tatp_threads::RanParts;
 
-/// What is told of a run at one site, in which the first client asked one subscriber and got nothing. None
-/// where one of its events did not happen.
+/// What is told of a run at one site, in which the first client asked one subscriber and got
+/// nothing. None where one of its events did not happen.
 fn told_of<R: Threads + Sync>(
     rt: &R,
     alloc: Global,

@@ -1,6 +1,7 @@
 //! The changes of a home: a column set, a Call_Forwarding row inserted, one deleted.
 //!
-//! Each is undone by another: `put` of the value before, `delete_cf` of the key, `insert_cf` of the row.
+//! Each is undone by another: `put` of the value before, `delete_cf` of the key, `insert_cf` of the
+//! row.
 ghost use Rattle.std.specs.Prelude.{◌≡◌, ◌≤◌, IfOk, OnOk, OnErr, false};
 ghost use Rattle.tatp_tables.specs.Columns.{is_fixed, table_of};
 ghost use Rattle.tatp_tables.specs.Changes.{put_answer, put_tables, insert_answer, insert_tables, delete_answer, delete_tables, forwarding_key};
@@ -19,7 +20,8 @@ impl Home {
         ensures answer { result ≡ put_answer self.old.tables column key value }
         ensures tables { self.new.tables ≡ put_tables self.old.tables column key value }
         ensures same { self.new.s_id ≡ self.old.s_id }
-        ensures back { IfOk result (λ before. put_tables self.new.tables column key before ≡ self.old.tables) }
+        ensures back { IfOk result
+            (λ before. put_tables self.new.tables column key before ≡ self.old.tables) }
         ensures err { OnErr result (self.new ≡ self.old) }
     {
         match Table::of_column(column) {
@@ -37,7 +39,8 @@ impl Home {
         ensures answer { result ≡ put_answer self.old.tables column key value }
         ensures tables { self.new.tables ≡ put_tables self.old.tables column key value }
         ensures same { self.new.s_id ≡ self.old.s_id }
-        ensures back { IfOk result (λ before. put_tables self.new.tables column key before ≡ self.old.tables) }
+        ensures back { IfOk result
+            (λ before. put_tables self.new.tables column key before ≡ self.old.tables) }
     {
         if key[0] != self.s_id {
             return Err(Refusal::NoCurrent);
@@ -53,7 +56,8 @@ impl Home {
         ensures answer { result ≡ put_answer self.old.tables column key value }
         ensures tables { self.new.tables ≡ put_tables self.old.tables column key value }
         ensures same { self.new.s_id ≡ self.old.s_id }
-        ensures back { IfOk result (λ before. put_tables self.new.tables column key before ≡ self.old.tables) }
+        ensures back { IfOk result
+            (λ before. put_tables self.new.tables column key before ≡ self.old.tables) }
     {
         let Some(place) = self.place_of_type(key[0], key[1]) else {
             return Err(Refusal::NoCurrent);
@@ -70,7 +74,8 @@ impl Home {
         ensures answer { result ≡ put_answer self.old.tables column key value }
         ensures tables { self.new.tables ≡ put_tables self.old.tables column key value }
         ensures same { self.new.s_id ≡ self.old.s_id }
-        ensures back { IfOk result (λ before. put_tables self.new.tables column key before ≡ self.old.tables) }
+        ensures back { IfOk result
+            (λ before. put_tables self.new.tables column key before ≡ self.old.tables) }
     {
         let Some(place) = self.place_of_type(key[0], key[1]) else {
             return Err(Refusal::NoCurrent);
@@ -87,7 +92,8 @@ impl Home {
         ensures answer { result ≡ put_answer self.old.tables column key value }
         ensures tables { self.new.tables ≡ put_tables self.old.tables column key value }
         ensures same { self.new.s_id ≡ self.old.s_id }
-        ensures back { IfOk result (λ before. put_tables self.new.tables column key before ≡ self.old.tables) }
+        ensures back { IfOk result
+            (λ before. put_tables self.new.tables column key before ≡ self.old.tables) }
     {
         let Some(place) = self.place_of_forwarding(key) else {
             return Err(Refusal::NoCurrent);
@@ -104,7 +110,8 @@ impl Home {
         ensures answer { result ≡ insert_answer self.old.tables row }
         ensures tables { self.new.tables ≡ insert_tables self.old.tables row }
         ensures same { self.new.s_id ≡ self.old.s_id }
-        ensures back { OnOk result (delete_tables self.new.tables (forwarding_key row) ≡ self.old.tables) }
+        ensures back { OnOk result
+            (delete_tables self.new.tables (forwarding_key row) ≡ self.old.tables) }
         ensures err { OnErr result (self.new ≡ self.old) }
     {
         let Some(place) = place_of_row(&row) else {

@@ -10,8 +10,8 @@ use std::alloc::AllocError;
 use std::slice;
 
 impl Home {
-    /// Appends its rows to the lists of their tables, each table by key. An error leaves the lists as
-    /// they were.
+    /// Appends its rows to the lists of their tables, each table by key. An error leaves the lists
+    /// as they were.
     pub fn add_rows(&self, rows: &mut Rows) -> Result<(), AllocError>
         ensures ok { OnOk result (rows.new ≡ with_home rows.old self.now.tables) }
         ensures err { OnErr result (rows.new ≡ rows.old) }
@@ -28,8 +28,8 @@ impl Home {
         result
     }
 
-    /// Appends its rows, table after table. An error leaves some of them appended, and the last table
-    /// as it was.
+    /// Appends its rows, table after table. An error leaves some of them appended, and the last
+    /// table as it was.
     fn append_to(&self, rows: &mut Rows) -> Result<(), AllocError>
         ensures ok { OnOk result (rows.new ≡ with_home rows.old self.now.tables) }
         ensures err { OnErr result (StartWith rows.old rows.new) }

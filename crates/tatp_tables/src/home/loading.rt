@@ -2,12 +2,10 @@
 //!
 //! The tables are read one after another, each in one pass, and each row goes into its own home.
 ghost use Rattle.std.specs.Prelude.{◌≡◌, ℕ, ◌+◌, ◌^◌, ◌<◌, ◌≤◌, ◌∷◌, [], IfSome, IfNone, IfOk, None, true, map, length, take};
-ghost use Rattle.tatp_tables.specs.Tuples.{insert_row};
 ghost use Rattle.tatp_tables.specs.Keys.{has_key, row_at};
 ghost use Rattle.tatp_tables.specs.Domains.{is_row};
-ghost use Rattle.tatp_tables.specs.Columns.{key_length};
-ghost use Rattle.tatp_tables.specs.Database.{no_tables, database_of, in_table};
-ghost use Rattle.tatp_tables.specs.Home.{home_in, home_with, HasParent};
+ghost use Rattle.tatp_tables.specs.Database.{no_tables, database_of, current_row};
+ghost use Rattle.tatp_tables.specs.Home.{home_in, home_with_row, HasParent};
 ghost use Rattle.tatp_tables.specs.Clean.{IsClean};
 ghost use Rattle.tatp_tables.specs.Loading.{read_until, read_with, homes_in, lists_in};
 
@@ -48,9 +46,9 @@ impl Home {
     fn hold(&mut self, table: Table, row: &[u64])
         requires row { is_row table row.now ≡ true }
         requires own { has_key (self.old.s_id ∷ []) row.now ≡ true }
-        requires free { row_at (in_table table self.old.tables) (take (key_length table) row.now) ≡ None }
+        requires free { current_row table self.old.tables row.now ≡ None }
         requires parent { HasParent table self.old.tables row.now }
-        ensures { self.new ≡ home_with self.old table (insert_row (in_table table self.old.tables) row.now) }
+        ensures { self.new ≡ home_with_row self.old table row.now }
     {
         match table {
             Table::Subscriber => self.hold_subscriber(columns(row)),
@@ -64,7 +62,7 @@ impl Home {
         requires row { is_row Table.Subscriber row.now ≡ true }
         requires own { has_key (self.old.s_id ∷ []) row.now ≡ true }
         requires free { row_at self.old.tables.subscribers (take 1 row.now) ≡ None }
-        ensures { self.new ≡ home_with self.old Table.Subscriber (insert_row self.old.tables.subscribers row.now) }
+        ensures { self.new ≡ home_with_row self.old Table.Subscriber row.now }
     {
         self.subscriber = Some(*row);
     }
@@ -74,7 +72,7 @@ impl Home {
         requires own { has_key (self.old.s_id ∷ []) row.now ≡ true }
         requires free { row_at self.old.tables.accesses (take 2 row.now) ≡ None }
         requires parent { HasParent Table.AccessInfo self.old.tables row.now }
-        ensures { self.new ≡ home_with self.old Table.AccessInfo (insert_row self.old.tables.accesses row.now) }
+        ensures { self.new ≡ home_with_row self.old Table.AccessInfo row.now }
     {
         if let Some(place) = type_place(row[1]) {
             self.accesses[place] = Some(*row);
@@ -86,7 +84,7 @@ impl Home {
         requires own { has_key (self.old.s_id ∷ []) row.now ≡ true }
         requires free { row_at self.old.tables.facilities (take 2 row.now) ≡ None }
         requires parent { HasParent Table.SpecialFacility self.old.tables row.now }
-        ensures { self.new ≡ home_with self.old Table.SpecialFacility (insert_row self.old.tables.facilities row.now) }
+        ensures { self.new ≡ home_with_row self.old Table.SpecialFacility row.now }
     {
         if let Some(place) = type_place(row[1]) {
             self.facilities[place] = Some(*row);
@@ -98,7 +96,7 @@ impl Home {
         requires own { has_key (self.old.s_id ∷ []) row.now ≡ true }
         requires free { row_at self.old.tables.forwardings (take 3 row.now) ≡ None }
         requires parent { HasParent Table.CallForwarding self.old.tables row.now }
-        ensures { self.new ≡ home_with self.old Table.CallForwarding (insert_row self.old.tables.forwardings row.now) }
+        ensures { self.new ≡ home_with_row self.old Table.CallForwarding row.now }
     {
         if self.insert_cf(*row).is_err() {
             unreachable!();
@@ -120,7 +118,8 @@ fn columns<const N: usize>(row: &[u64]) -> &[u64; N]
 /// The homes of the subscribers 1 to N of clean rows, in this order.
 pub fn homes(alloc: Global, rows: &Rows) -> Result<Vec<Home>, AllocError>
     requires { IsClean rows.now }
-    ensures { IfOk result (λ homes. homes.items ≡ homes_in (database_of rows.now) 1 (length rows.now.subscribers)) }
+    ensures { IfOk result (λ homes. homes.items
+        ≡ homes_in (database_of rows.now) 1 (length rows.now.subscribers)) }
 {
     let all = rows.subscribers.len().max(1);
     match homes_in_lists(alloc, rows, all)?.pop() {
@@ -129,12 +128,13 @@ pub fn homes(alloc: Global, rows: &Rows) -> Result<Vec<Home>, AllocError>
     }
 }
 
-/// The homes of the subscribers 1 to N of clean rows, in this order, in lists of `size`. The last list may
-/// be shorter, and none is empty.
+/// The homes of the subscribers 1 to N of clean rows, in this order, in lists of `size`. The last
+/// list may be shorter, and none is empty.
 pub fn homes_in_lists(alloc: Global, rows: &Rows, size: usize) -> Result<Vec<Vec<Home>>, AllocError>
     requires clean { IsClean rows.now }
     requires size { 1 ≤ size }
-    ensures { IfOk result (λ lists. map (λ list. list.items) lists.items ≡ lists_in (database_of rows.now) size (length rows.now.subscribers)) }
+    ensures { IfOk result (λ lists. map (λ list. list.items) lists.items
+        ≡ lists_in (database_of rows.now) size (length rows.now.subscribers)) }
 {
     let mut lists = empty_lists(alloc, rows.subscribers.len(), size)?;
     load(lists.as_mut_slice(), size, rows, Table::Subscriber);
@@ -147,7 +147,8 @@ pub fn homes_in_lists(alloc: Global, rows: &Rows, size: usize) -> Result<Vec<Vec
 /// Homes without rows, of the s_ids 1 to `count`, in lists of `size`.
 fn empty_lists(alloc: Global, count: usize, size: usize) -> Result<Vec<Vec<Home>>, AllocError>
     requires { 1 ≤ size }
-    ensures { IfOk result (λ lists. map (λ list. list.items) lists.items ≡ lists_in no_tables size count) }
+    ensures { IfOk result (λ lists. map (λ list. list.items) lists.items
+        ≡ lists_in no_tables size count) }
 {
     let mut lists = Vec::with_capacity(alloc, count.div_ceil(size))?;
     for list in 0..count.div_ceil(size) {
@@ -173,8 +174,10 @@ fn empty_homes(alloc: Global, first: u64, count: usize) -> Result<Vec<Home>, All
 fn load(lists: &mut [Vec<Home>], size: usize, rows: &Rows, table: Table)
     requires clean { IsClean rows.now }
     requires size { 1 ≤ size }
-    requires before { map (λ list. list.items) lists.old ≡ lists_in (read_until table rows.now 0) size (length rows.now.subscribers) }
-    ensures { map (λ list. list.items) lists.new ≡ lists_in (read_with table rows.now) size (length rows.now.subscribers) }
+    requires before { map (λ list. list.items) lists.old
+        ≡ lists_in (read_until table rows.now 0) size (length rows.now.subscribers) }
+    ensures { map (λ list. list.items) lists.new
+        ≡ lists_in (read_with table rows.now) size (length rows.now.subscribers) }
 {
     let count = rows.subscribers.len();
     for i in 0..rows.count(table) {

@@ -3,7 +3,7 @@ use Rattle.std.proofs.lemmas.Result.{IfOk-weaker, IfErr-weaker}
 use Rattle.tatp_settle.specs.declared.settled.Settled.{Settled}
 use Rattle.tatp_settle.specs.Runs.{Run, joined, lists_of}
 use Rattle.tatp_threads.specs.Calls.{obstacle_among}
-use Rattle.tatp_threads.specs.declared.ran.RanParts.{RanParts}
+use Rattle.tatp_threads.specs.declared.outcome.RanParts.{RanParts}
 use Rattle.tatp_bench.specs.Benching.{IsRunOf, SettlesPlan, RefusesBench}
 use Rattle.tatp_bench.specs.SettledRuns.{run_left, SettlesRun, RefusesToSettleRun}
 use Rattle.tatp_bench.specs.Drawing.{rows_drawn, calls_drawn}

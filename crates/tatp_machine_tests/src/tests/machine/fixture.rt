@@ -123,7 +123,8 @@ fn has_values(home: &Home, values: &[(u8, [u64; 3], Option<u64>)]) -> bool {
 
 /// Whether the module's procedure 1 takes so many arguments.
 fn takes(loaded: &Loaded, count: usize) -> bool
-    ensures { IsTrue result → IsSomeAnd (slice_get loaded.now 1) (λ (p : Procedure). p.arity ≡ count) }
+    ensures { IsTrue result
+        → IsSomeAnd (slice_get loaded.now 1) (λ (p : Procedure). p.arity ≡ count) }
 {
     let procs = loaded.module().procs();
     procs.len() > 1 && procs[1].arity() as usize == count

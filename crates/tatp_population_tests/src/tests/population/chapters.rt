@@ -16,7 +16,8 @@ fn refused(handed_out: Result<Chapter, CheckpointError>) -> Option<CheckpointErr
     }
 }
 
-/// The extent, the index, how many homes were before, how many calls there were, and how many homes after.
+/// The extent, the index, how many homes were before, how many calls there were, and how many homes
+/// after.
 fn shape(handed_out: Result<Chapter, CheckpointError>) -> Option<(u32, u16, usize, usize, usize)> {
     match handed_out {
         Ok(chapter) => {
@@ -34,7 +35,8 @@ fn shape(handed_out: Result<Chapter, CheckpointError>) -> Option<(u32, u16, usiz
     }
 }
 
-/// How many chapters came before the first that was refused, and why that was, of 65,536 checkpoints.
+/// How many chapters came before the first that was refused, and why that was, of 65,536
+/// checkpoints.
 fn chapters_without_homes(
     homeless: &mut Homeless,
     alloc: Global,
@@ -77,7 +79,8 @@ fn calls_without_a_home_have_65535_chapters(rt: HostRuntime) -> Result<(), Fail>
     Ok(())
 }
 
-/// The chapters, the homes at the last checkpoint and now, the length of the log and the last stamp.
+/// The chapters, the homes at the last checkpoint and now, the length of the log and the last
+/// stamp.
 fn state(extent: &Extent) -> (u16, usize, usize, u64, u64) {
     (
         extent.chapters(),

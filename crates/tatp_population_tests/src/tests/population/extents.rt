@@ -22,7 +22,8 @@ pub fn clean_rows(alloc: Global, count: u64) -> Result<Rows, AllocError> {
     Ok(rows)
 }
 
-/// The number, the first subscriber and how many subscribers the last extent has, and how many extents there are.
+/// The number of the last extent, its first subscriber, how many subscribers it has, and how many
+/// extents there are.
 fn last_shape(extents: &[Extent]) -> Option<(u32, u64, usize, usize)> {
     let last = extents.last()?;
     let first = last.homes().first()?;
@@ -70,8 +71,8 @@ fn is_just_opened(extent: &Extent) -> bool {
         && extent.home(u64::MAX).is_none()
 }
 
-/// The extent after calls on the home of a subscriber: one that is set back, and one that is no standard
-/// transaction. None where the subscriber doesn't lie in it, or memory ran out.
+/// The extent after calls on the home of a subscriber: one that is set back, and one that is no
+/// standard transaction. None where the subscriber doesn't lie in it, or memory ran out.
 fn after_two_calls(alloc: Global, extent: Extent, s_id: u64) -> Option<Extent> {
     if extent.home(s_id).is_none() {
         let _ = extent.close();
@@ -112,7 +113,7 @@ fn an_extent_and_calls_on_it(rt: HostRuntime) -> Result<(), Fail> {
 #[test]
 fn calls_without_a_home(rt: HostRuntime) -> Result<(), Fail> {
     let mut homeless = Homeless::new(rt.alloc());
-    homeless.reserve(rt.alloc())?;
+    homeless.reserve()?;
     assert!(rt; !homeless.mixed() && homeless.log().is_empty() && homeless.last_stamp() == 0);
     homeless.end_mixed();
     assert!(rt; homeless.mixed());

@@ -44,7 +44,8 @@ C 1 2 8 12 000000000000003
 
 /// What the words 5, 12, 19 and so on draw.
 const UP_BY_SEVEN: &str = "\
-S 1 000000000000001 1 0 1 0 1 0 1 0 1 0 11 2 9 0 7 14 5 12 3 10 145 152 159 166 173 180 187 194 201 208 216 223
+S 1 000000000000001 1 0 1 0 1 0 1 0 1 0 11 2 9 0 7 14 5 12 3 10 \
+145 152 159 166 173 180 187 194 201 208 216 223
 A 1 1 243 250 XEL SZGNU
 A 1 3 64 71 WDK RYFMT
 F 1 2 1 155 162 JQXEL
@@ -75,7 +76,10 @@ impl Steps {
 }
 
 impl NextWord<u64> for Steps {
-    ghost step = { λ s. (s.next, record s { next = (s.next + s.step) % 2 ^ 64; taken = (s.taken + 1) % 2 ^ 64 }) };
+    ghost step = { λ s. (
+      s.next,
+      record s { next = (s.next + s.step) % 2 ^ 64; taken = (s.taken + 1) % 2 ^ 64 },
+    ) };
 
     fn next_word(&mut self) -> u64 {
         let word = self.next;
@@ -86,7 +90,10 @@ impl NextWord<u64> for Steps {
 }
 
 impl Rng for Steps {
-    ghost stream = { stream_of (steps_u64_low (λ s. (s.next, record s { next = (s.next + s.step) % 2 ^ 64; taken = (s.taken + 1) % 2 ^ 64 }))) };
+    ghost stream = { stream_of (steps_u64_low (λ s. (
+      s.next,
+      record s { next = (s.next + s.step) % 2 ^ 64; taken = (s.taken + 1) % 2 ^ 64 },
+    ))) };
 
     fn next_u32(&mut self) -> u32 {
         (self.next_word() % (1 << 32)) as u32

@@ -1,33 +1,26 @@
-use Rattle.std.proofs.Common.{arith}
-use borrow.Author.Count.{below_more}
-use Rattle.tatp_settle.specs.Closings.{closed_of, IsMissing}
+use Rattle.std.proofs.Common.{◌≡◌, ℕ, rules, tests}
+use Rattle.std.proofs.lemmas.Iterator.{first_from_Range, serves_from_Range}
+use Rattle.tatp_settle.specs.CallPlaces.{IsFirstNumber}
+use Rattle.tatp_settle.specs.Closings.{closed_of, times_standing, IsMissing}
 use Rattle.tatp_settle.proofs.ClosingLaws.{are_closed_sites}
-use Rattle.tatp_settle.proofs.StandingLaws.{stands_gathered}
+use Rattle.tatp_settle.proofs.MissingLaws.{missing_first, missing_some, missing_none}
 use Rattle.tatp_settle.proofs.gathering.least_missing.Goals as goal
 
-pub returns-then-not-stands-clause-missing : goal.returns-then-not-stands-clause-missing
-returns-then-not-stands-clause-missing c =
-    let greatest = c.greatest_number-greatest.ensures.value c.args.parcels.now in
-    record {
-      missing = record {
-        within = omega (arith, greatest);
-        nowhere = (stands_gathered c.args.sites.now c.args.parcels.now c.numbers.number c.stands.result c.what_holds_of_these_sites.ensures c.stands.ensures).1 c.if-not-stands.true;
-      };
-      least = c.numbers.invariant;
-    }
+pub find-requires : goal.find-requires
+find-requires c = record { can = tt; finite = tt; callable = serves_from_Range (λ x q k. search (rules, tests)) (λ x low high. search rules) }
 
-pub numbers-preserved : goal.numbers-preserved
-numbers-preserved c = below_more (λ e. IsMissing (closed_of c.args.sites.now c.args.parcels.now) e → ⊥) c.numbers.number c.numbers.invariant
-    (λ missing. (stands_gathered c.args.sites.now c.args.parcels.now c.numbers.number c.stands.result c.what_holds_of_these_sites.ensures c.stands.ensures).0 c.if-not-stands.false missing.nowhere)
-
-pub returns-clause-none : goal.returns-clause-none
-returns-clause-none c = λ e missing.
-    let greatest = c.greatest_number-greatest.ensures.value c.args.parcels.now in
-    let within = missing.within in
-    c.numbers.invariant e (omega (arith, greatest, within)) missing
+-- the first that is missing
+first : (c : goal.After-find) → IsFirstNumber (IsMissing (closed_of c.args.sites.now c.args.parcels.now)) c.find.result
+first c =
+    let P : ℕ → Type 0 = λ (e : ℕ). times_standing (closed_of c.args.sites.now c.args.parcels.now) e ≡ 0 in
+    missing_first (closed_of c.args.sites.now c.args.parcels.now) c.greatest_number-greatest.result c.find.result (c.greatest_number-greatest.ensures c.args.parcels.now)
+    (first_from_Range _ _ _ _ P (λ e. P e → ⊥) c.find.ensures.ran (λ x q k. search (rules, tests)) (λ x q k. (search rules, search (rules, tests))))
 
 pub returns-clause-sound : goal.returns-clause-sound
 returns-clause-sound c = are_closed_sites c.args.sites.now c.what_holds_of_these_sites.ensures
 
-pub returns-then-not-stands-clause-sound : goal.returns-then-not-stands-clause-sound
-returns-then-not-stands-clause-sound c = are_closed_sites c.args.sites.now c.what_holds_of_these_sites.ensures
+pub returns-clause-missing : goal.returns-clause-missing
+returns-clause-missing c = missing_some _ _ (first c)
+
+pub returns-clause-none : goal.returns-clause-none
+returns-clause-none c = missing_none _ _ (first c)

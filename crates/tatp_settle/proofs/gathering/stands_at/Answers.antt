@@ -1,5 +1,6 @@
-use Rattle.std.proofs.Common.{◌≤◌, ◌∙◌, ap, arith}
+use Rattle.std.proofs.Common.{ℕ, ◌≤◌, ◌∙◌, ap, arith}
 use Rattle.std.specs.Option.{is_some}
+use Rattle.tatp_partition.specs.Sites.{home_here}
 use Rattle.tatp_settle.proofs.HereLaws.{first_home, copied_some}
 use Rattle.tatp_settle.proofs.gathering.stands_at.Goals as goal
 
@@ -9,4 +10,4 @@ returns-else-number-eq0 c =
     c.is_some.ensures
     ∙ (copied_some c.home.result
     ∙ (ap is_some c.home.ensures
-    ∙ first_home c.homes_stand_in_their_places.ensures.some c.args.site.now c.args.number c.what_holds_of_every_site.ensures least))
+    ∙ (ap (λ (s : ℕ). is_some (home_here c.args.site.now s)) c.first_subscriber.ensures ∙ first_home c.args.site.now c.args.number c.what_holds_of_every_site.ensures least)))

@@ -28,9 +28,9 @@ const ACCEPTED: &str = "\
 /// AAA and of ZZZ; aaa; A, AA, ZZ, AA before and A A round a zero byte; AAAA, ZZZZ, AAA before and
 /// after a zero byte, AAA with a bit above it; AAAAA, ZZZZZ.
 ///
-/// Of five letters: 0, 1, the most; '@' for each letter of AAAAA and of ZZZZZ; '[' for each letter of
-/// AAAAA and of ZZZZZ; A, AA, AAA, AAAA; six, seven and eight times A, ZZZZZZ, AAAAA before and after
-/// a zero byte, AAAAA with a bit above it.
+/// Of five letters: 0, 1, the most; '@' for each letter of AAAAA and of ZZZZZ; '[' for each letter
+/// of AAAAA and of ZZZZZ; A, AA, AAA, AAAA; six, seven and eight times A, ZZZZZZ, AAAAA before and
+/// after a zero byte, AAAAA with a bit above it.
 const REFUSED: &str = "\
 0 32 33 34 40 46: 0 4294967296 4294967297 18446744073709551615
 1 50: 1000000000000000 1000000000000001 18446744073709551615

@@ -24,9 +24,9 @@ fn one_subscriber(alloc: Global) -> Result<Rows, AllocError>
     Ok(rows)
 }
 
-/// Calls of subscriber 1's home, one after another, and their answers: of a find 1 or 0, of a read and
-/// of a column that is set the value or the value before, of an insert 0, of a delete the end time, or
-/// the number of the refusal.
+/// Calls of subscriber 1's home, one after another, and their answers: of a find 1 or 0, of a read
+/// and of a column that is set the value or the value before, of an insert 0, of a delete the end
+/// time, or the number of the refusal.
 const CALLS: &str = "\
 has_sub 0 = 0
 has_sub 1 = 1

@@ -1,6 +1,10 @@
-use Rattle.std.proofs.Common.{◌≡◌, ◌≤◌, None, length, sym, ◌∙◌, subst, rules}
+use Rattle.std.proofs.Common.{◌≡◌, ◌≤◌, List, None, length, sym, ◌∙◌, subst, rules}
 use Rattle.std.proofs.lemmas.Result.{IfErr-weaker}
 use Rattle.tatp_tables.specs.Database.{database_of}
+use Rattle.tatp_population.specs.Extents.{ExtentState}
+use Rattle.tatp_population.specs.Opening.{opened_extents}
+use Rattle.tatp_partition.specs.Opening.{AreNumbered}
+use Rattle.tatp_partition.proofs.NumberLaws.{opened_are_numbered}
 use Rattle.tatp_threads.specs.Calls.{AreOpened, RefusesRun, obstacle_among}
 use Rattle.tatp_threads.proofs.RefusalLaws.{opening_refused, call_refused, end_refused, few_extents}
 use Rattle.tatp_threads.proofs.run.run_calls.Goals as goal
@@ -15,10 +19,17 @@ returns-in-Some-clause-refusal g c =
     let opened : AreOpened c.args.rows = search rules in
     call_refused c.args.loaded.now c.args.rows c.args.lists.now c.in-Some.refusal opened (sym c.obstacle_among.ensures ∙ c.in-Some.is)
 
-pub run_ruled-requires-clause-few : goal.run_ruled-requires-clause-few
-run_ruled-requires-clause-few g c κs within =
+pub open_sites-requires-clause-few : goal.open_sites-requires-clause-few
+open_sites-requires-clause-few g c =
     let few : length c.args.rows.subscribers ≤ 1000000 = search rules in
     few_extents (database_of c.args.rows) (length c.args.rows.subscribers) c.in-Ok.opened.0.items (search rules) few
+
+pub open_sites-requires-clause-numbers : goal.open_sites-requires-clause-numbers
+open_sites-requires-clause-numbers g c =
+    let u = database_of c.args.rows in
+    let n = length c.args.rows.subscribers in
+    let is : c.in-Ok.opened.0.items ≡ opened_extents u n = search rules in
+    subst (λ (extents : List ExtentState). AreNumbered (length extents) extents) (sym is) (opened_are_numbered u n)
 
 pub returns-clause-refusal : goal.returns-clause-refusal
 returns-clause-refusal g c =

@@ -2,11 +2,11 @@ use Rattle.std.proofs.Common.{◌≡◌, ◌+◌, ◌≤◌, vec_len, vec_capaci
 use Rattle.std.specs.Vec.Iter.{into_iter_len}
 use Rattle.tatp_threads.proofs.run.unlock_all.Given as goal
 
-abbrev pub invariant-loop-site : goal.invariant-loop-site
-invariant-loop-site l = record {
-  count : vec_len l.unlocked + into_iter_len l.rest ≡ vec_len l.fn.room + vec_len l.fn.sites;
-  room : vec_len l.unlocked + into_iter_len l.rest ≤ vec_capacity l.unlocked;
+abbrev pub invariant-loop-partition : goal.invariant-loop-partition
+invariant-loop-partition l = record {
+  count : vec_len l.sites + into_iter_len l.rest ≡ vec_len l.fn.room + vec_len l.fn.partitions;
+  room : vec_len l.sites + into_iter_len l.rest ≤ vec_capacity l.sites;
 }
 
-abbrev pub decreases-loop-site : goal.decreases-loop-site
-decreases-loop-site l = into_iter_len l.rest
+abbrev pub decreases-loop-partition : goal.decreases-loop-partition
+decreases-loop-partition l = into_iter_len l.rest

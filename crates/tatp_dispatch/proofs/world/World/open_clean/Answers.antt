@@ -7,7 +7,7 @@ use Rattle.tatp_population.specs.Opening.{extent_count, opened_extents}
 use Rattle.tatp_partition.specs.Opening.{AreNumbered}
 use Rattle.tatp_move.specs.Routing.{opened_routes}
 use Rattle.tatp_dispatch.specs.Counts.{one, total}
-use Rattle.tatp_move.specs.Dealing.{AreSitesOpened}
+use Rattle.tatp_partition.specs.Dealing.{AreSitesOpened}
 use Rattle.tatp_dispatch.specs.Opened.{new_client, IsOpened}
 use Rattle.tatp_dispatch.specs.Serving.{IsWorld}
 use Rattle.tatp_dispatch.specs.Worlds.{WorldState}
@@ -32,7 +32,7 @@ pub open_sites-requires-clause-numbers : goal.open_sites-requires-clause-numbers
 open_sites-requires-clause-numbers c = subst (λ (xs : List ExtentState). AreNumbered (length xs) xs) (sym c.in_ok-extents.ensures.extents) (opened_are_numbered (database_of c.args.rows) (length c.args.rows.subscribers))
 
 -- ---- the whole
-opens : (c : goal.After-empty) → Opens c.args.loaded.now c.args.rows c.args.partitions c.in_ok-extents.directory c.in-Ok-open_sites.sites.items
+opens : (c : goal.After-empty-2) → Opens c.args.loaded.now c.args.rows c.args.partitions c.in_ok-extents.directory c.in-Ok-open_sites.sites.items
 opens c = record {
   lawful = c.module-module.ensures.lawful;
   some = c.requires.some_partitions;
@@ -42,41 +42,41 @@ opens c = record {
   opened = subst (λ (xs : List ExtentState). AreSitesOpened c.args.loaded.now c.args.partitions xs c.in-Ok-open_sites.sites.items) c.in_ok-extents.ensures.extents c.in-Ok-open_sites.ensures;
 }
 
-abbrev shown_as : goal.After-empty → WorldState
+abbrev shown_as : goal.After-empty-2 → WorldState
 shown_as c = record {
   procedures = c.args.loaded.now;
   directory = c.in_ok-extents.directory;
   sites = c.in-Ok-open_sites.sites.items;
-  queues = c.in-Ok.dispatcher.queues.items;
-  routes = c.in-Ok.dispatcher.routes;
-  parcels = c.in-Ok-empty_hand.parcels;
+  queues = c.in_ok-front.front.queues.items;
+  routes = c.in_ok-front.front.routes;
+  parcels = c.in-Ok.parcels;
   landings = c.new.result.items;
-  clients = c.in-Ok.dispatcher.clients.items;
+  clients = c.in_ok-front.front.clients.items;
   completions = c.new-2.result.items;
 }
 
-none_held : (c : goal.After-empty) → c.in-Ok-empty_hand.parcels ≡ no_parcels (length c.args.rows.subscribers)
+none_held : (c : goal.After-empty-2) → c.in-Ok.parcels ≡ no_parcels (length c.args.rows.subscribers)
 none_held c =
     let same : c.len.result ≡ length c.in_ok-extents.extents.items = search rules in
-    c.in-Ok-empty_hand.ensures ∙ ap (λ (k : ℕ). replicate (k + 1) None) (same ∙ many c.args.rows c.in_ok-extents.extents.items c.in_ok-extents.ensures.extents)
+    c.in-Ok.ensures ∙ ap (λ (k : ℕ). replicate (k + 1) None) (same ∙ many c.args.rows c.in_ok-extents.extents.items c.in_ok-extents.ensures.extents)
 
-same : (c : goal.After-empty) → new_world c.args.loaded.now (length c.args.rows.subscribers) c.args.partitions c.args.clients c.in_ok-extents.directory c.in-Ok-open_sites.sites.items ≡ shown_as c
+same : (c : goal.After-empty-2) → new_world c.args.loaded.now (length c.args.rows.subscribers) c.args.partitions c.args.clients c.in_ok-extents.directory c.in-Ok-open_sites.sites.items ≡ shown_as c
 same c =
     let n : c.len-subscribers.result ≡ length c.args.rows.subscribers = c.len-subscribers.ensures in
-    let routes = c.in-Ok.ensures.routes ∙ ap (λ (k : ℕ). opened_routes k c.args.partitions) n in
+    let routes = c.in_ok-front.ensures.routes ∙ ap (λ (k : ℕ). opened_routes k c.args.partitions) n in
     λ i. record {
       procedures = c.args.loaded.now;
       directory = c.in_ok-extents.directory;
       sites = c.in-Ok-open_sites.sites.items;
-      queues = sym c.in-Ok.ensures.queues i;
+      queues = sym c.in_ok-front.ensures.queues i;
       routes = sym routes i;
       parcels = sym (none_held c) i;
       landings = sym c.new.ensures.items i;
-      clients = sym c.in-Ok.ensures.clients i;
+      clients = sym c.in_ok-front.ensures.clients i;
       completions = sym c.new-2.ensures.items i;
     }
 
-world : (c : goal.After-empty) → IsWorld (shown_as c)
+world : (c : goal.After-empty-2) → IsWorld (shown_as c)
 world c = subst IsWorld (same c) (is_world c.args.loaded.now c.args.rows c.args.partitions c.args.clients c.in_ok-extents.directory c.in-Ok-open_sites.sites.items (opens c))
 
 pub invariant_of-result : goal.invariant_of-result
@@ -85,9 +85,9 @@ invariant_of-result c = record {
   room = record {
     completions = omega (arith, c.new-2.ensures.len, none_to_end c.args.loaded.now c.args.partitions (opened_extents (database_of c.args.rows) (length c.args.rows.subscribers)) c.in-Ok-open_sites.sites.items (opens c).opened);
     landings = let none = ap (λ (t : List (Option ExtentState)). total (λ x. one x) t) (none_held c) ∙ none_under_way (length c.args.rows.subscribers) in omega (arith, c.new.ensures.len, none);
-    clients = let count = ap length c.in-Ok.ensures.clients ∙ length-replicate c.args.clients new_client in omega (arith, count, c.requires.few_clients);
+    clients = let count = ap length c.in_ok-front.ensures.clients ∙ length-replicate c.args.clients new_client in omega (arith, count, c.requires.few_clients);
   };
-  empty = c.empty.ensures;
+  empty = c.empty-2.ensures;
 }
 
 pub returns-clause-opened : goal.returns-clause-opened

@@ -2,7 +2,8 @@ use Rattle.std.proofs.Common.{ℕ, List, rules, arith, ◌≡◌, ◌+◌, ◌�
 use Rattle.std.specs.List.{range_with_len}
 use Rattle.tatp_population.specs.Opening.{extent_count}
 use Rattle.tatp_move.specs.declared.route.Route.{Route}
-use Rattle.tatp_move.proofs.RouteLaws.{opening_route, one_more, count_of_routes}
+use Rattle.tatp_move.specs.Routing.{opening_route}
+use Rattle.tatp_move.proofs.RouteLaws.{one_more, count_of_routes}
 use Rattle.tatp_move.proofs.route.Routes.open.Goals as goal
 
 pub loop-e-init : goal.loop-e-init

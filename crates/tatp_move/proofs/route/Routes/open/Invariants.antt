@@ -1,6 +1,6 @@
 use Rattle.std.proofs.Common.{◌≡◌, ◌≤◌, map, vec_capacity}
 use Rattle.std.specs.List.{range_with_len}
-use Rattle.tatp_move.proofs.RouteLaws.{opening_route}
+use Rattle.tatp_move.specs.Routing.{opening_route}
 use Rattle.tatp_move.proofs.route.Routes.open.Given as goal
 
 abbrev pub invariant-loop-e : goal.invariant-loop-e

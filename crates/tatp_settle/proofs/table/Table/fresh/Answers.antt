@@ -10,11 +10,11 @@ use Rattle.tatp_settle.proofs.table.Table.fresh.Goals as goal
 pub lists-preserved : goal.lists-preserved
 lists-preserved g c =
     ap (λ (t : List (Vec (Option LogPlace) Global)). lists_of t) c.in_ok-push.ensures.items
-    ∙ fresh_more c.args.lists.now c.lists.rows.items c.lists.i c.index-lists-i.result c.in_ok-fresh_row.field-0
-    (got_within c.args.lists.now c.lists.i c.index-lists-i.result c.lists-test.true c.index-lists-i.is)
-    (c.in_ok-fresh_row.ensures ∙ ap (λ n. replicate n None) (c.len.ensures ∙ c.index-lists-i.result.ok.0)) c.lists.invariant
+    ∙ fresh_more c.args.lists.now c.lists.rows.items c.lists.list-index c.list-item.result c.in_ok-fresh_row.field-0
+    (got_within c.args.lists.now c.lists.list-index c.list-item.result c.lists-test.true c.list-item.is)
+    (c.in_ok-fresh_row.ensures ∙ ap (λ n. replicate n None) (c.len.ensures ∙ c.list-item.result.ok.0)) c.lists.invariant
 
 pub returns-clause-fresh : goal.returns-clause-fresh
 returns-clause-fresh g c = subst (λ cells. IsFresh (at_call (lists_of c.args.lists.now)) (at_call cells))
-    (ap fresh_rows (sym (take_all c.lists.i (lists_of c.args.lists.now) (omega (arith, c.lists-test.false, length-map c.args.lists.now (λ v. v.items))))) ∙ sym c.lists.invariant)
+    (ap fresh_rows (sym (take_all c.lists.list-index (lists_of c.args.lists.now) (omega (arith, c.lists-test.false, length-map c.args.lists.now (λ v. v.items))))) ∙ sym c.lists.invariant)
     (fresh_are_fresh (lists_of c.args.lists.now))

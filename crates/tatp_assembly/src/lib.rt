@@ -1,0 +1,8 @@
+//! The commands `asm`, `dis` and `check`: modules from texts and bytes, and back.
+#![tactic(auto)]
+
+mod commands;
+mod fault;
+
+pub use commands::{run_asm, run_check, run_dis};
+pub use fault::AssemblyFault;

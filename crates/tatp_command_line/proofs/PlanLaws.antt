@@ -1,0 +1,14 @@
+-- Plans and setups that are equal part by part.
+use Rattle.std.proofs.Common.{◌≡◌, refl, ℕ}
+use Rattle.tatp_driver.specs.declared.distribution.Distribution.{Distribution}
+use Rattle.tatp_tasks.specs.declared.plan.BenchPlan.{BenchPlan}
+use Rattle.tatp_tasks.specs.declared.setup.Setup.{Setup}
+
+pub same_plan : (a b : BenchPlan)
+    → a.subscribers ≡ b.subscribers → a.partitions ≡ b.partitions → a.clients ≡ b.clients → a.calls ≡ b.calls
+    → a.seed ≡ b.seed → a.distribution ≡ b.distribution → a.moves ≡ b.moves → a.stops ≡ b.stops → a ≡ b
+same_plan a b subscribers partitions clients calls seed distribution moves stops =
+    rw (subscribers, partitions, clients, calls, seed, distribution, moves, stops) refl
+
+pub same_setup : (a b : Setup) → a.population ≡ b.population → a.partitions ≡ b.partitions → a.clients ≡ b.clients → a ≡ b
+same_setup a b population partitions clients = rw (population, partitions, clients) refl

@@ -1,0 +1,102 @@
+//! The commands of the command line, with their options.
+use crate::help::{ASM, AUDIT, BENCH, CALL, CHECK, DIS, PROGRAM, TRACE};
+use crate::options::{CALLS, CLIENTS, GEN, MOVES, PARTITIONS, SEED, STOPS, SUBSCRIBERS};
+use clap::{Arg, ArgAction, Command};
+use std::alloc::{AllocError, Global};
+
+/// A switch: it is given, or it isn't.
+fn switch<'a>(alloc: Global, name: &'a str, help: &'a str) -> Arg<'a> {
+    Arg::new(alloc, name)
+        .long(name)
+        .action(ArgAction::SetTrue)
+        .help(help)
+}
+
+/// A command over rows that the input brings, or that are drawn.
+fn over_rows<'a>(alloc: Global, name: &'a str, about: &'a str) -> Result<Command<'a>, AllocError> {
+    Command::new(alloc, name)
+        .about(about)
+        .arg(GEN.arg(alloc))?
+        .arg(SEED.arg(alloc))?
+        .arg(PARTITIONS.arg(alloc))
+}
+
+fn call<'a>(alloc: Global) -> Result<Command<'a>, AllocError> {
+    let command = over_rows(
+        alloc,
+        "call",
+        "Answer calls of the seven transactions, one reply a line",
+    )?;
+    Ok(command.after_help(CALL))
+}
+
+fn trace<'a>(alloc: Global) -> Result<Command<'a>, AllocError> {
+    let command = over_rows(
+        alloc,
+        "trace",
+        "Step, stop and look at the machines of partitions, and move ranges between them",
+    )?;
+    Ok(command.arg(CLIENTS.arg(alloc))?.after_help(TRACE))
+}
+
+/// The options of a run of the benchmark that tell of its database and its clients.
+fn bench<'a>(alloc: Global) -> Result<Command<'a>, AllocError> {
+    Command::new(alloc, "bench")
+        .about("Run clients, moves and stops as threads at once, and settle what they leave")
+        .after_help(BENCH)
+        .arg(SUBSCRIBERS.arg(alloc))?
+        .arg(PARTITIONS.arg(alloc))?
+        .arg(CLIENTS.arg(alloc))?
+        .arg(CALLS.arg(alloc))?
+        .arg(SEED.arg(alloc))
+}
+
+/// The same, with the options that tell what happens beside the calls.
+fn bench_with_moves<'a>(alloc: Global) -> Result<Command<'a>, AllocError> {
+    bench(alloc)?
+        .arg(switch(
+            alloc,
+            "uniform",
+            "Call all subscribers about as often; without it some are called far oftener",
+        ))?
+        .arg(MOVES.arg(alloc))?
+        .arg(STOPS.arg(alloc))?
+        .arg(switch(
+            alloc,
+            "progress",
+            "Tell on standard error how the run goes on",
+        ))
+}
+
+/// A command without options.
+fn plain<'a>(alloc: Global, name: &'a str, about: &'a str, more: &'a str) -> Command<'a> {
+    Command::new(alloc, name).about(about).after_help(more)
+}
+
+/// The program's command line.
+pub(crate) fn command<'a>(alloc: Global) -> Result<Command<'a>, AllocError> {
+    Command::new(alloc, "tatp")
+        .version("0.1.0")
+        .propagate_version(true)
+        .about("A verified database for the TATP benchmark")
+        .after_help(PROGRAM)
+        .arg_required_else_help(true)
+        .subcommand_required(true)
+        .subcommand(call(alloc)?)?
+        .subcommand(trace(alloc)?)?
+        .subcommand(plain(
+            alloc,
+            "asm",
+            "Assemble a text of procedures into a module",
+            ASM,
+        ))?
+        .subcommand(plain(alloc, "dis", "Print a module as assembly text", DIS))?
+        .subcommand(plain(alloc, "check", "Test whether a module may be run", CHECK))?
+        .subcommand(plain(
+            alloc,
+            "audit",
+            "Test whether rows are a clean population",
+            AUDIT,
+        ))?
+        .subcommand(bench_with_moves(alloc)?)
+}

@@ -1,0 +1,99 @@
+//! What the help of the program and of each command tells below its options.
+
+/// Of the program.
+pub(crate) const PROGRAM: &str = "\
+Each command reads standard input and writes standard output. It ends with status 0; with 1 where
+it stops, telling why on standard error; with 2 where it can't make out these words.
+
+Example: tatp call < examples/first-run.txt";
+
+/// Of `call`.
+pub(crate) const CALL: &str = "\
+The input is the rows of a population, a line with a dot, and the calls; a row or a call a line.
+The reply to a call is OK and the values, FAILED and why, or REFUSED and why. In how many partitions
+the rows are opened changes no byte of the replies.
+
+A completed call is kept to the end, in the log of its subscriber's extent and among all completed
+calls: about 720 bytes of memory, so 1.5 million calls a GiB, besides the rows. Nothing else grows.
+
+Examples:
+  tatp call < examples/first-run.txt
+  tatp call --gen 1000 --seed 7 < calls.txt";
+
+/// Of `trace`.
+pub(crate) const TRACE: &str = "\
+The input is the rows of a population, a line with a dot, and events; a row or an event a line.
+Partitions and clients count from 0. Extent E has the subscribers 64 (E - 1) + 1 to 64 E and opens
+in partition (E - 1) mod P.
+
+Calls:
+  submit C CALL           client C asks for a call, as the command call reads it    QUEUED P
+  raw C PROC KIND KEY ARG..
+                          or for a procedure, 0 to 6, on the subscriber that the
+                          key names, of kind id or number; at most 8 arguments      QUEUED P
+  begin P                 the first call that waits at P begins     BEGAN C, AWAY P, DENIED C
+  deny P                  memory for it is refused                                  DENIED C
+Steps:
+  step P                  one instruction of P's call                 MOVED, ENDED C REPLY
+  steps P K               K times step, 1 to 256
+  one P                   one instruction, stopped or not, at a breakpoint or not
+Debugging:
+  stop P, resume P        P's machine                                                     OK
+  break P PROC PC         a breakpoint, at most 8; clear P PROC PC takes it away          OK
+  look P                  P's call: position, registers, current rows, outputs
+  home P S                the rows of subscriber S, where they are at P
+  audit                   the verdict on the rows of all partitions
+Moves:
+  take P E                extent E leaves P, after so many moves                  PARCEL E M
+  give P E                it lands at P                                           LANDED E M
+  route E M               calls follow its landing             SET E P, SUPERSEDED E
+
+What can't be done is answered REFUSED, a number and a name; it changes nothing.
+
+Subscriber 129 moves while a call waits for it (tatp trace --gen 130 < examples/live-move.txt):
+  submit 0 UPDATE_LOCATION 000000000000129 7      QUEUED 0
+  take 0 3                                        PARCEL 3 1
+  begin 0                                         AWAY 0
+  give 1 3                                        LANDED 3 1
+  route 3 1                                       SET 3 1
+  begin 0                                         AWAY 1
+  begin 1                                         BEGAN 0
+  steps 1 6                                       MOVED, five times; ENDED 0 OK";
+
+/// Of `asm`.
+pub(crate) const ASM: &str = "\
+The module is tested as by check before it is written.
+
+Example: tatp asm < examples/procedures.txt > module.bin";
+
+/// Of `dis`.
+pub(crate) const DIS: &str = "\
+The text is one that asm turns into the same module.
+
+Example: tatp dis < module.bin";
+
+/// Of `check`.
+pub(crate) const CHECK: &str = "\
+Prints OK, how many procedures the module has, and how many instructions.
+
+Example: tatp check < module.bin";
+
+/// Of `audit`.
+pub(crate) const AUDIT: &str = "\
+The input is rows, one a line. Prints CLEAN and how many rows each table has, or the first audit
+that fails and its key; then the status is 1.
+
+Example: tatp audit < rows.txt";
+
+/// Of `bench`.
+pub(crate) const BENCH: &str = "\
+Nothing is read. Each partition has an executor, each client is a thread of its own, and two more
+threads move ranges of subscribers and stop machines. When all have ended, the logs, the replies
+that clients received and the rows are settled. Prints three lines: SETTLED, how many calls were
+completed and how many were refused memory; MIX and how many calls there were of each of the seven
+kinds; the verdict on the rows. A run that isn't one history of transactions is the fault 45.
+
+The first two lines depend on the clients, their calls, the subscribers, --uniform and the seed
+alone. With moves and stops, in 2 partitions and in 8:
+  tatp bench --subscribers 1000 --calls 5000 --moves 100 --stops 100
+  tatp bench --subscribers 1000 --calls 5000 --moves 100 --stops 100 --partitions 8 --progress";

@@ -1,0 +1,196 @@
+//! The options that take a number.
+ghost use Rattle.std.specs.Prelude.{◌≡◌, ◌==◌, ◌≤◌, SomeIff, OkIff, IfOk, slice_index};
+ghost use Rattle.std.specs.Option.{option_map};
+ghost use Rattle.std.specs.Str.Parse.{digits_value};
+ghost use Rattle.clap.specs.Matches.{found_of};
+ghost use Rattle.tatp_command_line.specs.Numbers.{IsNumberIn, asked_by, text_asked, HasNumber, number_asked};
+
+use clap::{Arg, ArgMatches};
+use std::alloc::Global;
+use std::fmt;
+
+/// An option that takes a number.
+#[derive(Clone, Copy, Debug, PartialEq, Eq)]
+pub(crate) struct NumberOption {
+    /// Its word, after two hyphens.
+    pub(crate) name: &'static str,
+    /// What stands for the number in texts.
+    value: &'static str,
+    least: u64,
+    most: u64,
+    /// What counts where it isn't given.
+    default: Option<&'static str>,
+    /// Whether it has to be given.
+    required: bool,
+    help: &'static str,
+}
+
+/// A row of the table below: an option with its numbers, of which its help tells.
+macro_rules! number_option {
+    (
+        $name:literal $value:literal in $least:literal to $most:literal,
+        $default:expr, $required:literal, $help:literal
+    ) => {
+        NumberOption {
+            name: $name,
+            value: $value,
+            least: $least,
+            most: $most,
+            default: $default,
+            required: $required,
+            help: concat!($help, " (", $least, " to ", $most, ")"),
+        }
+    };
+}
+
+pub(crate) const GEN: NumberOption = number_option!(
+    "gen" "N" in 1 to 1000000, None, false,
+    "Draw the rows of N subscribers, so that no line of the input is a row"
+);
+
+pub(crate) const SUBSCRIBERS: NumberOption = number_option!(
+    "subscribers" "N" in 1 to 1000000, None, true,
+    "Draw the rows of N subscribers"
+);
+
+pub(crate) const SEED: NumberOption = number_option!(
+    "seed" "S" in 0 to 18446744073709551615, Some("1"), false,
+    "Draw all that is drawn from the random words of seed S"
+);
+
+pub(crate) const PARTITIONS: NumberOption = number_option!(
+    "partitions" "P" in 1 to 16, Some("2"), false,
+    "Open the rows in P partitions"
+);
+
+pub(crate) const CLIENTS: NumberOption = number_option!(
+    "clients" "C" in 1 to 64, Some("4"), false,
+    "Let there be C clients"
+);
+
+pub(crate) const CALLS: NumberOption = number_option!(
+    "calls" "K" in 1 to 100000, None, true,
+    "Let each client make K calls, one after another"
+);
+
+pub(crate) const MOVES: NumberOption = number_option!(
+    "moves" "M" in 0 to 100000, Some("0"), false,
+    "Move M ranges of subscribers between partitions meanwhile"
+);
+
+pub(crate) const STOPS: NumberOption = number_option!(
+    "stops" "T" in 0 to 100000, Some("0"), false,
+    "Stop, step and resume partitions T times meanwhile"
+);
+
+/// What is wrong with an option: its text is no number of its range.
+#[derive(Clone, Copy, Debug, PartialEq, Eq)]
+pub(crate) struct BadNumber<'a> {
+    option: NumberOption,
+    text: &'a str,
+}
+
+impl fmt::Display for BadNumber<'_> {
+    fn fmt<W: fmt::Write>(&self, f: &mut fmt::Formatter<W>) -> fmt::Result {
+        let text = self.text;
+        let NumberOption {
+            name,
+            value,
+            least,
+            most,
+            ..
+        } = self.option;
+        write!(f, "invalid value '{text}' for '--{name} <{value}>': ")?;
+        if is_digits(text) {
+            write!(f, "{text} is not in {least}..={most}")
+        } else {
+            f.write_str("a number is written in digits alone, without a sign")
+        }
+    }
+}
+
+/// Whether a text is digits alone.
+fn is_digits(text: &str) -> bool {
+    !text.is_empty() && text.bytes().all(|byte| byte.is_ascii_digit())
+}
+
+/// Whether a text begins with a plus sign, which a number of the command line may not have.
+fn has_sign(text: &str) -> bool
+    ensures { result ≡ (slice_index text.now 0 == 43) }
+{
+    match text.as_bytes().first() {
+        Some(byte) => *byte == b'+',
+        None => false,
+    }
+}
+
+/// The number that a text is, where it is digits alone and in the range.
+fn number_in(text: &str, least: u64, most: u64) -> Option<u64>
+    ensures { SomeIff result (IsNumberIn least most text.now) (digits_value 10 text.now) }
+{
+    if has_sign(text) {
+        return None;
+    }
+    match text.parse::<u64>() {
+        Ok(number) if least <= number && number <= most => Some(number),
+        _ => None,
+    }
+}
+
+impl NumberOption {
+    /// The argument that the parse of the words looks for. It takes any text, which is read
+    /// afterwards.
+    pub(crate) fn arg<'a>(&self, alloc: Global) -> Arg<'a> {
+        let arg = Arg::new(alloc, self.name)
+            .long(self.name)
+            .value_name(self.value)
+            .required(self.required)
+            .help(self.help);
+        match self.default {
+            Some(text) => arg.default_value(text),
+            None => arg,
+        }
+    }
+
+    /// The number that a text of the option is.
+    pub(crate) fn read<'a>(&self, text: &'a str) -> Result<u64, BadNumber<'a>>
+        ensures { OkIff result (IsNumberIn self.now.least self.now.most text.now)
+            (digits_value 10 text.now) }
+    {
+        match number_in(text, self.least, self.most) {
+            Some(number) => Ok(number),
+            None => Err(BadNumber {
+                option: *self,
+                text,
+            }),
+        }
+    }
+
+    /// The text that it is given, or what counts where it isn't given.
+    fn text<'a>(&self, options: &ArgMatches<'a>) -> Option<&'a str>
+        ensures { option_map (λ text. text.now) result
+            ≡ text_asked (asked_by self.now) (found_of options.now) }
+    {
+        match options.get_str(self.name) {
+            Some(text) => Some(text),
+            None => self.default,
+        }
+    }
+
+    /// The number that is asked for, of an option that is required or has a default.
+    pub(crate) fn number<'a>(&self, options: &ArgMatches<'a>) -> Result<u64, BadNumber<'a>>
+        ensures asked { OkIff result (HasNumber (asked_by self.now) (found_of options.now))
+            (number_asked (asked_by self.now) (found_of options.now)) }
+        ensures least { IfOk result (λ number. self.now.least ≤ number) }
+        ensures most { IfOk result (λ number. number ≤ self.now.most) }
+    {
+        match self.text(options) {
+            Some(text) => self.read(text),
+            // The parse has tested that what is required is given.
+            None => Err(BadNumber {
+                option: *self,
+                text: "",
+            }),
+        }
+    }
+}

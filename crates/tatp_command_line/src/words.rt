@@ -1,0 +1,143 @@
+//! The task that the words of the command line name.
+ghost use Rattle.std.specs.Prelude.{◌≡◌, ◌≤◌, Some, IfOk, IfSome, OkIff};
+ghost use Rattle.clap.specs.Matches.{found_of, subcommand_name_of};
+ghost use Rattle.tatp_tasks.specs.Plans.{IsPlan};
+ghost use Rattle.tatp_tasks.specs.Populations.{IsPopulation, IsSetup};
+ghost use Rattle.tatp_tasks.specs.Tasks.{IsTask, name_of};
+ghost use Rattle.tatp_command_line.specs.Numbers.{HasNumber, number_asked};
+ghost use Rattle.tatp_command_line.specs.Options.{partitions, clients, HasPopulation, population_asked, HasSetup, setup_asked, HasPlan, plan_asked, distribution_asked};
+
+use crate::commands::command;
+use crate::options::{BadNumber, CALLS, CLIENTS, GEN, MOVES, PARTITIONS, SEED, STOPS, SUBSCRIBERS};
+use clap::error::ErrorKind;
+use clap::{ArgMatches, Error};
+use std::alloc::{AllocError, Global};
+use tatp_driver::Distribution;
+use tatp_tasks::{BenchPlan, Population, Setup, Task};
+
+/// Where the rows of a run come from.
+fn population_of<'a>(options: &ArgMatches<'a>) -> Result<Population, BadNumber<'a>>
+    ensures asked { OkIff result (HasPopulation (found_of options.now))
+        (population_asked (found_of options.now)) }
+    ensures drawn { IfOk result IsPopulation }
+{
+    let seed = SEED.number(options)?;
+    match options.get_str(GEN.name) {
+        None => Ok(Population::Read),
+        Some(text) => Ok(Population::Generated {
+            subscribers: GEN.read(text)?,
+            seed,
+        }),
+    }
+}
+
+/// In how many partitions the rows are opened.
+fn partitions_of<'a>(options: &ArgMatches<'a>) -> Result<u8, BadNumber<'a>>
+    ensures asked { OkIff result (HasNumber partitions (found_of options.now))
+        (number_asked partitions (found_of options.now)) }
+    ensures least { IfOk result (λ number. 1 ≤ number) }
+    ensures most { IfOk result (λ number. number ≤ 16) }
+{
+    Ok(PARTITIONS.number(options)? as u8)
+}
+
+/// How many clients there are.
+fn clients_of<'a>(options: &ArgMatches<'a>) -> Result<u8, BadNumber<'a>>
+    ensures asked { OkIff result (HasNumber clients (found_of options.now))
+        (number_asked clients (found_of options.now)) }
+    ensures least { IfOk result (λ number. 1 ≤ number) }
+    ensures most { IfOk result (λ number. number ≤ 64) }
+{
+    Ok(CLIENTS.number(options)? as u8)
+}
+
+/// What a run over events is opened with.
+fn setup_of<'a>(options: &ArgMatches<'a>) -> Result<Setup, BadNumber<'a>>
+    ensures asked { OkIff result (HasSetup (found_of options.now))
+        (setup_asked (found_of options.now)) }
+    ensures possible { IfOk result IsSetup }
+{
+    Ok(Setup {
+        population: population_of(options)?,
+        partitions: partitions_of(options)?,
+        clients: clients_of(options)?,
+    })
+}
+
+/// How calls are distributed over the subscribers.
+fn distribution_of(options: &ArgMatches<'_>) -> Distribution
+    ensures { result ≡ distribution_asked (found_of options.now) }
+{
+    match options.get_str("uniform") {
+        Some("true") => Distribution::Uniform,
+        _ => Distribution::Skewed,
+    }
+}
+
+/// The run of the benchmark that is asked for.
+fn plan_of<'a>(options: &ArgMatches<'a>) -> Result<BenchPlan, BadNumber<'a>>
+    ensures asked { OkIff result (HasPlan (found_of options.now))
+        (plan_asked (found_of options.now)) }
+    ensures possible { IfOk result IsPlan }
+{
+    Ok(BenchPlan {
+        subscribers: SUBSCRIBERS.number(options)?,
+        partitions: partitions_of(options)?,
+        clients: clients_of(options)?,
+        calls: CALLS.number(options)?,
+        seed: SEED.number(options)?,
+        distribution: distribution_of(options),
+        moves: MOVES.number(options)?,
+        stops: STOPS.number(options)?,
+    })
+}
+
+/// The task that the words were found to name; none where they name no command.
+fn task_in<'a>(matches: &ArgMatches<'a>) -> Result<Option<Task>, BadNumber<'a>>
+    ensures named { IfOk result (λ found. IfSome found (λ task.
+        subcommand_name_of matches.now ≡ Some (name_of task))) }
+    ensures possible { IfOk result (λ found. IfSome found IsTask) }
+{
+    let Some((name, options)) = matches.subcommand() else {
+        return Ok(None);
+    };
+    match name {
+        "call" => Ok(Some(Task::Call {
+            population: population_of(options)?,
+            partitions: partitions_of(options)?,
+        })),
+        "trace" => Ok(Some(Task::Trace(setup_of(options)?))),
+        "asm" => Ok(Some(Task::Asm)),
+        "dis" => Ok(Some(Task::Dis)),
+        "check" => Ok(Some(Task::Check)),
+        "audit" => Ok(Some(Task::Audit)),
+        "bench" => Ok(Some(Task::Bench {
+            plan: plan_of(options)?,
+            progress: options.get_flag("progress"),
+        })),
+        _ => Ok(None),
+    }
+}
+
+/// What the words ask for; an error holds the text that they are answered with.
+pub fn task_of(alloc: Global, words: &[String]) -> Result<Task, Error>
+    ensures { IfOk result IsTask }
+{
+    let matches = command(alloc)?.try_get_matches_from(words)?;
+    match task_in(&matches) {
+        Ok(Some(task)) => Ok(task),
+        // The parse has tested that there is one.
+        Ok(None) => {
+            Err(command(alloc)?.error(ErrorKind::MissingSubcommand, "a command is missing")?)
+        }
+        Err(bad) => {
+            let text = format!(in alloc; "{bad}")?;
+            Err(command(alloc)?.error(ErrorKind::ValueValidation, text.as_str())?)
+        }
+    }
+}
+
+/// The answer to words that are no text.
+pub fn not_text(alloc: Global) -> Result<Error, AllocError> {
+    command(alloc)?.error(ErrorKind::InvalidValue, "a word isn't UTF-8")
+}

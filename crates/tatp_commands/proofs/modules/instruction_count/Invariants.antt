@@ -1,9 +1,0 @@
-use Rattle.std.proofs.Common.{◌≡◌, ◌*◌, ◌≤◌, take}
-use Rattle.tatp_commands.specs.ModuleCommands.{instruction_count}
-use Rattle.tatp_commands.proofs.modules.instruction_count.Given as goal
-
-abbrev pub invariant-loop-procedure : goal.invariant-loop-procedure
-invariant-loop-procedure l = record {
-  total : l.count ≡ instruction_count (take l.procedure-index l.procs);
-  within : l.count ≤ 256 * l.procedure-index;
-}

@@ -1,0 +1,80 @@
+-- What is answered to the lines of `call`.
+use Rattle.std.proofs.Common.{◌≡◌, ℕ, ◌∙◌, sym, ap, subst, Bool, List, [], ◌∷◌, ◌++◌, refl, append_assoc}
+use Rattle.std.proofs.lemmas.List.{append-nil}
+use Rattle.tatp_tables.specs.Database.{database_of}
+use Rattle.tatp_dispatch.specs.Shown.{set_back}
+use Rattle.tatp_dispatch.specs.Worlds.{WorldState}
+use Rattle.tatp_tasks.specs.declared.setup.Setup.{Setup}
+use Rattle.tatp_inputs.specs.Work.{Work}
+use Rattle.tatp_console.specs.Answers.{AppendsAnswer, AnswersLines, AnswersWork, AnswersFront}
+use Rattle.tatp_console.specs.Replying.{AnswersLine, RepliesTo, answers_call}
+use Rattle.tatp_console.specs.Served.{call_in, line_answer, replies, ServesWork, Served, ServedFront}
+
+-- ---- a line
+pub line_replied : (w w' : WorldState) (line old told new : List ℕ) → AnswersLine line (set_back w) old told (set_back w') → new ≡ told ++ 10 ∷ [] → AppendsAnswer answers_call w line old new w'
+line_replied w w' line old told new a e =
+    let text = (line_answer a.refused (call_in line) (set_back w)).text in
+    record {
+      text = text ++ 10 ∷ [];
+      answered = record { refused = a.refused; told = refl; database = a.database };
+      appended = e ∙ (ap (λ ts. ts ++ 10 ∷ []) a.told ∙ append_assoc old text (10 ∷ []));
+    }
+
+-- ---- lines, whichever marks and lines come after them
+-- some marks are those of the lines: with others after them the replies to the lines and to others are the text, and after it the replies to the others
+abbrev HasReplies : WorldState → List (List ℕ) → List ℕ → WorldState → Type 0
+HasReplies w lines text w' =
+    (marks : List Bool) × ((later : List Bool) (more : List (List ℕ)) → replies (marks ++ later) (lines ++ more) (set_back w) ≡ text ++ replies later more (set_back w'))
+
+no_line : (w w' : WorldState) (text : List ℕ) → text ≡ [] → w' ≡ w → HasReplies w [] text w'
+no_line w w' text e same = ([], λ later more. rw (e, same) refl)
+
+line_before : (w b w' : WorldState) (line : List ℕ) (lines : List (List ℕ)) (text first rest : List ℕ) → RepliesTo line (set_back w) first (set_back b) → text ≡ first ++ rest
+    → HasReplies b lines rest w' → HasReplies w (line ∷ lines) text w'
+unfolding replies
+line_before w b w' line lines text first rest r e h = (
+  r.refused ∷ h.0,
+  λ later more.
+      let reply = (line_answer r.refused (call_in line) (set_back w)).text in
+      let others = replies later more (set_back w') in
+      ap (λ u. reply ++ 10 ∷ replies (h.0 ++ later) (lines ++ more) u) (sym r.database)
+      ∙ (ap (λ ts. reply ++ 10 ∷ ts) (h.1 later more)
+      ∙ sym (ap (λ ts. ts ++ others) e ∙ (append_assoc first rest others ∙ (ap (λ ts. ts ++ (rest ++ others)) r.told ∙ append_assoc reply (10 ∷ []) (rest ++ others))))),
+)
+
+lines_replied : (w w' : WorldState) (lines : List (List ℕ)) (text : List ℕ) → AnswersLines answers_call w lines text w' → HasReplies w lines text w'
+lines_replied w w' [] text t = no_line w w' text t.0 t.1
+lines_replied w w' (line ∷ lines) text t = line_before w t.0 w' line lines text t.1 t.2 t.3 t.4 (lines_replied t.0 w' lines t.2 t.5)
+
+-- ---- the lines of an input
+pub all_served : (setup : Setup) (work : Work) (text : List ℕ) → AnswersWork answers_call setup work text → Served work text
+unfolding replies
+all_served setup work text a =
+    let h = lines_replied a.opened a.after work.lines text a.answered in (
+      h.0 ++ [],
+      record {
+        few = a.few;
+        clean = a.clean;
+        replied = sym (ap (λ u. replies (h.0 ++ []) work.lines u) (sym a.is_opened.back)
+            ∙ (ap (λ ls. replies (h.0 ++ []) ls (set_back a.opened)) (sym (append-nil work.lines))
+            ∙ (h.1 [] [] ∙ append-nil text)));
+      },
+    )
+
+pub front_served : (setup : Setup) (work : Work) (front : List ℕ) → AnswersFront answers_call setup work front → ServedFront work front
+front_served setup work front f =
+    let a = f.answered in
+    let h = lines_replied a.opened a.after f.lines (front ++ f.rest) a.answered in
+    let others = replies [] f.later (set_back a.after) in (
+      f.rest ++ others,
+      (
+        h.0 ++ [],
+        record {
+          few = a.few;
+          clean = a.clean;
+          replied = sym (ap (λ u. replies (h.0 ++ []) work.lines u) (sym a.is_opened.back)
+              ∙ (ap (λ ls. replies (h.0 ++ []) ls (set_back a.opened)) f.split
+              ∙ (h.1 [] f.later ∙ append_assoc front f.rest others)));
+        },
+      ),
+    )

@@ -1,0 +1,55 @@
+-- What is answered to the lines of `trace`.
+use Rattle.std.proofs.Common.{◌≡◌, ℕ, List, [], ◌∷◌, ◌++◌, refl, Result}
+use Rattle.tatp_procs.specs.Standard.{standard_module}
+use Rattle.tatp_dispatch.specs.declared.event.Answer.{Answer}
+use Rattle.tatp_dispatch.specs.declared.event.Refusal.{Refusal}
+use Rattle.tatp_dispatch.specs.Worlds.{WorldState}
+use Rattle.tatp_dispatch.proofs.BenchmarkLaws.{benchmark}
+use Rattle.tatp_trace.specs.Answering.{line_in, AppendsLine, TellsLine, TellsLines, events_in}
+use Rattle.tatp_trace.proofs.LinesLaws.{lines_run}
+use Rattle.tatp_tasks.specs.declared.setup.Setup.{Setup}
+use Rattle.tatp_inputs.specs.Work.{Work}
+use Rattle.tatp_console.specs.Answers.{AppendsAnswer, AnswersLines, AnswersWork, AnswersFront}
+use Rattle.tatp_console.specs.Tracing.{answers_events, TellsWork, TellsFront}
+
+-- ---- a line
+pub line_told : (w w' : WorldState) (line old new : List ℕ) → AppendsLine w (line_in line) old new w' → AppendsAnswer answers_events w line old new w'
+line_told w w' line old new a = record { text = a.told; answered = (a.answers, a.tells); appended = a.appended }
+
+-- ---- lines
+abbrev HasAnswers : WorldState → List (List ℕ) → List ℕ → WorldState → Type 0
+HasAnswers w lines text w' = (answers : List (Result Answer Refusal)) × TellsLines w lines answers text w'
+
+lines_told : (w w' : WorldState) (lines : List (List ℕ)) (text : List ℕ) → AnswersLines answers_events w lines text w' → HasAnswers w lines text w'
+lines_told w w' [] text t = ([], (refl, t.0, t.1))
+lines_told w w' (line ∷ lines) text t =
+    let later = lines_told t.0 w' lines t.2 t.5 in
+    (t.3.0 ++ later.0, (t.0, t.3.0, later.0, t.1, t.2, t.3.1, refl, t.4, later.1))
+
+-- ---- the lines of an input
+pub work_told : (setup : Setup) (work : Work) (text : List ℕ) → AnswersWork answers_events setup work text → TellsWork setup work text
+work_told setup work text a =
+    let told = lines_told a.opened a.after work.lines text a.answered in
+    let runs = lines_run a.opened a.after work.lines told.0 text a.world told.1 in
+    record {
+      few = a.few;
+      clean = a.clean;
+      tells = record {
+        opened = a.opened;
+        after = a.after;
+        answers = told.0;
+        is_opened = a.is_opened;
+        tells = told.1;
+        runs = runs;
+        benchmark = benchmark standard_module work.rows setup.partitions setup.clients a.opened a.after (events_in work.lines) told.0 a.world a.is_opened runs;
+      };
+    }
+
+pub front_told : (setup : Setup) (work : Work) (front : List ℕ) → AnswersFront answers_events setup work front → TellsFront setup work front
+front_told setup work front f = record {
+  lines = f.lines;
+  later = f.later;
+  rest = f.rest;
+  first = f.split;
+  tells = work_told setup (record work { lines = f.lines }) (front ++ f.rest) f.answered;
+}

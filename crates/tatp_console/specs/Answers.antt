@@ -1,0 +1,72 @@
+-- What is answered to lines, one after another.
+use Rattle.std.specs.Prelude.{◌≡◌, ℕ, ◌≤◌, List, [], ◌∷◌, ◌++◌, length, Option}
+use Rattle.std.specs.Io.KnownBytes.{Appends}
+use Rattle.tatp_tables.specs.Clean.{IsClean}
+use Rattle.tatp_procs.specs.Standard.{standard_module}
+use Rattle.tatp_population.specs.Opening.{most_subscribers}
+use Rattle.tatp_dispatch.specs.Opened.{IsOpened}
+use Rattle.tatp_dispatch.specs.Serving.{IsWorld}
+use Rattle.tatp_dispatch.specs.Worlds.{WorldState}
+use Rattle.tatp_tasks.specs.declared.setup.Setup.{Setup}
+use Rattle.tatp_inputs.specs.Work.{Work}
+
+-- what is answered to a line: from the whole before, by the line and the text, to the whole after
+abbrev pub Answering : Type 1
+Answering = WorldState → List ℕ → List ℕ → WorldState → Type 0
+
+-- new is what old is and after it what is answered to the line
+pub record AppendsAnswer (answers : Answering) (w : WorldState) (line : List ℕ)
+    (old new : List ℕ) (w' : WorldState) : Type 0 where
+  pub text : List ℕ
+  pub answered : answers w line text w'
+  pub appended : new ≡ old ++ text
+
+-- the text is what is answered to the lines
+abbrev pub AnswersLines : Answering → WorldState → List (List ℕ) → List ℕ → WorldState → Type 0
+AnswersLines answers w [] text w' = (text ≡ []) × (w' ≡ w)
+AnswersLines answers w (line ∷ lines) text w' =
+    (between : WorldState) × (first : List ℕ) × (rest : List ℕ) × answers w line first between
+    × (text ≡ first ++ rest) × AnswersLines answers between lines rest w'
+
+-- ---- bytes that a writer holds
+-- new has besides what is answered to all lines
+pub record AnswersAll (answers : Answering) (w : WorldState) (lines : List (List ℕ))
+    (old new : Option (List ℕ)) : Type 0 where
+  pub after : WorldState
+  pub text : List ℕ
+  pub answered : AnswersLines answers w lines text after
+  pub written : Appends old new text
+
+-- new has besides a front of what is answered to the lines up to some line
+pub record AnswersUpTo (answers : Answering) (w : WorldState) (lines : List (List ℕ))
+    (old new : Option (List ℕ)) : Type 0 where
+  pub first : List (List ℕ)
+  pub later : List (List ℕ)
+  pub after : WorldState
+  pub front : List ℕ
+  pub rest : List ℕ
+  pub split : lines ≡ first ++ later
+  pub answered : AnswersLines answers w first (front ++ rest) after
+  pub written : Appends old new front
+
+-- ---- the lines of an input
+-- the text is what is answered to all lines of the work, from a whole that was just opened with its
+-- rows under the standard module; they may be opened
+pub record AnswersWork (answers : Answering) (setup : Setup) (work : Work) (text : List ℕ)
+    : Type 0 where
+  pub few : length work.rows.subscribers ≤ most_subscribers
+  pub clean : IsClean work.rows
+  pub opened : WorldState
+  pub after : WorldState
+  pub is_opened : IsOpened standard_module work.rows setup.partitions setup.clients opened
+  pub world : IsWorld opened
+  pub answered : AnswersLines answers opened work.lines text after
+
+-- a front of what is answered to the lines up to some line
+pub record AnswersFront (answers : Answering) (setup : Setup) (work : Work) (front : List ℕ)
+    : Type 0 where
+  pub lines : List (List ℕ)
+  pub later : List (List ℕ)
+  pub rest : List ℕ
+  pub split : work.lines ≡ lines ++ later
+  pub answered : AnswersWork answers setup (record work { lines = lines }) (front ++ rest)

@@ -1,0 +1,81 @@
+-- What is written for the lines of `call`: one reply a line, in the order of the lines, each on the
+-- database that the lines before it left.
+use Rattle.std.specs.Prelude.{◌≡◌, ℕ, ◌≤◌, Bool, true, false, List, [], ◌∷◌, ◌++◌, length, Option, Some, None, Result, Ok, Err, codes, decimal, if◌then◌else◌}
+use Rattle.std.specs.Str.{is_utf8}
+use Rattle.tatp_tables.specs.Database.{Database, database_of}
+use Rattle.tatp_tables.specs.Clean.{IsClean}
+use Rattle.tatp_population.specs.Opening.{most_subscribers}
+use Rattle.tatp_procs.specs.declared.call.Call.{Call}
+use Rattle.tatp_procs.specs.declared.ask.Ask.TheVariants.{Txn}
+use Rattle.tatp_procs.specs.declared.reply.Reply.TheVariants.{Refused}
+use Rattle.tatp_procs.specs.declared.domains.BadArgument.{BadArgument}
+use Rattle.tatp_procs.specs.Arguments.{arguments_accepted}
+use Rattle.tatp_procs.specs.CallText.{call_of_line}
+use Rattle.tatp_procs.specs.ReplyText.{reply_text}
+use Rattle.tatp_procs.specs.Transactions.{transaction}
+use Rattle.tatp_inputs.specs.Work.{Work}
+
+-- ---- one line
+-- the call that a line is, which has to be text
+unfoldable pub call_in : List ℕ → Option Call
+call_in line = if is_utf8 line then call_of_line line else None
+
+-- of a line that is no call
+abbrev pub no_call_text : List ℕ
+no_call_text = codes "REFUSED 5 BadLine"
+
+-- of a call with an argument outside its domain
+abbrev pub bad_argument_text : BadArgument → List ℕ
+bad_argument_text bad = codes "REFUSED 26 BadArgument " ++ decimal bad.0
+
+-- the reply to a line, and the database after it
+pub record LineAnswer : Type 0 where
+  pub text : List ℕ
+  pub database : Database
+
+-- of a call, where it was refused its memory or not
+abbrev pub call_answer : Bool → Call → Result (Unit {0}) BadArgument → Database → LineAnswer
+call_answer refused call (Err bad) u = record { text = bad_argument_text bad; database = u }
+call_answer true call (Ok fits) u = record { text = reply_text (Txn call) Refused; database = u }
+call_answer false call (Ok fits) u = record {
+  text = reply_text (Txn call) (transaction call u).reply;
+  database = (transaction call u).database;
+}
+
+-- of a line, where it is a call or not
+abbrev pub line_answer : Bool → Option Call → Database → LineAnswer
+line_answer refused None u = record { text = no_call_text; database = u }
+line_answer refused (Some call) u = call_answer refused call (arguments_accepted call) u
+
+-- ---- all lines
+-- whether the first of the lines left was refused its memory: past the end of the marks none was
+abbrev pub first_mark : List Bool → Bool
+first_mark [] = false
+first_mark (mark ∷ marks) = mark
+
+abbrev pub later_marks : List Bool → List Bool
+later_marks [] = []
+later_marks (mark ∷ marks) = marks
+
+-- a reply for each line, of which the marked ones were refused their memory
+unfoldable pub replies : List Bool → List (List ℕ) → Database → List ℕ
+replies refused [] u = []
+replies refused (line ∷ more) u =
+    let first = line_answer (first_mark refused) (call_in line) u in
+    first.text ++ 10 ∷ replies (later_marks refused) more first.database
+
+-- ---- an input
+-- the text is what is written for these rows and lines, where the marked lines were refused their
+-- memory
+pub record ServesWork (refused : List Bool) (work : Work) (text : List ℕ) : Type 0 where
+  pub few : length work.rows.subscribers ≤ most_subscribers
+  pub clean : IsClean work.rows
+  pub replied : text ≡ replies refused work.lines (database_of work.rows)
+
+-- the same, where some lines were refused their memory
+abbrev pub Served : Work → List ℕ → Type 0
+Served work text = (refused : List Bool) × ServesWork refused work text
+
+-- it is a front of such a text
+abbrev pub ServedFront : Work → List ℕ → Type 0
+ServedFront work front = (rest : List ℕ) × Served work (front ++ rest)

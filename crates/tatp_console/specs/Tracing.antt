@@ -1,0 +1,48 @@
+-- What a run over event lines writes.
+use Rattle.std.specs.Prelude.{◌≡◌, ℕ, ◌≤◌, List, ◌++◌, length, Result}
+use Rattle.tatp_tables.specs.Clean.{IsClean}
+use Rattle.tatp_tables.specs.declared.row.Rows.{Rows}
+use Rattle.tatp_procs.specs.Standard.{standard_module}
+use Rattle.tatp_population.specs.Opening.{most_subscribers}
+use Rattle.tatp_dispatch.specs.declared.event.Answer.{Answer}
+use Rattle.tatp_dispatch.specs.declared.event.Refusal.{Refusal}
+use Rattle.tatp_dispatch.specs.Benchmark.{IsTheBenchmark}
+use Rattle.tatp_dispatch.specs.Opened.{IsOpened}
+use Rattle.tatp_dispatch.specs.Runs.{Runs}
+use Rattle.tatp_dispatch.specs.Worlds.{WorldState}
+use Rattle.tatp_trace.specs.Answering.{line_in, TellsLine, TellsLines, events_in}
+use Rattle.tatp_tasks.specs.declared.setup.Setup.{Setup}
+use Rattle.tatp_inputs.specs.Work.{Work}
+use Rattle.tatp_console.specs.Answers.{Answering}
+
+-- the text is told of the line
+abbrev pub answers_events : Answering
+answers_events w line text w' =
+    (answers : List (Result Answer Refusal)) × TellsLine w (line_in line) answers text w'
+
+-- told is what is told of the lines, from a whole that was just opened with the rows under the
+-- standard module; the answers are those of the lines' events, one after another, and are the
+-- benchmark's
+pub record TellsFrom (rows : Rows) (setup : Setup) (lines : List (List ℕ)) (told : List ℕ)
+    : Type 0 where
+  pub opened : WorldState
+  pub after : WorldState
+  pub answers : List (Result Answer Refusal)
+  pub is_opened : IsOpened standard_module rows setup.partitions setup.clients opened
+  pub tells : TellsLines opened lines answers told after
+  pub runs : Runs opened (events_in lines) answers after
+  pub benchmark : IsTheBenchmark standard_module rows answers after
+
+-- told is what is told of all lines of the work, whose rows may be opened
+pub record TellsWork (setup : Setup) (work : Work) (told : List ℕ) : Type 0 where
+  pub few : length work.rows.subscribers ≤ most_subscribers
+  pub clean : IsClean work.rows
+  pub tells : TellsFrom work.rows setup work.lines told
+
+-- a front of what is told of the lines up to some line
+pub record TellsFront (setup : Setup) (work : Work) (front : List ℕ) : Type 0 where
+  pub lines : List (List ℕ)
+  pub later : List (List ℕ)
+  pub rest : List ℕ
+  pub first : work.lines ≡ lines ++ later
+  pub tells : TellsWork setup (record work { lines = lines }) (front ++ rest)

@@ -1,0 +1,54 @@
+//! Why lines aren't answered to the last.
+ghost use Rattle.std.specs.Prelude.{◌≡◌};
+ghost use Rattle.tatp_streams.specs.declared.fault.StreamFault.TheVariants.{NoMemory};
+ghost use Rattle.tatp_inputs.specs.declared.fault.InputFault.TheVariants.{Stream};
+ghost use Rattle.tatp_console.specs.declared.fault.ConsoleFault.TheVariants.{Input, Unopened};
+
+use std::alloc::AllocError;
+use tatp_inputs::InputFault;
+use tatp_population::OpenError;
+use tatp_streams::StreamFault;
+use thiserror::Error;
+
+/// Why lines aren't answered to the last. Its text is a number, a name and details.
+#[derive(Clone, Copy, Debug, PartialEq, Eq, Error)]
+pub enum ConsoleFault {
+    /// The input isn't taken, or an answer isn't made or written.
+    #[error("{0}")]
+    Input(InputFault),
+    /// The rows aren't opened.
+    #[error("{0}")]
+    Unopened(OpenError),
+}
+
+impl From<InputFault> for ConsoleFault {
+    ghost from_gives = { λ error fault. fault ≡ Input error };
+
+    fn from(error: InputFault) -> ConsoleFault {
+        ConsoleFault::Input(error)
+    }
+}
+
+impl From<StreamFault> for ConsoleFault {
+    ghost from_gives = { λ error fault. fault ≡ Input (Stream error) };
+
+    fn from(error: StreamFault) -> ConsoleFault {
+        ConsoleFault::Input(InputFault::Stream(error))
+    }
+}
+
+impl From<AllocError> for ConsoleFault {
+    ghost from_gives = { λ _ fault. fault ≡ Input (Stream NoMemory) };
+
+    fn from(_error: AllocError) -> ConsoleFault {
+        ConsoleFault::Input(InputFault::Stream(StreamFault::NoMemory))
+    }
+}
+
+impl From<OpenError> for ConsoleFault {
+    ghost from_gives = { λ error fault. fault ≡ Unopened error };
+
+    fn from(error: OpenError) -> ConsoleFault {
+        ConsoleFault::Unopened(error)
+    }
+}

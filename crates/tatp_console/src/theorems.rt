@@ -1,0 +1,25 @@
+//! Laws of the definitions, for who reads them. Nothing runs here: a clause is the law.
+ghost use Rattle.std.specs.Prelude.{◌≡◌, ℕ, ◌++◌, Bool, List};
+ghost use Rattle.tatp_tables.specs.Database.{Database, database_of};
+ghost use Rattle.tatp_procs.specs.Order.{in_order};
+ghost use Rattle.tatp_inputs.specs.Work.{Work};
+ghost use Rattle.tatp_console.specs.AnsweredCalls.{calls_of, told, marks_after};
+ghost use Rattle.tatp_console.specs.Served.{replies, ServesWork};
+
+/// The calls with arguments in their domains that aren't refused their memory are answered in the
+/// order of their lines, each on the database that the calls before it leave; all other lines are
+/// refused and change nothing. So it is of lines, of lines after others, and of all that is written
+/// for an input.
+pub fn served_calls_are_in_order()
+    ensures told { (refused : List Bool) (lines : List (List ℕ)) (u : Database)
+        → replies refused lines u
+        ≡ told refused lines (in_order u (calls_of refused lines)).replies }
+    ensures later { (refused : List Bool) (lines more : List (List ℕ)) (u : Database)
+        → replies refused (lines ++ more) u
+        ≡ replies refused lines u
+        ++ replies (marks_after lines refused) more (in_order u (calls_of refused lines)).database }
+    ensures served { (refused : List Bool) (work : Work) (text : List ℕ)
+        → ServesWork refused work text
+        → text ≡ told refused work.lines
+        (in_order (database_of work.rows) (calls_of refused work.lines)).replies }
+{}

@@ -1,0 +1,55 @@
+//! The command `trace`: what is answered to each line of events.
+ghost use Rattle.std.specs.Prelude.{◌≡◌, ◌≤◌, length, IfErr, OnOk, IfSome};
+ghost use Rattle.tatp_tasks.specs.Populations.{IsSetup};
+ghost use Rattle.tatp_console.specs.Tracing.{answers_events, TellsWork, TellsFront};
+ghost use Rattle.tatp_console.specs.Works.{WritesOfWork, Leaves};
+
+use crate::ConsoleFault;
+use crate::lines::{LineCommand, answer_all};
+use std::alloc::{AllocError, Global};
+use std::io::{Read, Write};
+use tatp_dispatch::World;
+use tatp_streams::MOST_BYTES;
+use tatp_tasks::Setup;
+use tatp_trace::answer_line;
+
+/// The command `trace`.
+struct Events;
+
+impl LineCommand for Events {
+    ghost answers = { answers_events };
+
+    ghost starts = { λ w standard. tt };
+
+    fn answer(
+        alloc: Global,
+        world: &mut World<'_>,
+        line: &[u8],
+        pending: &mut String,
+    ) -> Result<(), AllocError> {
+        answer_line(alloc, world, line, pending)
+    }
+}
+
+/// Reads rows and lines of events, or such lines alone, and writes what is answered to each.
+///
+/// All is read, and the rows are opened, before the first answer is written. An input of more than
+/// [`MOST_BYTES`] bytes is refused.
+pub fn run_trace<R: Read, W: Write>(
+    alloc: Global,
+    reader: &mut R,
+    writer: &mut W,
+    setup: Setup,
+) -> Result<(), ConsoleFault>
+    requires setup { IsSetup setup }
+    ensures told { OnOk result (IfSome (R.remaining reader.old) (λ input.
+        WritesOfWork (TellsWork setup) setup.population input
+        (W.contents writer.old) (W.contents writer.new))) }
+    ensures faults { IfErr result (λ fault. IfSome (R.remaining reader.old) (λ input.
+        Leaves (TellsFront setup) setup.population input
+        (W.contents writer.old) (W.contents writer.new) fault)) }
+    ensures limit { OnOk result
+        (IfSome (R.remaining reader.old) (λ input. length input ≤ MOST_BYTES)) }
+{
+    answer_all::<Events, R, W>(alloc, reader, writer, setup)
+}

@@ -1,0 +1,21 @@
+-- What the whole keeps of its clients, and how it changes.
+use Rattle.std.specs.Prelude.{◌≡◌, ℕ, ◌+◌, true, false, List, Some, slice_get, slice_set}
+use Rattle.tatp_dispatch.specs.declared.client.Client.{Client}
+
+-- a client of which one more call is accepted, and under way
+abbrev pub with_call_accepted : Client → Client
+with_call_accepted c = record c { accepted = c.accepted + 1; busy = true }
+
+-- whose call was refused for want of memory
+abbrev pub with_call_refused : Client → Client
+with_call_refused c = record c { refused = c.refused + 1; busy = false }
+
+-- whose call has ended with this stamp
+abbrev pub with_call_ended : ℕ → Client → Client
+with_call_ended stamp c = record c { busy = false; seen = stamp }
+
+-- the client in this place is changed so, and the others stay
+abbrev pub ChangesClient : List Client → ℕ → (Client → Client) → List Client → Type 0
+ChangesClient clients client change clients' =
+    (c : Client) → slice_get clients client ≡ Some c
+    → clients' ≡ slice_set clients client (change c)

@@ -1,0 +1,113 @@
+-- A line `.` after rows, and rows without one.
+use Rattle.std.specs.Prelude.{◌≡◌, ℕ, ◌+◌, Bool, true, false, List, [], ◌∷◌, length, Option, Some, None, Result, Ok, Err, cond, codes}
+use Rattle.std.specs.Str.{is_utf8}
+use Rattle.std.proofs.Common.{refl, sym, ap, subst, ◌∙◌, arith}
+use Rattle.std.proofs.lemmas.Slice.Eq.{bytes_eq-Decides}
+use Rattle.tatp_tables.specs.Text.{row_of}
+use Rattle.tatp_tables.specs.declared.row.Row.{Row}
+use Rattle.tatp_tables.specs.declared.row.Rows.{Rows}
+use Rattle.tatp_lines.specs.Lines.{lines_of}
+use Rattle.tatp_population.specs.PopulationText.{on_rows, row_first, in_tables}
+use Rattle.tatp_streams.specs.declared.fault.StreamFault.TheVariants.{NoMemory, ReadFault, WriteFault}
+use Rattle.tatp_inputs.specs.declared.fault.InputFault.{InputFault}
+use Rattle.tatp_inputs.specs.declared.fault.InputFault.TheVariants.{BadLine, Stream}
+use Rattle.tatp_inputs.specs.Refusing.{RefusesReading}
+use Rattle.tatp_inputs.specs.RowLines.{row_in, rows_from, rows_of_lines, is_dot, before_dot, after_dot}
+use Rattle.tatp_inputs.specs.Work.{brought}
+
+-- ---- where there is no line `.`, all lines stand before it
+no_dot_step : (t : Bool) (line : List ℕ) (more : List (List ℕ)) → (after_dot more ≡ None → before_dot more ≡ more)
+    → cond t (Some more) (after_dot more) ≡ None → cond t [] (line ∷ before_dot more) ≡ line ∷ more
+no_dot_step true line more step h = cc
+no_dot_step false line more step h = ap (λ ls. line ∷ ls) (step h)
+
+no_dot : (lines : List (List ℕ)) → after_dot lines ≡ None → before_dot lines ≡ lines
+no_dot [] h = refl
+no_dot (line ∷ more) h = no_dot_step (is_dot line) line more (no_dot more) h
+
+-- ---- the line `.` is no row
+none_either_way : (t : Bool) → cond {A = Option Row} t None None ≡ None
+none_either_way true = refl
+none_either_way false = refl
+
+dot_is_no_row : (line : List ℕ) → is_dot line ≡ true → row_in line ≡ None
+unfolding row_in row_of
+dot_is_no_row line h = rw ((bytes_eq-Decides line (codes ".")).0 h) (none_either_way (is_utf8 (codes ".")))
+
+-- ---- rows read from two lists of lines
+-- what comes of the later lines decides
+first_read : (n m : ℕ) (row : Option Row) (r q : Result (List Row) ℕ) → ((rs : List Row) → r ≡ Ok rs → q ≡ Err m)
+    → (rs : List Row) → row_first n row r ≡ Ok rs → row_first n row q ≡ Err m
+first_read n m None r q f rs h = cc
+first_read n m (Some row) (Ok more) q f rs h = rw (f more refl) refl
+first_read n m (Some row) (Err e) q f rs h = cc
+
+first_failed : (n m : ℕ) (row : Option Row) (r q : Result (List Row) ℕ) → (r ≡ Err m → q ≡ Err m)
+    → row_first n row r ≡ Err m → row_first n row q ≡ Err m
+first_failed n m None r q f h = h
+first_failed n m (Some row) (Ok more) q f h = cc
+first_failed n m (Some row) (Err e) q f h = rw (f h) refl
+
+-- rows up to the line `.`: it is the first line that is no row
+dot_step : (t : Bool) (n : ℕ) (line : List ℕ) (more : List (List ℕ)) → (t ≡ true → row_in line ≡ None)
+    → ((calls : List (List ℕ)) (rs : List Row) → after_dot more ≡ Some calls → rows_from (n + 1) (before_dot more) ≡ Ok rs → rows_from (n + 1) more ≡ Err (n + 1 + length (before_dot more)))
+    → (calls : List (List ℕ)) (rs : List Row) → cond t (Some more) (after_dot more) ≡ Some calls → rows_from n (cond t [] (line ∷ before_dot more)) ≡ Ok rs
+    → rows_from n (line ∷ more) ≡ Err (n + length (cond t [] (line ∷ before_dot more)))
+dot_step true n line more none step calls rs h e = rw (none refl) (ap Err (omega arith))
+dot_step false n line more none step calls rs h e =
+    let last = n + 1 + length (before_dot more) in
+    first_read n last (row_in line) (rows_from (n + 1) (before_dot more)) (rows_from (n + 1) more) (λ later read. step calls later h read) rs e ∙ ap Err (omega arith)
+
+dot_after : (n : ℕ) (lines calls : List (List ℕ)) (rs : List Row) → after_dot lines ≡ Some calls → rows_from n (before_dot lines) ≡ Ok rs
+    → rows_from n lines ≡ Err (n + length (before_dot lines))
+dot_after n [] calls rs h e = cc
+dot_after n (line ∷ more) calls rs h e = dot_step (is_dot line) n line more (dot_is_no_row line) (λ calls rs h e. dot_after (n + 1) more calls rs h e) calls rs h e
+
+-- a line before it that is no row
+failed_step : (t : Bool) (n m : ℕ) (line : List ℕ) (more : List (List ℕ)) → (rows_from (n + 1) (before_dot more) ≡ Err m → rows_from (n + 1) more ≡ Err m)
+    → rows_from n (cond t [] (line ∷ before_dot more)) ≡ Err m → rows_from n (line ∷ more) ≡ Err m
+failed_step true n m line more step h = cc
+failed_step false n m line more step h = first_failed n m (row_in line) (rows_from (n + 1) (before_dot more)) (rows_from (n + 1) more) step h
+
+failed_before : (n m : ℕ) (lines : List (List ℕ)) → rows_from n (before_dot lines) ≡ Err m → rows_from n lines ≡ Err m
+failed_before n m [] h = h
+failed_before n m (line ∷ more) h = failed_step (is_dot line) n m line more (failed_before (n + 1) m more) h
+
+-- ---- the rows of all lines, by those before the line `.`
+list_read : (r : Result (List Row) ℕ) (rows : Rows) → on_rows in_tables r ≡ Ok rows → (rs : List Row) × (r ≡ Ok rs)
+list_read (Ok rs) rows h = (rs, refl)
+list_read (Err e) rows h = cc
+
+list_failed : (r : Result (List Row) ℕ) (n : ℕ) → on_rows in_tables r ≡ Err n → r ≡ Err n
+list_failed (Ok rs) n h = cc
+list_failed (Err e) n h = ap Err cc
+
+pub rows_without_dot : (lines : List (List ℕ)) (rows : Rows) → after_dot lines ≡ None → rows_of_lines (before_dot lines) ≡ Ok rows → rows_of_lines lines ≡ Ok rows
+rows_without_dot lines rows h e = subst (λ ls. rows_of_lines ls ≡ Ok rows) (no_dot lines h) e
+
+pub rows_with_dot : (lines calls : List (List ℕ)) (rows : Rows) (number : ℕ) → after_dot lines ≡ Some calls → rows_of_lines (before_dot lines) ≡ Ok rows
+    → number ≡ length (before_dot lines) + 1 → rows_of_lines lines ≡ Err number
+rows_with_dot lines calls rows number h e k =
+    let read = list_read (rows_from 1 (before_dot lines)) rows e in
+    rw (dot_after 1 lines calls read.0 h read.1) (ap Err (omega (arith, k)))
+
+rows_failed : (lines : List (List ℕ)) (n : ℕ) → rows_of_lines (before_dot lines) ≡ Err n → rows_of_lines lines ≡ Err n
+rows_failed lines n h = rw (failed_before 1 n lines (list_failed (rows_from 1 (before_dot lines)) n h)) refl
+
+pub refused_before : (lines : List (List ℕ)) (fault : InputFault) → RefusesReading (rows_of_lines (before_dot lines)) fault → RefusesReading (rows_of_lines lines) fault
+refused_before lines (BadLine n) h = rows_failed lines n h
+refused_before lines (Stream NoMemory) h = tt
+refused_before lines (Stream ReadFault) h = absurd h
+refused_before lines (Stream WriteFault) h = absurd h
+
+-- ---- the work that an input brings
+pub brought_rows : (input : List ℕ) (calls : List (List ℕ)) (rows : Rows) → after_dot (lines_of input) ≡ Some calls → rows_of_lines (before_dot (lines_of input)) ≡ Ok rows
+    → brought input ≡ Ok (record { rows = rows; lines = calls })
+brought_rows input calls rows h e = rw (h, e) refl
+
+pub brought_no_dot : (input : List ℕ) (rows : Rows) (number : ℕ) → after_dot (lines_of input) ≡ None → rows_of_lines (before_dot (lines_of input)) ≡ Ok rows
+    → number ≡ length (before_dot (lines_of input)) + 1 → brought input ≡ Err number
+brought_no_dot input rows number h e k = rw (h, e) (ap Err (sym (k ∙ ap (λ ls. length ls + 1) (no_dot (lines_of input) h))))
+
+pub brought_failed : (input : List ℕ) (n : ℕ) → rows_of_lines (before_dot (lines_of input)) ≡ Err n → brought input ≡ Err n
+brought_failed input n h = rw h refl

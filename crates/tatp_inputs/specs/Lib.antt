@@ -1,0 +1,4 @@
+pub mod RowLines
+pub mod Work
+pub mod Refusing
+pub mod Verdicts

@@ -1,0 +1,52 @@
+-- The rows of a run, and the lines that it answers.
+use Rattle.std.specs.Prelude.{ℕ, ◌+◌, ◌≤◌, List, length, Option, Some, None, Result, Ok, Err}
+use Rattle.rand_core.specs.Stream.{next_u64}
+use Rattle.rand_core.specs.Steps.{stream_of, steps_u64_low}
+use Rattle.rand_pcg.specs.Lcg.{started, increment_of}
+use Rattle.rand_pcg.specs.Pcg.{pcg64, multiplier_128}
+use Rattle.tatp_lines.specs.Lines.{lines_of}
+use Rattle.tatp_tables.specs.Clean.{IsClean}
+use Rattle.tatp_tables.specs.declared.row.Rows.{Rows}
+use Rattle.tatp_population.specs.DrawnRows as drawn
+use Rattle.tatp_population.specs.Opening.{most_subscribers}
+use Rattle.tatp_tasks.specs.declared.population.Population.{Population}
+use Rattle.tatp_tasks.specs.declared.population.Population.TheVariants.{Read, Generated}
+use Rattle.tatp_inputs.specs.RowLines.{rows_of_lines, before_dot, after_dot}
+
+-- rows, and the lines that are answered over them
+pub record Work : Type 0 where
+  pub rows : Rows
+  pub lines : List (List ℕ)
+
+-- ---- an input that brings both
+-- by the rows before the line `.`, and the lines after it; where that line is missing, its number
+-- would be n
+abbrev pub work_by : ℕ → Result Rows ℕ → Option (List (List ℕ)) → Result Work ℕ
+work_by n (Err bad) after = Err bad
+work_by n (Ok rows) None = Err n
+work_by n (Ok rows) (Some lines) = Ok (record { rows = rows; lines = lines })
+
+-- the work that an input brings; else the number of the line that is wrong
+abbrev pub brought : List ℕ → Result Work ℕ
+brought input =
+    let lines = lines_of input in
+    work_by (length lines + 1) (rows_of_lines (before_dot lines)) (after_dot lines)
+
+-- ---- an input whose rows are drawn
+-- the rows of the subscribers 1 to n, drawn from the words of this seed
+unfoldable pub generated : ℕ → ℕ → Rows
+generated n seed =
+    let start = started 128 multiplier_128 seed (increment_of 128 0) in
+    (drawn.population next_u64 n (stream_of (steps_u64_low pcg64) start)).0
+
+-- ---- either
+-- the rows and the lines: the input brings both, or it is the lines
+abbrev pub work_of : Population → List ℕ → Result Work ℕ
+work_of Read input = brought input
+work_of (Generated n seed) input = Ok (record { rows = generated n seed; lines = lines_of input })
+
+-- where the population is drawn, these rows are clean, and not too many
+abbrev pub AreCleanWhereDrawn : Population → Rows → Type 0
+AreCleanWhereDrawn Read rows = Unit {0}
+AreCleanWhereDrawn (Generated n seed) rows =
+    IsClean rows × (length rows.subscribers ≤ most_subscribers)

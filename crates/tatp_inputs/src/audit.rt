@@ -1,0 +1,51 @@
+//! The command `audit`: the verdict on rows.
+ghost use Rattle.std.specs.Prelude.{◌≡◌, ◌≤◌, length, IfOk, IfErr, IfSome, OnOk};
+ghost use Rattle.std.specs.String.{string_bytes};
+ghost use Rattle.tatp_lines.specs.Lines.{lines_of};
+ghost use Rattle.tatp_inputs.specs.Refusing.{RefusesReading};
+ghost use Rattle.tatp_inputs.specs.RowLines.{rows_of_lines};
+ghost use Rattle.tatp_inputs.specs.Verdicts.{IsVerdictOn, verdict_line, WritesVerdict, LeavesVerdict};
+
+use crate::InputFault;
+use crate::rows::read_rows;
+use std::alloc::{AllocError, Global};
+use std::io::{Read, Write};
+use tatp_audits::{Verdict, audit};
+use tatp_streams::{MOST_BYTES, read_all, write_last};
+
+/// The verdict on the rows that an input is.
+fn judged(alloc: Global, input: &[u8]) -> Result<Verdict, InputFault>
+    requires { length input.now ≤ MOST_BYTES }
+    ensures verdict { IfOk result (IsVerdictOn input.now) }
+    ensures faults { IfErr result (RefusesReading (rows_of_lines (lines_of input.now))) }
+{
+    let rows = read_rows(alloc, input)?;
+    Ok(audit(alloc, &rows)?)
+}
+
+/// The line of a verdict.
+fn line_of(alloc: Global, verdict: Verdict) -> Result<String, AllocError>
+    ensures { IfOk result (λ line. string_bytes line ≡ verdict_line verdict) }
+{
+    format!(in alloc; "{verdict}\n")
+}
+
+/// Reads rows and writes the verdict on them. Whether it is that they are clean.
+pub fn run_audit<R: Read, W: Write>(
+    alloc: Global,
+    reader: &mut R,
+    writer: &mut W,
+) -> Result<bool, InputFault>
+    ensures written { IfOk result (λ clean. IfSome (R.remaining reader.old) (λ input.
+        WritesVerdict input (W.contents writer.old) (W.contents writer.new) clean)) }
+    ensures faults { IfErr result (λ fault. IfSome (R.remaining reader.old) (λ input.
+        LeavesVerdict input (W.contents writer.old) (W.contents writer.new) fault)) }
+    ensures limit { OnOk result
+        (IfSome (R.remaining reader.old) (λ input. length input ≤ MOST_BYTES)) }
+{
+    let input = read_all(alloc, reader)?;
+    let verdict = judged(alloc, &input)?;
+    let line = line_of(alloc, verdict)?;
+    write_last(writer, line.as_bytes())?;
+    Ok(verdict.is_clean())
+}

@@ -1,0 +1,12 @@
+//! What an input brings: rows, and lines after them; and the command `audit`, whose input is rows
+//! alone.
+#![tactic(auto)]
+
+mod audit;
+mod fault;
+mod rows;
+mod work;
+
+pub use audit::run_audit;
+pub use fault::InputFault;
+pub use work::work_of;

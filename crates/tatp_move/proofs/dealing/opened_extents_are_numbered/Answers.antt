@@ -1,5 +1,0 @@
-use Rattle.tatp_move.proofs.NumberLaws.{opened_are_numbered}
-use Rattle.tatp_move.proofs.dealing.opened_extents_are_numbered.Goals as goal
-
-pub returns : goal.returns
-returns c = opened_are_numbered

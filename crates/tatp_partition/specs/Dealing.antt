@@ -1,0 +1,56 @@
+-- The extents of a database are dealt to its partitions.
+use Rattle.std.specs.Prelude.{◌≡◌, ◌==◌, ◌-◌, ◌%◌, ℕ, Bool, List, length, filter, Some, slice_get, slice_set}
+use Rattle.tatp_encoding.specs.Modules.{Procedure}
+use Rattle.tatp_population.specs.Extents.{ExtentState}
+use Rattle.tatp_partition.specs.Opening.{opened_site}
+use Rattle.tatp_partition.specs.Moving.{with_extent}
+use Rattle.tatp_partition.specs.Sites.{SiteState}
+use Rattle.tatp_partition.specs.Sound.{IsSite}
+
+-- the partition in which extent e opens, of so many: the extents are dealt in turn
+abbrev pub opening_partition : ℕ → ℕ → ℕ
+opening_partition partitions e = (e - 1) % partitions
+
+-- whether an extent opens in partition p, of so many
+abbrev pub opens_in : ℕ → ℕ → ExtentState → Bool
+opens_in partitions p x = opening_partition partitions x.number == p
+
+-- those of these extents that open in partition p
+abbrev pub dealt_to : ℕ → ℕ → List ExtentState → List ExtentState
+dealt_to partitions p extents = filter (opens_in partitions p) extents
+
+-- the site of partition p, just opened for so many extents, with those of these that were dealt to
+-- it
+pub record IsSiteDealt
+    (procedures : List Procedure) (partitions p total : ℕ) (extents : List ExtentState)
+    (s : SiteState)
+    : Type 0 where
+  pub site : IsSite s
+  pub fields : s ≡ opened_site procedures p total (dealt_to partitions p extents) s.standard
+
+-- the sites of all partitions, just opened for so many extents, with these
+pub record AreSitesDealt
+    (procedures : List Procedure) (partitions total : ℕ) (extents : List ExtentState)
+    (sites : List SiteState)
+    : Type 0 where
+  pub count : length sites ≡ partitions
+  pub each : (p : ℕ) (s : SiteState)
+      → slice_get sites p ≡ Some s → IsSiteDealt procedures partitions p total extents s
+
+-- the site of partition p, just opened with those of all extents that were dealt to it
+abbrev pub IsSiteOpened : List Procedure → ℕ → ℕ → List ExtentState → SiteState → Type 0
+IsSiteOpened procedures partitions p extents s =
+    IsSiteDealt procedures partitions p (length extents) extents s
+
+-- the sites of all partitions, just opened with all extents
+abbrev pub AreSitesOpened : List Procedure → ℕ → List ExtentState → List SiteState → Type 0
+AreSitesOpened procedures partitions extents sites =
+    AreSitesDealt procedures partitions (length extents) extents sites
+
+-- extent x lands at site p
+pub record LandsAt (sites : List SiteState) (p : ℕ) (x : ExtentState) (sites' : List SiteState)
+    : Type 0 where
+  pub before : SiteState
+  pub there : slice_get sites p ≡ Some before
+  pub site : IsSite (with_extent before x.number (Some x))
+  pub after : sites' ≡ slice_set sites p (with_extent before x.number (Some x))

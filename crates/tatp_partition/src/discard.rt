@@ -1,0 +1,23 @@
+//! What can be neither copied nor dropped comes to nothing.
+use tatp_population::Extent;
+
+/// A value that can be neither copied nor dropped, but spent.
+pub trait Discard {
+    /// Spends it.
+    fn discard(self);
+}
+
+impl Discard for Extent {
+    fn discard(self) {
+        let _ = self.close();
+    }
+}
+
+/// Spends a list, and all that stands in it.
+pub fn discard_all<T: Discard>(list: Vec<T>) {
+    let mut rest = list;
+    while let Some(value) = rest.pop() {
+        value.discard();
+    }
+    rest.destroy_empty();
+}

@@ -1,0 +1,27 @@
+//! What clients get.
+use tatp_procs::Reply;
+
+/// What a client got for one of its calls.
+#[derive(Clone, Copy, Debug, PartialEq, Eq)]
+pub enum Receipt {
+    /// The call was completed.
+    Done {
+        /// Which client asked.
+        client: u64,
+        /// How many calls of that client were accepted before it.
+        number: u64,
+        /// The reply.
+        reply: Reply,
+        /// The extent in whose log it stands, 0 without a home.
+        extent: u32,
+        /// Its stamp there.
+        stamp: u64,
+    },
+    /// Memory was refused to the call.
+    Refused {
+        /// Which client asked.
+        client: u64,
+        /// How many calls of that client were accepted before it.
+        number: u64,
+    },
+}

@@ -1,5 +1,0 @@
-use Rattle.tatp_procs.proofs.ConsistentAfterLaws.{consistent_after, keys_after}
-use Rattle.tatp_procs.proofs.laws.transactions_keep_databases_consistent.Goals as goal
-
-pub returns : goal.returns
-returns c = record { consistent = consistent_after; keys = keys_after }

@@ -1,0 +1,12 @@
+use Rattle.std.proofs.Common.{Option, subst, sym}
+use Rattle.tatp_tables.specs.Database.{database_of}
+use Rattle.tatp_settle.specs.declared.cause.Unsettled.{Unsettled}
+use Rattle.tatp_settle.specs.Runs.{Run, shown}
+use Rattle.tatp_settle.specs.CauseOrder.{IsFirstOf}
+use Rattle.tatp_settle.proofs.JudgeLaws.{home_cause_is}
+use Rattle.tatp_settle.proofs.judgement.cause_without_home.Goals as goal
+
+pub returns : goal.returns
+returns c = λ before.
+    let run : Run = shown c.args.run.now in
+    subst (λ (cause : Option Unsettled). IsFirstOf 9 run cause) (sym c.home_cause.ensures) (home_cause_is run c.first_homed.result (c.first_homed.ensures (database_of run.population).subscribers c.in_ok-directory.ensures.homes) before)

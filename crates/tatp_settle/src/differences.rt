@@ -1,0 +1,115 @@
+//! Calls whose receipt or ask differs from their entry.
+ghost use Rattle.std.specs.Prelude.{◌↔◌, IsTrue};
+ghost use Rattle.tatp_settle.specs.CallPlaces.{IsFirstCall, IsFirstNumber};
+ghost use Rattle.tatp_settle.specs.Agreeing.{Says, Agrees};
+ghost use Rattle.tatp_settle.specs.Comparing.{DiffersIn, IsReady};
+
+use crate::Receipt;
+use crate::equality::{is_same_ask, is_same_reply};
+use crate::lists::{at, count_of, len_of};
+use crate::log_table::LogTable;
+use crate::places::{CallPlace, LogPlace};
+use crate::searches::{Search, first_call};
+use crate::table::Table;
+use std::thread::Threads;
+use tatp_procs::{Ask, Entry};
+
+/// Whether the entry of a call is what its receipt and its client say.
+fn says(extent: u64, entry: &Entry, ask: &Ask, receipt: &Receipt) -> bool
+    ensures { IsTrue result ↔ Says extent entry.now ask.now receipt.now }
+{
+    match receipt {
+        Receipt::Refused { .. } => false,
+        Receipt::Done {
+            reply,
+            extent: of_extent,
+            stamp,
+            ..
+        } => {
+            // The client's own words come first, and so decide the branches: an entry may stand
+            // anywhere in memory, and is waited for.
+            entry.stamp == *stamp
+                && extent == *of_extent as u64
+                && is_same_ask(ask, &entry.ask)
+                && is_same_reply(reply, &entry.reply)
+        }
+    }
+}
+
+/// Whether the receipt and the ask of a call are what its entry says, or the call is refused and
+/// has none.
+fn agrees(logs: &LogTable<'_>, cell: Option<LogPlace>, ask: &Ask, receipt: &Receipt) -> bool
+    ensures { IsTrue result ↔ Agrees logs.now cell ask.now receipt.now }
+{
+    match cell {
+        None => match receipt {
+            Receipt::Refused { .. } => true,
+            Receipt::Done { .. } => false,
+        },
+        Some(place) => match logs.entry(place.extent, place.index) {
+            Some(entry) => says(place.extent, &entry, ask, receipt),
+            None => false,
+        },
+    }
+}
+
+/// The search for calls whose receipt or ask isn't what their entry says.
+#[derive(Drop)]
+pub(crate) struct Differing<'a, 'c> {
+    /// The logs of the entries.
+    pub(crate) logs: &'a LogTable<'c>,
+    /// Where the entry of each call stands.
+    pub(crate) table: &'a Table,
+    /// What each client got for its calls.
+    pub(crate) receipts: &'a [Vec<Receipt>],
+    /// What each client asked.
+    pub(crate) calls: &'a [Vec<Ask>],
+}
+
+impl Differing<'_, '_> {
+    /// Whether the receipt or the ask of a call isn't what its entry says.
+    fn differs_at(&self, client: u64, number: u64) -> bool
+        requires { IsReady self.now }
+        ensures { IsTrue result ↔ DiffersIn self.now client number }
+    {
+        let Some(receipt) = at(self.receipts, client, number) else {
+            return false;
+        };
+        let Some(ask) = at(self.calls, client, number) else {
+            return false;
+        };
+        let Some(cell) = self.table.cell(client, number) else {
+            return false;
+        };
+        !agrees(self.logs, cell, ask, receipt)
+    }
+
+    /// The number of a client's first call whose receipt or ask isn't what its entry says.
+    fn differing_of(&self, client: u64) -> Option<u64>
+        requires { IsReady self.now }
+        ensures { IsFirstNumber (DiffersIn self.now client) result }
+    {
+        (0..len_of(self.receipts, client)).find(|number| self.differs_at(client, *number))
+    }
+}
+
+impl Search for Differing<'_, '_> {
+    ghost sought = { DiffersIn };
+
+    ghost ready = { IsReady };
+
+    fn first_of(&self, client: u64) -> Option<u64> {
+        self.differing_of(client)
+    }
+}
+
+/// The first call whose receipt or ask isn't what its entry says.
+pub(crate) fn first_differing<R: Threads + Sync>(
+    rt: &R,
+    differing: &Differing<'_, '_>,
+) -> Option<CallPlace>
+    requires { IsReady differing.now }
+    ensures { IsFirstCall (DiffersIn differing.now) result }
+{
+    first_call(rt, differing, count_of(differing.receipts))
+}

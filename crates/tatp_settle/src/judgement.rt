@@ -1,0 +1,187 @@
+//! The verdict on a run: settled, or its first cause.
+ghost use Rattle.std.specs.Prelude.{◌≡◌, ◌<◌, ◌^◌, IfOk, IfErr, OnOk, length};
+ghost use Rattle.std.specs.Option.{option_map};
+ghost use denote.Param.Send.{IsSync};
+ghost use Rattle.tatp_tables.specs.Clean.{IsClean};
+ghost use Rattle.tatp_settle.specs.Runs.{AreHomesOf, joined, lists_of, rows_left, shown};
+ghost use Rattle.tatp_settle.specs.CauseOrder.{IsFirstOf, IsFirstAfter, IsFirstInCalls};
+ghost use Rattle.tatp_settle.specs.Interleaving.{IsOneHistoryInAnyOrder};
+ghost use Rattle.tatp_settle.specs.Settlements.{IsAuditOf, IsSettled, RefusesToSettle};
+
+use crate::counts::{count_kinds, count_receipts};
+use crate::differences::{Differing, first_differing};
+use crate::extents::{ExtentCause, first_extent};
+use crate::log_table::LogTable;
+use crate::named_calls::first_homed;
+use crate::placement::{Placed, place_entries};
+use crate::places::CallPlace;
+use crate::rows::{count_moves, rows_now};
+use crate::run::Run;
+use crate::stamps::first_falling;
+use crate::unmatched_calls::first_unmatched;
+use crate::{SettleError, Settled, Unsettled};
+use std::alloc::{AllocError, Global};
+use std::thread::{Threads, join};
+use tatp_audits::{Verdict, audit};
+use tatp_numbers::Directory;
+use tatp_tables::{Home, homes};
+
+/// What a settled run counts, or why the run isn't settled.
+pub(crate) fn judge<R: Threads + Sync>(
+    rt: &R,
+    alloc: Global,
+    run: &Run<'_>,
+) -> Result<Settled, SettleError>
+    requires clean { IsClean run.now.population.now }
+    requires few { length (joined (lists_of run.now.calls.now)) < 2 ^ 64 }
+    ensures settled { IfOk result (IsSettled (shown run.now)) }
+    ensures any_order { OnOk result (IsOneHistoryInAnyOrder (shown run.now)) }
+    ensures refusal { IfErr result (RefusesToSettle (shown run.now)) }
+{
+    run.closed.what_holds();
+    if let Some(cause) = cause_in_extents(alloc, run)? {
+        return Err(SettleError::Because(cause));
+    }
+    let (audited, in_calls) = audit_beside_calls(rt, alloc, run);
+    if let Some(cause) = in_calls? {
+        return Err(SettleError::Because(cause));
+    }
+    if let Some(cause) = cause_without_home(alloc, run)? {
+        return Err(SettleError::Because(cause));
+    }
+    let verdict = audited?;
+    if !verdict.is_clean() {
+        return Err(SettleError::Because(Unsettled::Audit(verdict)));
+    }
+    let (completed, refused) = count_receipts(run.receipts);
+    Ok(Settled {
+        completed,
+        refused,
+        kinds: count_kinds(run.calls),
+        verdict,
+        moves: count_moves(run),
+    })
+}
+
+/// The verdict on the rows now, and the first cause that a call is, where no extent is a cause:
+/// each by a thread of its own, where one can be made.
+fn audit_beside_calls<R: Threads + Sync>(
+    rt: &R,
+    alloc: Global,
+    run: &Run<'_>,
+) -> (
+    Result<Verdict, AllocError>,
+    Result<Option<Unsettled>, AllocError>,
+)
+    ensures audit { IfOk result.0 (IsAuditOf (rows_left (shown run.now))) }
+    ensures calls { IfOk result.1 (IsFirstInCalls (shown run.now)) }
+{
+    let audited = || -> Result<Verdict, AllocError>
+        ensures { IfOk result (IsAuditOf (rows_left (shown run.entry.now))) }
+    { audit_left(alloc, run) };
+    let in_calls = || -> Result<Option<Unsettled>, AllocError>
+        requires { IsSync R.row }
+        ensures { IfOk result (IsFirstInCalls (shown run.entry.now)) }
+    { cause_in_calls(rt, alloc, run) };
+    join(rt, audited, in_calls)
+}
+
+/// The verdict on the rows now.
+fn audit_left(alloc: Global, run: &Run<'_>) -> Result<Verdict, AllocError>
+    ensures { IfOk result (IsAuditOf (rows_left (shown run.now))) }
+{
+    let rows = rows_now(alloc, run)?;
+    audit(alloc, &rows)
+}
+
+/// The first cause that an extent is.
+fn cause_in_extents(alloc: Global, run: &Run<'_>) -> Result<Option<Unsettled>, AllocError>
+    requires { IsClean run.now.population.now }
+    ensures { IfOk result (IsFirstOf 4 (shown run.now)) }
+{
+    let homes = homes(alloc, run.population)?;
+    Ok(extent_cause(run, &homes))
+}
+
+/// The first cause that an extent is, by the homes of the population.
+fn extent_cause(run: &Run<'_>, homes: &[Home]) -> Option<Unsettled>
+    requires { AreHomesOf run.now.population.now homes.now }
+    ensures { IsFirstOf 4 (shown run.now) result }
+{
+    if let Some(number) = first_extent(ExtentCause::OpenedElse, run, homes) {
+        return Some(Unsettled::Opening(number));
+    }
+    if let Some(number) = first_extent(ExtentCause::IsAsMixed, run, homes) {
+        return Some(Unsettled::Mixed(number));
+    }
+    if let Some(number) = first_extent(ExtentCause::InParcel, run, homes) {
+        return Some(Unsettled::ParcelLeft(number));
+    }
+    if let Some(number) = first_extent(ExtentCause::StandsTwice, run, homes) {
+        return Some(Unsettled::Doubled(number));
+    }
+    None
+}
+
+/// The first cause that a call is by its receipt and its entries, where no extent is a cause.
+fn cause_in_calls<R: Threads + Sync>(
+    rt: &R,
+    alloc: Global,
+    run: &Run<'_>,
+) -> Result<Option<Unsettled>, AllocError>
+    ensures { IfOk result (IsFirstInCalls (shown run.now)) }
+{
+    if let Some(place) = first_unmatched(rt, run.receipts, run.calls) {
+        return Ok(Some(Unsettled::CallMissing {
+            client: place.client,
+            number: place.number,
+        }));
+    }
+    let logs = LogTable::new(alloc, run.closed)?;
+    let Placed { table, extra } = place_entries(rt, alloc, &logs, run.receipts)?;
+    if let Some(place) = extra {
+        return Ok(Some(Unsettled::ReceiptMissing {
+            client: place.client,
+            number: place.number,
+        }));
+    }
+    let differing = Differing {
+        logs: &logs,
+        table: &table,
+        receipts: run.receipts,
+        calls: run.calls,
+    };
+    if let Some(place) = first_differing(rt, &differing) {
+        return Ok(Some(Unsettled::ReplyDiffers {
+            client: place.client,
+            number: place.number,
+        }));
+    }
+    if let Some(place) = first_falling(rt, run.receipts) {
+        return Ok(Some(Unsettled::StampOrder {
+            client: place.client,
+            number: place.number,
+        }));
+    }
+    Ok(None)
+}
+
+/// The first call without a home whose key names a subscriber, where there is no cause before it.
+fn cause_without_home(alloc: Global, run: &Run<'_>) -> Result<Option<Unsettled>, AllocError>
+    requires { IsClean run.now.population.now }
+    ensures { IfOk result (IsFirstAfter 8 9 (shown run.now)) }
+{
+    let directory = Directory::of_clean(alloc, run.population)?;
+    Ok(home_cause(first_homed(&directory, run.closed)))
+}
+
+/// That the call has a home.
+fn home_cause(place: Option<CallPlace>) -> Option<Unsettled>
+    ensures { result ≡ option_map (λ (call : CallPlace).
+        Unsettled.HasHome call.client call.number) place }
+{
+    place.map(|call| Unsettled::HasHome {
+        client: call.client,
+        number: call.number,
+    })
+}

@@ -1,0 +1,17 @@
+//! A run that is to be settled, as functions hand it on.
+use crate::{Closed, Receipt};
+use tatp_procs::Ask;
+use tatp_tables::Rows;
+
+/// What a run began with, and what it left.
+#[derive(Clone, Copy)]
+pub(crate) struct Run<'a> {
+    /// The rows from which it began.
+    pub(crate) population: &'a Rows,
+    /// What its sites and parcels left.
+    pub(crate) closed: &'a Closed,
+    /// What each client got for its calls.
+    pub(crate) receipts: &'a [Vec<Receipt>],
+    /// What each client asked.
+    pub(crate) calls: &'a [Vec<Ask>],
+}

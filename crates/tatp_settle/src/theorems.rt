@@ -1,0 +1,63 @@
+//! What is proved of the definitions. Nothing runs here: a clause is the theorem.
+ghost use Rattle.std.specs.Prelude.{List};
+ghost use Rattle.tatp_tables.specs.Database.{Database, database_of};
+ghost use Rattle.tatp_tables.specs.Clean.{IsClean};
+ghost use Rattle.tatp_procs.specs.Consistent.{IsConsistent};
+ghost use Rattle.tatp_procs.specs.declared.entry.Entry.{Entry};
+ghost use Rattle.tatp_settle.specs.Merging.{PlacedEntry, Merges, IsMergeable, OneHistory};
+ghost use Rattle.tatp_settle.specs.Interleaving.{Interleaves, IsOneHistoryInAnyOrder};
+ghost use Rattle.tatp_settle.specs.Closings.{IsClosed};
+ghost use Rattle.tatp_settle.specs.Runs.{Run, logs_left, rows_left};
+ghost use Rattle.tatp_settle.specs.CallPlaces.{HoldsNowhere};
+ghost use Rattle.tatp_settle.specs.Causes.{StampFalls, NamesHome};
+ghost use Rattle.tatp_settle.specs.Settlements.{IsPopulationOnce, IsReceived};
+ghost use Rattle.tatp_settle.specs.Separate.{Parts, AreSeparate, LogsAt, LeadsToLast};
+
+/// The logs of separate extents, each of which leads from its extent's homes in a database to its
+/// last homes, are one history in every order that keeps each log's own: of transactions on the
+/// database, answered as they were, which leads to a database with all the last homes.
+///
+/// This is why runs are linearizable. An entry is appended to its log after its call was asked and
+/// before it is answered, and the order in time of the appends is such an order.
+pub fn every_interleaving_is_one_history()
+    ensures { (parts : Parts) (history : List PlacedEntry) (u : Database)
+        (logs : List (List Entry))
+        → AreSeparate parts → IsConsistent u → Interleaves logs history → LogsAt parts u logs
+        → LeadsToLast parts u logs history }
+{}
+
+/// The logs of separate extents, each of which leads from its extent's homes in a database to its
+/// last homes, are one history when they are merged: of transactions on the database, answered as
+/// they were, which leads to a database with all the last homes.
+pub fn merged_logs_are_one_history()
+    ensures { (parts : Parts) (history : List PlacedEntry) (u : Database)
+        (logs : List (List Entry))
+        → AreSeparate parts → IsConsistent u → Merges logs history → LogsAt parts u logs
+        → LeadsToLast parts u logs history }
+{}
+
+/// The logs that a run left are one history, from the population to the rows that it left: where
+/// each extent stands once, unmixed and opened as the population has it, each entry has its
+/// receipt, each client's stamps rise, and no entry without a home names a subscriber.
+pub fn runs_are_one_history()
+    ensures { (run : Run)
+        → IsClean run.population → IsClosed run.closed → IsPopulationOnce run → IsReceived run
+        → HoldsNowhere (StampFalls run.receipts)
+        → HoldsNowhere (NamesHome (database_of run.population).subscribers run.closed)
+        → OneHistory (database_of run.population) (logs_left run) (database_of (rows_left run)) }
+{}
+
+/// The logs that a run left are one history in every order that keeps each log's own, from the
+/// population to the rows that it left: where each extent stands once, unmixed and opened as the
+/// population has it, and no entry without a home names a subscriber.
+pub fn runs_are_one_history_in_any_order()
+    ensures { (run : Run)
+        → IsClean run.population → IsClosed run.closed → IsPopulationOnce run
+        → HoldsNowhere (NamesHome (database_of run.population).subscribers run.closed)
+        → IsOneHistoryInAnyOrder run }
+{}
+
+/// Any logs can be merged.
+pub fn logs_can_be_merged()
+    ensures { (logs : List (List Entry)) → IsMergeable logs }
+{}

@@ -1,0 +1,3 @@
+pub mod StreamLaws
+pub mod TextLaws
+pub mod WritingLaws

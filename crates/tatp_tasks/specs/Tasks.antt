@@ -1,0 +1,25 @@
+-- Tasks that can be done.
+use Rattle.std.specs.Prelude.{ℕ, ◌≤◌, List, codes}
+use Rattle.tatp_tasks.specs.declared.task.Task.{Task}
+use Rattle.tatp_tasks.specs.declared.task.Task.TheVariants.{Call, Trace, Asm, Dis, Check, Audit, Bench}
+use Rattle.tatp_tasks.specs.Plans.{IsPlan}
+use Rattle.tatp_tasks.specs.Populations.{IsPopulation, IsSetup}
+
+-- where rows are drawn, so many can be; there can be so many partitions and clients; the run of the
+-- benchmark can be asked for
+abbrev pub IsTask : Task → Type 0
+IsTask (Call population partitions) =
+    IsPopulation population × (1 ≤ partitions) × (partitions ≤ 16)
+IsTask (Trace setup) = IsSetup setup
+IsTask (Bench plan progress) = IsPlan plan
+IsTask task = Unit {0}
+
+-- the command's name
+abbrev pub name_of : Task → List ℕ
+name_of (Call population partitions) = codes "call"
+name_of (Trace setup) = codes "trace"
+name_of Asm = codes "asm"
+name_of Dis = codes "dis"
+name_of Check = codes "check"
+name_of Audit = codes "audit"
+name_of (Bench plan progress) = codes "bench"

@@ -1,0 +1,12 @@
+//! What the program can be asked to do, and what it is told to do it with.
+#![tactic(auto)]
+
+mod plan;
+mod population;
+mod setup;
+mod task;
+
+pub use plan::BenchPlan;
+pub use population::Population;
+pub use setup::Setup;
+pub use task::Task;

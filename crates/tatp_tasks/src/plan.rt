@@ -1,0 +1,24 @@
+//! What a run of the benchmark is asked to be.
+use tatp_driver::Distribution;
+
+/// A run of the benchmark: over which database, by how many clients, with how many calls, moves and
+/// stops.
+#[derive(Clone, Copy, Debug, PartialEq, Eq)]
+pub struct BenchPlan {
+    /// How many subscribers the database has, 1 to 1,000,000.
+    pub subscribers: u64,
+    /// Over how many partitions they are dealt, 1 to 16.
+    pub partitions: u8,
+    /// How many clients call at once, 1 to 64.
+    pub clients: u8,
+    /// How many calls each client makes, 1 to 100,000.
+    pub calls: u64,
+    /// What all random words are drawn from.
+    pub seed: u64,
+    /// How the calls are distributed over the subscribers.
+    pub distribution: Distribution,
+    /// How often an extent is to be moved while the calls run, 0 to 100,000.
+    pub moves: u64,
+    /// How often a partition is to be stopped while the calls run, 0 to 100,000.
+    pub stops: u64,
+}

@@ -1,0 +1,13 @@
+//! What a run over lines is opened with.
+use crate::Population;
+
+/// What a run over lines is opened with.
+#[derive(Clone, Copy, Debug, PartialEq, Eq)]
+pub struct Setup {
+    /// Where its rows come from.
+    pub population: Population,
+    /// Over how many partitions they are dealt, 1 to 16.
+    pub partitions: u8,
+    /// For how many clients, 1 to 64.
+    pub clients: u8,
+}

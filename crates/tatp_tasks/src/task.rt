@@ -1,0 +1,27 @@
+//! What the program is asked to do.
+use crate::{BenchPlan, Population, Setup};
+
+/// What the program is asked to do: one of its commands.
+#[derive(Clone, Copy, Debug, PartialEq, Eq)]
+pub enum Task {
+    /// Answer calls, over so many partitions, 1 to 16.
+    Call {
+        population: Population,
+        partitions: u8,
+    },
+    /// Answer events.
+    Trace(Setup),
+    /// Assemble a text into a module.
+    Asm,
+    /// Print a module as a text.
+    Dis,
+    /// Test whether a module may be run.
+    Check,
+    /// Test whether rows are clean.
+    Audit,
+    /// Run the benchmark, and tell how it goes on or not.
+    Bench {
+        plan: BenchPlan,
+        progress: bool,
+    },
+}

@@ -1,7 +1,0 @@
-use Rattle.std.proofs.Common.{All}
-use Rattle.tatp_threads.specs.Executing.{GoesOnAfter}
-use Rattle.tatp_threads.proofs.ExecutorLaws.{Does}
-use Rattle.tatp_threads.proofs.executor.run.Given as goal
-
-abbrev pub invariant-loop-round : goal.invariant-loop-round
-invariant-loop-round g l = Does (All (GoesOnAfter l.client)) (g.E.Answering.effects l.initial.executing) (g.E.Answering.effects l.executing)

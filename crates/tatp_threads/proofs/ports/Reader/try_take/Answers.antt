@@ -1,5 +1,0 @@
-use Rattle.tatp_threads.proofs.InboxLaws.{takes}
-use Rattle.tatp_threads.proofs.ports.Reader.try_take.Goals as goal
-
-pub try_recv_as-requires-clause-rule : goal.try_recv_as-requires-clause-rule
-try_recv_as-requires-clause-rule g c = (takes _ _ _, λ items views all at. tt)

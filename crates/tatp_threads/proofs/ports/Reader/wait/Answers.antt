@@ -1,5 +1,0 @@
-use Rattle.tatp_threads.proofs.InboxLaws.{takes}
-use Rattle.tatp_threads.proofs.ports.Reader.wait.Goals as goal
-
-pub recv_as-requires-clause-rule : goal.recv_as-requires-clause-rule
-recv_as-requires-clause-rule g c = (takes _ _ _, λ items views all at. tt)

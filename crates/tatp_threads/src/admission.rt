@@ -1,0 +1,66 @@
+//! Which calls go into inboxes: those that fit the module of the run.
+ghost use Rattle.std.specs.Prelude.{◌≡◌, List, ℕ};
+ghost use Rattle.tatp_threads.specs.Inboxes.{IsMessage};
+
+use std::marker::{Brand, PhantomData};
+use std::sync::Wait;
+use tatp_inboxes::MessageRule;
+use tatp_partition::{Item, item_ok};
+use tatp_workers::Message;
+
+/// How many arguments each procedure takes. Each run picks it.
+pub(crate) trait Arities {
+    ghost arities: { List ℕ };
+}
+
+impl Arities for Brand {
+    ghost use Rattle.std.specs.Prelude.{[]};
+
+    ghost arities = { [] };
+}
+
+/// The rule of an inbox: each message is Quit, or a call that fits.
+pub(crate) struct Fitting<A> {
+    of: PhantomData<A>,
+}
+
+impl<A: Arities> MessageRule<Message> for Fitting<A> {
+    ghost allows = { IsMessage A.arities };
+}
+
+/// An end of an inbox that puts.
+pub(crate) type Port<A> = tatp_inboxes::Port<Message, Fitting<A>>;
+
+/// The end of an inbox that takes.
+pub(crate) type Reader<A> = tatp_inboxes::Reader<Message, Fitting<A>>;
+
+/// Admits to inboxes the calls that fit: it has the arities of the run, by which threads test them.
+#[derive(Drop)]
+pub(crate) struct Admission<A: Arities> {
+    arities: Vec<u8>,
+    of: PhantomData<A>,
+    ghost same: { arities.items ≡ A.arities },
+}
+
+impl<A: Arities> Admission<A> {
+    /// These are the arities of the run.
+    pub(crate) fn new(arities: Vec<u8>) -> Admission<A>
+        requires { arities.items ≡ A.arities }
+    {
+        Admission {
+            arities,
+            of: PhantomData,
+        }
+    }
+
+    /// Puts a call where it fits. It comes back where it doesn't, and where there is no room.
+    pub(crate) fn put<R: Wait>(&self, rt: &R, port: &mut Port<A>, item: Item) -> Result<(), Item> {
+        if !item_ok(&item, self.arities.as_slice()) {
+            return Err(item);
+        }
+        match port.put(rt, Message::Call(item)) {
+            Ok(()) => Ok(()),
+            Err(_) => Err(item),
+        }
+    }
+}

@@ -1,0 +1,38 @@
+//! What a run leaves.
+ghost use Rattle.std.specs.Prelude.{◌≡◌};
+
+use tatp_partition::{Landed, Parcel, Receipt, Site};
+
+/// What a run leaves. It can be neither copied nor dropped: [`Ran::parts`] spends it.
+pub struct Ran<'m> {
+    parts: RanParts<'m>,
+}
+
+/// The parts of what a run leaves.
+pub struct RanParts<'m> {
+    /// The sites, that of partition 0 first.
+    pub sites: Vec<Site<'m>>,
+    /// The extents that were taken and not given.
+    pub parcels: Vec<Parcel>,
+    /// The landings that the routes weren't told.
+    pub landings: Vec<Landed>,
+    /// The receipts of each client, in the order in which it got them.
+    pub receipts: Vec<Vec<Receipt>>,
+}
+
+impl<'m> Ran<'m> {
+    /// What a run that has ended leaves.
+    pub(crate) fn new(parts: RanParts<'m>) -> Ran<'m>
+        ensures { result.parts ≡ parts.entry }
+    {
+        Ran { parts }
+    }
+
+    /// Spends it: its parts.
+    pub fn parts(self) -> RanParts<'m>
+        ensures { result ≡ self.entry.parts }
+    {
+        let Ran { parts } = self;
+        parts
+    }
+}

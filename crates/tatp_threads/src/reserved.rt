@@ -1,0 +1,153 @@
+//! What the threads fill and work with: all of it gets its room before they start.
+ghost use Rattle.std.specs.Prelude.{◌≡◌, ◌≤◌, IfOk, length, vec_len, vec_capacity};
+ghost use Rattle.tatp_procs.specs.Asked.{arities_of};
+
+use crate::admission::{Admission, Arities, Port, Reader};
+use crate::calls::arities_of;
+use crate::partition::Partition;
+use std::alloc::{AllocError, Global};
+use tatp_inboxes::{Mailbox, ends_of, open_inboxes};
+use tatp_loader::Loaded;
+use tatp_partition::{Parcel, Receipt, Site};
+use tatp_procs::Ask;
+use tatp_workers::Delivery;
+
+/// Room for values that must be spent, none of which is there yet.
+pub(crate) struct Spare<T> {
+    items: Vec<T>,
+    ghost empty: { vec_len items ≡ 0 },
+}
+
+impl<T> Spare<T> {
+    fn new(alloc: Global, room: usize) -> Result<Spare<T>, AllocError>
+        ensures { IfOk result (λ spare. room ≤ vec_capacity spare.items) }
+    {
+        Ok(Spare {
+            items: Vec::with_capacity(alloc, room)?,
+        })
+    }
+
+    pub(crate) fn into_vec(self) -> Vec<T>
+        ensures empty { vec_len result ≡ 0 }
+        ensures room { vec_capacity result ≡ vec_capacity self.items }
+    {
+        let Spare { items } = self;
+        items
+    }
+}
+
+impl<T> Drop for Spare<T> {
+    fn drop(self) {
+        let Spare { items } = self;
+        items.destroy_empty();
+    }
+}
+
+/// What an executor has for itself: the reader of its inbox, and an end at each inbox.
+#[derive(Drop)]
+pub(crate) struct ExecutorSeat<A: Arities> {
+    pub(crate) reader: Reader<A>,
+    pub(crate) ports: Vec<Port<A>>,
+}
+
+/// What a client has for itself: its number, an end at each inbox, and its receipts.
+#[derive(Drop)]
+pub(crate) struct ClientSeat<A: Arities> {
+    pub(crate) number: u64,
+    pub(crate) ports: Vec<Port<A>>,
+    pub(crate) receipts: Vec<Receipt>,
+}
+
+/// A seat for each reader.
+fn seat_executors<A: Arities>(
+    alloc: Global,
+    readers: Vec<Reader<A>>,
+    ports: &mut [Port<A>],
+) -> Result<Vec<ExecutorSeat<A>>, AllocError> {
+    let mut seats = Vec::with_capacity(alloc, readers.len())?;
+    for reader in readers {
+        seats.push(ExecutorSeat {
+            reader,
+            ports: ends_of(alloc, ports)?,
+        })?;
+    }
+    Ok(seats)
+}
+
+/// A seat for each client, with room for a receipt of each of its calls.
+fn seat_clients<A: Arities>(
+    alloc: Global,
+    lists: &[Vec<Ask>],
+    ports: &mut [Port<A>],
+) -> Result<Vec<ClientSeat<A>>, AllocError>
+    ensures { IfOk result (λ seats. vec_len seats ≡ length lists.now) }
+{
+    let mut seats = Vec::with_capacity(alloc, lists.len())?;
+    for list in lists {
+        seats.push(ClientSeat {
+            number: seats.len() as u64,
+            ports: ends_of(alloc, ports)?,
+            receipts: Vec::with_capacity(alloc, list.len())?,
+        })?;
+    }
+    Ok(seats)
+}
+
+/// So many empty mailboxes.
+fn make_mailboxes(alloc: Global, count: usize) -> Result<Vec<Mailbox<Delivery>>, AllocError> {
+    let mut mailboxes = Vec::with_capacity(alloc, count)?;
+    for _ in 0..count {
+        mailboxes.push(Mailbox::new())?;
+    }
+    Ok(mailboxes)
+}
+
+/// What the threads fill, and what they work with besides sites and routes.
+#[derive(Drop)]
+pub(crate) struct Reserved<'m, A: Arities> {
+    pub(crate) admission: Admission<A>,
+    /// An end at each inbox, by which it gets Quit.
+    pub(crate) quit: Vec<Port<A>>,
+    pub(crate) executors: Vec<ExecutorSeat<A>>,
+    pub(crate) clients: Vec<ClientSeat<A>>,
+    pub(crate) mailboxes: Vec<Mailbox<Delivery>>,
+    /// Room for the receipts of each client.
+    pub(crate) receipts: Vec<Vec<Receipt>>,
+    pub(crate) partitions: Spare<Partition<'m>>,
+    pub(crate) sites: Spare<Site<'m>>,
+    pub(crate) hand: Spare<Parcel>,
+}
+
+impl<'m, A: Arities> Reserved<'m, A> {
+    /// Room for a run of these calls in so many partitions.
+    pub(crate) fn make(
+        alloc: Global,
+        loaded: &Loaded,
+        partitions: usize,
+        lists: &[Vec<Ask>],
+    ) -> Result<Reserved<'m, A>, AllocError>
+        requires clients { length lists.now ≤ 64 }
+        requires rule { arities_of loaded.now ≡ A.arities }
+        ensures clients { IfOk result (λ room. vec_len room.clients ≡ length lists.now) }
+        ensures none { IfOk result (λ room. vec_len room.receipts ≡ 0) }
+        ensures receipts { IfOk result (λ room. length lists.now ≤ vec_capacity room.receipts) }
+        ensures partitions { IfOk result (λ room. partitions ≤ vec_capacity room.partitions.items) }
+        ensures sites { IfOk result (λ room. partitions ≤ vec_capacity room.sites.items) }
+    {
+        let admission = Admission::new(arities_of(alloc, loaded)?);
+        let (mut quit, readers) = open_inboxes(alloc, partitions, lists.len() + 1)?;
+        let executors = seat_executors(alloc, readers, quit.as_mut_slice())?;
+        let clients = seat_clients(alloc, lists, quit.as_mut_slice())?;
+        Ok(Reserved {
+            admission,
+            quit,
+            executors,
+            clients,
+            mailboxes: make_mailboxes(alloc, lists.len())?,
+            receipts: Vec::with_capacity(alloc, lists.len())?,
+            partitions: Spare::new(alloc, partitions)?,
+            sites: Spare::new(alloc, partitions)?,
+            hand: Spare::new(alloc, 1)?,
+        })
+    }
+}

@@ -1,0 +1,122 @@
+-- What an executor has done so far, and at the end.
+use Rattle.std.proofs.Common.{◌≡◌, ℕ, suc, Bool, true, false, List, [], ◌∷◌, ◌++◌, All, Option, Some, None, Result, refl, sym, ap, ◌∙◌, subst, append_assoc}
+use Rattle.std.proofs.lemmas.List.{append-nil}
+use Rattle.std.proofs.lemmas.List.Elements.{All-nil, All-push}
+use Rattle.tatp_partition.specs.declared.item.Item.{Item}
+use Rattle.tatp_partition.specs.declared.item.Stepped.{Stepped}
+use Rattle.tatp_partition.specs.declared.refusal.SiteRefusal.{SiteRefusal}
+use Rattle.tatp_workers.specs.declared.message.Message.{Message}
+use Rattle.tatp_workers.specs.declared.message.Message.TheVariants.{Call}
+use Rattle.tatp_workers.specs.declared.offers.Offered.{Offered}
+use Rattle.tatp_workers.specs.declared.effects.Effect.{Effect}
+use Rattle.tatp_workers.specs.declared.effects.Effect.TheVariants.{Receives, Offers, Slices}
+use Rattle.tatp_workers.specs.Effects.{Grows, Does, Follows, effects_of_step}
+use Rattle.tatp_workers.specs.Offering.{is_again, has_begun}
+use Rattle.tatp_workers.specs.Executing.{IsOfferedAgain, IsOffered, is_to_go_on, GoesOnAfter, RunsToItsEnd, RunsWhereItBegan, ExecutesCall, Executes, is_last, ExecutesUntilQuit}
+use Rattle.tatp_workers.proofs.EffectLaws.{not_grown, grown_twice}
+
+-- ---- a call is offered
+pub none_offered : (item : Item) (known : Option (List Effect)) → Does (All (IsOfferedAgain item)) known known
+none_offered item known = ([], All-nil (IsOfferedAgain item), not_grown known)
+
+pub one_more_offered : (item : Item) (offered : Offered) (known mid known' : Option (List Effect))
+    → Does (All (IsOfferedAgain item)) known mid
+    → is_again offered ≡ true
+    → Grows mid known' (Offers item offered ∷ [])
+    → Does (All (IsOfferedAgain item)) known known'
+one_more_offered item offered known mid known' before again grows = (
+  before.0 ++ Offers item offered ∷ [],
+  All-push (IsOfferedAgain item) before.0 (Offers item offered) before.1 (offered, again, refl),
+  grown_twice known mid known' before.0 (Offers item offered ∷ []) before.2 grows,
+)
+
+pub last_offered : (item : Item) (offered : Offered) (began : Bool) (known mid offered_known known' : Option (List Effect))
+    → Does (All (IsOfferedAgain item)) known mid
+    → is_again offered ≡ false
+    → began ≡ has_begun offered
+    → Grows mid offered_known (Offers item offered ∷ [])
+    → Does (Follows offered) offered_known known'
+    → Does (IsOffered item began) known known'
+last_offered item offered began known mid offered_known known' before other answer grows followed = (
+  before.0 ++ Offers item offered ∷ followed.0,
+  record {
+    before = before.0;
+    last = offered;
+    following = followed.0;
+    again = before.1;
+    other = other;
+    follows = followed.1;
+    answer = answer;
+    all = refl;
+  },
+  grown_twice known mid known' before.0 (Offers item offered ∷ followed.0) before.2 (grown_twice mid offered_known known' (Offers item offered ∷ []) followed.0 grows followed.2),
+)
+
+-- ---- a call runs
+pub none_sliced : (client : ℕ) (known : Option (List Effect)) → Does (All (GoesOnAfter client)) known known
+none_sliced client known = ([], All-nil (GoesOnAfter client), not_grown known)
+
+pub one_more_sliced : (client : ℕ) (answer : Result Stepped SiteRefusal) (known mid known' : Option (List Effect))
+    → Does (All (GoesOnAfter client)) known mid
+    → is_to_go_on answer ≡ true
+    → Grows mid known' (Slices client answer ∷ [])
+    → Does (All (GoesOnAfter client)) known known'
+one_more_sliced client answer known mid known' before goes grows = (
+  before.0 ++ Slices client answer ∷ [],
+  All-push (GoesOnAfter client) before.0 (Slices client answer) before.1 (answer, goes, refl),
+  grown_twice known mid known' before.0 (Slices client answer ∷ []) before.2 grows,
+)
+
+pub last_sliced : (partition client : ℕ) (answer : Result Stepped SiteRefusal) (known mid sliced_known known' : Option (List Effect))
+    → Does (All (GoesOnAfter client)) known mid
+    → is_to_go_on answer ≡ false
+    → Grows mid sliced_known (Slices client answer ∷ [])
+    → Grows sliced_known known' (effects_of_step partition answer)
+    → Does (RunsToItsEnd partition client) known known'
+last_sliced partition client answer known mid sliced_known known' before ended grows completed =
+    let following = effects_of_step partition answer in (
+      before.0 ++ Slices client answer ∷ following,
+      record { before = before.0; last = answer; going_on = before.1; ended = ended; all = refl },
+      grown_twice known mid known' before.0 (Slices client answer ∷ following) before.2 (grown_twice mid sliced_known known' (Slices client answer ∷ []) following grows completed),
+    )
+
+-- ---- one call after another
+pub executed : (partition : ℕ) (item : Item) (began : Bool) (known mid known' : Option (List Effect))
+    → Does (IsOffered item began) known mid
+    → Does (RunsWhereItBegan began partition item.client) mid known'
+    → Does (ExecutesCall partition item) known known'
+executed partition item began known mid known' offered runs = (
+  offered.0 ++ runs.0,
+  record { began = began; offering = offered.0; running = runs.0; offered = offered.1; runs = runs.1; all = refl },
+  grown_twice known mid known' offered.0 runs.0 offered.2 runs.2,
+)
+
+-- some calls were executed one after another
+abbrev pub ExecutesSome : ℕ → List Effect → Type 0
+ExecutesSome partition effects = (calls : ℕ) × Executes partition calls effects
+
+pub none_executed : (partition : ℕ) (known : Option (List Effect)) → Does (ExecutesSome partition) known known
+none_executed partition known = ([], (0, refl), not_grown known)
+
+pub one_more_executed : (partition : ℕ) (item : Item) (known mid received_known known' : Option (List Effect))
+    → Does (ExecutesSome partition) known mid
+    → Grows mid received_known (Receives (Some (Call item)) ∷ [])
+    → Does (ExecutesCall partition item) received_known known'
+    → Does (ExecutesSome partition) known known'
+one_more_executed partition item known mid received_known known' before received call =
+    let these = Receives (Some (Call item)) ∷ call.0 in (
+      before.0 ++ these,
+      (suc before.1.0, (before.0, item, call.0, before.1.1, call.1, refl)),
+      grown_twice known mid known' before.0 these before.2 (grown_twice mid received_known known' (Receives (Some (Call item)) ∷ []) call.0 received call.2),
+    )
+
+pub last_received : (partition : ℕ) (message : Option Message) (known mid known' : Option (List Effect))
+    → Does (ExecutesSome partition) known mid
+    → is_last message ≡ true
+    → Grows mid known' (Receives message ∷ [])
+    → Does (ExecutesUntilQuit partition) known known'
+last_received partition message known mid known' before quit grows = (
+  before.0 ++ Receives message ∷ [],
+  record { calls = before.1.0; before = before.0; last = message; executed = before.1.1; quit = quit; all = refl },
+  grown_twice known mid known' before.0 (Receives message ∷ []) before.2 grows,
+)

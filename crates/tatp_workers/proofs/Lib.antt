@@ -1,0 +1,6 @@
+pub mod DebuggerLaws
+pub mod EffectLaws
+pub mod ExecutorLaws
+pub mod MoverLaws
+pub mod SliceLaws
+pub mod TalkLaws

@@ -1,0 +1,12 @@
+use Rattle.std.proofs.Common.{◌≡◌, None, List}
+use Rattle.tatp_workers.specs.Effects.{Grows}
+use Rattle.tatp_workers.specs.Slices.{GoesOnObserved}
+use Rattle.tatp_workers.specs.declared.observer.StepAhead.{StepAhead}
+use Rattle.tatp_workers.proofs.SliceLaws.{WentOn}
+use Rattle.tatp_workers.proofs.slices.slice.Given as goal
+
+abbrev pub invariant-loop-made : goal.invariant-loop-made
+invariant-loop-made g l = record {
+  went_on : WentOn l.client l._made l.initial.site l.site (g.O.Observer.observed l.initial.observer) (g.O.Observer.observed l.observer);
+  going : l.ended ≡ None;
+}

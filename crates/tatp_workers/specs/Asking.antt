@@ -1,0 +1,72 @@
+-- What a client asks, and what it gets.
+use Rattle.std.specs.Prelude.{◌≡◌, ◌⊎◌, ℕ, zero, suc, List, [], ◌∷◌, ◌++◌, length, Option, Some, None, slice_get}
+use Rattle.tatp_procs.specs.declared.ask.Ask.{Ask}
+use Rattle.tatp_numbers.specs.Listing.{Listing, answer}
+use Rattle.tatp_partition.specs.declared.item.Item.{Item}
+use Rattle.tatp_procs.specs.Asked.{key_asked}
+use Rattle.tatp_partition.specs.declared.receipt.Receipt.{Receipt}
+use Rattle.tatp_partition.specs.declared.receipt.Receipt.TheVariants.{Done, Refused}
+use Rattle.tatp_workers.specs.declared.client.Exchange.{Exchange}
+
+-- how many calls of a client were asked, and the last stamp that it has seen
+pub record Session : Type 0 where
+  pub number : ℕ
+  pub seen : ℕ
+
+-- a client's next call, with the home that its key names
+abbrev pub item_of : Listing → ℕ → Session → Ask → Item
+item_of listing client session ask = record {
+  client = client;
+  number = session.number;
+  seen = session.seen;
+  ask = ask;
+  home = answer listing (key_asked ask);
+}
+
+-- the last stamp that a client has seen, after one more receipt
+abbrev pub seen_after : ℕ → Receipt → ℕ
+seen_after seen (Done client number reply extent stamp) = stamp
+seen_after seen (Refused client number) = seen
+
+-- what a client exchanged, and the receipts that it keeps
+pub record Talk : Type 0 where
+  pub exchanges : List Exchange
+  pub receipts : List Receipt
+
+-- one more call, which got this receipt
+abbrev pub with_receipt : Talk → Item → Receipt → Talk
+with_receipt t item receipt = record {
+  exchanges = t.exchanges ++ record { item = item; receipt = Some receipt } ∷ [];
+  receipts = t.receipts ++ receipt ∷ [];
+}
+
+-- one more call, which came to nothing
+abbrev pub with_nothing : Talk → Item → Talk
+with_nothing t item =
+    record t { exchanges = t.exchanges ++ record { item = item; receipt = None } ∷ [] }
+
+-- the first calls, so many, were asked one after another, and each got a receipt; the last stamp
+-- that was seen then
+abbrev pub Answered : Listing → ℕ → List Ask → ℕ → Talk → ℕ → Type 0
+Answered listing client asks zero t seen =
+    (t ≡ record { exchanges = []; receipts = [] }) × (seen ≡ 0)
+Answered listing client asks (suc n) t seen =
+    (before : Talk) × (seen_before : ℕ) × (ask : Ask) × (receipt : Receipt)
+    × Answered listing client asks n before seen_before
+    × (slice_get asks n ≡ Some ask)
+    × (t ≡ with_receipt before
+    (item_of listing client (record { number = n; seen = seen_before }) ask) receipt)
+    × (seen ≡ seen_after seen_before receipt)
+
+-- all calls were asked one after another, and got their receipts; or so many were, and the next
+-- came to nothing
+pub record Converses (listing : Listing) (client : ℕ) (asks : List Ask) (t : Talk)
+    : Type 0 where
+  pub answered : ℕ
+  pub before : Talk
+  pub seen : ℕ
+  pub first : Answered listing client asks answered before seen
+  pub rest : ((answered ≡ length asks) × (t ≡ before))
+      ⊎ ((ask : Ask) × (slice_get asks answered ≡ Some ask)
+      × (t ≡ with_nothing before
+      (item_of listing client (record { number = answered; seen = seen }) ask)))

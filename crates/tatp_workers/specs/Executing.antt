@@ -1,0 +1,99 @@
+-- What an executor does, one thing after another.
+use Rattle.std.specs.Prelude.{◌≡◌, ℕ, zero, suc, List, [], ◌∷◌, ◌++◌, All, Bool, true, false, not, Option, Some, None, Result, Ok, Err}
+use Rattle.tatp_partition.specs.declared.item.Item.{Item}
+use Rattle.tatp_partition.specs.declared.item.Stepped.{Stepped}
+use Rattle.tatp_partition.specs.declared.item.Stepped.TheVariants.{Moved, Ended}
+use Rattle.tatp_partition.specs.declared.refusal.SiteRefusal.{SiteRefusal}
+use Rattle.tatp_partition.specs.declared.refusal.SiteRefusal.TheVariants.{NotRunning}
+use Rattle.tatp_workers.specs.declared.message.Message.{Message}
+use Rattle.tatp_workers.specs.declared.message.Message.TheVariants.{Quit, Call}
+use Rattle.tatp_workers.specs.declared.offers.Offered.{Offered}
+use Rattle.tatp_workers.specs.Offering.{is_again, has_begun}
+use Rattle.tatp_workers.specs.declared.effects.Effect.{Effect}
+use Rattle.tatp_workers.specs.declared.effects.Effect.TheVariants.{Receives, Offers, Slices}
+use Rattle.tatp_workers.specs.Effects.{Follows, effects_of_step}
+
+-- ---- a call is offered
+-- the call was offered, and is to be offered again
+abbrev pub IsOfferedAgain : Item → Effect → Type 0
+IsOfferedAgain item effect =
+    (offered : Offered) × (is_again offered ≡ true) × (effect ≡ Offers item offered)
+
+-- a call is offered until it needn't be again, and then what follows is done; whether it began
+pub record IsOffered (item : Item) (began : Bool) (effects : List Effect) : Type 0 where
+  pub before : List Effect
+  pub last : Offered
+  pub following : List Effect
+  pub again : All (IsOfferedAgain item) before
+  pub other : is_again last ≡ false
+  pub follows : Follows last following
+  pub answer : began ≡ has_begun last
+  pub all : effects ≡ before ++ Offers item last ∷ following
+
+-- ---- a call runs
+-- no call runs any more
+abbrev pub is_not_running : SiteRefusal → Bool
+is_not_running NotRunning = true
+is_not_running refusal = false
+
+-- steps after which more are to be made: the call goes on, or its site is stopped or at a
+-- breakpoint
+abbrev pub is_to_go_on : Result Stepped SiteRefusal → Bool
+is_to_go_on (Ok Moved) = true
+is_to_go_on (Ok (Ended completion)) = false
+is_to_go_on (Err refusal) = not (is_not_running refusal)
+
+-- steps of the client's call were made, and more are to be
+abbrev pub GoesOnAfter : ℕ → Effect → Type 0
+GoesOnAfter client effect =
+    (answer : Result Stepped SiteRefusal)
+    × (is_to_go_on answer ≡ true)
+    × (effect ≡ Slices client answer)
+
+-- steps are made until the call has ended, or doesn't run any more since the debugger ended it;
+-- where it ended here it is completed
+pub record RunsToItsEnd (partition client : ℕ) (effects : List Effect) : Type 0 where
+  pub before : List Effect
+  pub last : Result Stepped SiteRefusal
+  pub going_on : All (GoesOnAfter client) before
+  pub ended : is_to_go_on last ≡ false
+  pub all : effects ≡ before ++ Slices client last ∷ effects_of_step partition last
+
+abbrev pub RunsWhereItBegan : Bool → ℕ → ℕ → List Effect → Type 0
+RunsWhereItBegan true partition client effects = RunsToItsEnd partition client effects
+RunsWhereItBegan false partition client effects = effects ≡ []
+
+-- ---- one call after another
+-- a call is offered, and runs to its end where it began
+pub record ExecutesCall (partition : ℕ) (item : Item) (effects : List Effect) : Type 0 where
+  pub began : Bool
+  pub offering : List Effect
+  pub running : List Effect
+  pub offered : IsOffered item began offering
+  pub runs : RunsWhereItBegan began partition item.client running
+  pub all : effects ≡ offering ++ running
+
+-- so many calls were taken out of the inbox one after another, and each was executed before the
+-- next
+abbrev pub Executes : ℕ → ℕ → List Effect → Type 0
+Executes partition zero effects = effects ≡ []
+Executes partition (suc calls) effects =
+    (before : List Effect) × (item : Item) × (these : List Effect)
+    × Executes partition calls before
+    × ExecutesCall partition item these
+    × (effects ≡ before ++ Receives (Some (Call item)) ∷ these)
+
+-- Quit, or that no message will come
+abbrev pub is_last : Option Message → Bool
+is_last None = true
+is_last (Some Quit) = true
+is_last (Some (Call item)) = false
+
+-- calls are executed until Quit comes
+pub record ExecutesUntilQuit (partition : ℕ) (effects : List Effect) : Type 0 where
+  pub calls : ℕ
+  pub before : List Effect
+  pub last : Option Message
+  pub executed : Executes partition calls before
+  pub quit : is_last last ≡ true
+  pub all : effects ≡ before ++ Receives last ∷ []

@@ -1,0 +1,7 @@
+pub mod Effects
+pub mod Offering
+pub mod Slices
+pub mod Asking
+pub mod Executing
+pub mod Debugging
+pub mod Carrying

@@ -1,0 +1,50 @@
+-- Steps of a call under one hold of its site's lock.
+use Rattle.std.specs.Prelude.{◌≡◌, ℕ, zero, suc, ◌<◌, List, [], ◌∷◌, ◌++◌, Option, Some, None, Result}
+use Rattle.std.specs.Option.{option_map_or}
+use Rattle.tatp_partition.specs.declared.item.Stepped.{Stepped}
+use Rattle.tatp_partition.specs.declared.refusal.SiteRefusal.{SiteRefusal}
+use Rattle.tatp_partition.specs.Obstacles.{step_obstacle}
+use Rattle.tatp_partition.specs.Running.{GoesOn, AdvancesUnless}
+use Rattle.tatp_partition.specs.Sites.{SiteState, RunningCall}
+use Rattle.tatp_workers.specs.declared.observer.StepAhead.{StepAhead}
+
+-- the running call's next step, alone
+abbrev pub next_step : ℕ → ℕ → RunningCall → List StepAhead
+next_step partition client r =
+    record { partition = partition; client = client; pc = r.call.frame.pc } ∷ []
+
+-- the steps that are seen before a step is made or refused: the running call's next one, none where
+-- a step is refused
+abbrev pub steps_ahead_unless : Option SiteRefusal → SiteState → ℕ → List StepAhead
+steps_ahead_unless (Some refusal) s client = []
+steps_ahead_unless None s client =
+    option_map_or (next_step s.partition client) s.running []
+
+abbrev pub steps_ahead : SiteState → ℕ → List StepAhead
+steps_ahead s client = steps_ahead_unless (step_obstacle s) s client
+
+-- so many steps, each of which went on and was seen before it was made, lead from one site to
+-- another
+abbrev pub GoesOnObserved : ℕ → ℕ → SiteState → SiteState → List StepAhead → Type 0
+GoesOnObserved client zero s s' steps = (s' ≡ s) × (steps ≡ [])
+GoesOnObserved client (suc n) s s' steps =
+    (mid : SiteState) × (before : List StepAhead)
+    × GoesOnObserved client n s mid before
+    × (step_obstacle mid ≡ None) × GoesOn mid s'
+    × (steps ≡ before ++ steps_ahead mid client)
+
+-- the most steps of one call under one hold of the lock
+abbrev pub most_steps : ℕ
+most_steps = 16
+
+-- fewer than the most steps went on, and one more step answered so; each was seen before it was
+-- made
+pub record IsSlice (client : ℕ) (s : SiteState) (answer : Result Stepped SiteRefusal)
+    (s' : SiteState) (steps : List StepAhead) : Type 0 where
+  pub count : ℕ
+  pub mid : SiteState
+  pub before : List StepAhead
+  pub few : count < most_steps
+  pub went_on : GoesOnObserved client count s mid before
+  pub last : AdvancesUnless (step_obstacle mid) mid answer s'
+  pub seen : steps ≡ before ++ steps_ahead mid client

@@ -1,0 +1,81 @@
+//! What a client does: it asks its calls one after another.
+ghost use Rattle.std.specs.Prelude.{◌≡◌, ◌+◌, ◌++◌, ◌∷◌, [], ◌≤◌, List, Option, None, length, vec_len, vec_capacity};
+ghost use Rattle.tatp_workers.specs.Effects.{Grows};
+ghost use Rattle.tatp_workers.specs.declared.client.Exchange.{Exchange};
+ghost use Rattle.tatp_workers.specs.Asking.{Converses, Talk, item_of, seen_after};
+
+use tatp_numbers::Directory;
+use tatp_partition::{Item, Receipt};
+use tatp_procs::Ask;
+
+/// A call that was asked, and what came of it: none where it came to nothing.
+#[derive(Clone, Copy, Debug)]
+pub struct Exchange {
+    /// The call.
+    pub item: Item,
+    /// Its receipt.
+    pub receipt: Option<Receipt>,
+}
+
+/// Asks calls and waits for their receipts.
+pub trait Requester {
+    /// What was exchanged, where that is known.
+    ghost exchanges: { Self → Option (List Exchange) } = { λ _. None };
+
+    /// Puts a call into the inbox that its route names, and waits for its receipt. None where the
+    /// call came to nothing.
+    fn ask(&mut self, item: Item) -> Option<Receipt>
+        ensures { Grows (exchanges self.old) (exchanges self.new)
+            (record { item = item; receipt = result } ∷ []) };
+}
+
+/// A client's next call.
+fn item_of(directory: &Directory, client: u64, number: u64, seen: u64, ask: &Ask) -> Item
+    ensures { result
+        ≡ item_of directory.now client (record { number = number; seen = seen }) ask.now }
+{
+    Item {
+        client,
+        number,
+        seen,
+        ask: *ask,
+        home: directory.home_of(ask.key()),
+    }
+}
+
+/// The last stamp that a client has seen, after one more receipt.
+fn seen_after(seen: u64, receipt: &Receipt) -> u64
+    ensures { result ≡ seen_after seen receipt.now }
+{
+    match receipt {
+        Receipt::Done { stamp, .. } => *stamp,
+        Receipt::Refused { .. } => seen,
+    }
+}
+
+/// Asks the calls of one client, one after another, and keeps their receipts. It ends where a call
+/// came to nothing.
+pub fn ask_all<D: Requester>(
+    requester: &mut D,
+    directory: &Directory,
+    client: u64,
+    asks: &[Ask],
+    receipts: &mut Vec<Receipt>,
+)
+    requires room { vec_len receipts.old + length asks.now ≤ vec_capacity receipts.old }
+    ensures { (talk : Talk) × Converses directory.now client asks.now talk
+        × Grows (D.exchanges requester.old) (D.exchanges requester.new) talk.exchanges
+        × (receipts.new.items ≡ receipts.old.items ++ talk.receipts) }
+{
+    let mut seen = 0;
+    for number in 0..asks.len() {
+        let item = item_of(directory, client, number as u64, seen, &asks[number]);
+        match requester.ask(item) {
+            None => return,
+            Some(receipt) => {
+                receipts.push_reserved(receipt);
+                seen = seen_after(seen, &receipt);
+            }
+        }
+    }
+}

@@ -1,0 +1,71 @@
+//! What the debugger does: it stops one partition after another.
+ghost use Rattle.std.specs.Prelude.{◌≡◌, Result, length, [], ◌∷◌};
+ghost use Rattle.tatp_partition.specs.declared.item.Stepped.{Stepped};
+ghost use Rattle.tatp_partition.specs.declared.refusal.SiteRefusal.{SiteRefusal};
+ghost use Rattle.tatp_workers.specs.Effects.{Grows, Does, InTurn};
+ghost use Rattle.tatp_workers.specs.Debugging.{effects_of_inspection, IsDebugged};
+ghost use Rattle.tatp_workers.specs.declared.effects.Effect.TheVariants.{Stops, Looks, Steps, Resumes};
+
+use crate::effects::follow_step;
+use crate::{Answering, Moves};
+use tatp_partition::{SiteRefusal, Stepped};
+
+/// Stops sites, looks at them, has their calls make a step, and resumes them.
+pub trait Debugging: Answering {
+    /// Stops a site, where there is such a partition and it isn't stopped. Whether it did.
+    fn stop(&mut self, partition: u8) -> bool
+        ensures { Grows (Self.effects self.old) (Self.effects self.new)
+            (Stops partition result ∷ []) };
+
+    /// Looks at the running call.
+    fn look(&mut self, partition: u8)
+        ensures { Grows (Self.effects self.old) (Self.effects self.new) (Looks partition ∷ []) };
+
+    /// Has the running call make one step, though its site is stopped.
+    fn one(&mut self, partition: u8) -> Result<Stepped, SiteRefusal>
+        ensures { Grows (Self.effects self.old) (Self.effects self.new)
+            (Steps partition result ∷ []) };
+
+    /// Ends a stop.
+    fn resume(&mut self, partition: u8)
+        ensures { Grows (Self.effects self.old) (Self.effects self.new) (Resumes partition ∷ []) };
+}
+
+/// Looks at a stopped site, has its call make one step, and resumes it.
+fn inspect<D: Debugging>(debugging: &mut D, partition: u8)
+    ensures { (answer : Result Stepped SiteRefusal)
+        × Grows (D.effects debugging.old) (D.effects debugging.new)
+        (effects_of_inspection partition answer) }
+{
+    debugging.look(partition);
+    let stepped = debugging.one(partition);
+    follow_step(debugging, partition, &stepped);
+    debugging.resume(partition);
+}
+
+/// Stops a site, unless there is none or it is stopped, and inspects it.
+fn debug<D: Debugging>(debugging: &mut D, partition: u8)
+    ensures { Does (IsDebugged partition) (D.effects debugging.old) (D.effects debugging.new) }
+{
+    if debugging.stop(partition) {
+        inspect(debugging, partition);
+    }
+}
+
+/// Makes one stop after another.
+fn debug_all<D: Debugging>(debugging: &mut D, stops: &[u8])
+    ensures { Does (InTurn IsDebugged stops.now (length stops.now)) (D.effects debugging.old)
+        (D.effects debugging.new) }
+{
+    for number in 0..stops.len() {
+        debug(debugging, stops[number]);
+    }
+}
+
+/// Makes the stops of a run.
+pub fn debug_run<D: Debugging>(debugging: &mut D, moves: &Moves)
+    ensures { Does (InTurn IsDebugged moves.now.stops.items (length moves.now.stops.items))
+        (D.effects debugging.old) (D.effects debugging.new) }
+{
+    debug_all(debugging, moves.stops.as_slice());
+}

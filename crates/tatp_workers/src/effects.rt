@@ -1,0 +1,133 @@
+//! What executors and the debugger do, one thing after another.
+ghost use Rattle.std.specs.Prelude.{◌≡◌, List, Option, None, [], ◌∷◌};
+ghost use Rattle.tatp_partition.specs.Running.{told_in};
+ghost use Rattle.tatp_workers.specs.Effects.{Grows, Does, Follows, receipt_of, concluding, effects_of_step};
+ghost use Rattle.tatp_workers.specs.declared.effects.Effect.{Effect};
+ghost use Rattle.tatp_workers.specs.declared.effects.Effect.TheVariants.{Sends, Answers, Tells, Receives, Offers, Slices};
+
+use crate::{Delivery, Message, Offered};
+use tatp_partition::{Completion, CompletionPlace, Item, Receipt, SiteRefusal, Stepped};
+
+/// What an executor or the debugger did.
+#[derive(Clone, Copy)]
+pub enum Effect {
+    /// A call was sent on, and whether it was put into an inbox.
+    Sends(Item, bool),
+    /// A client was answered.
+    Answers(u64, Delivery),
+    /// The gate was told of an end, with the partition and the client.
+    Tells(u8, u64),
+    /// A message was taken out of the inbox, or none will come.
+    Receives(Option<Message>),
+    /// A call was offered to the site.
+    Offers(Item, Offered),
+    /// Steps of a client's call were made, and what the last of them answered.
+    Slices(u64, Result<Stepped, SiteRefusal>),
+    /// The site of a partition was to be stopped, and whether it was.
+    Stops(u8, bool),
+    /// A stopped site was looked at.
+    Looks(u8),
+    /// A stopped site made one step.
+    Steps(u8, Result<Stepped, SiteRefusal>),
+    /// A stopped site was resumed.
+    Resumes(u8),
+}
+
+/// Answers clients, and tells the gate.
+pub trait Answering {
+    /// What was done, where that is known.
+    ghost effects: { Self → Option (List Effect) } = { λ _. None };
+
+    /// Hands to a client what it waits for.
+    fn answer(&mut self, client: u64, delivery: Delivery)
+        ensures { Grows (effects self.old) (effects self.new) (Answers client delivery ∷ []) };
+
+    /// Tells the gate that a client's call has ended.
+    fn tell(&mut self, partition: u8, client: u64)
+        ensures { Grows (effects self.old) (effects self.new) (Tells partition client ∷ []) };
+}
+
+/// Takes calls out of an inbox, has a site run them, and sends them on.
+pub trait Executing: Answering {
+    /// The next message of the inbox. None where no end that puts is left.
+    fn receive(&mut self) -> Option<Message>
+        ensures { Grows (Self.effects self.old) (Self.effects self.new) (Receives result ∷ []) };
+
+    /// Offers a call to the site.
+    fn offer(&mut self, item: &Item) -> Offered
+        ensures { Grows (Self.effects self.old) (Self.effects self.new)
+            (Offers item.now result ∷ []) };
+
+    /// Makes steps of a client's call at the site. Where the call ends, its completion is left in
+    /// its place.
+    fn slice(&mut self, client: u64, ended: &mut CompletionPlace) -> Result<(), SiteRefusal>
+        requires { ended.old ≡ None }
+        ensures { Grows (Self.effects self.old) (Self.effects self.new)
+            (Slices client (told_in result ended.new) ∷ []) };
+
+    /// Puts a call into the inbox that its route names. Whether it was put there.
+    fn send(&mut self, item: Item) -> bool
+        ensures { Grows (Self.effects self.old) (Self.effects self.new) (Sends item result ∷ []) };
+}
+
+/// The receipt of a completed call.
+fn receipt_of(completion: &Completion) -> Receipt
+    ensures { result ≡ receipt_of completion.now }
+{
+    Receipt::Done {
+        client: completion.entry.client,
+        number: completion.entry.number,
+        reply: completion.entry.reply,
+        extent: completion.extent,
+        stamp: completion.entry.stamp,
+    }
+}
+
+/// Gives a completed call's receipt to its client, and then tells the gate.
+#[tactic(auto, using(crate::proofs::EffectLaws::grown_by_two))]
+pub(crate) fn conclude<A: Answering>(answering: &mut A, partition: u8, completion: &Completion)
+    ensures { Grows (A.effects answering.old) (A.effects answering.new)
+        (concluding partition completion.now) }
+{
+    let client = completion.entry.client;
+    answering.answer(client, Delivery::Got(receipt_of(completion)));
+    answering.tell(partition, client);
+}
+
+/// Concludes the call where a step has ended it.
+pub(crate) fn follow_step<A: Answering>(
+    answering: &mut A,
+    partition: u8,
+    stepped: &Result<Stepped, SiteRefusal>,
+)
+    ensures { Grows (A.effects answering.old) (A.effects answering.new)
+        (effects_of_step partition stepped.now) }
+{
+    if let Ok(Stepped::Ended(completion)) = stepped {
+        conclude(answering, partition, completion);
+    }
+}
+
+/// Does what follows from what became of a call.
+pub(crate) fn follow<E: Executing>(executing: &mut E, offered: &Offered)
+    ensures { Does (Follows offered.now) (E.effects executing.old) (E.effects executing.new) }
+{
+    match offered {
+        Offered::Began | Offered::Again(_) => {}
+        Offered::Away(item) => {
+            let item = *item;
+            let client = item.client;
+            if !executing.send(item) {
+                executing.answer(client, Delivery::Dropped);
+            }
+        }
+        Offered::Denied(item) => {
+            let receipt = Receipt::Refused {
+                client: item.client,
+                number: item.number,
+            };
+            executing.answer(item.client, Delivery::Got(receipt));
+        }
+        Offered::Dropped(item) => executing.answer(item.client, Delivery::Dropped),
+    }
+}

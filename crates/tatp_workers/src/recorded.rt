@@ -1,0 +1,238 @@
+//! Workers' surroundings that are in memory and keep what is done. Those of threads are behind
+//! locks, where nothing is known of what is done; here it is known, so that the contracts of the
+//! workers say something, and are shown to be met.
+ghost use Rattle.std.specs.Prelude.{◌≡◌, [], ◌∷◌, List, None, false, length, vec_len, vec_capacity, ◌<◌, ◌≤◌, ◌+◌, ◌++◌};
+ghost use Rattle.tatp_population.specs.Extents.{ExtentState};
+ghost use Rattle.tatp_partition.specs.Running.{told_in};
+ghost use Rattle.tatp_workers.specs.Effects.{Grows, InTurn, known_unless};
+ghost use Rattle.tatp_workers.specs.Asking.{Talk, Converses};
+ghost use Rattle.tatp_workers.specs.Carrying.{MakesMoves};
+ghost use Rattle.tatp_workers.specs.Debugging.{IsDebugged};
+ghost use Rattle.tatp_workers.specs.Executing.{ExecutesUntilQuit};
+ghost use Rattle.tatp_workers.specs.Slices.{IsSlice};
+
+use crate::{
+    Answering, Carrying, Debugging, Delivery, Effect, Exchange, Executing, Message, MoveEffect,
+    Moves, Observer, Offered, Requester, StepAhead, ask_all, debug_run, move_run, slice,
+    take_calls,
+};
+use std::alloc::Global;
+use std::sync::Wait;
+use std::sync::atomic::AtomicU64;
+use tatp_move::{MoveRefusal, Plan};
+use tatp_numbers::Directory;
+use tatp_partition::{CompletionPlace, Item, Landed, Parcel, Receipt, Site, SiteRefusal, Stepped};
+use tatp_procs::Ask;
+
+/// What was done, kept as long as there is memory for it.
+#[derive(Drop)]
+struct Record<T> {
+    kept: Vec<T>,
+    is_lost: bool,
+}
+
+impl<T> Record<T> {
+    /// Nothing was done.
+    fn new(alloc: Global) -> Record<T>
+        ensures kept { result.kept.items ≡ [] }
+        ensures all { result.is_lost ≡ false }
+    {
+        Record {
+            kept: Vec::new(alloc),
+            is_lost: false,
+        }
+    }
+}
+
+impl<T: Copy> Record<T> {
+    /// One thing more was done.
+    #[tactic(auto, using(crate::proofs::EffectLaws::grows_by))]
+    fn keep(&mut self, it: T)
+        ensures { Grows (known_unless self.old.is_lost self.old.kept.items)
+            (known_unless self.new.is_lost self.new.kept.items) (it ∷ []) }
+    {
+        if self.kept.push(it).is_err() {
+            self.is_lost = true;
+        }
+    }
+}
+
+impl Observer for Record<StepAhead> {
+    ghost observed = { λ r. known_unless r.is_lost r.kept.items };
+
+    fn before_step(&mut self, step: StepAhead) {
+        self.keep(step);
+    }
+}
+
+impl Requester for Record<Exchange> {
+    ghost exchanges = { λ r. known_unless r.is_lost r.kept.items };
+
+    /// Each call comes to nothing.
+    fn ask(&mut self, item: Item) -> Option<Receipt> {
+        self.keep(Exchange {
+            item,
+            receipt: None,
+        });
+        None
+    }
+}
+
+impl Carrying for Record<MoveEffect> {
+    ghost effects = { λ r. known_unless r.is_lost r.kept.items };
+
+    /// Each extent is in partition 0.
+    fn plan(&mut self, extent: u32, to: u8) -> Result<Plan, MoveRefusal> {
+        let plan = Ok(Plan {
+            first: extent,
+            last: extent,
+            from: 0,
+            to,
+        });
+        self.keep(MoveEffect::Plans(extent, to, plan));
+        plan
+    }
+
+    /// Each extent is pinned.
+    fn take(&mut self, from: u8, extent: u32) -> Result<Parcel, SiteRefusal> {
+        self.keep(MoveEffect::Takes(from, extent, Some(SiteRefusal::Pinned)));
+        Err(SiteRefusal::Pinned)
+    }
+
+    /// There is no place for any.
+    fn give(&mut self, to: u8, parcel: Parcel) -> Result<Landed, Parcel> {
+        self.keep(MoveEffect::Gives(to, parcel.number(), false));
+        Err(parcel)
+    }
+
+    fn settle(&mut self, landed: Landed) {
+        self.keep(MoveEffect::Settles(landed.number()));
+        landed.discard();
+    }
+}
+
+impl Answering for Record<Effect> {
+    ghost effects = { λ r. known_unless r.is_lost r.kept.items };
+
+    fn answer(&mut self, client: u64, delivery: Delivery) {
+        self.keep(Effect::Answers(client, delivery));
+    }
+
+    fn tell(&mut self, partition: u8, client: u64) {
+        self.keep(Effect::Tells(partition, client));
+    }
+}
+
+/// Each site is stopped, and its call makes its step.
+impl Debugging for Record<Effect> {
+    fn stop(&mut self, partition: u8) -> bool {
+        self.keep(Effect::Stops(partition, true));
+        true
+    }
+
+    fn look(&mut self, partition: u8) {
+        self.keep(Effect::Looks(partition));
+    }
+
+    fn one(&mut self, partition: u8) -> Result<Stepped, SiteRefusal> {
+        self.keep(Effect::Steps(partition, Ok(Stepped::Moved)));
+        Ok(Stepped::Moved)
+    }
+
+    fn resume(&mut self, partition: u8) {
+        self.keep(Effect::Resumes(partition));
+    }
+}
+
+/// No call comes, and a site would drop each.
+impl Executing for Record<Effect> {
+    fn receive(&mut self) -> Option<Message> {
+        self.keep(Effect::Receives(None));
+        None
+    }
+
+    fn offer(&mut self, item: &Item) -> Offered {
+        self.keep(Effect::Offers(*item, Offered::Dropped(*item)));
+        Offered::Dropped(*item)
+    }
+
+    fn slice(&mut self, client: u64, _ended: &mut CompletionPlace) -> Result<(), SiteRefusal> {
+        self.keep(Effect::Slices(client, Err(SiteRefusal::NotRunning)));
+        Err(SiteRefusal::NotRunning)
+    }
+
+    fn send(&mut self, item: Item) -> bool {
+        self.keep(Effect::Sends(item, true));
+        true
+    }
+}
+
+/// An executor runs calls.
+#[tactic(auto, using(crate::proofs::EffectLaws::all_recorded))]
+fn execute_each<R: Wait>(rt: &R, alloc: Global) -> Record<Effect>
+    ensures { result.is_lost ≡ false → ExecutesUntilQuit 0 result.kept.items }
+{
+    let mut executing = Record::new(alloc);
+    take_calls(rt, &mut executing, 0);
+    executing
+}
+
+/// The debugger makes stops.
+#[tactic(auto, using(crate::proofs::EffectLaws::all_recorded))]
+fn debug_each(alloc: Global, moves: &Moves) -> Record<Effect>
+    ensures { result.is_lost ≡ false
+        → InTurn IsDebugged moves.now.stops.items (length moves.now.stops.items) result.kept.items }
+{
+    let mut debugging = Record::new(alloc);
+    debug_run(&mut debugging, moves);
+    debugging
+}
+
+/// The mover makes moves.
+#[tactic(auto, using(crate::proofs::EffectLaws::all_recorded))]
+fn move_each(alloc: Global, moves: &Moves, hand: &mut Vec<Parcel>) -> Record<MoveEffect>
+    requires room { vec_len hand.old < vec_capacity hand.old }
+    ensures { (kept : List ExtentState)
+        × (result.is_lost ≡ false → MakesMoves moves.now.moves.items kept result.kept.items)
+        × (hand.new.items ≡ hand.old.items ++ kept) }
+{
+    let mut carrying = Record::new(alloc);
+    move_run(&mut carrying, moves, hand);
+    carrying
+}
+
+/// A client asks calls.
+#[tactic(auto, using(crate::proofs::EffectLaws::all_recorded))]
+fn ask_each(
+    alloc: Global,
+    directory: &Directory,
+    asks: &[Ask],
+    receipts: &mut Vec<Receipt>,
+) -> Record<Exchange>
+    requires room { vec_len receipts.old + length asks.now ≤ vec_capacity receipts.old }
+    ensures { (talk : Talk) × Converses directory.now 0 asks.now talk
+        × (result.is_lost ≡ false → result.kept.items ≡ talk.exchanges)
+        × (receipts.new.items ≡ receipts.old.items ++ talk.receipts) }
+{
+    let mut requester = Record::new(alloc);
+    ask_all(&mut requester, directory, 0, asks, receipts);
+    requester
+}
+
+/// A call makes steps at a site.
+#[tactic(auto, using(crate::proofs::EffectLaws::all_recorded))]
+fn slice_once(
+    site: &mut Site<'_>,
+    alloc: Global,
+    client: u64,
+    wanted: &AtomicU64,
+    ended: &mut CompletionPlace,
+) -> (Record<StepAhead>, Result<(), SiteRefusal>)
+    requires { ended.old ≡ None }
+    ensures { result.0.is_lost ≡ false
+        → IsSlice client site.old (told_in result.1 ended.new) site.new result.0.kept.items }
+{
+    let mut observer = Record::new(alloc);
+    let made = slice(site, &mut observer, client, wanted, ended);
+    (observer, made)
+}

@@ -1,0 +1,75 @@
+//! Steps of a call under one hold of its site's lock.
+ghost use Rattle.std.specs.Prelude.{◌≡◌, None, OnErr};
+ghost use Rattle.tatp_partition.specs.Obstacles.{step_obstacle};
+ghost use Rattle.tatp_partition.specs.Running.{AdvancesUnless, told_in};
+ghost use Rattle.tatp_workers.specs.Effects.{Grows, Does};
+ghost use Rattle.tatp_workers.specs.Slices.{IsSlice, steps_ahead};
+
+use crate::{Observer, StepAhead};
+use std::sync::atomic::{AtomicU64, Ordering};
+use tatp_partition::{CompletionPlace, Site, SiteRefusal, StepKind};
+
+/// The most steps of one call under one hold of the lock.
+const MOST_STEPS: u32 = 16;
+
+/// Whether another thread wants the lock.
+pub fn is_wanted(wanted: &AtomicU64) -> bool {
+    wanted.load(Ordering::SeqCst) != 0
+}
+
+/// One step of a client's call, which its observer sees before. A step that is refused isn't seen.
+/// Where the call ends, its completion is left in its place.
+#[inline(always)]
+fn observed_step<O: Observer>(
+    site: &mut Site<'_>,
+    observer: &mut O,
+    client: u64,
+    ended: &mut CompletionPlace,
+) -> Result<(), SiteRefusal>
+    requires { ended.old ≡ None }
+    ensures step { AdvancesUnless (step_obstacle site.old) site.old (told_in result ended.new)
+        site.new }
+    ensures refused { OnErr result (ended.new ≡ None) }
+    ensures observed { Grows (O.observed observer.old) (O.observed observer.new)
+        (steps_ahead site.old client) }
+{
+    if let Err(refusal) = site.check_step() {
+        return Err(refusal);
+    }
+    if let Some(machine) = site.machine() {
+        let step = StepAhead {
+            partition: site.partition(),
+            client,
+            pc: machine.pc(),
+        };
+        observer.before_step(step);
+    }
+    site.step_into(StepKind::Step, ended)
+}
+
+/// Makes steps of a client's call at a site whose lock is held: up to the first that doesn't go on,
+/// and no more where another thread wants the lock. Where the call ends, its completion is left in
+/// its place.
+pub fn slice<O: Observer>(
+    site: &mut Site<'_>,
+    observer: &mut O,
+    client: u64,
+    wanted: &AtomicU64,
+    ended: &mut CompletionPlace,
+) -> Result<(), SiteRefusal>
+    requires { ended.old ≡ None }
+    ensures { Does (IsSlice client site.old (told_in result ended.new) site.new)
+        (O.observed observer.old) (O.observed observer.new) }
+{
+    for _made in 0..MOST_STEPS - 1 {
+        match observed_step(site, observer, client, ended) {
+            Ok(()) => {
+                if ended.is_some() || is_wanted(wanted) {
+                    return Ok(());
+                }
+            }
+            Err(refusal) => return Err(refusal),
+        }
+    }
+    observed_step(site, observer, client, ended)
+}

@@ -275,17 +275,21 @@ fn same_replies(
     clock: &StepClock,
 ) -> u64 {
     let mut made = [0; CLIENTS as usize];
-    let mut same = 0;
+    let mut same: u64 = 0;
     for _ in 0..CLIENTS * CALLS {
         let Some(client) = next_client(clock, &made) else {
             return same;
         };
-        let ask = lists.get(client).and_then(|list| list.get(made[client]));
-        let receipt = receipts.get(client).and_then(|list| list.get(made[client]));
+        let Some(number) = made.get_mut(client) else {
+            return same;
+        };
+        let call = *number;
+        *number = call.saturating_add(1);
+        let ask = lists.get(client).and_then(|list| list.get(call));
+        let receipt = receipts.get(client).and_then(|list| list.get(call));
         if is_same(world, client, ask, receipt) {
-            same += 1;
+            same = same.saturating_add(1);
         }
-        made[client] += 1;
     }
     same
 }
@@ -329,11 +333,11 @@ fn made_again<R: Threads + Wait + Sync>(
 
 #[test]
 fn runs_are_serial_in_the_order_of_their_last_steps(rt: HostRuntime) -> Result<(), Fail> {
-    let mut judged = 0;
+    let mut judged: u64 = 0;
     for seed in 0..60 {
         if let Some(again) = made_again(&rt, rt.alloc(), seed)? {
             assert_eq!(rt; again, (CLIENTS * CALLS, true));
-            judged += 1;
+            judged = judged.saturating_add(1);
         }
     }
     assert!(rt; judged >= 50);

@@ -1,3 +1,4 @@
+-- trusted: read it
 -- What a run over event lines writes.
 use Rattle.std.specs.Prelude.{◌≡◌, ℕ, ◌≤◌, List, ◌++◌, length, Result}
 use Rattle.tatp_tables.specs.Clean.{IsClean}

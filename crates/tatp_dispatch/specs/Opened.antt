@@ -1,3 +1,4 @@
+-- trusted: read it
 -- A whole that was just opened.
 use Rattle.std.specs.Prelude.{◌≡◌, ℕ, ◌+◌, false, List, [], length, replicate, None}
 use Rattle.tatp_encoding.specs.Modules.{Procedure}

@@ -1,3 +1,4 @@
+-- trusted: read it
 -- Calls answered one after another.
 use Rattle.std.specs.Prelude.{List, [], ◌∷◌}
 use Rattle.tatp_tables.specs.Database.{Database}

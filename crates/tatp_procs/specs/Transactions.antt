@@ -1,3 +1,4 @@
+-- trusted: read it
 -- The seven transactions, on four sets of tuples: what each answers, and the database after it.
 -- TATP Benchmark Description 1.0, transactions; their SQL stands with each. A failure leaves the
 -- database. The failure numbers, the parent test and the order of the numbers answered are this

@@ -1,3 +1,4 @@
+-- trusted: read it
 -- Any order of the entries of many logs that keeps the order of each log.
 use Rattle.std.specs.Prelude.{List, [], ◌∷◌}
 use Rattle.tatp_tables.specs.Database.{Database, database_of}

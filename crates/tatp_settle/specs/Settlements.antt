@@ -1,3 +1,4 @@
+-- trusted: read it
 -- What a settled run is, and what it counts; what gathering and settling refuse.
 use Rattle.std.specs.Prelude.{◌≡◌, ℕ, ◌<◌, ◌≤◌, not, true, List, [], map, count_by, sum_by, Some}
 use Rattle.std.specs.List.{range_with_len}

@@ -1,3 +1,4 @@
+-- trusted: read it
 -- Clean rows: the six audits, counted over the four lists. Equal rows count twice.
 use Rattle.std.specs.Prelude.{◌≡◌, ℕ, ◌≤◌, true, max, List, [], ◌∷◌, length, take, count_by, All}
 use Rattle.tatp_tables.specs.Tuples.{Tuple}

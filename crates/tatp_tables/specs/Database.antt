@@ -1,3 +1,4 @@
+-- trusted: read it
 -- A database: four finite sets of tuples. The rows of one subscriber in it, and the database with
 -- those replaced.
 use Rattle.std.specs.Prelude.{ℕ, not, List, [], ◌∷◌, Option, take}

@@ -10,5 +10,5 @@ pub same_plan : (a b : BenchPlan)
 same_plan a b subscribers partitions clients calls seed distribution moves stops =
     rw (subscribers, partitions, clients, calls, seed, distribution, moves, stops) refl
 
-pub same_setup : (a b : Setup) → a.population ≡ b.population → a.partitions ≡ b.partitions → a.clients ≡ b.clients → a ≡ b
-same_setup a b population partitions clients = rw (population, partitions, clients) refl
+pub same_setup : (a b : Setup) → a.procedures ≡ b.procedures → a.population ≡ b.population → a.partitions ≡ b.partitions → a.clients ≡ b.clients → a ≡ b
+same_setup a b procedures population partitions clients = rw (procedures, population, partitions, clients) refl

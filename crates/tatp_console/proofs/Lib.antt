@@ -1,4 +1,5 @@
 pub mod AnswerLaws
+pub mod BroughtLaws
 pub mod WorkLaws
 pub mod CallLaws
 pub mod OrderLaws

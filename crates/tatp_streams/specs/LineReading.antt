@@ -1,5 +1,5 @@
 -- Lines that are taken from a reader one after another: what was taken, and what is left.
-use Rattle.std.specs.Prelude.{◌≡◌, ℕ, ◌+◌, ◌-◌, ◌*◌, ◌<◌, ◌≤◌, ◌==◌, Bool, true, List, [], ◌∷◌, ◌++◌, length, take, drop, position, Option, None, Some, if◌then◌else◌, ⊤}
+use Rattle.std.specs.Prelude.{◌≡◌, ℕ, ◌+◌, ◌-◌, ◌*◌, ◌<◌, ◌≤◌, ◌==◌, Bool, true, false, List, [], ◌∷◌, ◌++◌, length, take, drop, position, Option, None, Some, IfSome, IsSomeAnd, if◌then◌else◌, ⊤}
 use Rattle.std.specs.Option.{option_map}
 use Rattle.tatp_lines.specs.Lines.{lines_of}
 
@@ -14,6 +14,9 @@ pub record LineReaderState : Type 0 where
   pub ahead : List ℕ  -- the bytes that were read and not taken
   pub count : ℕ  -- how many bytes were read in all
   pub ended : Bool  -- whether the input has ended
+
+abbrev pub nothing_taken : LineReaderState
+nothing_taken = record { line = []; number = 0; ahead = []; count = 0; ended = false }
 
 -- ---- what is left
 -- the lines that are left, and how long the whole input is
@@ -37,11 +40,42 @@ abbrev pub Stays : {A : Type 0} → Option A → Option A → Type 0
 Stays None new = ⊤
 Stays (Some x) new = new ≡ Some x
 
+-- this holds of the lines that were left and of those that are, where the first are known
+abbrev pub Relates : Option LinesLeft → Option LinesLeft
+    → (LinesLeft → LinesLeft → Type 0) → Type 0
+Relates old new P = IfSome old (λ all. IsSomeAnd new (P all))
+
 -- ---- steps
 -- how many more steps a loop can make that takes lines and reads: each takes a byte, reads one or
 -- meets the end
 abbrev pub steps_left : LineReaderState → ℕ
 steps_left s = 2 * (most_bytes - s.count) + length s.ahead + (if s.ended then 0 else 1)
+
+-- this line, and then those that are left
+abbrev pub with_line : List ℕ → LinesLeft → LinesLeft
+with_line line left = record left { lines = line ∷ left.lines }
+
+-- the first of the lines that were left is taken, by the bytes that the reader had and has
+pub record TakesLine (old : LineReaderState) (had : Option (List ℕ))
+    (new : LineReaderState) (has : Option (List ℕ)) : Type 0 where
+  pub left : Stays (lines_left old had) (option_map (with_line new.line) (lines_left new has))
+  pub number : new.number ≡ old.number + 1
+  pub fewer : steps_left new < steps_left old
+
+-- no line was left, and the input is no longer than may be read
+pub record MeetsEnd (old : LineReaderState) (had : Option (List ℕ))
+    (new : LineReaderState) (has : Option (List ℕ)) : Type 0 where
+  pub left : Stays (lines_left old had) (lines_left new has)
+  pub none : IfSome (lines_left new has) (λ left. left.lines ≡ [])
+  pub within : IfSome (lines_left new has) (λ left. left.input_length ≤ most_bytes)
+  pub number : new.number ≡ old.number
+
+-- bytes are read, or the end is met: all lines are left
+pub record ReadsMore (old : LineReaderState) (had : Option (List ℕ))
+    (new : LineReaderState) (has : Option (List ℕ)) : Type 0 where
+  pub left : Stays (lines_left old had) (lines_left new has)
+  pub number : new.number ≡ old.number
+  pub fewer : steps_left new < steps_left old
 
 -- these bytes have no line feed
 abbrev pub HasNoLineFeed : List ℕ → Type 0
@@ -51,20 +85,6 @@ HasNoLineFeed bytes = position (λ byte. byte == 10) bytes ≡ None
 pub record HoldsNoLine (s : LineReaderState) : Type 0 where
   pub none_ahead : HasNoLineFeed s.ahead
   pub last : s.ended ≡ true → s.ahead ≡ []
-
--- the first of the lines that are left is taken, whatever the reader has left
-pub record TakesLine (old new : LineReaderState) : Type 0 where
-  pub left : (known : Option (List ℕ)) → lines_left old known
-      ≡ option_map (λ left. record left { lines = new.line ∷ left.lines }) (lines_left new known)
-  pub number : new.number ≡ old.number + 1
-  pub fewer : steps_left new < steps_left old
-
--- bytes are read, or the end is met: all lines are left, by the bytes that the reader had and has
-pub record ReadsMore (old : LineReaderState) (had : Option (List ℕ))
-    (new : LineReaderState) (has : Option (List ℕ)) : Type 0 where
-  pub left : Stays (lines_left old had) (lines_left new has)
-  pub number : new.number ≡ old.number
-  pub fewer : steps_left new < steps_left old
 
 -- ---- the fields of a LineReader
 -- the line stands from `start` to before `end`; what was not taken begins at `taken`, and at its

@@ -26,7 +26,6 @@ pub(crate) fn read_piece<R: Read>(
     ensures within { OnOk result (before + vec_len bytes.new ≤ MOST_BYTES + vec_len bytes.old) }
     ensures more { IfOk result (λ more. more ≡ true → vec_len bytes.old < vec_len bytes.new) }
     ensures end { IfOk result (λ more. more ≡ false → IsAtEnd (R.remaining reader.new)) }
-    ensures none { IfOk result (λ more. more ≡ false → bytes.new ≡ bytes.old) }
     ensures taken { OnOk result ((read : List ℕ)
         × Consumes (R.remaining reader.old) (R.remaining reader.new) read
         × (bytes.new.items ≡ bytes.old.items ++ read)) }

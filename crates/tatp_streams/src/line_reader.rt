@@ -1,6 +1,7 @@
 //! The lines of a reader, taken one after another.
-ghost use Rattle.std.specs.Prelude.{◌≡◌, ◌≤◌, true, false, [], drop, take, length, IfSome, IfNone, OnOk, vec_len};
-ghost use Rattle.tatp_streams.specs.LineReading.{HasNoLineFeed, IsFirstLine, HoldsNoLine, TakesLine, ReadsMore};
+ghost use Rattle.std.specs.Prelude.{◌≡◌, ℕ, ◌≤◌, ◌⊎◌, true, false, List, [], drop, take, length, Option, IfSome, IfNone, IfOk, IfErr, OnOk, vec_len};
+ghost use Rattle.tatp_streams.specs.declared.fault.StreamFault.TheVariants.{ReadFault, NoMemory};
+ghost use Rattle.tatp_streams.specs.LineReading.{nothing_taken, HasNoLineFeed, IsFirstLine, HoldsNoLine, TakesLine, MeetsEnd, ReadsMore};
 
 use crate::StreamFault;
 use crate::input::{MOST_BYTES, PIECE, read_piece};
@@ -10,12 +11,12 @@ use std::marker::Model;
 
 /// The lines of a reader, taken one after another.
 ///
-/// It reads in [`LineReader::read_more`] alone, so whoever takes the lines decides what is done
-/// before the program waits for more of them. It holds no more than a piece of the input and its
-/// longest line.
+/// Lines that were read whole are taken without reading, so that whoever takes them decides what is
+/// done before the program waits for the next. It holds no more than a piece of the input beside
+/// its longest line.
 #[derive(Drop)]
 pub struct LineReader {
-    /// What was read, without what [`LineReader::read_more`] found to be taken.
+    /// What was read, from the last piece that was taken to its end.
     buffer: Vec<u8>,
     /// The line that was taken last stands from here ..
     start: usize,
@@ -80,13 +81,7 @@ fn remove_front(buffer: &mut Vec<u8>, count: usize)
 impl LineReader {
     /// Nothing is read yet.
     pub fn new(alloc: Global) -> LineReader
-        ensures { result ≡ record {
-          line = [];
-          number = 0;
-          ahead = [];
-          count = 0;
-          ended = false;
-        } }
+        ensures { result ≡ nothing_taken }
     {
         LineReader {
             buffer: Vec::new(alloc),
@@ -100,11 +95,13 @@ impl LineReader {
         }
     }
 
-    /// Takes the first line of those that were read whole; the last one needs no line feed once the
-    /// input has ended. `false`: there is none, and nothing changes.
-    pub fn advance(&mut self) -> bool
-        ensures line { result ≡ true → TakesLine self.old self.new }
-        ensures none { result ≡ false → HoldsNoLine self.old × (self.new ≡ self.old) }
+    /// Takes the next line where it was read whole; the last one needs no line feed once the input
+    /// has ended. `false`: there is none.
+    pub fn advance_ready(&mut self) -> bool
+        ensures line { result ≡ true
+            → (known : Option (List ℕ)) → TakesLine self.old known self.new known }
+        ensures none { result ≡ false → HoldsNoLine self.old }
+        ensures same { result ≡ false → self.new ≡ self.old }
     {
         match first_line(&self.buffer[self.taken..], self.clear, self.ended) {
             Some((length, taken)) => {
@@ -119,6 +116,26 @@ impl LineReader {
                 self.clear = self.buffer.len() - self.taken;
                 false
             }
+        }
+    }
+
+    /// Takes the next line, and reads on until it has come whole: this may wait. `false`: there is
+    /// none, and the input has ended. After an error nothing is known of the lines that are left.
+    pub fn advance<R: Read>(&mut self, reader: &mut R) -> Result<bool, StreamFault>
+        ensures line { IfOk result (λ more. more ≡ true
+            → TakesLine self.old (R.remaining reader.old) self.new (R.remaining reader.new)) }
+        ensures end { IfOk result (λ more. more ≡ false
+            → MeetsEnd self.old (R.remaining reader.old) self.new (R.remaining reader.new)) }
+        ensures faults { IfErr result (λ fault. (fault ≡ ReadFault) ⊎ (fault ≡ NoMemory)) }
+    {
+        'pieces: loop {
+            if self.advance_ready() {
+                return Ok(true);
+            }
+            if self.is_ended() {
+                return Ok(false);
+            }
+            self.read_more(reader)?;
         }
     }
 
@@ -137,20 +154,20 @@ impl LineReader {
         self.number
     }
 
-    /// Whether the input has ended. No more than [`MOST_BYTES`] are read of it.
-    pub fn is_ended(&self) -> bool
+    /// Whether the input has ended.
+    fn is_ended(&self) -> bool
         ensures ended { result ≡ self.now.ended }
         ensures within { self.now.count ≤ MOST_BYTES }
     {
         self.ended
     }
 
-    /// Takes what one read gives, which may be the end. After an error nothing is known of the
-    /// lines that are left.
-    pub fn read_more<R: Read>(&mut self, reader: &mut R) -> Result<(), StreamFault>
+    /// Takes what one read gives, which may be the end.
+    fn read_more<R: Read>(&mut self, reader: &mut R) -> Result<(), StreamFault>
         requires { self.old.ended ≡ false }
-        ensures { OnOk result
+        ensures more { OnOk result
             (ReadsMore self.old (R.remaining reader.old) self.new (R.remaining reader.new)) }
+        ensures faults { IfErr result (λ fault. (fault ≡ ReadFault) ⊎ (fault ≡ NoMemory)) }
     {
         self.start = 0;
         self.end = 0;
@@ -158,11 +175,9 @@ impl LineReader {
         self.taken = 0;
         let held = self.buffer.len();
         let mut piece = [0u8; PIECE];
-        if read_piece(reader, self.count, &mut piece, &mut self.buffer)? {
-            self.count += self.buffer.len() - held;
-        } else {
-            self.ended = true;
-        }
+        let more = read_piece(reader, self.count, &mut piece, &mut self.buffer)?;
+        self.count += self.buffer.len() - held;
+        self.ended = !more;
         Ok(())
     }
 }

@@ -1,7 +1,7 @@
 -- Lines that are taken one after another.
 use Rattle.std.proofs.Common.{◌≡◌, ℕ, ◌+◌, ◌-◌, ◌*◌, ◌<◌, ◌≤◌, ◌∙◌, refl, sym, ap, subst, Bool, true, false, cond, not, List, [], ◌∷◌, ◌++◌, length, take, drop, Option, Some, None, arith, eqb, ltb, length-append, length-drop, length-take-le, append_assoc, take_all}
 use Rattle.std.specs.List.{position, position_or_len}
-use Rattle.std.specs.Option.{option_map, IfSome, IsSomeAnd}
+use Rattle.std.specs.Option.{option_map, IfSome}
 use Rattle.std.specs.Io.KnownBytes.{Consumes, IsAtEnd}
 use Rattle.std.proofs.lemmas.Bool.Decides.{nat_tests}
 use Rattle.std.proofs.Math.Seq.{drop-length}
@@ -136,6 +136,14 @@ takes_line old new known long taken h line ahead count ended number = record {
 }
 
 -- bytes are read
+pub not_true : (b : Bool) → not b ≡ true → b ≡ false
+not_true true e = cc
+not_true false e = refl
+
+pub not_false : (b : Bool) → not b ≡ false → b ≡ true
+not_false true e = refl
+not_false false e = cc
+
 read_on : (ahead xs ys read : List ℕ) → xs ≡ read ++ ys → (ahead ++ read) ++ ys ≡ ahead ++ xs
 read_on ahead xs ys read e = append_assoc ahead read ys ∙ ap (λ more. ahead ++ more) (sym e)
 
@@ -226,4 +234,6 @@ relates_all (Some a) (Some l) P Q h so = so a l h
 -- ---- an input of which nothing is taken
 pub of_input : (known : Option (List ℕ)) (P : LinesLeft → Type 0) → IfSome (lines_left nothing_taken known) P → IfSome known (λ input. P (record { lines = lines_of input; input_length = length input }))
 of_input None P h = tt
-of_input (Some input) P h = h
+of_input (Some input) P h =
+    let whole : 0 + length input ≡ length input = omega arith in
+    subst (λ n. P (record { lines = lines_of input; input_length = n })) whole h

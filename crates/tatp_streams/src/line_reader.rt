@@ -1,5 +1,5 @@
 //! The lines of a reader, taken one after another.
-ghost use Rattle.std.specs.Prelude.{◌≡◌, ℕ, ◌≤◌, ◌⊎◌, true, false, List, [], drop, take, length, Option, IfSome, IfNone, IfOk, IfErr, OnOk, vec_len};
+ghost use Rattle.std.specs.Prelude.{◌≡◌, ℕ, ◌≤◌, ◌⊎◌, ◌==◌, true, false, List, [], drop, take, length, position, Option, IfSome, IfNone, IfOk, IfErr, OnOk, vec_len};
 ghost use Rattle.tatp_streams.specs.declared.fault.StreamFault.TheVariants.{ReadFault, NoMemory};
 ghost use Rattle.tatp_streams.specs.LineReading.{nothing_taken, HasNoLineFeed, IsFirstLine, HoldsNoLine, TakesLine, MeetsEnd, ReadsMore};
 
@@ -52,6 +52,12 @@ impl Model for LineReader {
         HoldsLines a.buffer.items a.start a.end a.taken a.clear a.number a.count };
 }
 
+fn line_feed(bytes: &[u8]) -> Option<usize>
+    ensures { result ≡ position (λ byte. byte == 10) bytes.now }
+{
+    bytes.iter().position(|byte| *byte == b'\n')
+}
+
 /// How long the first line is, and how many bytes it takes with its line feed. So many bytes at the
 /// front have none. The last line of an input that has ended may lack it.
 fn first_line(bytes: &[u8], clear: usize, ended: bool) -> Option<(usize, usize)>
@@ -61,7 +67,7 @@ fn first_line(bytes: &[u8], clear: usize, ended: bool) -> Option<(usize, usize)>
     ensures none { IfNone result (HasNoLineFeed bytes.now) }
     ensures last { IfNone result (ended ≡ true → bytes.now ≡ []) }
 {
-    match bytes[clear..].iter().position(|byte| *byte == b'\n') {
+    match line_feed(&bytes[clear..]) {
         Some(at) => Some((clear + at, clear + at + 1)),
         None if ended && !bytes.is_empty() => Some((bytes.len(), bytes.len())),
         None => None,

@@ -1,7 +1,6 @@
 -- What is answered to the lines of `call`.
-use Rattle.std.proofs.Common.{◌≡◌, ℕ, ◌∙◌, sym, ap, subst, Bool, List, [], ◌∷◌, ◌++◌, refl, append_assoc}
+use Rattle.std.proofs.Common.{◌≡◌, ℕ, ◌∙◌, sym, ap, Bool, List, [], ◌∷◌, ◌++◌, refl, append_assoc}
 use Rattle.std.proofs.lemmas.List.{append-nil}
-use Rattle.tatp_tables.specs.Database.{database_of}
 use Rattle.tatp_encoding.specs.Modules.{Procedure}
 use Rattle.tatp_dispatch.specs.Shown.{set_back}
 use Rattle.tatp_dispatch.specs.Worlds.{WorldState}
@@ -9,7 +8,7 @@ use Rattle.tatp_tasks.specs.declared.setup.Setup.{Setup}
 use Rattle.tatp_inputs.specs.Work.{Work}
 use Rattle.tatp_console.specs.Answers.{AppendsAnswer, AnswersLines, AnswersWork, AnswersFront}
 use Rattle.tatp_console.specs.Replying.{AnswersLine, RepliesTo, answers_call}
-use Rattle.tatp_console.specs.Served.{call_in, line_answer, replies, ServesWork, Served, ServedFront}
+use Rattle.tatp_console.specs.Served.{call_in, line_answer, replies, Served, ServedFront}
 
 -- ---- a line
 pub line_replied : (w w' : WorldState) (line old told new : List ℕ) → AnswersLine line (set_back w) old told (set_back w') → new ≡ told ++ 10 ∷ [] → AppendsAnswer answers_call w line old new w'

@@ -1,5 +1,4 @@
 pub mod AnswerLaws
-pub mod BroughtLaws
 pub mod WorkLaws
 pub mod CallLaws
 pub mod OrderLaws

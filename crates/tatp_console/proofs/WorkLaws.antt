@@ -1,7 +1,6 @@
 -- What a run over lines writes and leaves.
-use Rattle.std.proofs.Common.{◌≡◌, ℕ, List, [], ◌++◌, ◌⊎◌, ◌≤◌, length, Option, Result, Ok, Err, OnErr, OnOk, IfErr, inl, inr, subst, ◌∙◌, Some, None}
+use Rattle.std.proofs.Common.{◌≡◌, ℕ, List, ◌⊎◌, ◌≤◌, length, Option, Result, Ok, Err, OnOk, IfErr, inl, inr, subst, ◌∙◌, Some, None}
 use Rattle.std.specs.Option.{IfSome}
-use Rattle.std.specs.Io.KnownBytes.{Appends}
 use Rattle.tatp_lines.specs.Lines.{lines_of}
 use Rattle.tatp_tables.specs.Clean.{IsClean}
 use Rattle.tatp_encoding.specs.Modules.{Procedure}
@@ -11,33 +10,19 @@ use Rattle.tatp_dispatch.specs.Serving.{IsWorld}
 use Rattle.tatp_dispatch.specs.Worlds.{WorldState}
 use Rattle.tatp_streams.specs.declared.fault.StreamFault.{StreamFault}
 use Rattle.tatp_streams.specs.declared.fault.StreamFault.TheVariants.{NoMemory, ReadFault, WriteFault}
-use Rattle.tatp_streams.proofs.StreamLaws.{appends_none}
 use Rattle.tatp_tasks.specs.declared.population.Population.{Population}
 use Rattle.tatp_tasks.specs.declared.procedures.Procedures.{Procedures}
 use Rattle.tatp_tasks.specs.declared.setup.Setup.{Setup}
-use Rattle.tatp_inputs.specs.declared.fault.InputFault.{InputFault}
 use Rattle.tatp_inputs.specs.declared.fault.InputFault.TheVariants.{BadLine, Stream}
 use Rattle.tatp_inputs.specs.Work.{Work}
 use Rattle.tatp_console.specs.declared.fault.ConsoleFault.{ConsoleFault}
 use Rattle.tatp_console.specs.declared.fault.ConsoleFault.TheVariants.{Input, Text, Module, Unopened}
 use Rattle.tatp_console.specs.Answers.{Answering, AnswersAll, AnswersUpTo, AnswersWork, AnswersFront}
-use Rattle.tatp_console.specs.Brought.{IsModuleAsked, work_asked, OfInput, RefusesInput}
+use Rattle.tatp_console.specs.Brought.{IsModuleAsked, work_asked}
 use Rattle.tatp_console.specs.Works.{WritesOfWork, WritesFrontOfWork, Leaves}
 
 abbrev IsText : Type 1
 IsText = List Procedure → Work → List ℕ → Type 0
-
--- ---- a run
--- the input is refused
-pub unread : (IsFront : IsText) (procedures : Procedures) (population : Population) (input : List ℕ) (old : Option (List ℕ)) (fault : ConsoleFault)
-    → RefusesInput procedures population input fault → Leaves IsFront procedures population input old old fault
-unread IsFront procedures population input old (Text fault) h = (h, appends_none old)
-unread IsFront procedures population input old (Module fault) h = (h, appends_none old)
-unread IsFront procedures population input old (Input (BadLine n)) h = (h, appends_none old)
-unread IsFront procedures population input old (Input (Stream NoMemory)) h = inl (appends_none old)
-unread IsFront procedures population input old (Input (Stream ReadFault)) h = absurd h
-unread IsFront procedures population input old (Input (Stream WriteFault)) h = absurd h
-unread IsFront procedures population input old (Unopened error) h = absurd h
 
 -- ---- what the input brings, and the whole that was opened with it
 pub record Opens (setup : Setup) (input : List ℕ) (m : List Procedure) (work : Work) (opened : WorldState) : Type 0 where

@@ -1,10 +1,11 @@
 use Rattle.std.proofs.lemmas.Result.{err_from_is_err_and}
+use Rattle.tatp_lines.specs.Lines.{lines_of}
 use Rattle.tatp_console.proofs.WorkLaws.{answers_work, cut_short}
 use Rattle.tatp_console.proofs.lines.answer_input.Goals as goal
 
 pub answer_lines-answered-requires : goal.answer_lines-answered-requires
 answer_lines-answered-requires g c =
-    record { ready = c.requires.ready _ _ (rw c.in_ok-world.ensures.opened.runs c.in_ok-loaded.ensures.under) }
+    record { ready = c.requires.ready c.in_ok-world.world (lines_of c.args.input.now) (rw c.in_ok-world.ensures.opened.runs c.in_ok-loaded.ensures.under) }
 
 pub returns-clause-answered : goal.returns-clause-answered
 returns-clause-answered g c =

@@ -225,6 +225,24 @@ relates_end (Some a) None left' P Q h s none within so = absurd h
 relates_end (Some a) (Some l) None P Q h s none within so = absurd (none-some l s)
 relates_end (Some a) (Some l) (Some k) P Q h s none within so = so a k none within (subst (P a) (sym (same_Some k l s)) h)
 
+pub relates_as : (all left : Option LinesLeft) (P Q : LinesLeft → LinesLeft → Type 0) → Relates all left P → ((a l : LinesLeft) → P a l → Q a l) → Relates all left Q
+relates_as None left P Q h so = tt
+relates_as (Some a) None P Q h so = absurd h
+relates_as (Some a) (Some l) P Q h so = so a l h
+
+-- one after another
+pub relates_then : (all between left : Option LinesLeft) (P Q R : LinesLeft → LinesLeft → Type 0) → Relates all between P → Relates between left Q
+    → ((a b l : LinesLeft) → P a b → Q b l → R a l) → Relates all left R
+relates_then None between left P Q R h k so = tt
+relates_then (Some a) None left P Q R h k so = absurd h
+relates_then (Some a) (Some b) None P Q R h k so = absurd k
+relates_then (Some a) (Some b) (Some l) P Q R h k so = so a b l h k
+
+pub relates_known : (all left : Option LinesLeft) (P : LinesLeft → LinesLeft → Type 0) (Q R : LinesLeft → Type 0) → Relates all left P → IfSome left Q → ((a l : LinesLeft) → P a l → Q l → R a) → IfSome all R
+relates_known None left P Q R h k so = tt
+relates_known (Some a) None P Q R h k so = absurd h
+relates_known (Some a) (Some l) P Q R h k so = so a l h k
+
 -- of the lines that were left alone
 pub relates_all : (all left : Option LinesLeft) (P : LinesLeft → LinesLeft → Type 0) (Q : LinesLeft → Type 0) → Relates all left P → ((a l : LinesLeft) → P a l → Q a) → IfSome all Q
 relates_all None left P Q h so = tt

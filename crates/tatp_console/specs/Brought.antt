@@ -28,6 +28,11 @@ abbrev pub IsModuleAsked : Procedures → List (List ℕ) → List Procedure →
 IsModuleAsked Standard lines m = m ≡ standard_module
 IsModuleAsked Read lines m = IsTextOf (text_before_dot lines) m × IsLawful m
 
+-- it is the standard module, or keeps the rules
+abbrev pub IsModuleFor : Procedures → List Procedure → Type 0
+IsModuleFor Standard m = m ≡ standard_module
+IsModuleFor Read m = IsLawful m
+
 -- why that text is refused
 abbrev pub RefusesModule : Procedures → List (List ℕ) → AssemblyFault → Type 0
 RefusesModule Standard lines fault = ⊥

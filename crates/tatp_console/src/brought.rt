@@ -4,7 +4,7 @@ ghost use Rattle.tatp_streams.specs.LineReading.{lines_left, Relates};
 ghost use Rattle.tatp_tasks.specs.Populations.{IsPopulation};
 ghost use Rattle.tatp_tasks.specs.declared.procedures.Procedures.TheVariants.{Read};
 ghost use Rattle.tatp_inputs.specs.Work.{AreCleanWhereDrawn};
-ghost use Rattle.tatp_console.specs.Brought.{BringsModule, Brings, RefusesInput};
+ghost use Rattle.tatp_console.specs.Brought.{IsModuleFor, BringsModule, Brings, RefusesInput};
 
 use crate::ConsoleFault;
 use std::alloc::Global;
@@ -34,6 +34,7 @@ fn read_module<R: io::Read>(
 ) -> Result<Loaded, ConsoleFault>
     requires procedures { setup.procedures ≡ Read }
     requires first { lines.old.number ≡ 0 }
+    ensures rules { IfOk result (IsModuleFor setup.procedures) }
     ensures module { IfOk result (λ loaded. Relates
         (lines_left lines.old (R.remaining reader.old))
         (lines_left lines.new (R.remaining reader.new))
@@ -58,6 +59,7 @@ fn module_of<R: io::Read>(
     reader: &mut R,
 ) -> Result<Loaded, ConsoleFault>
     requires first { lines.old.number ≡ 0 }
+    ensures rules { IfOk result (IsModuleFor setup.procedures) }
     ensures module { IfOk result (λ loaded. Relates
         (lines_left lines.old (R.remaining reader.old))
         (lines_left lines.new (R.remaining reader.new))
@@ -82,6 +84,7 @@ pub(crate) fn bring<R: io::Read>(
 ) -> Result<Brought, ConsoleFault>
     requires first { lines.old.number ≡ 0 }
     requires population { IsPopulation setup.population }
+    ensures rules { IfOk result (λ brought. IsModuleFor setup.procedures brought.loaded) }
     ensures brought { IfOk result (λ brought. Relates
         (lines_left lines.old (R.remaining reader.old))
         (lines_left lines.new (R.remaining reader.new))

@@ -1,6 +1,5 @@
 -- Plans and setups that are equal part by part.
-use Rattle.std.proofs.Common.{◌≡◌, refl, ℕ}
-use Rattle.tatp_driver.specs.declared.distribution.Distribution.{Distribution}
+use Rattle.std.proofs.Common.{◌≡◌, refl}
 use Rattle.tatp_tasks.specs.declared.plan.BenchPlan.{BenchPlan}
 use Rattle.tatp_tasks.specs.declared.setup.Setup.{Setup}
 

@@ -1,5 +1,5 @@
 -- What the options of a command ask for, among what a parse of the words found.
-use Rattle.std.specs.Prelude.{ℕ, ◌^◌, ◌-◌, Bool, true, false, List, Option, Some, None, IfSome, codes, bytes_eq, if◌then◌else◌}
+use Rattle.std.specs.Prelude.{ℕ, ◌^◌, ◌-◌, Bool, false, List, Option, Some, None, IfSome, codes, bytes_eq, if◌then◌else◌}
 use Rattle.std.specs.Option.{option_map_or}
 use Rattle.std.specs.Str.Parse.{digits_value}
 use Rattle.clap.specs.Matches.{first_value}

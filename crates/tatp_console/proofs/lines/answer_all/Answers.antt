@@ -16,7 +16,7 @@ returns-in_err-world-clause-faults g c =
 pub returns-in_err-answered-clause-faults : goal.returns-in_err-answered-clause-faults
 returns-in_err-answered-clause-faults g c =
     let p = err_from_is_err_and c.from_residual-in_err-answered.result c.from_residual-in_err-answered.ensures.1 in
-    rw (p.1, p.2) (cut_short g.C.LineCommand.answers c.args.setup _ (g.R.Read.remaining c.args.reader.now) _ (g.W.Write.contents c.args.writer.now) (g.W.Write.contents c.answer_lines.new.writer) _ _ c.in_ok-world.world _
+    rw (p.1, p.2) (cut_short g.C.LineCommand.answers c.args.setup _ (g.R.Read.remaining c.args.reader.now) _ (g.W.Write.contents c.args.writer.now) (g.W.Write.contents c.answer_lines-answered.new.writer) _ _ c.in_ok-world.world c.in_err-answered.field-0.0
     c.new-lines.ensures c.in_ok-loaded.ensures.brought
     (record { few = c.in_ok-world.ensures.few; clean = c.in_ok-world.ensures.clean; is_opened = c.in_ok-world.ensures.opened; world = c.in_ok-world.ensures.world })
     c.in_err-answered.ensures.front)

@@ -58,8 +58,8 @@ OfInput procedures population lines P =
     (m : List Procedure) × IsModuleAsked procedures lines m
     × (work : Work) × (work_asked procedures population lines ≡ Ok work) × P m work
 
--- why it is refused: a fault of the text comes before one of the rows. A reader can fail, and memory
--- run out, at any of its lines
+-- why it is refused: a fault of the text comes before one of the rows. A reader can fail, and
+-- memory run out, at any of its lines
 abbrev pub RefusesInput : Procedures → Population → List (List ℕ) → ConsoleFault → Type 0
 RefusesInput procedures population lines (Text fault) =
     RefusesModule procedures lines (assembly.Text fault)

@@ -13,8 +13,8 @@ pub const MOST_BYTES: usize = 134_217_728;
 /// How many bytes are asked for at a time.
 pub(crate) const PIECE: usize = 65_536;
 
-/// Appends what one read gives of an input of which so many bytes were read before. `true`: at least
-/// a byte came. `false`: the input has ended.
+/// Appends what one read gives of an input of which so many bytes were read before. `true`: at
+/// least a byte came. `false`: the input has ended.
 pub(crate) fn read_piece<R: Read>(
     reader: &mut R,
     before: usize,

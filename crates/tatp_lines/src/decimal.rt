@@ -26,30 +26,6 @@ pub fn push_decimal(text: &mut String, number: u64) -> Result<(), AllocError>
     ensures ok { OnOk result (string_bytes text.new ≡ string_bytes text.old ++ decimal number) }
     ensures err { OnErr result (string_bytes text.new ≡ string_bytes text.old) }
 {
-    if number < 10 {
-        push_digit(text, number)
-    } else {
-        push_digits(text, number)
-    }
-}
-
-/// Appends a digit, as most numbers in rows and replies are. An error leaves the text as it was.
-#[tactic(auto, using(std::proofs::lemmas::Fmt::decimal_digit))]
-fn push_digit(text: &mut String, digit: u64) -> Result<(), AllocError>
-    requires { digit < 10 }
-    ensures ok { OnOk result (string_bytes text.new ≡ string_bytes text.old ++ decimal digit) }
-    ensures err { OnErr result (string_bytes text.new ≡ string_bytes text.old) }
-{
-    text.push(char::from(b'0' + digit as u8))
-}
-
-/// Appends a number of any length. It stands apart, so that a digit pays for no buffer. An error
-/// leaves the text as it was.
-#[inline(never)]
-fn push_digits(text: &mut String, number: u64) -> Result<(), AllocError>
-    ensures ok { OnOk result (string_bytes text.new ≡ string_bytes text.old ++ decimal number) }
-    ensures err { OnErr result (string_bytes text.new ≡ string_bytes text.old) }
-{
     let mut buffer = Buffer::new();
     text.push_str(buffer.format(number))
 }

@@ -1,15 +1,16 @@
-//! Modules from texts and bytes, and back.
+//! The commands: modules from texts and bytes, and back.
 ghost use Rattle.std.specs.Prelude.{◌≡◌, ◌*◌, ◌≤◌, length, IfOk, IfErr, OnOk, IfSome};
 ghost use Rattle.std.specs.String.{string_bytes};
 ghost use Rattle.tatp_streams.specs.Writing.{WritesText};
 ghost use Rattle.tatp_assembly.specs.Modules.{IsModuleOfText, IsTextOfModule, IsApprovalOf, instruction_count, approval, RefusesText, RefusesBytes, Leaves};
 
 use crate::AssemblyFault;
+use crate::modules::module_of_text;
 use std::alloc::{AllocError, Global};
 use std::io::{Read, Write};
-use tatp_asm::{assemble_bytes, disassemble};
+use tatp_asm::disassemble;
 use tatp_encoding::{Module, Proc};
-use tatp_loader::{check, load, save};
+use tatp_loader::{load, save};
 use tatp_streams::{MOST_BYTES, read_all, write_last};
 
 /// The bytes of the module that a text is, where it keeps the rules.
@@ -17,7 +18,7 @@ fn assembled(alloc: Global, text: &[u8]) -> Result<Vec<u8>, AssemblyFault>
     ensures bytes { IfOk result (λ bytes. IsModuleOfText text.now bytes.items) }
     ensures faults { IfErr result (RefusesText text.now) }
 {
-    let loaded = check(assemble_bytes(alloc, text)?)?;
+    let loaded = module_of_text(alloc, text)?;
     Ok(save(alloc, &loaded)?)
 }
 

@@ -1,6 +1,5 @@
 -- Plans and setups that are equal part by part.
-use Rattle.std.proofs.Common.{◌≡◌, refl, ℕ}
-use Rattle.tatp_driver.specs.declared.distribution.Distribution.{Distribution}
+use Rattle.std.proofs.Common.{◌≡◌, refl}
 use Rattle.tatp_tasks.specs.declared.plan.BenchPlan.{BenchPlan}
 use Rattle.tatp_tasks.specs.declared.setup.Setup.{Setup}
 
@@ -10,5 +9,5 @@ pub same_plan : (a b : BenchPlan)
 same_plan a b subscribers partitions clients calls seed distribution moves stops =
     rw (subscribers, partitions, clients, calls, seed, distribution, moves, stops) refl
 
-pub same_setup : (a b : Setup) → a.population ≡ b.population → a.partitions ≡ b.partitions → a.clients ≡ b.clients → a ≡ b
-same_setup a b population partitions clients = rw (population, partitions, clients) refl
+pub same_setup : (a b : Setup) → a.procedures ≡ b.procedures → a.population ≡ b.population → a.partitions ≡ b.partitions → a.clients ≡ b.clients → a ≡ b
+same_setup a b procedures population partitions clients = rw (procedures, population, partitions, clients) refl

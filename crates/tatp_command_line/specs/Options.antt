@@ -1,5 +1,5 @@
 -- What the options of a command ask for, among what a parse of the words found.
-use Rattle.std.specs.Prelude.{ℕ, ◌^◌, ◌-◌, Bool, true, false, List, Option, Some, None, IfSome, codes, bytes_eq, if◌then◌else◌}
+use Rattle.std.specs.Prelude.{ℕ, ◌^◌, ◌-◌, Bool, false, List, Option, Some, None, IfSome, codes, bytes_eq, if◌then◌else◌}
 use Rattle.std.specs.Option.{option_map_or}
 use Rattle.std.specs.Str.Parse.{digits_value}
 use Rattle.clap.specs.Matches.{first_value}
@@ -10,6 +10,8 @@ use Rattle.tatp_driver.specs.declared.distribution.Distribution.TheVariants.{Ske
 use Rattle.tatp_tasks.specs.declared.plan.BenchPlan.{BenchPlan}
 use Rattle.tatp_tasks.specs.declared.population.Population.{Population}
 use Rattle.tatp_tasks.specs.declared.population.Population.TheVariants.{Read, Generated}
+use Rattle.tatp_tasks.specs.declared.procedures.Procedures.{Procedures}
+use Rattle.tatp_tasks.specs.declared.procedures.Procedures.TheVariants as procedures
 use Rattle.tatp_tasks.specs.declared.setup.Setup.{Setup}
 use Rattle.tatp_command_line.specs.Numbers.{IsNumberIn, Ranged, HasNumber, number_asked}
 
@@ -40,6 +42,20 @@ moves = record { name = codes "moves"; least = 0; most = 100000; default = Some 
 abbrev pub stops : Ranged
 stops = record { name = codes "stops"; least = 0; most = 100000; default = Some (codes "0") }
 
+-- ---- the switches
+-- the switch of this name is given
+abbrev pub is_given : List ℕ → Found → Bool
+is_given name found =
+    option_map_or (λ text. bytes_eq text (codes "true")) (first_value found name) false
+
+abbrev pub distribution_asked : Found → Distribution
+distribution_asked found = if is_given (codes "uniform") found then Uniform else Skewed
+
+-- without --procedures they are the standard module's
+abbrev pub procedures_asked : Found → Procedures
+procedures_asked found =
+    if is_given (codes "procedures") found then procedures.Read else procedures.Standard
+
 -- ---- the population: without --gen its rows are read
 abbrev pub HasPopulation : Found → Type 0
 HasPopulation found =
@@ -61,18 +77,11 @@ pub record HasSetup (found : Found) : Type 0 where
 
 abbrev pub setup_asked : Found → Setup
 setup_asked found = record {
+  procedures = procedures_asked found;
   population = population_asked found;
   partitions = number_asked partitions found;
   clients = number_asked clients found;
 }
-
--- ---- the switch --uniform
-abbrev pub is_uniform : Found → Bool
-is_uniform found =
-    option_map_or (λ text. bytes_eq text (codes "true")) (first_value found (codes "uniform")) false
-
-abbrev pub distribution_asked : Found → Distribution
-distribution_asked found = if is_uniform found then Uniform else Skewed
 
 -- ---- the run of the benchmark
 pub record HasPlan (found : Found) : Type 0 where

@@ -36,7 +36,12 @@ fn trace<'a>(alloc: Global) -> Result<Command<'a>, AllocError> {
         "trace",
         "Step, stop and look at the machines of partitions, and move ranges between them",
     )?;
-    Ok(command.arg(CLIENTS.arg(alloc))?.after_help(TRACE))
+    let command = command.arg(CLIENTS.arg(alloc))?.arg(switch(
+        alloc,
+        "procedures",
+        "Run the procedures whose assembly text stands at the front of the input",
+    ))?;
+    Ok(command.after_help(TRACE))
 }
 
 /// The options of a run of the benchmark that tell of its database and its clients.

@@ -23,14 +23,16 @@ Examples:
 /// Of `trace`.
 pub(crate) const TRACE: &str = "\
 The input is the rows of a population, a line with a dot, and events; a row or an event a line.
+With --procedures an assembly text and a line with a dot stand before them all: calls run the
+procedures of that text, which keeps the rules of check, in place of the seven transactions.
 Partitions and clients count from 0. Extent E has the subscribers 64 (E - 1) + 1 to 64 E and opens
 in partition (E - 1) mod P.
 
 Calls:
   submit C CALL           client C asks for a call, as the command call reads it    QUEUED P
   raw C PROC KIND KEY ARG..
-                          or for a procedure, 0 to 6, on the subscriber that the
-                          key names, of kind id or number; at most 8 arguments      QUEUED P
+                          or for a procedure, counted from 0, on the subscriber that
+                          the key names, of kind id or number; at most 8 arguments  QUEUED P
   begin P                 the first call that waits at P begins     BEGAN C, AWAY P, DENIED C
   deny P                  memory for it is refused                                  DENIED C
 Steps:

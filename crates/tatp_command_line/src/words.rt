@@ -5,7 +5,7 @@ ghost use Rattle.tatp_tasks.specs.Plans.{IsPlan};
 ghost use Rattle.tatp_tasks.specs.Populations.{IsPopulation, IsSetup};
 ghost use Rattle.tatp_tasks.specs.Tasks.{IsTask, name_of};
 ghost use Rattle.tatp_command_line.specs.Numbers.{HasNumber, number_asked};
-ghost use Rattle.tatp_command_line.specs.Options.{partitions, clients, HasPopulation, population_asked, HasSetup, setup_asked, HasPlan, plan_asked, distribution_asked};
+ghost use Rattle.tatp_command_line.specs.Options.{partitions, clients, HasPopulation, population_asked, HasSetup, setup_asked, HasPlan, plan_asked, distribution_asked, procedures_asked};
 
 use crate::commands::command;
 use crate::options::{BadNumber, CALLS, CLIENTS, GEN, MOVES, PARTITIONS, SEED, STOPS, SUBSCRIBERS};
@@ -13,7 +13,17 @@ use clap::error::ErrorKind;
 use clap::{ArgMatches, Error};
 use std::alloc::{AllocError, Global};
 use tatp_driver::Distribution;
-use tatp_tasks::{BenchPlan, Population, Setup, Task};
+use tatp_tasks::{BenchPlan, Population, Procedures, Setup, Task};
+
+/// Where the procedures of a run come from.
+fn procedures_of(options: &ArgMatches<'_>) -> Procedures
+    ensures { result ≡ procedures_asked (found_of options.now) }
+{
+    match options.get_str("procedures") {
+        Some("true") => Procedures::Read,
+        _ => Procedures::Standard,
+    }
+}
 
 /// Where the rows of a run come from.
 fn population_of<'a>(options: &ArgMatches<'a>) -> Result<Population, BadNumber<'a>>
@@ -58,6 +68,7 @@ fn setup_of<'a>(options: &ArgMatches<'a>) -> Result<Setup, BadNumber<'a>>
     ensures possible { IfOk result IsSetup }
 {
     Ok(Setup {
+        procedures: procedures_of(options),
         population: population_of(options)?,
         partitions: partitions_of(options)?,
         clients: clients_of(options)?,

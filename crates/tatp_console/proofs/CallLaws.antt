@@ -1,14 +1,14 @@
 -- What is answered to the lines of `call`.
-use Rattle.std.proofs.Common.{◌≡◌, ℕ, ◌∙◌, sym, ap, subst, Bool, List, [], ◌∷◌, ◌++◌, refl, append_assoc}
+use Rattle.std.proofs.Common.{◌≡◌, ℕ, ◌∙◌, sym, ap, Bool, List, [], ◌∷◌, ◌++◌, refl, append_assoc}
 use Rattle.std.proofs.lemmas.List.{append-nil}
-use Rattle.tatp_tables.specs.Database.{database_of}
+use Rattle.tatp_encoding.specs.Modules.{Procedure}
 use Rattle.tatp_dispatch.specs.Shown.{set_back}
 use Rattle.tatp_dispatch.specs.Worlds.{WorldState}
 use Rattle.tatp_tasks.specs.declared.setup.Setup.{Setup}
 use Rattle.tatp_inputs.specs.Work.{Work}
 use Rattle.tatp_console.specs.Answers.{AppendsAnswer, AnswersLines, AnswersWork, AnswersFront}
 use Rattle.tatp_console.specs.Replying.{AnswersLine, RepliesTo, answers_call}
-use Rattle.tatp_console.specs.Served.{call_in, line_answer, replies, ServesWork, Served, ServedFront}
+use Rattle.tatp_console.specs.Served.{call_in, line_answer, replies, Served, ServedFront}
 
 -- ---- a line
 pub line_replied : (w w' : WorldState) (line old told new : List ℕ) → AnswersLine line (set_back w) old told (set_back w') → new ≡ told ++ 10 ∷ [] → AppendsAnswer answers_call w line old new w'
@@ -47,9 +47,9 @@ lines_replied w w' [] text t = no_line w w' text t.0 t.1
 lines_replied w w' (line ∷ lines) text t = line_before w t.0 w' line lines text t.1 t.2 t.3 t.4 (lines_replied t.0 w' lines t.2 t.5)
 
 -- ---- the lines of an input
-pub all_served : (setup : Setup) (work : Work) (text : List ℕ) → AnswersWork answers_call setup work text → Served work text
+pub all_served : (setup : Setup) (m : List Procedure) (work : Work) (text : List ℕ) → AnswersWork answers_call setup m work text → Served work text
 unfolding replies
-all_served setup work text a =
+all_served setup m work text a =
     let h = lines_replied a.opened a.after work.lines text a.answered in (
       h.0 ++ [],
       record {
@@ -61,8 +61,8 @@ all_served setup work text a =
       },
     )
 
-pub front_served : (setup : Setup) (work : Work) (front : List ℕ) → AnswersFront answers_call setup work front → ServedFront work front
-front_served setup work front f =
+pub front_served : (setup : Setup) (m : List Procedure) (work : Work) (front : List ℕ) → AnswersFront answers_call setup m work front → ServedFront work front
+front_served setup m work front f =
     let a = f.answered in
     let h = lines_replied a.opened a.after f.lines (front ++ f.rest) a.answered in
     let others = replies [] f.later (set_back a.after) in (

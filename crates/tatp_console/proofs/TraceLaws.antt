@@ -1,11 +1,11 @@
 -- What is answered to the lines of `trace`.
-use Rattle.std.proofs.Common.{◌≡◌, ℕ, List, [], ◌∷◌, ◌++◌, refl, Result}
-use Rattle.tatp_procs.specs.Standard.{standard_module}
+use Rattle.std.proofs.Common.{ℕ, List, [], ◌∷◌, ◌++◌, refl, Result}
+use Rattle.tatp_encoding.specs.Modules.{Procedure}
 use Rattle.tatp_dispatch.specs.declared.event.Answer.{Answer}
 use Rattle.tatp_dispatch.specs.declared.event.Refusal.{Refusal}
 use Rattle.tatp_dispatch.specs.Worlds.{WorldState}
 use Rattle.tatp_dispatch.proofs.BenchmarkLaws.{benchmark}
-use Rattle.tatp_trace.specs.Answering.{line_in, AppendsLine, TellsLine, TellsLines, events_in}
+use Rattle.tatp_trace.specs.Answering.{line_in, AppendsLine, TellsLines, events_in}
 use Rattle.tatp_trace.proofs.LinesLaws.{lines_run}
 use Rattle.tatp_tasks.specs.declared.setup.Setup.{Setup}
 use Rattle.tatp_inputs.specs.Work.{Work}
@@ -27,8 +27,8 @@ lines_told w w' (line ∷ lines) text t =
     (t.3.0 ++ later.0, (t.0, t.3.0, later.0, t.1, t.2, t.3.1, refl, t.4, later.1))
 
 -- ---- the lines of an input
-pub work_told : (setup : Setup) (work : Work) (text : List ℕ) → AnswersWork answers_events setup work text → TellsWork setup work text
-work_told setup work text a =
+pub work_told : (setup : Setup) (m : List Procedure) (work : Work) (text : List ℕ) → AnswersWork answers_events setup m work text → TellsWork setup m work text
+work_told setup m work text a =
     let told = lines_told a.opened a.after work.lines text a.answered in
     let runs = lines_run a.opened a.after work.lines told.0 text a.world told.1 in
     record {
@@ -41,15 +41,15 @@ work_told setup work text a =
         is_opened = a.is_opened;
         tells = told.1;
         runs = runs;
-        benchmark = benchmark standard_module work.rows setup.partitions setup.clients a.opened a.after (events_in work.lines) told.0 a.world a.is_opened runs;
+        benchmark = benchmark m work.rows setup.partitions setup.clients a.opened a.after (events_in work.lines) told.0 a.world a.is_opened runs;
       };
     }
 
-pub front_told : (setup : Setup) (work : Work) (front : List ℕ) → AnswersFront answers_events setup work front → TellsFront setup work front
-front_told setup work front f = record {
+pub front_told : (setup : Setup) (m : List Procedure) (work : Work) (front : List ℕ) → AnswersFront answers_events setup m work front → TellsFront setup m work front
+front_told setup m work front f = record {
   lines = f.lines;
   later = f.later;
   rest = f.rest;
   first = f.split;
-  tells = work_told setup (record work { lines = f.lines }) (front ++ f.rest) f.answered;
+  tells = work_told setup m (record work { lines = f.lines }) (front ++ f.rest) f.answered;
 }

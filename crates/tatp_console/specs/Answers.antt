@@ -2,17 +2,26 @@
 use Rattle.std.specs.Prelude.{◌≡◌, ℕ, ◌≤◌, List, [], ◌∷◌, ◌++◌, length, Option}
 use Rattle.std.specs.Io.KnownBytes.{Appends}
 use Rattle.tatp_tables.specs.Clean.{IsClean}
-use Rattle.tatp_procs.specs.Standard.{standard_module}
+use Rattle.tatp_encoding.specs.Modules.{Procedure}
 use Rattle.tatp_population.specs.Opening.{most_subscribers}
 use Rattle.tatp_dispatch.specs.Opened.{IsOpened}
 use Rattle.tatp_dispatch.specs.Serving.{IsWorld}
 use Rattle.tatp_dispatch.specs.Worlds.{WorldState}
+use Rattle.tatp_tasks.specs.declared.procedures.Procedures.{Procedures}
 use Rattle.tatp_tasks.specs.declared.setup.Setup.{Setup}
 use Rattle.tatp_inputs.specs.Work.{Work}
+use Rattle.tatp_console.specs.Brought.{IsModuleAsked}
 
 -- what is answered to a line: from the whole before, by the line and the text, to the whole after
 abbrev pub Answering : Type 1
 Answering = WorldState → List ℕ → List ℕ → WorldState → Type 0
+
+-- what has to hold before a line does before the first, whatever the text of the module that is asked
+-- for
+abbrev pub IsReadyUnder : (WorldState → Type 0) → Procedures → Type 0
+IsReadyUnder ready procedures =
+    (w : WorldState) (lines : List (List ℕ))
+    → IsModuleAsked procedures lines w.procedures → ready w
 
 -- new is what old is and after it what is answered to the line
 pub record AppendsAnswer (answers : Answering) (w : WorldState) (line : List ℕ)
@@ -51,22 +60,22 @@ pub record AnswersUpTo (answers : Answering) (w : WorldState) (lines : List (Lis
 
 -- ---- the lines of an input
 -- the text is what is answered to all lines of the work, from a whole that was just opened with its
--- rows under the standard module; they may be opened
-pub record AnswersWork (answers : Answering) (setup : Setup) (work : Work) (text : List ℕ)
-    : Type 0 where
+-- rows under the module m; they may be opened
+pub record AnswersWork (answers : Answering) (setup : Setup) (m : List Procedure) (work : Work)
+    (text : List ℕ) : Type 0 where
   pub few : length work.rows.subscribers ≤ most_subscribers
   pub clean : IsClean work.rows
   pub opened : WorldState
   pub after : WorldState
-  pub is_opened : IsOpened standard_module work.rows setup.partitions setup.clients opened
+  pub is_opened : IsOpened m work.rows setup.partitions setup.clients opened
   pub world : IsWorld opened
   pub answered : AnswersLines answers opened work.lines text after
 
 -- a front of what is answered to the lines up to some line
-pub record AnswersFront (answers : Answering) (setup : Setup) (work : Work) (front : List ℕ)
-    : Type 0 where
+pub record AnswersFront (answers : Answering) (setup : Setup) (m : List Procedure) (work : Work)
+    (front : List ℕ) : Type 0 where
   pub lines : List (List ℕ)
   pub later : List (List ℕ)
   pub rest : List ℕ
   pub split : work.lines ≡ lines ++ later
-  pub answered : AnswersWork answers setup (record work { lines = lines }) (front ++ rest)
+  pub answered : AnswersWork answers setup m (record work { lines = lines }) (front ++ rest)

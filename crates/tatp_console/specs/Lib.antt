@@ -1,3 +1,4 @@
+pub mod Brought
 pub mod Works
 pub mod Answers
 pub mod Served

@@ -2,7 +2,6 @@
 use Rattle.std.specs.Prelude.{◌≡◌, ℕ, Bool, List, [], ◌∷◌, ◌++◌}
 use Rattle.tatp_tables.specs.Database.{Database}
 use Rattle.tatp_dispatch.specs.Shown.{set_back}
-use Rattle.tatp_dispatch.specs.Worlds.{WorldState}
 use Rattle.tatp_console.specs.Answers.{Answering}
 use Rattle.tatp_console.specs.Served.{call_in, line_answer}
 

@@ -3,7 +3,7 @@
 use Rattle.std.specs.Prelude.{◌≡◌, ℕ, ◌≤◌, List, ◌++◌, length, Result}
 use Rattle.tatp_tables.specs.Clean.{IsClean}
 use Rattle.tatp_tables.specs.declared.row.Rows.{Rows}
-use Rattle.tatp_procs.specs.Standard.{standard_module}
+use Rattle.tatp_encoding.specs.Modules.{Procedure}
 use Rattle.tatp_population.specs.Opening.{most_subscribers}
 use Rattle.tatp_dispatch.specs.declared.event.Answer.{Answer}
 use Rattle.tatp_dispatch.specs.declared.event.Refusal.{Refusal}
@@ -22,28 +22,29 @@ answers_events w line text w' =
     (answers : List (Result Answer Refusal)) × TellsLine w (line_in line) answers text w'
 
 -- told is what is told of the lines, from a whole that was just opened with the rows under the
--- standard module; the answers are those of the lines' events, one after another, and are the
--- benchmark's
-pub record TellsFrom (rows : Rows) (setup : Setup) (lines : List (List ℕ)) (told : List ℕ)
-    : Type 0 where
+-- module m; the answers are those of the lines' events, one after another, and are the benchmark's
+pub record TellsFrom (m : List Procedure) (rows : Rows) (setup : Setup) (lines : List (List ℕ))
+    (told : List ℕ) : Type 0 where
   pub opened : WorldState
   pub after : WorldState
   pub answers : List (Result Answer Refusal)
-  pub is_opened : IsOpened standard_module rows setup.partitions setup.clients opened
+  pub is_opened : IsOpened m rows setup.partitions setup.clients opened
   pub tells : TellsLines opened lines answers told after
   pub runs : Runs opened (events_in lines) answers after
-  pub benchmark : IsTheBenchmark standard_module rows answers after
+  pub benchmark : IsTheBenchmark m rows answers after
 
 -- told is what is told of all lines of the work, whose rows may be opened
-pub record TellsWork (setup : Setup) (work : Work) (told : List ℕ) : Type 0 where
+pub record TellsWork (setup : Setup) (m : List Procedure) (work : Work) (told : List ℕ)
+    : Type 0 where
   pub few : length work.rows.subscribers ≤ most_subscribers
   pub clean : IsClean work.rows
-  pub tells : TellsFrom work.rows setup work.lines told
+  pub tells : TellsFrom m work.rows setup work.lines told
 
 -- a front of what is told of the lines up to some line
-pub record TellsFront (setup : Setup) (work : Work) (front : List ℕ) : Type 0 where
+pub record TellsFront (setup : Setup) (m : List Procedure) (work : Work) (front : List ℕ)
+    : Type 0 where
   pub lines : List (List ℕ)
   pub later : List (List ℕ)
   pub rest : List ℕ
   pub first : work.lines ≡ lines ++ later
-  pub tells : TellsWork setup (record work { lines = lines }) (front ++ rest)
+  pub tells : TellsWork setup m (record work { lines = lines }) (front ++ rest)

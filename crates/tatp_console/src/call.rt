@@ -4,6 +4,7 @@ ghost use Rattle.std.specs.String.{string_bytes};
 ghost use Rattle.tatp_procs.specs.Standard.{standard_module};
 ghost use Rattle.tatp_dispatch.specs.Shown.{set_back};
 ghost use Rattle.tatp_tasks.specs.Populations.{IsPopulation};
+ghost use Rattle.tatp_tasks.specs.declared.procedures.Procedures.TheVariants.{Standard};
 ghost use Rattle.tatp_console.specs.Served.{call_in, Served, ServedFront};
 ghost use Rattle.tatp_console.specs.Replying.{AnswersLine, answers_call};
 ghost use Rattle.tatp_console.specs.Works.{WritesOfWork, Leaves};
@@ -15,7 +16,7 @@ use std::io::{Read, Write};
 use tatp_dispatch::World;
 use tatp_procs::{Ask, Call, Reply, args_ok, push_reply, read_call};
 use tatp_streams::{MOST_BYTES, text_of};
-use tatp_tasks::{Population, Setup};
+use tatp_tasks::{Population, Procedures, Setup};
 
 /// The command `call`.
 struct Calls;
@@ -60,8 +61,6 @@ impl LineCommand for Calls {
 
     ghost ready = { λ w. w.procedures ≡ standard_module };
 
-    ghost starts = { λ w standard. standard };
-
     fn answer(
         _alloc: Global,
         world: &mut World<'_>,
@@ -89,14 +88,16 @@ pub fn run_call<R: Read, W: Write>(
     requires population { IsPopulation population }
     requires partitions { (1 ≤ partitions) × (partitions ≤ 16) }
     ensures served { OnOk result (IfSome (R.remaining reader.old) (λ input.
-        WritesOfWork Served population input (W.contents writer.old) (W.contents writer.new))) }
+        WritesOfWork (λ m. Served) Standard population input
+        (W.contents writer.old) (W.contents writer.new))) }
     ensures faults { IfErr result (λ fault. IfSome (R.remaining reader.old) (λ input.
-        Leaves ServedFront population input
+        Leaves (λ m. ServedFront) Standard population input
         (W.contents writer.old) (W.contents writer.new) fault)) }
     ensures limit { OnOk result
         (IfSome (R.remaining reader.old) (λ input. length input ≤ MOST_BYTES)) }
 {
     let setup = Setup {
+        procedures: Procedures::Standard,
         population,
         partitions,
         clients: 1,

@@ -3,9 +3,13 @@ ghost use Rattle.std.specs.Prelude.{◌≡◌};
 ghost use Rattle.tatp_streams.specs.declared.fault.StreamFault.TheVariants.{NoMemory};
 ghost use Rattle.tatp_inputs.specs.declared.fault.InputFault.TheVariants.{Stream};
 ghost use Rattle.tatp_console.specs.declared.fault.ConsoleFault.TheVariants.{Input, Unopened};
+ghost use Rattle.tatp_console.specs.Brought.{module_fault};
 
 use std::alloc::AllocError;
+use tatp_asm::AsmFault;
+use tatp_assembly::AssemblyFault;
 use tatp_inputs::InputFault;
+use tatp_loader::LoadFault;
 use tatp_population::OpenError;
 use tatp_streams::StreamFault;
 use thiserror::Error;
@@ -13,12 +17,30 @@ use thiserror::Error;
 /// Why lines aren't answered to the last. Its text is a number, a name and details.
 #[derive(Clone, Copy, Debug, PartialEq, Eq, Error)]
 pub enum ConsoleFault {
+    /// The text of procedures is no module's.
+    #[error("{0}")]
+    Text(AsmFault),
+    /// Its module breaks a rule.
+    #[error("{0}")]
+    Module(LoadFault),
     /// The input isn't taken, or an answer isn't made or written.
     #[error("{0}")]
     Input(InputFault),
     /// The rows aren't opened.
     #[error("{0}")]
     Unopened(OpenError),
+}
+
+impl From<AssemblyFault> for ConsoleFault {
+    ghost from_gives = { λ error fault. fault ≡ module_fault error };
+
+    fn from(error: AssemblyFault) -> ConsoleFault {
+        match error {
+            AssemblyFault::Text(fault) => ConsoleFault::Text(fault),
+            AssemblyFault::Module(fault) => ConsoleFault::Module(fault),
+            AssemblyFault::Stream(fault) => ConsoleFault::Input(InputFault::Stream(fault)),
+        }
+    }
 }
 
 impl From<InputFault> for ConsoleFault {

@@ -1,6 +1,7 @@
 //! The commands `call` and `trace`: lines over rows, answered one after another.
 #![tactic(auto)]
 
+mod brought;
 mod call;
 mod fault;
 mod lines;

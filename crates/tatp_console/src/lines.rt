@@ -2,21 +2,19 @@
 ghost use Rattle.std.specs.Prelude.{◌≡◌, ℕ, ◌≤◌, ◌⊎◌, List, length, IfErr, OnOk, OnErr, IfSome, ⊤};
 ghost use Rattle.std.specs.String.{string_bytes};
 ghost use Rattle.tatp_lines.specs.Lines.{lines_of};
-ghost use Rattle.tatp_procs.specs.Standard.{standard_module};
 ghost use Rattle.tatp_dispatch.specs.Worlds.{WorldState};
 ghost use Rattle.tatp_streams.specs.declared.fault.StreamFault.TheVariants.{NoMemory, WriteFault};
 ghost use Rattle.tatp_tasks.specs.Populations.{IsSetup};
-ghost use Rattle.tatp_console.specs.Answers.{AppendsAnswer, AnswersAll, AnswersUpTo, AnswersWork, AnswersFront};
+ghost use Rattle.tatp_console.specs.Answers.{IsReadyUnder, AppendsAnswer, AnswersAll, AnswersUpTo, AnswersWork, AnswersFront};
 ghost use Rattle.tatp_console.specs.Works.{WritesOfWork, Leaves};
 
 use crate::ConsoleFault;
+use crate::brought::{Brought, bring};
 use crate::world::open_world;
 use std::alloc::{AllocError, Global};
 use std::io::{Read, Write};
 use tatp_dispatch::World;
-use tatp_inputs::work_of;
 use tatp_lines::next_line;
-use tatp_procs::standard;
 use tatp_streams::{MOST_BYTES, StreamFault, read_all, write_if_full, write_last};
 use tatp_tasks::Setup;
 
@@ -41,9 +39,6 @@ pub(crate) trait LineCommand {
         ensures answered { OnOk result (AppendsAnswer answers world.old line.now
             (string_bytes pending.old) (string_bytes pending.new) world.new) }
         ensures ready { ready world.new };
-
-    /// It does before the first line.
-    ghost starts: { (w : WorldState) → w.procedures ≡ standard_module → ready w };
 }
 
 /// Answers each line.
@@ -83,22 +78,26 @@ fn answer_input<C: LineCommand, W: Write>(
 ) -> Result<(), ConsoleFault>
     requires input { length input.now ≤ MOST_BYTES }
     requires setup { IsSetup setup }
-    ensures answered { OnOk result (WritesOfWork (AnswersWork C.answers setup) setup.population
-        input.now (W.contents writer.old) (W.contents writer.new)) }
-    ensures faults { IfErr result (Leaves (AnswersFront C.answers setup) setup.population
-        input.now (W.contents writer.old) (W.contents writer.new)) }
+    requires ready { IsReadyUnder C.ready setup.procedures }
+    ensures answered { OnOk result (WritesOfWork (AnswersWork C.answers setup) setup.procedures
+        setup.population input.now (W.contents writer.old) (W.contents writer.new)) }
+    ensures faults { IfErr result (Leaves (AnswersFront C.answers setup) setup.procedures
+        setup.population input.now (W.contents writer.old) (W.contents writer.new)) }
 {
-    let standard = standard(alloc)?;
-    let (rows, lines) = work_of(alloc, setup.population, input)?;
-    let mut world = open_world(alloc, &standard, setup, rows)?;
+    let Brought {
+        loaded,
+        rows,
+        lines,
+    } = bring(alloc, setup, input)?;
+    let mut world = open_world(alloc, &loaded, setup, rows)?;
     let answered = answer_lines::<C, W>(alloc, &mut world, lines, writer);
     world.close();
     answered?;
     Ok(())
 }
 
-/// Reads rows and lines, or lines alone, and writes what is answered to each. All is read, and the
-/// rows are opened, before the first answer is written.
+/// Reads what an input brings, and writes what is answered to each of its lines. All is read, and
+/// the rows are opened, before the first answer is written.
 pub(crate) fn answer_all<C: LineCommand, R: Read, W: Write>(
     alloc: Global,
     reader: &mut R,
@@ -106,11 +105,12 @@ pub(crate) fn answer_all<C: LineCommand, R: Read, W: Write>(
     setup: Setup,
 ) -> Result<(), ConsoleFault>
     requires setup { IsSetup setup }
+    requires ready { IsReadyUnder C.ready setup.procedures }
     ensures answered { OnOk result (IfSome (R.remaining reader.old) (λ input.
-        WritesOfWork (AnswersWork C.answers setup) setup.population input
+        WritesOfWork (AnswersWork C.answers setup) setup.procedures setup.population input
         (W.contents writer.old) (W.contents writer.new))) }
     ensures faults { IfErr result (λ fault. IfSome (R.remaining reader.old) (λ input.
-        Leaves (AnswersFront C.answers setup) setup.population input
+        Leaves (AnswersFront C.answers setup) setup.procedures setup.population input
         (W.contents writer.old) (W.contents writer.new) fault)) }
     ensures limit { OnOk result
         (IfSome (R.remaining reader.old) (λ input. length input ≤ MOST_BYTES)) }

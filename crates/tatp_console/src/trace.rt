@@ -19,8 +19,6 @@ struct Events;
 impl LineCommand for Events {
     ghost answers = { answers_events };
 
-    ghost starts = { λ w standard. tt };
-
     fn answer(
         alloc: Global,
         world: &mut World<'_>,
@@ -31,7 +29,8 @@ impl LineCommand for Events {
     }
 }
 
-/// Reads rows and lines of events, or such lines alone, and writes what is answered to each.
+/// Reads rows and lines of events, or such lines alone, and writes what is answered to each. Before
+/// them may stand the text of the procedures that calls run.
 ///
 /// All is read, and the rows are opened, before the first answer is written. An input of more than
 /// [`MOST_BYTES`] bytes is refused.
@@ -43,10 +42,10 @@ pub fn run_trace<R: Read, W: Write>(
 ) -> Result<(), ConsoleFault>
     requires setup { IsSetup setup }
     ensures told { OnOk result (IfSome (R.remaining reader.old) (λ input.
-        WritesOfWork (TellsWork setup) setup.population input
+        WritesOfWork (TellsWork setup) setup.procedures setup.population input
         (W.contents writer.old) (W.contents writer.new))) }
     ensures faults { IfErr result (λ fault. IfSome (R.remaining reader.old) (λ input.
-        Leaves (TellsFront setup) setup.population input
+        Leaves (TellsFront setup) setup.procedures setup.population input
         (W.contents writer.old) (W.contents writer.new) fault)) }
     ensures limit { OnOk result
         (IfSome (R.remaining reader.old) (λ input. length input ≤ MOST_BYTES)) }

@@ -33,6 +33,7 @@ pub(crate) fn open_world<'m>(
         population,
         partitions,
         clients,
+        ..
     } = setup;
     match population {
         Population::Read => World::open(alloc, loaded, rows, partitions, clients),

@@ -6,13 +6,13 @@ use Rattle.std.proofs.lemmas.Slice.Eq.{bytes_eq-Decides}
 use Rattle.tatp_tables.specs.Text.{row_of}
 use Rattle.tatp_tables.specs.declared.row.Row.{Row}
 use Rattle.tatp_tables.specs.declared.row.Rows.{Rows}
-use Rattle.tatp_lines.specs.Lines.{lines_of}
 use Rattle.tatp_population.specs.PopulationText.{on_rows, row_first, in_tables}
 use Rattle.tatp_streams.specs.declared.fault.StreamFault.TheVariants.{NoMemory, ReadFault, WriteFault}
 use Rattle.tatp_inputs.specs.declared.fault.InputFault.{InputFault}
 use Rattle.tatp_inputs.specs.declared.fault.InputFault.TheVariants.{BadLine, Stream}
 use Rattle.tatp_inputs.specs.Refusing.{RefusesReading}
-use Rattle.tatp_inputs.specs.RowLines.{row_in, rows_from, rows_of_lines, is_dot, before_dot, after_dot}
+use Rattle.tatp_inputs.specs.Parts.{is_dot, before_dot, after_dot}
+use Rattle.tatp_inputs.specs.RowLines.{row_in, rows_from, rows_of_lines}
 use Rattle.tatp_inputs.specs.Work.{brought}
 
 -- ---- where there is no line `.`, all lines stand before it
@@ -82,32 +82,32 @@ list_failed : (r : Result (List Row) ℕ) (n : ℕ) → on_rows in_tables r ≡ 
 list_failed (Ok rs) n h = cc
 list_failed (Err e) n h = ap Err cc
 
-pub rows_without_dot : (lines : List (List ℕ)) (rows : Rows) → after_dot lines ≡ None → rows_of_lines (before_dot lines) ≡ Ok rows → rows_of_lines lines ≡ Ok rows
-rows_without_dot lines rows h e = subst (λ ls. rows_of_lines ls ≡ Ok rows) (no_dot lines h) e
+pub rows_without_dot : (n : ℕ) (lines : List (List ℕ)) (rows : Rows) → after_dot lines ≡ None → rows_of_lines n (before_dot lines) ≡ Ok rows → rows_of_lines n lines ≡ Ok rows
+rows_without_dot n lines rows h e = subst (λ ls. rows_of_lines n ls ≡ Ok rows) (no_dot lines h) e
 
-pub rows_with_dot : (lines calls : List (List ℕ)) (rows : Rows) (number : ℕ) → after_dot lines ≡ Some calls → rows_of_lines (before_dot lines) ≡ Ok rows
-    → number ≡ length (before_dot lines) + 1 → rows_of_lines lines ≡ Err number
-rows_with_dot lines calls rows number h e k =
-    let read = list_read (rows_from 1 (before_dot lines)) rows e in
-    rw (dot_after 1 lines calls read.0 h read.1) (ap Err (omega (arith, k)))
+pub rows_with_dot : (n : ℕ) (lines calls : List (List ℕ)) (rows : Rows) (number : ℕ) → after_dot lines ≡ Some calls → rows_of_lines n (before_dot lines) ≡ Ok rows
+    → number ≡ n + length (before_dot lines) → rows_of_lines n lines ≡ Err number
+rows_with_dot n lines calls rows number h e k =
+    let read = list_read (rows_from n (before_dot lines)) rows e in
+    rw (dot_after n lines calls read.0 h read.1) (ap Err (sym k))
 
-rows_failed : (lines : List (List ℕ)) (n : ℕ) → rows_of_lines (before_dot lines) ≡ Err n → rows_of_lines lines ≡ Err n
-rows_failed lines n h = rw (failed_before 1 n lines (list_failed (rows_from 1 (before_dot lines)) n h)) refl
+rows_failed : (n : ℕ) (lines : List (List ℕ)) (m : ℕ) → rows_of_lines n (before_dot lines) ≡ Err m → rows_of_lines n lines ≡ Err m
+rows_failed n lines m h = rw (failed_before n m lines (list_failed (rows_from n (before_dot lines)) m h)) refl
 
-pub refused_before : (lines : List (List ℕ)) (fault : InputFault) → RefusesReading (rows_of_lines (before_dot lines)) fault → RefusesReading (rows_of_lines lines) fault
-refused_before lines (BadLine n) h = rows_failed lines n h
-refused_before lines (Stream NoMemory) h = tt
-refused_before lines (Stream ReadFault) h = absurd h
-refused_before lines (Stream WriteFault) h = absurd h
+pub refused_before : (n : ℕ) (lines : List (List ℕ)) (fault : InputFault) → RefusesReading (rows_of_lines n (before_dot lines)) fault → RefusesReading (rows_of_lines n lines) fault
+refused_before n lines (BadLine m) h = rows_failed n lines m h
+refused_before n lines (Stream NoMemory) h = tt
+refused_before n lines (Stream ReadFault) h = absurd h
+refused_before n lines (Stream WriteFault) h = absurd h
 
--- ---- the work that an input brings
-pub brought_rows : (input : List ℕ) (calls : List (List ℕ)) (rows : Rows) → after_dot (lines_of input) ≡ Some calls → rows_of_lines (before_dot (lines_of input)) ≡ Ok rows
-    → brought input ≡ Ok (record { rows = rows; lines = calls })
-brought_rows input calls rows h e = rw (h, e) refl
+-- ---- the work that lines bring
+pub brought_rows : (n : ℕ) (lines calls : List (List ℕ)) (rows : Rows) → after_dot lines ≡ Some calls → rows_of_lines n (before_dot lines) ≡ Ok rows
+    → brought n lines ≡ Ok (record { rows = rows; lines = calls })
+brought_rows n lines calls rows h e = rw (h, e) refl
 
-pub brought_no_dot : (input : List ℕ) (rows : Rows) (number : ℕ) → after_dot (lines_of input) ≡ None → rows_of_lines (before_dot (lines_of input)) ≡ Ok rows
-    → number ≡ length (before_dot (lines_of input)) + 1 → brought input ≡ Err number
-brought_no_dot input rows number h e k = rw (h, e) (ap Err (sym (k ∙ ap (λ ls. length ls + 1) (no_dot (lines_of input) h))))
+pub brought_no_dot : (n : ℕ) (lines : List (List ℕ)) (rows : Rows) (number : ℕ) → after_dot lines ≡ None → rows_of_lines n (before_dot lines) ≡ Ok rows
+    → number ≡ n + length (before_dot lines) → brought n lines ≡ Err number
+brought_no_dot n lines rows number h e k = rw (h, e) (ap Err (sym (k ∙ ap (λ ls. n + length ls) (no_dot lines h))))
 
-pub brought_failed : (input : List ℕ) (n : ℕ) → rows_of_lines (before_dot (lines_of input)) ≡ Err n → brought input ≡ Err n
-brought_failed input n h = rw h refl
+pub brought_failed : (n : ℕ) (lines : List (List ℕ)) (m : ℕ) → rows_of_lines n (before_dot lines) ≡ Err m → brought n lines ≡ Err m
+brought_failed n lines m h = rw h refl

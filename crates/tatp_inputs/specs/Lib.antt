@@ -1,3 +1,4 @@
+pub mod Parts
 pub mod RowLines
 pub mod Work
 pub mod Refusing

@@ -14,7 +14,7 @@ use Rattle.tatp_inputs.specs.RowLines.{rows_of_lines}
 -- the verdict is that on the rows that the lines of the input are
 pub record IsVerdictOn (input : List ℕ) (verdict : Verdict) : Type 0 where
   pub rows : Rows
-  pub read : rows_of_lines (lines_of input) ≡ Ok rows
+  pub read : rows_of_lines 1 (lines_of input) ≡ Ok rows
   pub judged : IsVerdict rows verdict
 
 -- a verdict and a line feed
@@ -38,5 +38,5 @@ pub record WritesVerdict (input : List ℕ) (old new : Option (List ℕ)) (clean
 -- what each fault tells of the input, and leaves
 abbrev pub LeavesVerdict : List ℕ → Option (List ℕ) → Option (List ℕ) → InputFault → Type 0
 LeavesVerdict input old new (BadLine n) =
-    (rows_of_lines (lines_of input) ≡ Err n) × Appends old new []
+    (rows_of_lines 1 (lines_of input) ≡ Err n) × Appends old new []
 LeavesVerdict input old new (Stream fault) = LeavesText (TellsVerdict input) old new fault

@@ -4,21 +4,21 @@ use Rattle.rand_core.specs.Stream.{next_u64}
 use Rattle.rand_core.specs.Steps.{stream_of, steps_u64_low}
 use Rattle.rand_pcg.specs.Lcg.{started, increment_of}
 use Rattle.rand_pcg.specs.Pcg.{pcg64, multiplier_128}
-use Rattle.tatp_lines.specs.Lines.{lines_of}
 use Rattle.tatp_tables.specs.Clean.{IsClean}
 use Rattle.tatp_tables.specs.declared.row.Rows.{Rows}
 use Rattle.tatp_population.specs.DrawnRows as drawn
 use Rattle.tatp_population.specs.Opening.{most_subscribers}
 use Rattle.tatp_tasks.specs.declared.population.Population.{Population}
 use Rattle.tatp_tasks.specs.declared.population.Population.TheVariants.{Read, Generated}
-use Rattle.tatp_inputs.specs.RowLines.{rows_of_lines, before_dot, after_dot}
+use Rattle.tatp_inputs.specs.Parts.{before_dot, after_dot}
+use Rattle.tatp_inputs.specs.RowLines.{rows_of_lines}
 
 -- rows, and the lines that are answered over them
 pub record Work : Type 0 where
   pub rows : Rows
   pub lines : List (List ℕ)
 
--- ---- an input that brings both
+-- ---- lines that bring both
 -- by the rows before the line `.`, and the lines after it; where that line is missing, its number
 -- would be n
 abbrev pub work_by : ℕ → Result Rows ℕ → Option (List (List ℕ)) → Result Work ℕ
@@ -26,13 +26,12 @@ work_by n (Err bad) after = Err bad
 work_by n (Ok rows) None = Err n
 work_by n (Ok rows) (Some lines) = Ok (record { rows = rows; lines = lines })
 
--- the work that an input brings; else the number of the line that is wrong
-abbrev pub brought : List ℕ → Result Work ℕ
-brought input =
-    let lines = lines_of input in
-    work_by (length lines + 1) (rows_of_lines (before_dot lines)) (after_dot lines)
+-- the work that the lines from line n on bring; else the number of the line that is wrong
+abbrev pub brought : ℕ → List (List ℕ) → Result Work ℕ
+brought n lines =
+    work_by (n + length lines) (rows_of_lines n (before_dot lines)) (after_dot lines)
 
--- ---- an input whose rows are drawn
+-- ---- rows that are drawn
 -- the rows of the subscribers 1 to n, drawn from the words of this seed
 unfoldable pub generated : ℕ → ℕ → Rows
 generated n seed =
@@ -40,10 +39,11 @@ generated n seed =
     (drawn.population next_u64 n (stream_of (steps_u64_low pcg64) start)).0
 
 -- ---- either
--- the rows and the lines: the input brings both, or it is the lines
-abbrev pub work_of : Population → List ℕ → Result Work ℕ
-work_of Read input = brought input
-work_of (Generated n seed) input = Ok (record { rows = generated n seed; lines = lines_of input })
+-- the lines from line n on bring both, or the rows are drawn and all of them are answered
+abbrev pub work_of : Population → ℕ → List (List ℕ) → Result Work ℕ
+work_of Read n lines = brought n lines
+work_of (Generated count seed) n lines =
+    Ok (record { rows = generated count seed; lines = lines })
 
 -- where the population is drawn, these rows are clean, and not too many
 abbrev pub AreCleanWhereDrawn : Population → Rows → Type 0

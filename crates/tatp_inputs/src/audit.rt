@@ -17,7 +17,7 @@ use tatp_streams::{MOST_BYTES, read_all, write_last};
 fn judged(alloc: Global, input: &[u8]) -> Result<Verdict, InputFault>
     requires { length input.now ≤ MOST_BYTES }
     ensures verdict { IfOk result (IsVerdictOn input.now) }
-    ensures faults { IfErr result (RefusesReading (rows_of_lines (lines_of input.now))) }
+    ensures faults { IfErr result (RefusesReading (rows_of_lines 1 (lines_of input.now))) }
 {
     let rows = read_rows(alloc, input)?;
     Ok(audit(alloc, &rows)?)

@@ -1,12 +1,14 @@
-//! What an input brings: rows, and lines after them; and the command `audit`, whose input is rows
-//! alone.
+//! What an input brings: a text, rows, and lines after them; and the command `audit`, whose input
+//! is rows alone.
 #![tactic(auto)]
 
 mod audit;
 mod fault;
 mod rows;
+mod text;
 mod work;
 
 pub use audit::run_audit;
 pub use fault::InputFault;
+pub use text::{FrontText, read_text};
 pub use work::work_of;

@@ -3,10 +3,12 @@
 
 mod plan;
 mod population;
+mod procedures;
 mod setup;
 mod task;
 
 pub use plan::BenchPlan;
 pub use population::Population;
+pub use procedures::Procedures;
 pub use setup::Setup;
 pub use task::Task;

@@ -1,9 +1,11 @@
 //! What a run over lines is opened with.
-use crate::Population;
+use crate::{Population, Procedures};
 
 /// What a run over lines is opened with.
 #[derive(Clone, Copy, Debug, PartialEq, Eq)]
 pub struct Setup {
+    /// Where its procedures come from.
+    pub procedures: Procedures,
     /// Where its rows come from.
     pub population: Population,
     /// Over how many partitions they are dealt, 1 to 16.

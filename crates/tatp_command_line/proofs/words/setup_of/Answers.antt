@@ -9,5 +9,5 @@ returns-clause-asked c = (
     partitions = search rules;
     clients = search rules;
   },
-  same_setup _ _ (search rules) (search rules) (search rules),
+  same_setup _ _ (search rules) (search rules) (search rules) (search rules),
 )

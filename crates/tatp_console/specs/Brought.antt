@@ -1,0 +1,69 @@
+-- What an input brings to a run over lines: the module under which they are answered, the rows, and
+-- the lines: docs/FORMATS.md.
+use Rattle.std.specs.Prelude.{◌≡◌, ℕ, ◌+◌, List, length, Option, Some, None, Result, Ok, Err}
+use Rattle.tatp_lines.specs.Lines.{lines_of}
+use Rattle.tatp_encoding.specs.Modules.{Procedure}
+use Rattle.tatp_loader.specs.Lawful.{IsLawful}
+use Rattle.tatp_asm.specs.Texts.{IsTextOf}
+use Rattle.tatp_procs.specs.Standard.{standard_module}
+use Rattle.tatp_streams.specs.declared.fault.StreamFault.TheVariants.{NoMemory}
+use Rattle.tatp_assembly.specs.declared.fault.AssemblyFault.{AssemblyFault}
+use Rattle.tatp_assembly.specs.declared.fault.AssemblyFault.TheVariants as assembly
+use Rattle.tatp_assembly.specs.Modules.{RefusesText}
+use Rattle.tatp_tasks.specs.declared.population.Population.{Population}
+use Rattle.tatp_tasks.specs.declared.procedures.Procedures.{Procedures}
+use Rattle.tatp_tasks.specs.declared.procedures.Procedures.TheVariants.{Standard, Read}
+use Rattle.tatp_inputs.specs.declared.fault.InputFault.TheVariants.{BadLine, Stream}
+use Rattle.tatp_inputs.specs.Parts.{before_dot, after_dot, text_before_dot}
+use Rattle.tatp_inputs.specs.Work.{Work, work_of}
+use Rattle.tatp_console.specs.declared.fault.ConsoleFault.{ConsoleFault}
+use Rattle.tatp_console.specs.declared.fault.ConsoleFault.TheVariants.{Input, Text, Module}
+
+-- ---- the module
+-- it is the standard module, or the text before the first line `.` is a text of it and it keeps the
+-- rules
+abbrev pub IsModuleAsked : Procedures → List (List ℕ) → List Procedure → Type 0
+IsModuleAsked Standard lines m = m ≡ standard_module
+IsModuleAsked Read lines m = IsTextOf (text_before_dot lines) m × IsLawful m
+
+-- why that text is refused
+abbrev pub RefusesModule : Procedures → List (List ℕ) → AssemblyFault → Type 0
+RefusesModule Standard lines fault = ⊥
+RefusesModule Read lines fault = RefusesText (text_before_dot lines) fault
+
+-- ---- the rows, and the lines that are answered
+-- by the lines after the text's line `.`, whose number n is; else that number
+abbrev pub work_after : Population → ℕ → Option (List (List ℕ)) → Result Work ℕ
+work_after population n None = Err n
+work_after population n (Some lines) = work_of population (n + 1) lines
+
+-- all lines bring them, or those after the text; else the number of the line that is wrong
+abbrev pub work_asked : Procedures → Population → List (List ℕ) → Result Work ℕ
+work_asked Standard population lines = work_of population 1 lines
+work_asked Read population lines =
+    work_after population (1 + length (before_dot lines)) (after_dot lines)
+
+-- ---- an input
+-- of the module and the work that it brings
+abbrev pub OfInput : Procedures → Population → List ℕ → (List Procedure → Work → Type 0) → Type 0
+OfInput procedures population input P =
+    (m : List Procedure) × IsModuleAsked procedures (lines_of input) m
+    × (work : Work) × (work_asked procedures population (lines_of input) ≡ Ok work) × P m work
+
+-- why it is refused: a fault of the text comes before one of the rows
+abbrev pub RefusesInput : Procedures → Population → List ℕ → ConsoleFault → Type 0
+RefusesInput procedures population input (Text fault) =
+    RefusesModule procedures (lines_of input) (assembly.Text fault)
+RefusesInput procedures population input (Module fault) =
+    RefusesModule procedures (lines_of input) (assembly.Module fault)
+RefusesInput procedures population input (Input (BadLine n)) =
+    (m : List Procedure) × IsModuleAsked procedures (lines_of input) m
+    × (work_asked procedures population (lines_of input) ≡ Err n)
+RefusesInput procedures population input (Input (Stream NoMemory)) = Unit {0}
+RefusesInput procedures population input fault = ⊥
+
+-- the same fault, in words of the console
+abbrev pub module_fault : AssemblyFault → ConsoleFault
+module_fault (assembly.Text fault) = Text fault
+module_fault (assembly.Module fault) = Module fault
+module_fault (assembly.Stream fault) = Input (Stream fault)

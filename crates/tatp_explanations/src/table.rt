@@ -24,7 +24,8 @@ pub static EXPLANATIONS: [Explanation; 56] = [
         "  Find the row first, and test what the find says: JZ jumps where it is 0."
     ),
     row!(2 "Domain" "a value is outside its column's values"
-        "  $ printf 'raw 0 4 id 1 1 0\\nbegin 0\\nsteps 0 5\\n' | tatp trace --gen 1 | tail -n 1
+        "  $ printf 'raw 0 4 id 1 1 0\\nbegin 0\\nsteps 0 5\\n' |
+      tatp trace --gen 1 | tail -n 1
   ENDED 0 TRAPPED Domain"
         "  The list of the columns says which values each has: a location, as here, is
   never 0. The call has left nothing. With submit in place of raw, arguments
@@ -63,7 +64,7 @@ pub static EXPLANATIONS: [Explanation; 56] = [
   Behind the name are the numbers of the procedure and of the instruction, from
   0. Make the module from a text, by tatp asm."
     ),
-    row!(7 "UnusedNotZero" "a part of an instruction that its op doesn't use is not 0"
+    row!(7 "UnusedNotZero" "a part that the op doesn't use isn't 0"
         "  $ printf 'TPM\\1\\1\\1A\\0\\0\\1\\024\\1\\0\\0\\0\\0\\0\\0' | tatp check
   tatp: 7 UnusedNotZero 0 0"
         "  All bytes of an instruction that its op doesn't use are 0; DONE, as here,
@@ -77,7 +78,7 @@ pub static EXPLANATIONS: [Explanation; 56] = [
   last is r0 to r13; that of INS is r0 to r11. Behind the name are the numbers
   of the procedure and of the instruction, from 0."
     ),
-    row!(9 "Syntax" "a line of an assembly text is of no form, or not allowed where it is"
+    row!(9 "Syntax" "a line of no form, or in a place where it isn't allowed"
         "  $ printf 'proc A 0\\n  DONE\\nend\\n' | tatp asm
   tatp: 9 Syntax 2"
         "  Behind the name is the number of the line, from 1. Lines have no indent, no
@@ -85,14 +86,14 @@ pub static EXPLANATIONS: [Explanation; 56] = [
   spaces; registers are r0 to r15. A procedure is proc NAME ARITY, at least one
   instruction, and end, which the last procedure has to have too."
     ),
-    row!(10 "NoSuchLabel" "a line names a label that its procedure does not have"
+    row!(10 "NoSuchLabel" "a line names a label that the procedure doesn't have"
         "  $ printf 'proc A 0\\nJMP @last\\nDONE\\nend\\n' | tatp asm
   tatp: 10 NoSuchLabel 2"
         "  Behind the name is the number of the line that names it, from 1. A label is
   a line of its own, as last: here, below the jump and in the same procedure;
   capitals matter."
     ),
-    row!(11 "LabelTwice" "the procedure has the label already"
+    row!(11 "LabelTwice" "a label that the procedure has already"
         "  $ printf 'proc A 0\\nx:\\nOUT r0\\nx:\\nDONE\\nend\\n' | tatp asm
   tatp: 11 LabelTwice 4"
         "  Behind the name is the number of the second line with it, from 1. Take
@@ -104,20 +105,20 @@ pub static EXPLANATIONS: [Explanation; 56] = [
         "  Behind the name is the number of the line, from 1. A module has at most 16
   procedures of 256 instructions each: make two of one."
     ),
-    row!(13 "Truncated" "a module's bytes end before a field is whole"
+    row!(13 "Truncated" "the bytes end before a field is whole"
         "  $ printf 'TPM\\1' | tatp check
   tatp: 13 Truncated 0 0"
         "  Behind the name are the numbers of the procedure and of the instruction that
   aren't whole, from 0. Make the module anew, or copy it whole: nothing that
   takes it for text may come between."
     ),
-    row!(14 "BadMagic" "a module's first four bytes are others"
+    row!(14 "BadMagic" "the bytes begin with another magic"
         "  $ printf 'proc A 0\\nDONE\\nend\\n' | tatp check
   tatp: 14 BadMagic 0 0"
         "  The input is no module. dis and check read what tatp asm writes; a text, as
   here, is for asm."
     ),
-    row!(15 "Extra" "bytes follow a module"
+    row!(15 "Extra" "bytes follow the module"
         "  $ (printf 'proc A 0\\nDONE\\nend\\n' | tatp asm; echo) | tatp check
   tatp: 15 Extra 0 0"
         "  An input is one module and nothing more. For several procedures assemble one
@@ -129,27 +130,27 @@ pub static EXPLANATIONS: [Explanation; 56] = [
         "  Behind the name is the number of the later procedure, from 0. Take another
   name."
     ),
-    row!(17 "BadHeader" "a field of a module is out of its range"
+    row!(17 "BadHeader" "a field is out of its range"
         "  $ printf 'TPM\\1\\0' | tatp check
   tatp: 17 BadHeader 0 0"
         "  A module has 1 to 16 procedures; each has a name of 1 to 24 capitals and
   underscores, 0 to 8 arguments and 1 to 256 instructions. Behind the name is
   the number of the procedure, from 0."
     ),
-    row!(18 "BackwardJump" "a jump doesn't go to a later instruction"
+    row!(18 "BackwardJump" "a jump to itself or backwards"
         "  $ printf 'proc A 0\\nx:\\nJMP @x\\nDONE\\nend\\n' | tatp asm
   tatp: 18 BackwardJump 0 0"
         "  Put the label below the jump. There are no loops, so that each call ends:
   what is done three times is written three times. Behind the name are the
   numbers of the procedure and of the instruction, from 0."
     ),
-    row!(19 "BadTarget" "a jump leads past the last instruction"
+    row!(19 "BadTarget" "a jump past the last instruction"
         "  $ printf 'proc A 0\\nJZ r0,@x\\nDONE\\nx:\\nend\\n' | tatp asm
   tatp: 19 BadTarget 0 0"
         "  Below the label there has to be an instruction, as FAIL #1. Behind the name
   are the numbers of the procedure and of the jump, from 0."
     ),
-    row!(20 "FixedColumn" "there is no such column, or it is set and is fixed"
+    row!(20 "FixedColumn" "a column above 50, or a PUT to a fixed one"
         "  $ printf 'proc A 0\\nPUT #1,r0\\nDONE\\nend\\n' | tatp asm
   tatp: 20 FixedColumn 0 0"
         "  There are the columns 0 to 50. Those of primary keys, and sub_nbr, are never
@@ -164,18 +165,18 @@ pub static EXPLANATIONS: [Explanation; 56] = [
   Behind the name are the numbers of the procedure and of the instruction, from
   0."
     ),
-    row!(22 "TooManyOut" "the 41st OUT of a procedure"
+    row!(22 "TooManyOut" "the 41st OUT"
         "  $ (echo 'proc A 0'; yes 'OUT r0' | head -n 41; echo DONE; echo end) | tatp asm
   tatp: 22 TooManyOut 0 40"
         "  A reply has at most 40 values. Make two procedures of one."
     ),
-    row!(23 "TooManyWrites" "the 65th PUT, INS or DEL of a procedure"
+    row!(23 "TooManyWrites" "the 65th of PUT, INS and DEL"
         "  $ (echo 'proc A 0'; yes DEL | head -n 65; echo DONE; echo end) | tatp asm
   tatp: 23 TooManyWrites 0 64"
         "  A procedure has at most 64 instructions that change rows, since what they
   change is kept until it ends. Make two procedures of one."
     ),
-    row!(24 "NoEnd" "a procedure doesn't end with DONE or FAIL"
+    row!(24 "NoEnd" "the last instruction is neither DONE nor FAIL"
         "  $ printf 'proc A 0\\nOUT r0\\nend\\n' | tatp asm
   tatp: 24 NoEnd 0 0"
         "  Put DONE below the last instruction, or FAIL and a number. Behind the name
@@ -187,7 +188,7 @@ pub static EXPLANATIONS: [Explanation; 56] = [
         "  Find the two rows by the number, and give one another: each subscriber has a
   sub_nbr of its own."
     ),
-    row!(26 "BadArgument" "an argument of a call is outside its domain; its place follows"
+    row!(26 "BadArgument" "an argument of a call is outside its values; its place follows"
         "  $ echo 'GET_ACCESS_DATA 1 5' | tatp call --gen 1
   REFUSED 26 BadArgument 1"
         "  Places count from 0, so here it is the ai_type, which is 1 to 4. An argument
@@ -260,7 +261,7 @@ pub static EXPLANATIONS: [Explanation; 56] = [
         "  Take one away: clear, with the numbers of its line break. Each partition has
   its own eight."
     ),
-    row!(37 "NoExtent" "a range of subscribers is empty, begins with 0 or passes the last"
+    row!(37 "NoExtent" "a range begins with 0, is empty or goes past the last subscriber"
         "  In the library: Routes::move_range of the subscribers 5 to 131, where there
   are 130."
         "  Give the first and the last s_id of the range, 1 to the number of
@@ -272,7 +273,7 @@ pub static EXPLANATIONS: [Explanation; 56] = [
         "  Partitions count from 0, so the last of two is 1. There are two where
   --partitions doesn't say otherwise, and at most 16."
     ),
-    row!(39 "SamePartition" "a range would be moved to the partition that it is moved from"
+    row!(39 "SamePartition" "a range would be moved to where it is moved from"
         "  In the library: Routes::move_range from partition 0 to partition 0."
         "  Name another partition, or do nothing: the range is there."
     ),
@@ -294,13 +295,13 @@ pub static EXPLANATIONS: [Explanation; 56] = [
   REFUSED 42 NothingQueued"
         "  Submit a call first. QUEUED P, and AWAY P, say at which partition it waits."
     ),
-    row!(43 "NotInHand" "no such parcel, or no such landing, is under way"
+    row!(43 "NotInHand" "no such parcel, or landing, is under way"
         "  $ echo 'give 0 1' | tatp trace --gen 1
   REFUSED 43 NotInHand"
         "  take, then give, then route: give lands an extent that was taken, and route
   E M tells a landing, with the M of its line LANDED."
     ),
-    row!(44 "ExtentMissing" "after a run an extent is nowhere; its number follows"
+    row!(44 "ExtentMissing" "after a run the extent that follows is nowhere"
         "  tatp: 44 ExtentMissing 3: when all threads of bench had ended, extent 3 was
   neither in a partition nor under way."
         "  No input causes this: the program or the machine is at fault. Please report
@@ -326,7 +327,7 @@ pub static EXPLANATIONS: [Explanation; 56] = [
   are read; wc -c counts those of a file. For more rows than that use --gen,
   whose rows are drawn; split calls into several inputs."
     ),
-    row!(48 "NoProcedure" "there is no such procedure, or it takes fewer or more arguments"
+    row!(48 "NoProcedure" "there is no such procedure, or it takes more or fewer arguments"
         "  $ echo 'raw 0 4 id 1 1' | tatp trace --gen 1
   REFUSED 48 NoProcedure"
         "  The seven transactions are the procedures 0 to 6. raw C PROC KIND KEY ARG..
@@ -354,11 +355,11 @@ pub static EXPLANATIONS: [Explanation; 56] = [
         "  The disk is full, the output is closed, or who read it has ended. What was
   written is the front of what had to be. Make room, and run it again."
     ),
-    row!(54 "LogEnded" "the extent's log ended with a call that is no standard transaction"
-        "  In the library: Site::checkpoint of an extent on which a call of another
-  procedure has ended."
-        "  Checkpoint the extent before such calls. A log tells transactions alone,
-  so there is no chapter of what came later."
+    row!(54 "LogEnded" "the extent is mixed"
+        "  In the library: Site::checkpoint of an extent on which a call that is no
+  standard transaction has ended."
+        "  Checkpoint an extent before such calls. A log tells transactions alone, and
+  ends with the first call that is none."
     ),
     row!(55 "ChapterCountFull" "the extent handed out 65,535 chapters"
         "  In the library: Site::checkpoint of an extent for the 65,536th time."

@@ -165,11 +165,7 @@ impl NumberOption {
             .value_name(self.value)
             .required(self.required)
             .help(self.help);
-        let arg = if self.alone {
-            arg
-        } else {
-            arg.long(self.name)
-        };
+        let arg = if self.alone { arg } else { arg.long(self.name) };
         match self.default {
             Some(text) => arg.default_value(text),
             None => arg,

@@ -8,7 +8,9 @@ ghost use Rattle.tatp_command_line.specs.Numbers.{HasNumber, number_asked};
 ghost use Rattle.tatp_command_line.specs.Options.{partitions, clients, HasPopulation, population_asked, HasSetup, setup_asked, HasPlan, plan_asked, distribution_asked, HasNumberToExplain, number_to_explain};
 
 use crate::commands::command;
-use crate::options::{BadNumber, CALLS, CLIENTS, GEN, MOVES, NUMBER, PARTITIONS, SEED, STOPS, SUBSCRIBERS};
+use crate::options::{
+    BadNumber, CALLS, CLIENTS, GEN, MOVES, NUMBER, PARTITIONS, SEED, STOPS, SUBSCRIBERS,
+};
 use clap::error::ErrorKind;
 use clap::{ArgMatches, Error};
 use std::alloc::{AllocError, Global};
@@ -156,8 +158,7 @@ pub fn not_text(alloc: Global) -> Result<Error, AllocError> {
 
 /// The answer to a number that no refusal and no fault has.
 pub fn not_explained(alloc: Global, number: u64) -> Result<Error, AllocError> {
-    let text = format!(
-        in alloc;
+    let text = format!(in alloc;
         "invalid value '{number}' for '[NUMBER]': no refusal or fault has this number"
     )?;
     command(alloc)?.error(ErrorKind::ValueValidation, text.as_str())

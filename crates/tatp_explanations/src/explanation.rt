@@ -31,7 +31,10 @@ impl fmt::Display for Explanation {
             example,
             advice,
         } = self;
-        write!(f, "{number} {name}: {meaning}\n\nExample:\n{example}\n\nWhat to do:\n{advice}\n")
+        write!(
+            f,
+            "{number} {name}: {meaning}\n\nExample:\n{example}\n\nWhat to do:\n{advice}\n"
+        )
     }
 }
 

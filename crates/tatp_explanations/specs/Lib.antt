@@ -1,2 +1,2 @@
-pub mod Rows
+pub mod Numbers
 pub mod Texts

@@ -1,6 +1,6 @@
 //! What the refusals and faults of one number mean.
 ghost use Rattle.std.specs.Prelude.{Some};
-ghost use Rattle.tatp_explanations.specs.Texts.{explanation_text, listing_text};
+ghost use Rattle.tatp_explanations.specs.Texts.{explanation_text, line_text};
 
 use std::fmt;
 
@@ -38,23 +38,20 @@ impl fmt::Display for Explanation {
     }
 }
 
-/// Rows of the table, a line each, which is displayed as number, name and meaning.
+/// An explanation that is displayed as one line: number, name and meaning.
 #[derive(Clone, Copy)]
-pub(crate) struct Listing<'a>(pub(crate) &'a [Explanation]);
+pub(crate) struct Line<'a>(pub(crate) &'a Explanation);
 
-impl fmt::Display for Listing<'_> {
-    ghost output = { λ listing. Some (listing_text listing.0.now) };
+impl fmt::Display for Line<'_> {
+    ghost output = { λ line. Some (line_text line.0.now) };
 
     fn fmt<W: fmt::Write>(&self, f: &mut fmt::Formatter<W>) -> fmt::Result {
-        for row in self.0 {
-            let Explanation {
-                number,
-                name,
-                meaning,
-                ..
-            } = row;
-            write!(f, "{number} {name}: {meaning}\n")?;
-        }
-        Ok(())
+        let Explanation {
+            number,
+            name,
+            meaning,
+            ..
+        } = self.0;
+        write!(f, "{number} {name}: {meaning}\n")
     }
 }

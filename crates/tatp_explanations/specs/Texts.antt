@@ -35,6 +35,7 @@ pub record IsListing (numbers : List ℕ) (text : List ℕ) : Type 0 where
   pub told : text ≡ flat_map line_text rows
 
 -- what a fault leaves where such a text is to be written: nothing is read
-abbrev pub LeavesFront : (List ℕ → Type 0) → Option (List ℕ) → Option (List ℕ) → StreamFault → Type 0
+abbrev pub LeavesFront : (List ℕ → Type 0)
+    → Option (List ℕ) → Option (List ℕ) → StreamFault → Type 0
 LeavesFront IsText old new ReadFault = ⊥
 LeavesFront IsText old new fault = LeavesText IsText old new fault

@@ -6,7 +6,10 @@ use crate::Explanation;
 /// The explanation of a number: the rows are number, name, meaning, example and advice. Each line
 /// of the last two is indented by two spaces.
 macro_rules! row_of {
-    ($number:ident, $($row:literal $name:literal $meaning:literal $example:literal $advice:literal)*) => {
+    (
+        $number:ident,
+        $($row:literal $name:literal $meaning:literal $example:literal $advice:literal)*
+    ) => {
         match $number {
             $($row => Explanation {
                 number: $row,

@@ -51,7 +51,7 @@ pub(crate) fn about_changes(number: u64) -> Explanation
             "  In the library: Home::insert_cf for a facility that the subscriber doesn't
   have. As a call INSERT_CALL_FORWARDING answers FAILED 3 then."
             "  Take an sf_type that the subscriber has. No call inserts a facility."
-        5 "BadLine" "a line is not what it has to be"
+        5 "BadLine" "a line isn't what it has to be"
             "  $ echo 'GET_ACCESS_DATA 1' | tatp call --gen 1
   REFUSED 5 BadLine
   $ echo 'GET_ACCESS_DATA 1 1' | tatp call
@@ -222,7 +222,7 @@ pub(crate) fn about_openings(number: u64) -> Explanation
             "  Places count from 0, so here it is the ai_type, which is 1 to 4. An argument
   has the values of the column that it names; an s_id may be any number. The
   call wasn't run."
-        27 "NotClean" "rows do not pass the audits; the verdict follows"
+        27 "NotClean" "rows don't pass the audits; the verdict follows"
             "  $ grep -v A examples/first-run.txt | tatp call
   tatp: 27 NotClean A6 1"
             "  The verdict names the first audit that fails and its least key. A1: 1 to the
@@ -308,7 +308,7 @@ pub(crate) fn about_places(number: u64) -> Explanation
   REFUSED 38 NoPartition"
             "  Partitions count from 0, so the last of two is 1. There are two where
   --partitions doesn't say otherwise, and at most 16."
-        39 "SamePartition" "a range would be moved to where it is moved from"
+        39 "SamePartition" "a range would be moved to where it is"
             "  In the library: Routes::move_range from partition 0 to partition 0."
             "  Name another partition, or do nothing: the range is there."
         40 "NoClient" "there is no such client"
@@ -346,7 +346,7 @@ pub(crate) fn about_queues(number: u64) -> Explanation
   neither in a partition nor under way."
             "  No input causes this: the program or the machine is at fault. Please report
   the command line."
-        45 "Unsettled" "what a run left isn't one history of its calls; the cause follows"
+        45 "Unsettled" "a run isn't one history of its calls; the cause follows"
             "  tatp: 45 Unsettled ReplyDiffers 2 17: in a run of bench client 2 received
   another reply to its call 17 than the log of the extent has."
             "  No input causes this: the program or the machine is at fault. Please report
@@ -367,7 +367,7 @@ pub(crate) fn about_streams(number: u64) -> Explanation
     ensures { result.number ≡ number }
 {
     row_of!(number,
-        47 "ReadFault" "the input can't be read, or has more bytes than are read"
+        47 "ReadFault" "the input can't be read, or is longer than is read"
             "  $ tatp check <&-
   tatp: 47 ReadFault"
             "  See that standard input is open and is no folder. At most 134,217,728 bytes

@@ -5,6 +5,8 @@ pub(crate) const PROGRAM: &str = "\
 Each command reads standard input and writes standard output. It ends with status 0; with 1 where
 it stops, telling why on standard error; with 2 where it can't make out these words.
 
+What it stops at, and what is refused, has a number: tatp explain NUMBER says what it means.
+
 Example: tatp call < examples/first-run.txt";
 
 /// Of `call`.
@@ -99,3 +101,12 @@ The first two lines depend on the clients, their calls, the subscribers, --unifo
 alone. With moves and stops, in 2 partitions and in 8:
   tatp bench --subscribers 1000 --calls 5000 --moves 100 --stops 100
   tatp bench --subscribers 1000 --calls 5000 --moves 100 --stops 100 --partitions 8 --progress";
+
+/// Of `explain`.
+pub(crate) const EXPLAIN: &str = "\
+Nothing is read. Of a number prints what it means, an example and what to do; without one prints
+all numbers, a line each.
+
+Examples:
+  tatp explain 5
+  tatp explain | grep -i module";

@@ -1,5 +1,5 @@
 -- A call is put into one of the inboxes.
-use Rattle.std.proofs.Common.{◌≡◌, ℕ, List, Option, Some, Result, Ok, Err, ap, ◌∙◌}
+use Rattle.std.proofs.Common.{◌≡◌, ℕ, List, Some, Result, Ok, Err, ap, ◌∙◌}
 use Rattle.std.specs.Prelude.{slice_get, slice_set}
 use Rattle.std.specs.Result.{is_ok}
 use Rattle.tatp_population.proofs.ListLaws.{set_same}

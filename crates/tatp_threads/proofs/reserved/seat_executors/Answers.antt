@@ -1,7 +1,6 @@
 use Rattle.std.proofs.Common.{◌++◌, [], ◌∷◌, ap, ◌∙◌}
 use Rattle.std.proofs.lemmas.List.{map_push}
 use Rattle.tatp_threads.specs.Seats.{readers_of}
-use Rattle.tatp_threads.specs.declared.reserved.ExecutorSeat.{ExecutorSeat}
 use Rattle.tatp_threads.proofs.SeatLaws.{one_more_with_ends}
 use Rattle.tatp_threads.proofs.reserved.seat_executors.Goals as goal
 

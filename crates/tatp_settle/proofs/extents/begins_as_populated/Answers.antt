@@ -4,12 +4,12 @@ use Rattle.std.specs.List.{list_all}
 use Rattle.std.specs.Option.{is_some}
 use Rattle.tatp_tables.specs.Home.{SubscriberRows}
 use Rattle.tatp_settle.specs.Runs.{extents_populated, homes_populated}
-use Rattle.tatp_settle.specs.Causes.{OpenedAsPopulated}
-use Rattle.tatp_settle.specs.ExtentTests.{opened_here, opened_as}
+use Rattle.tatp_settle.specs.Causes.{BeginsAsPopulated}
+use Rattle.tatp_settle.specs.ExtentTests.{begins_here, begins_as}
 use Rattle.tatp_settle.proofs.HereLaws.{copied_some}
-use Rattle.tatp_settle.proofs.OpenedLaws.{opened_is, not_opened_is, populated, not_populated, own_piece, count_is}
-use Rattle.tatp_settle.proofs.extents.is_opened.Goals as goal
-use Rattle.tatp_settle.proofs.extents.is_opened.Goals.{then-number-eq0-via-then-number-eq0, then-number-eq0-via-else-number-eq0+then-number-extent_count}
+use Rattle.tatp_settle.proofs.OpenedLaws.{begins_is, not_begun_is, populated, not_populated, own_piece, count_is}
+use Rattle.tatp_settle.proofs.extents.begins_as_populated.Goals as goal
+use Rattle.tatp_settle.proofs.extents.begins_as_populated.Goals.{then-number-eq0-via-then-number-eq0, then-number-eq0-via-else-number-eq0+then-number-extent_count}
 
 pub returns-then-number-eq0 : goal.returns-then-number-eq0
 returns-then-number-eq0 c =
@@ -18,7 +18,7 @@ returns-then-number-eq0 c =
       | then-number-eq0-via-then-number-eq0 w ↦ omega (arith, l, w.if-number-eq0.true)
       | then-number-eq0-via-else-number-eq0+then-number-extent_count w ↦ omega (arith, l, k, count, w.if-number-extent_count.true)
     ] in
-    not_opened_is c.args.run.now.population.now c.args.run.now.closed.now c.args.number (not_populated c.args.run.now.population.now c.args.number none) c.is_some-stands.result
+    not_begun_is c.args.run.now.population.now c.args.run.now.closed.now c.args.number (not_populated c.args.run.now.population.now c.args.number none) c.is_some-stands.result
     (c.is_some-stands.ensures ∙ (copied_some c.extent_numbered.result ∙ ap is_some c.extent_numbered.ensures))
 
 pub returns-then-stands : goal.returns-then-stands
@@ -28,9 +28,9 @@ returns-then-stands c =
     let own : List SubscriberRows = take (c.min.result - 64 * (c.args.number - 1)) (drop (64 * (c.args.number - 1)) c.args.homes.now) in
     let is : homes_populated c.args.run.now.population.now c.args.number ≡ Some own =
     populated c.args.run.now.population.now c.args.number least (omega (arith, count)) ∙ ap Some (sym (own_piece c.args.homes.now c.args.run.now.population.now c.args.number c.min.result c.requires least c.min.ensures)) in
-    subst (λ r. Decides r (OpenedAsPopulated c.args.run.now.population.now c.args.run.now.closed.now c.args.number)) (sym c.are_opened.ensures)
-    (opened_is c.args.run.now.population.now c.args.run.now.closed.now c.args.number own c.what_holds.ensures is true
-    (list_all (opened_here own c.args.number) c.args.run.now.closed.now.sites) (list_all (opened_as own c.args.number) c.args.run.now.closed.now.parcels)
+    subst (λ r. Decides r (BeginsAsPopulated c.args.run.now.population.now c.args.run.now.closed.now c.args.number)) (sym c.all_begin.ensures)
+    (begins_is c.args.run.now.population.now c.args.run.now.closed.now c.args.number own c.what_holds.ensures is true
+    (list_all (begins_here own c.args.number) c.args.run.now.closed.now.sites) (list_all (begins_as own c.args.number) c.args.run.now.closed.now.parcels)
     (sym c.if-stands.true ∙ (c.is_some-stands.ensures ∙ (copied_some c.extent_numbered.result ∙ ap is_some c.extent_numbered.ensures))) refl refl)
 
 pub returns-else-stands : goal.returns-else-stands
@@ -40,7 +40,7 @@ returns-else-stands c =
     let own : List SubscriberRows = take (c.min.result - 64 * (c.args.number - 1)) (drop (64 * (c.args.number - 1)) c.args.homes.now) in
     let is : homes_populated c.args.run.now.population.now c.args.number ≡ Some own =
     populated c.args.run.now.population.now c.args.number least (omega (arith, count)) ∙ ap Some (sym (own_piece c.args.homes.now c.args.run.now.population.now c.args.number c.min.result c.requires least c.min.ensures)) in
-    subst (λ r. Decides r (OpenedAsPopulated c.args.run.now.population.now c.args.run.now.closed.now c.args.number)) (sym c.if-stands.false)
-    (opened_is c.args.run.now.population.now c.args.run.now.closed.now c.args.number own c.what_holds.ensures is false
-    (list_all (opened_here own c.args.number) c.args.run.now.closed.now.sites) (list_all (opened_as own c.args.number) c.args.run.now.closed.now.parcels)
+    subst (λ r. Decides r (BeginsAsPopulated c.args.run.now.population.now c.args.run.now.closed.now c.args.number)) (sym c.if-stands.false)
+    (begins_is c.args.run.now.population.now c.args.run.now.closed.now c.args.number own c.what_holds.ensures is false
+    (list_all (begins_here own c.args.number) c.args.run.now.closed.now.sites) (list_all (begins_as own c.args.number) c.args.run.now.closed.now.parcels)
     (sym c.if-stands.false ∙ (c.is_some-stands.ensures ∙ (copied_some c.extent_numbered.result ∙ ap is_some c.extent_numbered.ensures))) refl refl)

@@ -43,11 +43,11 @@ settle_run-requires-clause-few g c κs within =
     subst (λ lists. length (joined lists) < 2 ^ 64) (sym same) (few_calls c.args.plan.now c.requires.plan)
 
 -- what the threads left
-left : (g : given.Over) (c : goal.After-settle_run g) → Run
+abbrev left : (g : given.Over) (c : goal.After-drop-loaded-inside-2 g) → Run
 left g c = run_left c.parts-population.result.0 c.parts.result c.as_slice-lists.result.now
 
 -- it is a run of the plan
-of_plan : (g : given.Over) (c : goal.After-settle_run g) → IsRunOf c.args.plan.now (left g c)
+of_plan : (g : given.Over) (c : goal.After-drop-loaded-inside-2 g) → IsRunOf c.args.plan.now (left g c)
 of_plan g c =
     let plan = c.args.plan.now in
     let lists = c.as_slice-lists.result.now in

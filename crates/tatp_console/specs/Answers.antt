@@ -16,8 +16,7 @@ use Rattle.tatp_console.specs.Brought.{IsModuleAsked}
 abbrev pub Answering : Type 1
 Answering = WorldState → List ℕ → List ℕ → WorldState → Type 0
 
--- what has to hold before a line does before the first, whatever the text of the module that is asked
--- for
+-- what has to hold before a line does before the first, whichever module is asked for
 abbrev pub IsReadyUnder : (WorldState → Type 0) → Procedures → Type 0
 IsReadyUnder ready procedures =
     (w : WorldState) (lines : List (List ℕ))

@@ -1,7 +1,7 @@
 -- Decimal numbers in text: what is read, and that it is what is written.
-use Rattle.std.proofs.Common.{◌≡◌, ◌≢◌, ℕ, zero, suc, ◌+◌, ◌<◌, ◌≤◌, ◌^◌, ◌/◌, ◌%◌, ◌++◌, ◌∙◌, append_assoc, sym, ap, subst, Bool, true, false, not, List, [], ◌∷◌, length, get_or, refl, arith, eqb, ltb, Some, None, Result, Ok, Err, decimal, ◌&&◌, ◌||◌}
+use Rattle.std.proofs.Common.{◌≡◌, ◌≢◌, ℕ, zero, suc, ◌<◌, ◌≤◌, ◌^◌, ◌∙◌, sym, ap, subst, Bool, true, false, not, List, [], ◌∷◌, length, get_or, refl, arith, eqb, ltb, Some, None, Result, Ok, Err, decimal, ◌&&◌, ◌||◌}
 use Rattle.std.proofs.lemmas.Bool.Decides.{nat_tests}
-use Rattle.std.proofs.lemmas.Fmt.{digits_decimal, digits_value-decimal, decimal-digits_value, decimal_nonempty, first_decimal, decimal_digit, decimal_step}
+use Rattle.std.proofs.lemmas.Fmt.{digits_decimal, digits_value-decimal, decimal-digits_value, decimal_nonempty, first_decimal, decimal_digit}
 use Rattle.std.proofs.lemmas.Option.{cond_some}
 use Rattle.std.proofs.lemmas.Str.Parse.{IsNumeralModel, numerals_by_value, tells_all_ascii_digits, parse_plain}
 use Rattle.std.specs.Result.{result_ok, OkIff}
@@ -72,9 +72,3 @@ decimal-number_of bs n h =
     let p = cond_some _ (digits_value 10 bs) n h in
     let parts = number_test_parts (length bs) (digits_value 10 bs) (get_or bs 0 0) (2 ^ 64) (all_ascii_digits bs) p.0 in
     (ap decimal (sym p.1) ∙ decimal-digits_value own bs parts.1 parts.0 parts.2 parts.3, subst (λ m. m < 2 ^ 64) p.1 parts.3, parts.1)
-
--- a last digit after the others
-pub last_digit : (old front text : List ℕ) (n : ℕ) → text ≡ front ++ decimal (n % 10) → front ≡ old ++ decimal (n / 10) → 10 ≤ n → n < 2 ^ 64 → text ≡ old ++ decimal n
-last_digit old front text n t f low high =
-    let last : decimal (n % 10) ≡ (48 + n % 10) ∷ [] = decimal_digit (n % 10) (omega arith) in
-    t ∙ ap (λ digits. front ++ digits) last ∙ ap (λ xs. xs ++ (48 + n % 10) ∷ []) f ∙ append_assoc old (decimal (n / 10)) ((48 + n % 10) ∷ []) ∙ ap (λ digits. old ++ digits) (sym (decimal_step n low high))

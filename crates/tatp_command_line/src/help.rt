@@ -13,18 +13,21 @@ Example: tatp call < examples/first-run.txt";
 pub(crate) const CALL: &str = "\
 The input is the rows of a population, a line with a dot, and the calls; a row or a call a line.
 The reply to a call is OK and the values, FAILED and why, or REFUSED and why. In how many partitions
-the rows are opened changes no byte of the replies.
+the rows are opened changes no byte of the replies. A call is answered when its line has come: type
+calls at a terminal, or let a program send each after the reply to the last. Ctrl-D ends the input.
 
 A completed call is kept to the end, in the log of its subscriber's extent and among all completed
 calls: about 720 bytes of memory, so 1.5 million calls a GiB, besides the rows. Nothing else grows.
 
 Examples:
   tatp call < examples/first-run.txt
-  tatp call --gen 1000 --seed 7 < calls.txt";
+  tatp call --gen 1000 --seed 7 < calls.txt
+  tatp call --gen 1000";
 
 /// Of `trace`.
 pub(crate) const TRACE: &str = "\
-The input is the rows of a population, a line with a dot, and events; a row or an event a line.
+The input is the rows of a population, a line with a dot, and events; a row or an event a line. An
+event is answered when its line has come, at a terminal too, where ctrl-D ends the input.
 With --procedures an assembly text and a line with a dot stand before them all: calls run the
 procedures of that text, which keeps the rules of check, in place of the seven transactions.
 Partitions and clients count from 0. Extent E has the subscribers 64 (E - 1) + 1 to 64 E and opens

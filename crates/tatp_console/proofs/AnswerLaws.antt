@@ -1,8 +1,11 @@
 -- What answering lines one after another keeps.
-use Rattle.std.proofs.Common.{◌≡◌, ℕ, ◌∙◌, sym, ap, subst, List, [], ◌∷◌, ◌++◌, take, drop, refl, Option, append_assoc, take-append-drop, inl, inr}
+use Rattle.std.proofs.Common.{◌≡◌, ℕ, ◌∙◌, sym, ap, subst, List, [], ◌∷◌, ◌++◌, take, drop, refl, ◌≤◌, Option, Some, None, append_assoc, take-append-drop, inl, inr}
+use Rattle.std.specs.Option.{option_map, IfSome}
 use Rattle.std.specs.Io.KnownBytes.{Appends}
 use Rattle.std.proofs.lemmas.List.{append-nil}
 use Rattle.tatp_dispatch.specs.Worlds.{WorldState}
+use Rattle.tatp_streams.specs.LineReading.{most_bytes, LinesLeft, Stays, Relates, with_line}
+use Rattle.tatp_streams.proofs.LineReadingLaws.{relates_from_start, relates_line, relates_end, relates_all, relates_as}
 use Rattle.tatp_streams.specs.Writing.{AppendsFront, KeepsOrAppends}
 use Rattle.tatp_streams.proofs.StreamLaws.{appends_none, appends_both}
 use Rattle.tatp_console.specs.Answers.{Answering, AppendsAnswer, AnswersLines, AnswersAll, AnswersUpTo}
@@ -116,3 +119,68 @@ goes_so_far answers w now all left old new pending g = record {
   answered = g.answered;
   written = g.held;
 }
+
+-- ---- of the lines that were left and that are, where those of the input are known
+pub record GoingOn (answers : Answering) (w : WorldState) (old new : Option (List ℕ)) (pending : List ℕ) (now : WorldState) (all left : LinesLeft) : Type 0 where
+  pub goes : Going answers w all.lines old new pending left.lines now
+  pub input_length : left.input_length ≡ all.input_length
+
+pub starts : (answers : Answering) (w : WorldState) (all : Option LinesLeft) (old : Option (List ℕ)) (pending : List ℕ) → pending ≡ []
+    → Relates all all (GoingOn answers w old old pending w)
+starts answers w all old pending e =
+    relates_from_start all (GoingOn answers w old old pending w)
+    (λ left. record { goes = goes_from_start answers w left.lines old pending e; input_length = refl })
+
+-- what was pending is written or not, and then a line is answered
+answered_next : (answers : Answering) (w now after : WorldState) (old new then : Option (List ℕ)) (pending rest longer line : List ℕ) (a l : LinesLeft)
+    → KeepsOrAppends pending rest new then → AppendsAnswer answers now line rest longer after
+    → GoingOn answers w old new pending now a (with_line line l) → GoingOn answers w old then longer after a l
+answered_next answers w now after old new then pending rest longer line a l kept answered g = record {
+  goes = goes_on answers w now after a.lines (line ∷ l.lines) l.lines old then rest longer line (goes_written answers w now a.lines (line ∷ l.lines) old new then pending rest g.goes kept) refl answered;
+  input_length = g.input_length;
+}
+
+pub answers_next : (answers : Answering) (w now after : WorldState) (all left left' : Option LinesLeft) (old new then : Option (List ℕ)) (pending rest longer line : List ℕ)
+    → Relates all left (GoingOn answers w old new pending now) → Stays left (option_map (with_line line) left') → KeepsOrAppends pending rest new then → AppendsAnswer answers now line rest longer after
+    → Relates all left' (GoingOn answers w old then longer after)
+answers_next answers w now after all left left' old new then pending rest longer line h s kept answered =
+    relates_line all left left' line (GoingOn answers w old new pending now) (GoingOn answers w old then longer after) h s
+    (λ a l g. answered_next answers w now after old new then pending rest longer line a l kept answered g)
+
+-- and what is pending is written or not
+pub writes_next : (answers : Answering) (w now : WorldState) (all left : Option LinesLeft) (old new then : Option (List ℕ)) (pending rest : List ℕ)
+    → Relates all left (GoingOn answers w old new pending now) → KeepsOrAppends pending rest new then → Relates all left (GoingOn answers w old then rest now)
+writes_next answers w now all left old new then pending rest h kept =
+    relates_as all left (GoingOn answers w old new pending now) (GoingOn answers w old then rest now) h
+    (λ a l g. record { goes = goes_written answers w now a.lines l.lines old new then pending rest g.goes kept; input_length = g.input_length })
+
+-- the end
+pub answers_all : (answers : Answering) (w now : WorldState) (all left left' : Option LinesLeft) (old new then : Option (List ℕ)) (pending : List ℕ)
+    → Relates all left (GoingOn answers w old new pending now) → Stays left left' → IfSome left' (λ l. l.lines ≡ []) → IfSome left' (λ l. l.input_length ≤ most_bytes) → Appends new then pending
+    → IfSome all (λ a. AnswersAll answers w a.lines old then × (a.input_length ≤ most_bytes))
+answers_all answers w now all left left' old new then pending h s none within written =
+    relates_all all left' (λ a l. AnswersAll answers w a.lines old then × (a.input_length ≤ most_bytes)) (λ a. AnswersAll answers w a.lines old then × (a.input_length ≤ most_bytes))
+    (relates_end all left left' (GoingOn answers w old new pending now) (λ a l. AnswersAll answers w a.lines old then × (a.input_length ≤ most_bytes)) h s none within
+    (λ a l empty short g. (goes_to_end answers w now a.lines l.lines old new then pending g.goes empty written, subst (λ n. n ≤ most_bytes) g.input_length short)))
+    (λ a l both. both)
+
+pub lines_answered : (P Q : LinesLeft → Type 0) (all : Option LinesLeft) → IfSome all (λ a. P a × Q a) → IfSome all P
+lines_answered P Q None h = tt
+lines_answered P Q (Some a) h = h.0
+
+pub length_known : (P Q : LinesLeft → Type 0) (all : Option LinesLeft) → IfSome all (λ a. P a × Q a) → IfSome all Q
+length_known P Q None h = tt
+length_known P Q (Some a) h = h.1
+
+-- a front of what is pending was written, or nothing
+pub answers_up_to : (answers : Answering) (w now : WorldState) (all left : Option LinesLeft) (old new then : Option (List ℕ)) (pending : List ℕ)
+    → Relates all left (GoingOn answers w old new pending now) → AppendsFront pending new then → IfSome all (λ a. AnswersUpTo answers w a.lines old then)
+answers_up_to answers w now all left old new then pending h front =
+    relates_all all left (GoingOn answers w old new pending now) (λ a. AnswersUpTo answers w a.lines old then) h
+    (λ a l g. goes_up_to answers w now a.lines l.lines old new then pending g.goes front)
+
+pub answers_so_far : (answers : Answering) (w now : WorldState) (all left : Option LinesLeft) (old new : Option (List ℕ)) (pending : List ℕ)
+    → Relates all left (GoingOn answers w old new pending now) → IfSome all (λ a. AnswersUpTo answers w a.lines old new)
+answers_so_far answers w now all left old new pending h =
+    relates_all all left (GoingOn answers w old new pending now) (λ a. AnswersUpTo answers w a.lines old new) h
+    (λ a l g. goes_so_far answers w now a.lines l.lines old new pending g.goes)

@@ -10,17 +10,15 @@ use Rattle.tatp_dispatch.specs.Worlds.{WorldState}
 use Rattle.tatp_tasks.specs.declared.procedures.Procedures.{Procedures}
 use Rattle.tatp_tasks.specs.declared.setup.Setup.{Setup}
 use Rattle.tatp_inputs.specs.Work.{Work}
-use Rattle.tatp_console.specs.Brought.{IsModuleAsked}
+use Rattle.tatp_console.specs.Brought.{IsModuleFor}
 
 -- what is answered to a line: from the whole before, by the line and the text, to the whole after
 abbrev pub Answering : Type 1
 Answering = WorldState → List ℕ → List ℕ → WorldState → Type 0
 
--- what has to hold before a line does before the first, whichever module is asked for
+-- what has to hold before a line does before the first
 abbrev pub IsReadyUnder : (WorldState → Type 0) → Procedures → Type 0
-IsReadyUnder ready procedures =
-    (w : WorldState) (lines : List (List ℕ))
-    → IsModuleAsked procedures lines w.procedures → ready w
+IsReadyUnder ready procedures = (w : WorldState) → IsModuleFor procedures w.procedures → ready w
 
 -- new is what old is and after it what is answered to the line
 pub record AppendsAnswer (answers : Answering) (w : WorldState) (line : List ℕ)

@@ -2,9 +2,9 @@
 -- holds.
 use Rattle.std.specs.Prelude.{ℕ, ◌⊎◌, List, [], Option}
 use Rattle.std.specs.Io.KnownBytes.{Appends}
+use Rattle.tatp_lines.specs.Lines.{lines_of}
 use Rattle.tatp_encoding.specs.Modules.{Procedure}
 use Rattle.tatp_population.specs.Opening.{RefusesRows}
-use Rattle.tatp_streams.specs.declared.fault.StreamFault.TheVariants.{NoMemory, ReadFault, WriteFault}
 use Rattle.tatp_tasks.specs.declared.population.Population.{Population}
 use Rattle.tatp_tasks.specs.declared.procedures.Procedures.{Procedures}
 use Rattle.tatp_inputs.specs.declared.fault.InputFault.TheVariants.{Stream}
@@ -17,7 +17,7 @@ use Rattle.tatp_console.specs.Brought.{OfInput, RefusesInput}
 abbrev pub WritesOfWork : (List Procedure → Work → List ℕ → Type 0)
     → Procedures → Population → List ℕ → Option (List ℕ) → Option (List ℕ) → Type 0
 WritesOfWork IsText procedures population input old new =
-    (text : List ℕ) × OfInput procedures population input (λ m work. IsText m work text)
+    (text : List ℕ) × OfInput procedures population (lines_of input) (λ m work. IsText m work text)
     × Appends old new text
 
 -- new has nothing besides, or such a text
@@ -29,13 +29,10 @@ WritesFrontOfWork IsFront procedures population input old new =
 -- what each fault tells of the input, and leaves, by what a front of what would be written is
 abbrev pub Leaves : (List Procedure → Work → List ℕ → Type 0) → Procedures → Population → List ℕ
     → Option (List ℕ) → Option (List ℕ) → ConsoleFault → Type 0
-Leaves IsFront procedures population input old new (Input (Stream ReadFault)) = Appends old new []
-Leaves IsFront procedures population input old new (Input (Stream NoMemory)) =
-    WritesFrontOfWork IsFront procedures population input old new
-Leaves IsFront procedures population input old new (Input (Stream WriteFault)) =
+Leaves IsFront procedures population input old new (Input (Stream fault)) =
     WritesFrontOfWork IsFront procedures population input old new
 Leaves IsFront procedures population input old new (Unopened error) =
-    OfInput procedures population input (λ m work. RefusesRows work.rows error)
+    OfInput procedures population (lines_of input) (λ m work. RefusesRows work.rows error)
     × Appends old new []
 Leaves IsFront procedures population input old new fault =
-    RefusesInput procedures population input fault × Appends old new []
+    RefusesInput procedures population (lines_of input) fault × Appends old new []

@@ -1,117 +1,101 @@
-//! What an input brings: the module under which its lines are answered, the rows, and the lines.
-ghost use Rattle.std.specs.Prelude.{◌≡◌, ◌+◌, ◌≤◌, Ok, IfOk, IfErr, length};
-ghost use Rattle.tatp_lines.specs.Lines.{lines_of};
+//! What an input brings before the lines that are answered: a module and rows.
+ghost use Rattle.std.specs.Prelude.{◌≡◌, ◌+◌, IfOk, IfErr, IfSome};
+ghost use Rattle.tatp_streams.specs.LineReading.{lines_left, Relates};
 ghost use Rattle.tatp_tasks.specs.Populations.{IsPopulation};
 ghost use Rattle.tatp_tasks.specs.declared.procedures.Procedures.TheVariants.{Read};
-ghost use Rattle.tatp_inputs.specs.Work.{work_of, AreCleanWhereDrawn};
-ghost use Rattle.tatp_console.specs.Brought.{IsModuleAsked, work_asked, RefusesInput};
+ghost use Rattle.tatp_inputs.specs.Work.{AreCleanWhereDrawn};
+ghost use Rattle.tatp_console.specs.Brought.{IsModuleFor, BringsModule, Brings, RefusesInput};
 
 use crate::ConsoleFault;
 use std::alloc::Global;
+use std::io;
 use tatp_assembly::module_of_text;
 use tatp_inputs::{FrontText, InputFault, read_text, work_of};
 use tatp_loader::Loaded;
 use tatp_procs::standard;
-use tatp_streams::MOST_BYTES;
+use tatp_streams::LineReader;
 use tatp_tables::Rows;
 use tatp_tasks::{Procedures, Setup};
 
-/// A module, and what follows its text.
+/// What an input brings before the lines that are answered.
 #[derive(Drop)]
-struct Front<'a> {
-    loaded: Loaded,
-    /// The number of the first line that follows, counted from 1.
-    first: u64,
-    rest: &'a [u8],
-}
-
-/// What an input brings.
-#[derive(Drop)]
-pub(crate) struct Brought<'a> {
-    /// The module under which the lines are answered.
+pub(crate) struct Brought {
+    /// The module under which they are.
     pub(crate) loaded: Loaded,
     pub(crate) rows: Rows,
-    pub(crate) lines: &'a [u8],
 }
 
-/// The module that the input's text is, up to a line `.`.
-fn read_module<'a>(alloc: Global, setup: Setup, input: &'a [u8]) -> Result<Front<'a>, ConsoleFault>
+/// The module that the text up to a line `.` is.
+fn read_module<R: io::Read>(
+    alloc: Global,
+    setup: Setup,
+    lines: &mut LineReader,
+    reader: &mut R,
+) -> Result<Loaded, ConsoleFault>
     requires procedures { setup.procedures ≡ Read }
-    requires input { length input.now ≤ MOST_BYTES }
-    ensures under { IfOk result
-        (λ front. IsModuleAsked setup.procedures (lines_of input.now) front.loaded) }
-    ensures work { IfOk result (λ front.
-        work_asked setup.procedures setup.population (lines_of input.now)
-        ≡ work_of setup.population front.first (lines_of front.rest.now)) }
-    ensures first { IfOk result (λ front. front.first ≤ MOST_BYTES + 1) }
-    ensures rest { IfOk result (λ front. length front.rest.now ≤ MOST_BYTES) }
-    ensures faults { IfErr result (RefusesInput setup.procedures setup.population input.now) }
+    requires first { lines.old.number ≡ 0 }
+    ensures rules { IfOk result (IsModuleFor setup.procedures) }
+    ensures module { IfOk result (λ loaded. Relates
+        (lines_left lines.old (R.remaining reader.old))
+        (lines_left lines.new (R.remaining reader.new))
+        (BringsModule setup loaded (lines.new.number + 1))) }
+    ensures faults { IfErr result (λ fault.
+        IfSome (lines_left lines.old (R.remaining reader.old)) (λ all.
+        RefusesInput setup.procedures setup.population all.lines fault)) }
 {
-    let FrontText {
-        text,
-        number,
-        after,
-    } = read_text(alloc, input)?;
+    let FrontText { text, dot } = read_text(alloc, lines, reader)?;
     let loaded = module_of_text(alloc, &text)?;
-    match after {
-        Some(rest) => Ok(Front {
-            loaded,
-            first: number + 1,
-            rest,
-        }),
-        None => Err(ConsoleFault::Input(InputFault::BadLine(number))),
+    if !dot {
+        return Err(ConsoleFault::Input(InputFault::BadLine(lines.number() + 1)));
     }
+    Ok(loaded)
 }
 
 /// The module under which the lines of an input are answered.
-fn module_of<'a>(alloc: Global, setup: Setup, input: &'a [u8]) -> Result<Front<'a>, ConsoleFault>
-    requires { length input.now ≤ MOST_BYTES }
-    ensures under { IfOk result
-        (λ front. IsModuleAsked setup.procedures (lines_of input.now) front.loaded) }
-    ensures work { IfOk result (λ front.
-        work_asked setup.procedures setup.population (lines_of input.now)
-        ≡ work_of setup.population front.first (lines_of front.rest.now)) }
-    ensures first { IfOk result (λ front. front.first ≤ MOST_BYTES + 1) }
-    ensures rest { IfOk result (λ front. length front.rest.now ≤ MOST_BYTES) }
-    ensures faults { IfErr result (RefusesInput setup.procedures setup.population input.now) }
+fn module_of<R: io::Read>(
+    alloc: Global,
+    setup: Setup,
+    lines: &mut LineReader,
+    reader: &mut R,
+) -> Result<Loaded, ConsoleFault>
+    requires first { lines.old.number ≡ 0 }
+    ensures rules { IfOk result (IsModuleFor setup.procedures) }
+    ensures module { IfOk result (λ loaded. Relates
+        (lines_left lines.old (R.remaining reader.old))
+        (lines_left lines.new (R.remaining reader.new))
+        (BringsModule setup loaded (lines.new.number + 1))) }
+    ensures faults { IfErr result (λ fault.
+        IfSome (lines_left lines.old (R.remaining reader.old)) (λ all.
+        RefusesInput setup.procedures setup.population all.lines fault)) }
 {
     match setup.procedures {
-        Procedures::Standard => Ok(Front {
-            loaded: standard(alloc)?,
-            first: 1,
-            rest: input,
-        }),
-        Procedures::Read => read_module(alloc, setup, input),
+        Procedures::Standard => Ok(standard(alloc)?),
+        Procedures::Read => read_module(alloc, setup, lines, reader),
     }
 }
 
-/// The module, the rows and the lines of an input. A fault of the module's text comes before one of
-/// the rows.
-pub(crate) fn bring<'a>(
+/// The module and the rows of an input, whose other lines are left. A fault of the module's text
+/// comes before one of the rows.
+pub(crate) fn bring<R: io::Read>(
     alloc: Global,
     setup: Setup,
-    input: &'a [u8],
-) -> Result<Brought<'a>, ConsoleFault>
-    requires input { length input.now ≤ MOST_BYTES }
+    lines: &mut LineReader,
+    reader: &mut R,
+) -> Result<Brought, ConsoleFault>
+    requires first { lines.old.number ≡ 0 }
     requires population { IsPopulation setup.population }
-    ensures under { IfOk result
-        (λ brought. IsModuleAsked setup.procedures (lines_of input.now) brought.loaded) }
-    ensures work { IfOk result (λ brought.
-        work_asked setup.procedures setup.population (lines_of input.now)
-        ≡ Ok (record { rows = brought.rows; lines = lines_of brought.lines.now })) }
+    ensures rules { IfOk result (λ brought. IsModuleFor setup.procedures brought.loaded) }
+    ensures brought { IfOk result (λ brought. Relates
+        (lines_left lines.old (R.remaining reader.old))
+        (lines_left lines.new (R.remaining reader.new))
+        (Brings setup brought.loaded brought.rows)) }
     ensures clean { IfOk result
         (λ brought. AreCleanWhereDrawn setup.population brought.rows) }
-    ensures faults { IfErr result (RefusesInput setup.procedures setup.population input.now) }
+    ensures faults { IfErr result (λ fault.
+        IfSome (lines_left lines.old (R.remaining reader.old)) (λ all.
+        RefusesInput setup.procedures setup.population all.lines fault)) }
 {
-    let Front {
-        loaded,
-        first,
-        rest,
-    } = module_of(alloc, setup, input)?;
-    let (rows, lines) = work_of(alloc, setup.population, first, rest)?;
-    Ok(Brought {
-        loaded,
-        rows,
-        lines,
-    })
+    let loaded = module_of(alloc, setup, lines, reader)?;
+    let rows = work_of(alloc, setup.population, lines, reader)?;
+    Ok(Brought { loaded, rows })
 }

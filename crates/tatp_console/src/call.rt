@@ -75,9 +75,9 @@ impl LineCommand for Calls {
 
 /// Reads rows and calls, or calls alone, and writes a reply to each line of calls.
 ///
-/// All is read, and the rows are opened, before the first reply is written. An input of more than
-/// [`MOST_BYTES`] bytes is refused. Each call is run to its end before the next, over so many
-/// partitions, which changes nothing of what is written.
+/// The rows are opened before the first reply is written; then all replies to the lines that have
+/// come, before it waits for more. No more than [`MOST_BYTES`] bytes are read. Each call is run to
+/// its end before the next, over so many partitions, which changes nothing of what is written.
 pub fn run_call<R: Read, W: Write>(
     alloc: Global,
     reader: &mut R,

@@ -1,9 +1,10 @@
 //! The lines of an input, answered one after another.
-ghost use Rattle.std.specs.Prelude.{◌≡◌, ℕ, ◌≤◌, ◌⊎◌, List, length, IfErr, OnOk, OnErr, IfSome, ⊤};
+ghost use Rattle.std.specs.Prelude.{◌≡◌, ℕ, ◌≤◌, true, false, List, length, IfOk, IfErr, OnOk, OnErr, IfSome, ⊤};
+ghost use Rattle.std.specs.Io.KnownBytes.{Appends};
 ghost use Rattle.std.specs.String.{string_bytes};
-ghost use Rattle.tatp_lines.specs.Lines.{lines_of};
 ghost use Rattle.tatp_dispatch.specs.Worlds.{WorldState};
-ghost use Rattle.tatp_streams.specs.declared.fault.StreamFault.TheVariants.{NoMemory, WriteFault};
+ghost use Rattle.tatp_streams.specs.LineReading.{lines_left, TakesLine, MeetsEnd};
+ghost use Rattle.tatp_streams.specs.Writing.{AppendsFront, KeepsOrAppends};
 ghost use Rattle.tatp_tasks.specs.Populations.{IsSetup};
 ghost use Rattle.tatp_console.specs.Answers.{IsReadyUnder, AppendsAnswer, AnswersAll, AnswersUpTo, AnswersWork, AnswersFront};
 ghost use Rattle.tatp_console.specs.Works.{WritesOfWork, Leaves};
@@ -14,8 +15,7 @@ use crate::world::open_world;
 use std::alloc::{AllocError, Global};
 use std::io::{Read, Write};
 use tatp_dispatch::World;
-use tatp_lines::next_line;
-use tatp_streams::{MOST_BYTES, StreamFault, read_all, write_if_full, write_last};
+use tatp_streams::{LineReader, MOST_BYTES, StreamFault, write_if_full, write_last};
 use tatp_tasks::Setup;
 
 /// A command that answers lines, each by what it makes of the whole.
@@ -41,63 +41,62 @@ pub(crate) trait LineCommand {
         ensures ready { ready world.new };
 }
 
-/// Answers each line.
-fn answer_lines<C: LineCommand, W: Write>(
+/// Takes the next line. What is pending is written before the program may wait for it.
+fn next_line<R: Read, W: Write>(
+    lines: &mut LineReader,
+    reader: &mut R,
+    writer: &mut W,
+    pending: &mut String,
+) -> Result<bool, StreamFault>
+    ensures line { IfOk result (λ more. more ≡ true
+        → TakesLine lines.old (R.remaining reader.old) lines.new (R.remaining reader.new)) }
+    ensures written { IfOk result (λ more. more ≡ true
+        → KeepsOrAppends (string_bytes pending.old) (string_bytes pending.new)
+        (W.contents writer.old) (W.contents writer.new)) }
+    ensures end { IfOk result (λ more. more ≡ false
+        → MeetsEnd lines.old (R.remaining reader.old) lines.new (R.remaining reader.new)) }
+    ensures all_written { IfOk result (λ more. more ≡ false
+        → Appends (W.contents writer.old) (W.contents writer.new) (string_bytes pending.old)) }
+    ensures front { OnErr result (AppendsFront (string_bytes pending.old)
+        (W.contents writer.old) (W.contents writer.new)) }
+{
+    if lines.advance_ready() {
+        return Ok(true);
+    }
+    write_last(writer, pending.as_bytes())?;
+    pending.clear();
+    lines.advance(reader)
+}
+
+/// Answers each line, when it has come.
+fn answer_lines<C: LineCommand, R: Read, W: Write>(
     alloc: Global,
     world: &mut World<'_>,
-    lines: &[u8],
+    lines: &mut LineReader,
+    reader: &mut R,
     writer: &mut W,
 ) -> Result<(), StreamFault>
     requires ready { C.ready world.old }
-    ensures ok { OnOk result (AnswersAll C.answers world.old (lines_of lines.now)
-        (W.contents writer.old) (W.contents writer.new)) }
-    ensures front { OnErr result (AnswersUpTo C.answers world.old (lines_of lines.now)
-        (W.contents writer.old) (W.contents writer.new)) }
-    ensures faults { IfErr result (λ fault. (fault ≡ WriteFault) ⊎ (fault ≡ NoMemory)) }
+    ensures ok { OnOk result (IfSome (lines_left lines.old (R.remaining reader.old)) (λ all.
+        AnswersAll C.answers world.old all.lines (W.contents writer.old) (W.contents writer.new))) }
+    ensures limit { OnOk result (IfSome (lines_left lines.old (R.remaining reader.old)) (λ all.
+        all.input_length ≤ MOST_BYTES)) }
+    ensures front { OnErr result (IfSome (lines_left lines.old (R.remaining reader.old)) (λ all.
+        AnswersUpTo C.answers world.old all.lines
+        (W.contents writer.old) (W.contents writer.new))) }
 {
     let mut pending = String::new(alloc);
-    let mut rest = lines;
     'lines: loop {
-        match next_line(rest) {
-            None => return write_last(writer, pending.as_bytes()),
-            Some((line, more)) => {
-                C::answer(alloc, world, line, &mut pending)?;
-                write_if_full(writer, &mut pending)?;
-                rest = more;
-            }
+        if !next_line(lines, reader, writer, &mut pending)? {
+            return Ok(());
         }
+        C::answer(alloc, world, lines.line(), &mut pending)?;
+        write_if_full(writer, &mut pending)?;
     }
 }
 
-/// Answers the lines of an input that was read.
-fn answer_input<C: LineCommand, W: Write>(
-    alloc: Global,
-    setup: Setup,
-    input: &[u8],
-    writer: &mut W,
-) -> Result<(), ConsoleFault>
-    requires input { length input.now ≤ MOST_BYTES }
-    requires setup { IsSetup setup }
-    requires ready { IsReadyUnder C.ready setup.procedures }
-    ensures answered { OnOk result (WritesOfWork (AnswersWork C.answers setup) setup.procedures
-        setup.population input.now (W.contents writer.old) (W.contents writer.new)) }
-    ensures faults { IfErr result (Leaves (AnswersFront C.answers setup) setup.procedures
-        setup.population input.now (W.contents writer.old) (W.contents writer.new)) }
-{
-    let Brought {
-        loaded,
-        rows,
-        lines,
-    } = bring(alloc, setup, input)?;
-    let mut world = open_world(alloc, &loaded, setup, rows)?;
-    let answered = answer_lines::<C, W>(alloc, &mut world, lines, writer);
-    world.close();
-    answered?;
-    Ok(())
-}
-
-/// Reads what an input brings, and writes what is answered to each of its lines. All is read, and
-/// the rows are opened, before the first answer is written.
+/// Reads what an input brings, and writes what is answered to each of its lines: all that is
+/// answered, before it waits for a further line. The rows are opened before the first.
 pub(crate) fn answer_all<C: LineCommand, R: Read, W: Write>(
     alloc: Global,
     reader: &mut R,
@@ -115,6 +114,11 @@ pub(crate) fn answer_all<C: LineCommand, R: Read, W: Write>(
     ensures limit { OnOk result
         (IfSome (R.remaining reader.old) (λ input. length input ≤ MOST_BYTES)) }
 {
-    let input = read_all(alloc, reader)?;
-    answer_input::<C, W>(alloc, setup, &input, writer)
+    let mut lines = LineReader::new(alloc);
+    let Brought { loaded, rows } = bring(alloc, setup, &mut lines, reader)?;
+    let mut world = open_world(alloc, &loaded, setup, rows)?;
+    let answered = answer_lines::<C, R, W>(alloc, &mut world, &mut lines, reader, writer);
+    world.close();
+    answered?;
+    Ok(())
 }

@@ -32,8 +32,8 @@ impl LineCommand for Events {
 /// Reads rows and lines of events, or such lines alone, and writes what is answered to each. Before
 /// them may stand the text of the procedures that calls run.
 ///
-/// All is read, and the rows are opened, before the first answer is written. An input of more than
-/// [`MOST_BYTES`] bytes is refused.
+/// The rows are opened before the first answer is written; then all answers to the lines that have
+/// come, before it waits for more. No more than [`MOST_BYTES`] bytes are read.
 pub fn run_trace<R: Read, W: Write>(
     alloc: Global,
     reader: &mut R,

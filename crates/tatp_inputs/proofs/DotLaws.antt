@@ -1,18 +1,23 @@
 -- A line `.` after rows, and rows without one.
-use Rattle.std.specs.Prelude.{◌≡◌, ℕ, ◌+◌, Bool, true, false, List, [], ◌∷◌, length, Option, Some, None, Result, Ok, Err, cond, codes}
+use Rattle.std.specs.Prelude.{◌≡◌, ℕ, ◌+◌, ◌≤◌, Bool, true, false, List, [], ◌∷◌, length, Option, Some, None, Result, Ok, Err, cond, codes}
+use Rattle.std.specs.Option.{IfSome}
 use Rattle.std.specs.Str.{is_utf8}
 use Rattle.std.proofs.Common.{refl, sym, ap, subst, ◌∙◌, arith}
+use Rattle.std.proofs.lemmas.Option.{IfSome_then}
 use Rattle.std.proofs.lemmas.Slice.Eq.{bytes_eq-Decides}
+use Rattle.tatp_lines.specs.Lines.{lines_of}
 use Rattle.tatp_tables.specs.Text.{row_of}
 use Rattle.tatp_tables.specs.declared.row.Row.{Row}
 use Rattle.tatp_tables.specs.declared.row.Rows.{Rows}
 use Rattle.tatp_population.specs.PopulationText.{on_rows, row_first, in_tables}
+use Rattle.tatp_streams.specs.LineReading.{most_bytes, LineReaderState, nothing_taken, LinesLeft, lines_left, Relates}
+use Rattle.tatp_streams.proofs.LineReadingLaws.{relates_all, of_input}
 use Rattle.tatp_streams.specs.declared.fault.StreamFault.TheVariants.{NoMemory, ReadFault, WriteFault}
 use Rattle.tatp_inputs.specs.declared.fault.InputFault.{InputFault}
 use Rattle.tatp_inputs.specs.declared.fault.InputFault.TheVariants.{BadLine, Stream}
 use Rattle.tatp_inputs.specs.Refusing.{RefusesReading}
 use Rattle.tatp_inputs.specs.Parts.{is_dot, before_dot, after_dot}
-use Rattle.tatp_inputs.specs.RowLines.{row_in, rows_from, rows_of_lines}
+use Rattle.tatp_inputs.specs.RowLines.{row_in, rows_from, rows_of_lines, TakesRows}
 use Rattle.tatp_inputs.specs.Work.{brought}
 
 -- ---- where there is no line `.`, all lines stand before it
@@ -97,8 +102,34 @@ rows_failed n lines m h = rw (failed_before n m lines (list_failed (rows_from n 
 pub refused_before : (n : ℕ) (lines : List (List ℕ)) (fault : InputFault) → RefusesReading (rows_of_lines n (before_dot lines)) fault → RefusesReading (rows_of_lines n lines) fault
 refused_before n lines (BadLine m) h = rows_failed n lines m h
 refused_before n lines (Stream NoMemory) h = tt
-refused_before n lines (Stream ReadFault) h = absurd h
+refused_before n lines (Stream ReadFault) h = tt
 refused_before n lines (Stream WriteFault) h = absurd h
+
+-- ---- an input that is rows alone
+pub rows_of_input : (start : LineReaderState) (known : Option (List ℕ)) (left : Option LinesLeft) (rows : Rows) (n : ℕ) → start ≡ nothing_taken
+    → Relates (lines_left start known) left (TakesRows false rows start.number n) → IfSome known (λ input. rows_of_lines 1 (lines_of input) ≡ Ok rows)
+rows_of_input start known left rows n e h =
+    of_input known (λ all. rows_of_lines 1 all.lines ≡ Ok rows)
+    (relates_all (lines_left nothing_taken known) left (TakesRows false rows 0 n) (λ all. rows_of_lines 1 all.lines ≡ Ok rows) (rw e at h) (λ a l t. rows_without_dot 1 a.lines rows t.part.later t.read))
+
+pub input_within : (start : LineReaderState) (known : Option (List ℕ)) (left : Option LinesLeft) (rows : Rows) (n : ℕ) → start ≡ nothing_taken
+    → Relates (lines_left start known) left (TakesRows false rows start.number n) → IfSome known (λ input. length input ≤ most_bytes)
+input_within start known left rows n e h =
+    of_input known (λ all. all.input_length ≤ most_bytes)
+    (relates_all (lines_left nothing_taken known) left (TakesRows false rows 0 n) (λ all. all.input_length ≤ most_bytes) (rw e at h) (λ a l t. t.part.within refl))
+
+pub dot_refused : (start : LineReaderState) (known : Option (List ℕ)) (left : Option LinesLeft) (rows : Rows) (n : ℕ) → start ≡ nothing_taken
+    → Relates (lines_left start known) left (TakesRows true rows start.number n) → IfSome known (λ input. rows_of_lines 1 (lines_of input) ≡ Err n)
+dot_refused start known left rows n e h =
+    of_input known (λ all. rows_of_lines 1 all.lines ≡ Err n)
+    (relates_all (lines_left nothing_taken known) left (TakesRows true rows 0 n) (λ all. rows_of_lines 1 all.lines ≡ Err n) (rw e at h)
+    (λ a l t. rows_with_dot 1 a.lines l.lines rows n t.part.later t.read (omega (arith, t.part.counted))))
+
+pub input_refused : (start : LineReaderState) (known : Option (List ℕ)) (fault : InputFault) → start ≡ nothing_taken
+    → IfSome (lines_left start known) (λ all. RefusesReading (rows_of_lines (start.number + 1) (before_dot all.lines)) fault) → IfSome known (λ input. RefusesReading (rows_of_lines 1 (lines_of input)) fault)
+input_refused start known fault e h =
+    of_input known (λ all. RefusesReading (rows_of_lines 1 all.lines) fault)
+    (IfSome_then (lines_left nothing_taken known) (rw e at h) (λ all refused. refused_before 1 all.lines fault refused))
 
 -- ---- the work that lines bring
 pub brought_rows : (n : ℕ) (lines calls : List (List ℕ)) (rows : Rows) → after_dot lines ≡ Some calls → rows_of_lines n (before_dot lines) ≡ Ok rows
@@ -111,3 +142,8 @@ brought_no_dot n lines rows number h e k = rw (h, e) (ap Err (sym (k ∙ ap (λ 
 
 pub brought_failed : (n : ℕ) (lines : List (List ℕ)) (m : ℕ) → rows_of_lines n (before_dot lines) ≡ Err m → brought n lines ≡ Err m
 brought_failed n lines m h = rw h refl
+
+-- the line `.` is missing, which would be the line after all of them
+pub missing_dot : (before after n : ℕ) (rows : Rows) (all left : LinesLeft) → n ≡ after + 1 → TakesRows false rows before after all left → brought (before + 1) all.lines ≡ Err n
+missing_dot before after n rows all left e t =
+    brought_no_dot (before + 1) all.lines rows n t.part.later t.read (omega (arith, e, t.part.counted))

@@ -1,5 +1,6 @@
 -- The parts of an input: what stands before a first line `.`, and what follows it: docs/FORMATS.md.
-use Rattle.std.specs.Prelude.{ℕ, Bool, List, [], ◌∷◌, ◌++◌, Option, Some, None, bytes_eq, codes, if◌then◌else◌}
+use Rattle.std.specs.Prelude.{◌≡◌, ℕ, ◌+◌, ◌≤◌, Bool, false, List, [], ◌∷◌, ◌++◌, length, Option, Some, None, bytes_eq, codes, if◌then◌else◌}
+use Rattle.tatp_streams.specs.LineReading.{most_bytes, LinesLeft}
 
 abbrev pub is_dot : List ℕ → Bool
 is_dot line = bytes_eq line (codes ".")
@@ -14,6 +15,16 @@ abbrev pub after_dot : List (List ℕ) → Option (List (List ℕ))
 after_dot [] = None
 after_dot (line ∷ more) = if is_dot line then Some more else after_dot more
 
+-- ---- taking a part
+-- the lines up to the first line `.` are taken, or all of them where there is none; before it and
+-- after it so many lines are taken in all
+pub record TakesPart (dot : Bool) (before after : ℕ) (all left : LinesLeft) : Type 0 where
+  pub later : after_dot all.lines ≡ (if dot then Some left.lines else None)
+  pub counted : after ≡ before + length (before_dot all.lines) + (if dot then 1 else 0)
+  pub input_length : left.input_length ≡ all.input_length
+  pub within : dot ≡ false → all.input_length ≤ most_bytes
+
+-- ---- a part that is a text
 -- lines as a text, each with its line feed
 abbrev pub text_of : List (List ℕ) → List ℕ
 text_of [] = []
@@ -22,3 +33,9 @@ text_of (line ∷ more) = line ++ 10 ∷ text_of more
 -- the text of the lines before the first line `.`
 abbrev pub text_before_dot : List (List ℕ) → List ℕ
 text_before_dot lines = text_of (before_dot lines)
+
+-- such a part is taken, which is this text
+pub record TakesText (dot : Bool) (text : List ℕ) (before after : ℕ) (all left : LinesLeft)
+    : Type 0 where
+  pub told : text ≡ text_before_dot all.lines
+  pub part : TakesPart dot before after all left

@@ -1,9 +1,10 @@
 -- The rows of a run, and the lines that it answers.
-use Rattle.std.specs.Prelude.{ℕ, ◌+◌, ◌≤◌, List, length, Option, Some, None, Result, Ok, Err}
+use Rattle.std.specs.Prelude.{◌≡◌, ℕ, ◌+◌, ◌≤◌, List, length, Option, Some, None, Result, Ok, Err}
 use Rattle.rand_core.specs.Stream.{next_u64}
 use Rattle.rand_core.specs.Steps.{stream_of, steps_u64_low}
 use Rattle.rand_pcg.specs.Lcg.{started, increment_of}
 use Rattle.rand_pcg.specs.Pcg.{pcg64, multiplier_128}
+use Rattle.tatp_streams.specs.LineReading.{LinesLeft}
 use Rattle.tatp_tables.specs.Clean.{IsClean}
 use Rattle.tatp_tables.specs.declared.row.Rows.{Rows}
 use Rattle.tatp_population.specs.DrawnRows as drawn
@@ -31,6 +32,11 @@ abbrev pub brought : ℕ → List (List ℕ) → Result Work ℕ
 brought n lines =
     work_by (n + length lines) (rows_of_lines n (before_dot lines)) (after_dot lines)
 
+-- of all these lines the first bring these rows, and the others are left
+pub record BringsLines (first : ℕ) (rows : Rows) (all left : LinesLeft) : Type 0 where
+  pub work : brought first all.lines ≡ Ok (record { rows = rows; lines = left.lines })
+  pub input_length : left.input_length ≡ all.input_length
+
 -- ---- rows that are drawn
 -- the rows of the subscribers 1 to n, drawn from the words of this seed
 unfoldable pub generated : ℕ → ℕ → Rows
@@ -44,6 +50,12 @@ abbrev pub work_of : Population → ℕ → List (List ℕ) → Result Work ℕ
 work_of Read n lines = brought n lines
 work_of (Generated count seed) n lines =
     Ok (record { rows = generated count seed; lines = lines })
+
+-- of all these lines the work has these rows, and those that are left
+pub record BringsWork (population : Population) (first : ℕ) (rows : Rows) (all left : LinesLeft)
+    : Type 0 where
+  pub work : work_of population first all.lines ≡ Ok (record { rows = rows; lines = left.lines })
+  pub input_length : left.input_length ≡ all.input_length
 
 -- where the population is drawn, these rows are clean, and not too many
 abbrev pub AreCleanWhereDrawn : Population → Rows → Type 0

@@ -11,15 +11,18 @@ use crate::rows::read_rows;
 use std::alloc::{AllocError, Global};
 use std::io::{Read, Write};
 use tatp_audits::{Verdict, audit};
-use tatp_streams::{MOST_BYTES, read_all, write_last};
+use tatp_streams::{MOST_BYTES, write_last};
 
 /// The verdict on the rows that an input is.
-fn judged(alloc: Global, input: &[u8]) -> Result<Verdict, InputFault>
-    requires { length input.now ≤ MOST_BYTES }
-    ensures verdict { IfOk result (IsVerdictOn input.now) }
-    ensures faults { IfErr result (RefusesReading (rows_of_lines 1 (lines_of input.now))) }
+fn judged<R: Read>(alloc: Global, reader: &mut R) -> Result<Verdict, InputFault>
+    ensures verdict { IfOk result (λ verdict.
+        IfSome (R.remaining reader.old) (λ input. IsVerdictOn input verdict)) }
+    ensures limit { OnOk result
+        (IfSome (R.remaining reader.old) (λ input. length input ≤ MOST_BYTES)) }
+    ensures faults { IfErr result (λ fault. IfSome (R.remaining reader.old) (λ input.
+        RefusesReading (rows_of_lines 1 (lines_of input)) fault)) }
 {
-    let rows = read_rows(alloc, input)?;
+    let rows = read_rows(alloc, reader)?;
     Ok(audit(alloc, &rows)?)
 }
 
@@ -43,8 +46,7 @@ pub fn run_audit<R: Read, W: Write>(
     ensures limit { OnOk result
         (IfSome (R.remaining reader.old) (λ input. length input ≤ MOST_BYTES)) }
 {
-    let input = read_all(alloc, reader)?;
-    let verdict = judged(alloc, &input)?;
+    let verdict = judged(alloc, reader)?;
     let line = line_of(alloc, verdict)?;
     write_last(writer, line.as_bytes())?;
     Ok(verdict.is_clean())

@@ -1,27 +1,25 @@
 //! Rows from the lines of an input.
-ghost use Rattle.std.specs.Prelude.{◌≡◌, ◌+◌, ◌≤◌, Ok, IfOk, IfErr, length};
-ghost use Rattle.std.specs.Option.{option_map};
+ghost use Rattle.std.specs.Prelude.{◌≡◌, ◌+◌, ◌≤◌, Ok, IfOk, IfErr, IfSome, OnOk, length};
 ghost use Rattle.tatp_lines.specs.Lines.{lines_of};
+ghost use Rattle.tatp_streams.specs.LineReading.{lines_left, Relates};
 ghost use Rattle.tatp_inputs.specs.Refusing.{RefusesReading};
-ghost use Rattle.tatp_inputs.specs.Parts.{is_dot, before_dot, after_dot};
-ghost use Rattle.tatp_inputs.specs.RowLines.{row_in, rows_of_lines};
-ghost use Rattle.tatp_inputs.specs.Work.{Work, brought};
+ghost use Rattle.tatp_inputs.specs.Parts.{before_dot};
+ghost use Rattle.tatp_inputs.specs.RowLines.{row_in, rows_of_lines, TakesRows};
+ghost use Rattle.tatp_inputs.specs.Work.{brought, BringsLines};
 
 use crate::InputFault;
 use crate::text::is_dot;
 use std::alloc::Global;
-use tatp_lines::next_line;
-use tatp_streams::{MOST_BYTES, text_of};
+use std::io::Read;
+use tatp_streams::{LineReader, MOST_BYTES, text_of};
 use tatp_tables::{Row, Rows, read_row};
 
 /// The rows of the lines before a line `.` or the end.
 #[derive(Drop)]
-struct Front<'a> {
+struct Front {
     rows: Rows,
-    /// The number of the line after them.
-    number: u64,
-    /// What follows the line `.`, where there is one.
-    after: Option<&'a [u8]>,
+    /// Whether there is such a line.
+    dot: bool,
 }
 
 /// The row that a line is, which has to be text.
@@ -35,84 +33,71 @@ fn row_in(line: &[u8]) -> Option<Row>
     }
 }
 
-/// The rows of the lines up to a line `.` or the end; the first has this number.
-fn read_front(alloc: Global, first: u64, input: &[u8]) -> Result<Front<'_>, InputFault>
-    requires first { first ≤ MOST_BYTES + 1 }
-    requires input { length input.now ≤ MOST_BYTES }
-    ensures rows { IfOk result
-        (λ front. rows_of_lines first (before_dot (lines_of input.now)) ≡ Ok front.rows) }
-    ensures number { IfOk result
-        (λ front. front.number ≡ first + length (before_dot (lines_of input.now))) }
-    ensures after { IfOk result (λ front.
-        after_dot (lines_of input.now) ≡ option_map (λ lines. lines_of lines.now) front.after) }
-    ensures faults { IfErr result
-        (RefusesReading (rows_of_lines first (before_dot (lines_of input.now)))) }
+/// The rows of the lines up to a line `.` or the end.
+fn read_front<R: Read>(
+    alloc: Global,
+    lines: &mut LineReader,
+    reader: &mut R,
+) -> Result<Front, InputFault>
+    ensures front { IfOk result (λ front. Relates
+        (lines_left lines.old (R.remaining reader.old))
+        (lines_left lines.new (R.remaining reader.new))
+        (TakesRows front.dot front.rows lines.old.number lines.new.number)) }
+    ensures faults { IfErr result (λ fault.
+        IfSome (lines_left lines.old (R.remaining reader.old)) (λ all.
+        RefusesReading (rows_of_lines (lines.old.number + 1) (before_dot all.lines)) fault)) }
 {
     let mut rows = Rows::new(alloc);
-    let mut rest = input;
-    let mut number = first;
     'lines: loop {
-        let Some((line, more)) = next_line(rest) else {
-            return Ok(Front {
-                rows,
-                number,
-                after: None,
-            });
-        };
-        if is_dot(line) {
-            return Ok(Front {
-                rows,
-                number,
-                after: Some(more),
-            });
+        if !lines.advance(reader)? {
+            return Ok(Front { rows, dot: false });
         }
-        let Some(row) = row_in(line) else {
-            return Err(InputFault::BadLine(number));
+        if is_dot(lines.line()) {
+            return Ok(Front { rows, dot: true });
+        }
+        let Some(row) = row_in(lines.line()) else {
+            return Err(InputFault::BadLine(lines.number()));
         };
         rows.push(row)?;
-        number += 1;
-        rest = more;
     }
 }
 
 /// The rows that all lines of an input are.
-#[tactic(auto, using(crate::proofs::DotLaws::rows_without_dot, crate::proofs::DotLaws::rows_with_dot, crate::proofs::DotLaws::refused_before))]
-pub(crate) fn read_rows(alloc: Global, input: &[u8]) -> Result<Rows, InputFault>
-    requires { length input.now ≤ MOST_BYTES }
-    ensures rows { IfOk result (λ rows. rows_of_lines 1 (lines_of input.now) ≡ Ok rows) }
-    ensures faults { IfErr result (RefusesReading (rows_of_lines 1 (lines_of input.now))) }
+pub(crate) fn read_rows<R: Read>(alloc: Global, reader: &mut R) -> Result<Rows, InputFault>
+    ensures rows { IfOk result (λ rows. IfSome (R.remaining reader.old) (λ input.
+        rows_of_lines 1 (lines_of input) ≡ Ok rows)) }
+    ensures limit { OnOk result
+        (IfSome (R.remaining reader.old) (λ input. length input ≤ MOST_BYTES)) }
+    ensures faults { IfErr result (λ fault. IfSome (R.remaining reader.old) (λ input.
+        RefusesReading (rows_of_lines 1 (lines_of input)) fault)) }
 {
-    let Front {
-        rows,
-        number,
-        after,
-    } = read_front(alloc, 1, input)?;
-    match after {
-        None => Ok(rows),
-        Some(_) => Err(InputFault::BadLine(number)),
+    let mut lines = LineReader::new(alloc);
+    let Front { rows, dot } = read_front(alloc, &mut lines, reader)?;
+    if dot {
+        Err(InputFault::BadLine(lines.number()))
+    } else {
+        Ok(rows)
     }
 }
 
-/// The rows that an input brings, and what follows the line `.`. Its first line has this number.
-#[tactic(auto, using(crate::proofs::DotLaws::brought_rows, crate::proofs::DotLaws::brought_no_dot, crate::proofs::DotLaws::brought_failed))]
-pub(crate) fn read_work(
+/// The rows of the lines before the line `.`. The lines after it are left.
+pub(crate) fn read_work<R: Read>(
     alloc: Global,
-    first: u64,
-    input: &[u8],
-) -> Result<(Rows, &[u8]), InputFault>
-    requires first { first ≤ MOST_BYTES + 1 }
-    requires input { length input.now ≤ MOST_BYTES }
-    ensures work { IfOk result (λ read. brought first (lines_of input.now)
-        ≡ Ok (record { rows = read.0; lines = lines_of read.1.now })) }
-    ensures faults { IfErr result (RefusesReading (brought first (lines_of input.now))) }
+    lines: &mut LineReader,
+    reader: &mut R,
+) -> Result<Rows, InputFault>
+    ensures work { IfOk result (λ rows. Relates
+        (lines_left lines.old (R.remaining reader.old))
+        (lines_left lines.new (R.remaining reader.new))
+        (BringsLines (lines.old.number + 1) rows)) }
+    ensures faults { IfErr result (λ fault.
+        IfSome (lines_left lines.old (R.remaining reader.old)) (λ all.
+        RefusesReading (brought (lines.old.number + 1) all.lines) fault)) }
 {
-    let Front {
-        rows,
-        number,
-        after,
-    } = read_front(alloc, first, input)?;
-    match after {
-        Some(lines) => Ok((rows, lines)),
-        None => Err(InputFault::BadLine(number)),
+    let Front { rows, dot } = read_front(alloc, lines, reader)?;
+    if dot {
+        Ok(rows)
+    } else {
+        Err(InputFault::BadLine(lines.number() + 1))
     }
 }

@@ -1,41 +1,43 @@
 //! The rows of a run, and the lines that it answers.
-ghost use Rattle.std.specs.Prelude.{◌≡◌, ◌+◌, ◌≤◌, Ok, IfOk, IfErr, length};
-ghost use Rattle.tatp_lines.specs.Lines.{lines_of};
+ghost use Rattle.std.specs.Prelude.{◌+◌, IfOk, IfErr, IfSome};
+ghost use Rattle.tatp_streams.specs.LineReading.{lines_left, Relates};
 ghost use Rattle.tatp_tasks.specs.Populations.{IsPopulation};
 ghost use Rattle.tatp_inputs.specs.Refusing.{RefusesReading};
-ghost use Rattle.tatp_inputs.specs.Work.{work_of, AreCleanWhereDrawn};
+ghost use Rattle.tatp_inputs.specs.Work.{work_of, BringsWork, AreCleanWhereDrawn};
 
 use crate::InputFault;
 use crate::rows::read_work;
 use rand_pcg::Pcg64;
 use std::alloc::Global;
+use std::io::Read;
 use tatp_population::generate;
-use tatp_streams::MOST_BYTES;
+use tatp_streams::LineReader;
 use tatp_tables::Rows;
 use tatp_tasks::Population;
 
-/// The rows of a run and the lines that it answers: the input brings both, or the rows are drawn
-/// and all of the input is such lines. Its first line has this number.
+/// The rows of a run: the lines up to a line `.` are they, or they are drawn and no line is taken.
+/// The lines that are left are those that the run answers.
 #[tactic(auto, unfolding(crate::specs::Work::generated))]
-pub fn work_of(
+pub fn work_of<R: Read>(
     alloc: Global,
     population: Population,
-    first: u64,
-    input: &[u8],
-) -> Result<(Rows, &[u8]), InputFault>
-    requires first { first ≤ MOST_BYTES + 1 }
-    requires input { length input.now ≤ MOST_BYTES }
+    lines: &mut LineReader,
+    reader: &mut R,
+) -> Result<Rows, InputFault>
     requires population { IsPopulation population }
-    ensures work { IfOk result (λ work. work_of population first (lines_of input.now)
-        ≡ Ok (record { rows = work.0; lines = lines_of work.1.now })) }
-    ensures clean { IfOk result (λ work. AreCleanWhereDrawn population work.0) }
-    ensures faults { IfErr result (RefusesReading (work_of population first (lines_of input.now))) }
+    ensures work { IfOk result (λ rows. Relates
+        (lines_left lines.old (R.remaining reader.old))
+        (lines_left lines.new (R.remaining reader.new))
+        (BringsWork population (lines.old.number + 1) rows)) }
+    ensures clean { IfOk result (λ rows. AreCleanWhereDrawn population rows) }
+    ensures faults { IfErr result (λ fault.
+        IfSome (lines_left lines.old (R.remaining reader.old)) (λ all.
+        RefusesReading (work_of population (lines.old.number + 1) all.lines) fault)) }
 {
     match population {
-        Population::Read => read_work(alloc, first, input),
+        Population::Read => read_work(alloc, lines, reader),
         Population::Generated { subscribers, seed } => {
-            let rows = generate(alloc, subscribers, &mut Pcg64::new(seed as u128, 0))?;
-            Ok((rows, input))
+            Ok(generate(alloc, subscribers, &mut Pcg64::new(seed as u128, 0))?)
         }
     }
 }

@@ -1,3 +1,4 @@
 pub mod StreamLaws
 pub mod TextLaws
 pub mod WritingLaws
+pub mod LineReadingLaws

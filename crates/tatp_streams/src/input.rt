@@ -1,5 +1,5 @@
 //! A whole input, read.
-ghost use Rattle.std.specs.Prelude.{◌≡◌, ℕ, ◌≤◌, ◌<◌, ◌++◌, ◌⊎◌, List, length, vec_len, true, false, IfOk, IfErr, OnOk, IfSome};
+ghost use Rattle.std.specs.Prelude.{◌≡◌, ℕ, ◌≤◌, ◌<◌, ◌++◌, ◌+◌, ◌⊎◌, List, length, vec_len, true, false, IfOk, IfErr, OnOk, OnErr, IfSome};
 ghost use Rattle.std.specs.Io.KnownBytes.{Consumes, IsAtEnd};
 ghost use Rattle.tatp_streams.specs.declared.fault.StreamFault.TheVariants.{ReadFault, NoMemory};
 
@@ -11,34 +11,37 @@ use std::io::Read;
 pub const MOST_BYTES: usize = 134_217_728;
 
 /// How many bytes are asked for at a time.
-const CHUNK: usize = 16_384;
+pub(crate) const PIECE: usize = 65_536;
 
-/// Takes what one read gives. `true`: at least a byte came. `false`: the input has ended.
-fn read_some<R: Read>(
+/// Appends what one read gives of an input of which so many bytes were read before. `true`: at least
+/// a byte came. `false`: the input has ended.
+pub(crate) fn read_piece<R: Read>(
     reader: &mut R,
-    chunk: &mut [u8],
-    all: &mut Vec<u8>,
+    before: usize,
+    piece: &mut [u8],
+    bytes: &mut Vec<u8>,
 ) -> Result<bool, StreamFault>
-    requires room { 0 < length chunk.old }
-    requires within { vec_len all.old ≤ MOST_BYTES }
-    ensures within { vec_len all.new ≤ MOST_BYTES }
-    ensures more { IfOk result (λ more. more ≡ true → vec_len all.old < vec_len all.new) }
+    requires room { 0 < length piece.old }
+    requires within { before ≤ MOST_BYTES }
+    ensures within { OnOk result (before + vec_len bytes.new ≤ MOST_BYTES + vec_len bytes.old) }
+    ensures more { IfOk result (λ more. more ≡ true → vec_len bytes.old < vec_len bytes.new) }
     ensures end { IfOk result (λ more. more ≡ false → IsAtEnd (R.remaining reader.new)) }
-    ensures taken { OnOk result ((bytes : List ℕ)
-        × Consumes (R.remaining reader.old) (R.remaining reader.new) bytes
-        × (all.new.items ≡ all.old.items ++ bytes)) }
+    ensures taken { OnOk result ((read : List ℕ)
+        × Consumes (R.remaining reader.old) (R.remaining reader.new) read
+        × (bytes.new.items ≡ bytes.old.items ++ read)) }
+    ensures kept { OnErr result (bytes.new.items ≡ bytes.old.items) }
     ensures faults { IfErr result (λ fault. (fault ≡ ReadFault) ⊎ (fault ≡ NoMemory)) }
 {
     // One byte past the limit shows that there is too much.
-    let most = chunk.len().min(MOST_BYTES - all.len() + 1);
-    let space = &mut chunk[..most];
+    let most = piece.len().min(MOST_BYTES - before + 1);
+    let space = &mut piece[..most];
     match reader.read(space) {
         Ok(0) => Ok(false),
         Ok(count) => {
-            if count > MOST_BYTES - all.len() {
+            if count > MOST_BYTES - before {
                 return Err(StreamFault::ReadFault);
             }
-            all.extend_from_slice(&space[..count])?;
+            bytes.extend_from_slice(&space[..count])?;
             Ok(true)
         }
         Err(_) => Err(StreamFault::ReadFault),
@@ -56,10 +59,10 @@ pub fn read_all<R: Read>(alloc: Global, reader: &mut R) -> Result<Vec<u8>, Strea
         (IfSome (R.remaining reader.old) (λ input. length input ≤ MOST_BYTES)) }
     ensures faults { IfErr result (λ fault. (fault ≡ ReadFault) ⊎ (fault ≡ NoMemory)) }
 {
-    let mut chunk = [0u8; CHUNK];
+    let mut piece = [0u8; PIECE];
     let mut all = Vec::new(alloc);
-    'chunks: loop {
-        if !read_some(reader, &mut chunk, &mut all)? {
+    'pieces: loop {
+        if !read_piece(reader, all.len(), &mut piece, &mut all)? {
             return Ok(all);
         }
     }

@@ -1,12 +1,14 @@
-//! A whole input read, an output written in pieces, and why that ends early.
+//! A whole input read, or line by line; an output written in pieces; and why that ends early.
 #![tactic(auto)]
 
 mod fault;
 mod input;
+mod line_reader;
 mod output;
 mod text;
 
 pub use fault::StreamFault;
 pub use input::{MOST_BYTES, read_all};
+pub use line_reader::LineReader;
 pub use output::{write_if_full, write_last, write_out};
 pub use text::text_of;

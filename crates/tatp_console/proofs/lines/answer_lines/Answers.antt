@@ -1,41 +1,68 @@
-use Rattle.std.proofs.lemmas.Result.{err_from_is_err_and, on_ok_weaker, on_err_weaker}
-use Rattle.tatp_console.proofs.AnswerLaws.{goes_from_start, goes_on, goes_written, goes_to_end, goes_up_to, goes_so_far}
+use Rattle.std.proofs.Common.{◌≤◌, rules}
+use Rattle.std.proofs.lemmas.Result.{err_from_is_err_and}
+use Rattle.tatp_streams.specs.LineReading.{most_bytes, lines_left}
+use Rattle.tatp_console.specs.Answers.{AnswersAll}
+use Rattle.tatp_console.proofs.AnswerLaws.{starts, answers_next, writes_next, answers_all, lines_answered, answers_up_to, answers_so_far}
 use Rattle.tatp_console.proofs.lines.answer_lines.Goals as goal
 
 pub lines-init : goal.lines-init
 lines-init g c = record {
   ready = c.requires.ready;
-  goes = goes_from_start _ _ _ _ _ c.new-pending.ensures.bytes;
+  goes = starts g.C.LineCommand.answers c.args.world.now (lines_left c.args.lines.now (g.R.Read.remaining c.args.reader.now)) (g.W.Write.contents c.args.writer.now) _ c.new-pending.ensures.bytes;
 }
 
-pub returns-in-None-clause-ok : goal.returns-in-None-clause-ok
-returns-in-None-clause-ok g c =
-    on_ok_weaker c.write_last.result
-    (λ h. goes_to_end _ _ _ _ _ _ _ _ _ c.lines.invariant.goes c.in-None.ensures.none (rw c.as_bytes.ensures.value at h))
-    c.write_last.ensures.ok
-
-pub returns-in-None-clause-front : goal.returns-in-None-clause-front
-returns-in-None-clause-front g c =
-    on_err_weaker c.write_last.result
-    (λ h. goes_up_to _ _ _ _ _ _ _ _ _ c.lines.invariant.goes (rw c.as_bytes.ensures.value at h))
-    c.write_last.ensures.front
-
-pub returns-in_err-answer-in-Some-clause-front : goal.returns-in_err-answer-in-Some-clause-front
-returns-in_err-answer-in-Some-clause-front g c =
+pub returns-in_err-next_line-clause-front : goal.returns-in_err-next_line-clause-front
+returns-in_err-next_line-clause-front g c =
     let p = err_from_is_err_and c.from_residual.result c.from_residual.ensures.1 in
-    rw p.1 (goes_so_far _ _ _ _ _ _ _ _ c.lines.invariant.goes)
+    rw p.1 (answers_up_to g.C.LineCommand.answers c.args.world.now c.lines.world (lines_left c.args.lines.now (g.R.Read.remaining c.args.reader.now)) (lines_left c.lines.lines (g.R.Read.remaining c.lines.reader)) _ _ _ _
+    c.lines.invariant.goes c.in_err-next_line.ensures.front)
 
-pub returns-in_err-write_if_full-in-Some-clause-front : goal.returns-in_err-write_if_full-in-Some-clause-front
-returns-in_err-write_if_full-in-Some-clause-front g c =
-    let p = err_from_is_err_and c.from_residual-in_err-write_if_full-in-Some.result c.from_residual-in_err-write_if_full-in-Some.ensures.1 in
-    rw p.1 (goes_up_to _ _ _ _ _ _ _ _ _
-    (goes_on _ _ _ _ _ _ _ _ _ _ _ _ c.lines.invariant.goes c.in-Some.ensures.line c.in_ok-answer-in-Some.ensures.answered)
-    c.in_err-write_if_full-in-Some.ensures.front)
+pub returns-then-not-branch-clause-ok : goal.returns-then-not-branch-clause-ok
+returns-then-not-branch-clause-ok g c =
+    let answers = g.C.LineCommand.answers in
+    let w = c.args.world.now in
+    let all = lines_left c.args.lines.now (g.R.Read.remaining c.args.reader.now) in
+    let end = c.in_ok-next_line.ensures.end (search rules) in
+    lines_answered (λ a. AnswersAll answers w a.lines (g.W.Write.contents c.args.writer.now) (g.W.Write.contents c.next_line.new.writer)) (λ a. a.input_length ≤ most_bytes) all
+    (answers_all answers w c.lines.world all (lines_left c.lines.lines (g.R.Read.remaining c.lines.reader)) (lines_left c.next_line.new.lines (g.R.Read.remaining c.next_line.new.reader)) _ _ _ _
+    c.lines.invariant.goes end.left end.none end.within (c.in_ok-next_line.ensures.all_written (search rules)))
+
+pub returns-in_err-answer-clause-front : goal.returns-in_err-answer-clause-front
+returns-in_err-answer-clause-front g c =
+    let p = err_from_is_err_and c.from_residual-in_err-answer.result c.from_residual-in_err-answer.ensures.1 in
+    let answers = g.C.LineCommand.answers in
+    let w = c.args.world.now in
+    let all = lines_left c.args.lines.now (g.R.Read.remaining c.args.reader.now) in
+    let left = lines_left c.lines.lines (g.R.Read.remaining c.lines.reader) in
+    rw p.1 (answers_so_far answers w c.lines.world all left _ _ _
+    (writes_next answers w c.lines.world all left _ _ _ _ _ c.lines.invariant.goes (c.in_ok-next_line.ensures.written (search rules))))
 
 pub lines-preserved : goal.lines-preserved
-lines-preserved g c = record {
-  ready = c.answer.ensures.ready;
-  goes = goes_written _ _ _ _ _ _ _ _ _ _
-      (goes_on _ _ _ _ _ _ _ _ _ _ _ _ c.lines.invariant.goes c.in-Some.ensures.line c.in_ok-answer-in-Some.ensures.answered)
-      c.in_ok-write_if_full-in-Some.ensures.ok;
-}
+lines-preserved g c =
+    let answers = g.C.LineCommand.answers in
+    let w = c.args.world.now in
+    let all = lines_left c.args.lines.now (g.R.Read.remaining c.args.reader.now) in
+    let left = lines_left c.lines.lines (g.R.Read.remaining c.lines.reader) in
+    let later = lines_left c.next_line.new.lines (g.R.Read.remaining c.next_line.new.reader) in
+    let taken = c.in_ok-next_line.ensures.line (search rules) in
+    record {
+      ready = c.answer.ensures.ready;
+      goes = writes_next answers w c.answer.new.world all later _ _ _ _ _
+          (answers_next answers w c.lines.world c.answer.new.world all left later _ _ _ _ _ _ c.next_line.new.lines.line c.lines.invariant.goes taken.left (c.in_ok-next_line.ensures.written (search rules))
+          (rw c.line.ensures at c.in_ok-answer.ensures.answered))
+          c.in_ok-write_if_full.ensures.ok;
+    }
+
+pub returns-in_err-write_if_full-clause-front : goal.returns-in_err-write_if_full-clause-front
+returns-in_err-write_if_full-clause-front g c =
+    let p = err_from_is_err_and c.from_residual-in_err-write_if_full.result c.from_residual-in_err-write_if_full.ensures.1 in
+    let answers = g.C.LineCommand.answers in
+    let w = c.args.world.now in
+    let all = lines_left c.args.lines.now (g.R.Read.remaining c.args.reader.now) in
+    let left = lines_left c.lines.lines (g.R.Read.remaining c.lines.reader) in
+    let later = lines_left c.next_line.new.lines (g.R.Read.remaining c.next_line.new.reader) in
+    let taken = c.in_ok-next_line.ensures.line (search rules) in
+    rw p.1 (answers_up_to answers w c.answer.new.world all later _ _ _ _
+    (answers_next answers w c.lines.world c.answer.new.world all left later _ _ _ _ _ _ c.next_line.new.lines.line c.lines.invariant.goes taken.left (c.in_ok-next_line.ensures.written (search rules))
+    (rw c.line.ensures at c.in_ok-answer.ensures.answered))
+    c.in_err-write_if_full.ensures.front)

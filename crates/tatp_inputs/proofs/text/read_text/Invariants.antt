@@ -1,15 +1,11 @@
-use Rattle.std.proofs.Common.{◌≡◌, ◌+◌, ◌≤◌, ◌++◌, length}
-use Rattle.tatp_lines.specs.Lines.{lines_of}
-use Rattle.tatp_inputs.specs.Parts.{before_dot, after_dot, text_before_dot}
+use Rattle.tatp_streams.specs.LineReading.{lines_left, Relates, steps_left}
+use Rattle.tatp_inputs.proofs.PartLaws.{TextSoFar}
 use Rattle.tatp_inputs.proofs.text.read_text.Given as goal
 
 abbrev pub invariant-lines : goal.invariant-lines
-invariant-lines l = record {
-  told : l.text.items ++ text_before_dot (lines_of l.rest) ≡ text_before_dot (lines_of l.input);
-  count : l.number + length (before_dot (lines_of l.rest)) ≡ 1 + length (before_dot (lines_of l.input));
-  after : after_dot (lines_of l.rest) ≡ after_dot (lines_of l.input);
-  within : l.number + length l.rest ≤ 1 + length l.input;
+invariant-lines g l = record {
+  so_far : Relates (lines_left l.fn.lines (g.R.Read.remaining l.fn.reader)) (lines_left l.lines (g.R.Read.remaining l.reader)) (TextSoFar l.text.items l.fn.lines.number l.lines.number);
 }
 
 abbrev pub decreases-lines : goal.decreases-lines
-decreases-lines l = length l.rest
+decreases-lines g l = steps_left l.lines

@@ -1,0 +1,107 @@
+-- Lines that are taken from a reader one after another: what was taken, and what is left.
+use Rattle.std.specs.Prelude.{◌≡◌, ℕ, ◌+◌, ◌-◌, ◌*◌, ◌<◌, ◌≤◌, ◌==◌, Bool, true, false, List, [], ◌∷◌, ◌++◌, length, take, drop, position, Option, None, Some, IfSome, IsSomeAnd, if◌then◌else◌, ⊤}
+use Rattle.std.specs.Option.{option_map}
+use Rattle.tatp_lines.specs.Lines.{lines_of}
+
+-- the most bytes that are read from one input
+abbrev pub most_bytes : ℕ
+most_bytes = 134217728
+
+-- what a LineReader has read and taken
+pub record LineReaderState : Type 0 where
+  pub line : List ℕ  -- the line that was taken last, without its line feed
+  pub number : ℕ  -- how many lines were taken
+  pub ahead : List ℕ  -- the bytes that were read and not taken
+  pub count : ℕ  -- how many bytes were read in all
+  pub ended : Bool  -- whether the input has ended
+
+abbrev pub nothing_taken : LineReaderState
+nothing_taken = record { line = []; number = 0; ahead = []; count = 0; ended = false }
+
+-- ---- what is left
+-- the lines that are left, and how long the whole input is
+pub record LinesLeft : Type 0 where
+  pub lines : List (List ℕ)
+  pub input_length : ℕ
+
+-- by the bytes that are left to read
+abbrev pub left_with : LineReaderState → List ℕ → LinesLeft
+left_with s more = record {
+  lines = lines_of (s.ahead ++ more);
+  input_length = s.count + length more;
+}
+
+-- where the bytes that the reader has left are known; past the end of the input none is read
+abbrev pub lines_left : LineReaderState → Option (List ℕ) → Option LinesLeft
+lines_left s known = option_map (λ more. left_with s (if s.ended then [] else more)) known
+
+-- what was known is known, and the same
+abbrev pub Stays : {A : Type 0} → Option A → Option A → Type 0
+Stays None new = ⊤
+Stays (Some x) new = new ≡ Some x
+
+-- this holds of the lines that were left and of those that are, where the first are known
+abbrev pub Relates : Option LinesLeft → Option LinesLeft
+    → (LinesLeft → LinesLeft → Type 0) → Type 0
+Relates old new P = IfSome old (λ all. IsSomeAnd new (P all))
+
+-- ---- steps
+-- how many more steps a loop can make that takes lines and reads: each takes a byte, reads one or
+-- meets the end
+abbrev pub steps_left : LineReaderState → ℕ
+steps_left s = 2 * (most_bytes - s.count) + length s.ahead + (if s.ended then 0 else 1)
+
+-- this line, and then those that are left
+abbrev pub with_line : List ℕ → LinesLeft → LinesLeft
+with_line line left = record left { lines = line ∷ left.lines }
+
+-- the first of the lines that were left is taken, by the bytes that the reader had and has
+pub record TakesLine (old : LineReaderState) (had : Option (List ℕ))
+    (new : LineReaderState) (has : Option (List ℕ)) : Type 0 where
+  pub left : Stays (lines_left old had) (option_map (with_line new.line) (lines_left new has))
+  pub number : new.number ≡ old.number + 1
+  pub fewer : steps_left new < steps_left old
+
+-- no line was left, and the input is no longer than may be read
+pub record MeetsEnd (old : LineReaderState) (had : Option (List ℕ))
+    (new : LineReaderState) (has : Option (List ℕ)) : Type 0 where
+  pub left : Stays (lines_left old had) (lines_left new has)
+  pub none : IfSome (lines_left new has) (λ left. left.lines ≡ [])
+  pub within : IfSome (lines_left new has) (λ left. left.input_length ≤ most_bytes)
+  pub number : new.number ≡ old.number
+
+-- bytes are read, or the end is met: all lines are left
+pub record ReadsMore (old : LineReaderState) (had : Option (List ℕ))
+    (new : LineReaderState) (has : Option (List ℕ)) : Type 0 where
+  pub left : Stays (lines_left old had) (lines_left new has)
+  pub number : new.number ≡ old.number
+  pub fewer : steps_left new < steps_left old
+
+-- these bytes have no line feed
+abbrev pub HasNoLineFeed : List ℕ → Type 0
+HasNoLineFeed bytes = position (λ byte. byte == 10) bytes ≡ None
+
+-- no line can be taken before more is read
+pub record HoldsNoLine (s : LineReaderState) : Type 0 where
+  pub none_ahead : HasNoLineFeed s.ahead
+  pub last : s.ended ≡ true → s.ahead ≡ []
+
+-- ---- the fields of a LineReader
+-- the line stands from `start` to before `end`; what was not taken begins at `taken`, and at its
+-- front so many bytes have no line feed
+pub record HoldsLines (buffer : List ℕ) (start end taken clear number count : ℕ) : Type 0 where
+  pub line : start ≤ end
+  pub line_within : end ≤ length buffer
+  pub clear_within : taken + clear ≤ length buffer
+  pub no_line_feed : HasNoLineFeed (take clear (drop taken buffer))
+  pub numbered : number + length buffer ≤ count + taken
+  pub count_within : count ≤ most_bytes
+
+-- the first line of bytes is so long, and takes so many of them with its line feed, whatever
+-- follows; past the end of the input nothing does
+pub record IsFirstLine (bytes : List ℕ) (ended : Bool) (long taken : ℕ) : Type 0 where
+  pub some : 0 < taken
+  pub long_within : long ≤ taken
+  pub taken_within : taken ≤ length bytes
+  pub first : (more : List ℕ) → (ended ≡ true → more ≡ [])
+      → lines_of (bytes ++ more) ≡ take long bytes ∷ lines_of (drop taken bytes ++ more)

@@ -65,7 +65,10 @@ Subscriber 129 moves while a call waits for it (tatp trace --gen 130 < examples/
   route 3 1                                       SET 3 1
   begin 0                                         AWAY 1
   begin 1                                         BEGAN 0
-  steps 1 6                                       MOVED, five times; ENDED 0 OK";
+  steps 1 6                                       MOVED, five times; ENDED 0 OK
+
+A procedure of one's own:
+  tatp trace --procedures --gen 130 --seed 7 < examples/own-procedure.txt";
 
 /// Of `asm`.
 pub(crate) const ASM: &str = "\

@@ -13,9 +13,10 @@ use std::sync::Wait;
 use std::thread::Threads;
 use std::{env, fmt, io};
 use tatp_assembly::{run_asm, run_check, run_dis};
-use tatp_bench_report::{run_bench, run_bench_with_progress};
-use tatp_command_line::{not_text, task_of};
+use tatp_bench_report::{NoGate, Reporter, run_bench};
+use tatp_command_line::{not_explained, not_text, task_of};
 use tatp_console::{run_call, run_trace};
+use tatp_explanations::{run_explain, run_explain_all};
 use tatp_inputs::run_audit;
 use tatp_streams::StreamFault;
 use tatp_tasks::Task;
@@ -87,6 +88,18 @@ fn status<F: fmt::Display + Drop>(rt: &impl Eprint, ended: Result<(), F>) -> Exi
     }
 }
 
+/// Says what a number means, or that it is none of a refusal or fault.
+fn explain<R: Print + Eprint>(rt: &R, alloc: Global, number: u64) -> ExitCode {
+    match run_explain(alloc, &mut io::writer(rt), number) {
+        Ok(true) => ExitCode::SUCCESS,
+        Ok(false) => match not_explained(alloc, number) {
+            Ok(error) => refuse(rt, &error),
+            Err(_) => tell(rt, &StreamFault::NoMemory),
+        },
+        Err(fault) => tell(rt, &fault),
+    }
+}
+
 /// Runs a command over the standard streams.
 fn run<R: Input + Print + Eprint + Threads + Wait + Sync>(
     rt: &R,
@@ -114,10 +127,15 @@ fn run<R: Input + Print + Eprint + Threads + Wait + Sync>(
         Task::Bench {
             plan,
             progress: false,
-        } => status(rt, run_bench(rt, alloc, writer, &plan)),
+        } => status(rt, run_bench(rt, alloc, writer, &plan, &NoGate)),
         Task::Bench {
             plan,
             progress: true,
-        } => status(rt, run_bench_with_progress(rt, alloc, writer, &plan)),
+        } => {
+            let reporter = Reporter::new(rt, &plan);
+            status(rt, run_bench(rt, alloc, writer, &plan, &reporter))
+        }
+        Task::Explain(None) => status(rt, run_explain_all(alloc, writer)),
+        Task::Explain(Some(number)) => explain(rt, alloc, number),
     }
 }

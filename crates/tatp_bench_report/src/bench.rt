@@ -7,8 +7,7 @@ ghost use Rattle.tatp_streams.specs.Writing.{WritesText};
 ghost use Rattle.tatp_tasks.specs.Plans.{IsPlan};
 ghost use Rattle.tatp_bench_report.specs.Reports.{settled_text, TellsSettled, LeavesSettled};
 
-use crate::ReportFault;
-use crate::reporter::{Reporter, say};
+use crate::{Progress, ReportFault};
 use std::alloc::{AllocError, Global};
 use std::fmt;
 use std::io::Write;
@@ -18,7 +17,6 @@ use tatp_bench::{draw, run_drawn};
 use tatp_settle::Settled;
 use tatp_streams::write_last;
 use tatp_tasks::BenchPlan;
-use tatp_threads::NoGate;
 
 /// Counts, each after a space.
 #[derive(Clone, Copy)]
@@ -49,34 +47,15 @@ fn lines_of(alloc: Global, settled: &Settled) -> Result<String, AllocError>
 
 /// Runs the calls of a plan's clients, settles what they leave, and writes what the settled run
 /// counts: how many calls were completed and how many were refused memory, how many there were of
-/// each kind, and the verdict on the rows.
+/// each kind, and the verdict on the rows. How the run goes on is told to `progress`.
 ///
 /// A run that isn't settled is a fault, and nothing of it is written.
-pub fn run_bench<R: Threads + Wait + Sync, W: Write>(
+pub fn run_bench<R: Threads + Wait + Sync, P: Progress + Sync, W: Write>(
     rt: &R,
     alloc: Global,
     writer: &mut W,
     plan: &BenchPlan,
-) -> Result<(), ReportFault>
-    requires plan { IsPlan plan.now }
-    ensures written { OnOk result
-        (WritesText (TellsSettled plan.now) (W.contents writer.old) (W.contents writer.new)) }
-    ensures faults { IfErr result
-        (LeavesSettled plan.now (W.contents writer.old) (W.contents writer.new)) }
-{
-    let settled = tatp_bench::run_bench(rt, alloc, plan, &NoGate)?;
-    let text = lines_of(alloc, &settled)?;
-    write_last(writer, text.as_bytes())?;
-    Ok(())
-}
-
-/// Does the same, and tells on standard error how the run goes on, a line each: that the rows were
-/// drawn and opened, each twentieth of the calls, and that the run is settled.
-pub fn run_bench_with_progress<R: Threads + Wait + Eprint + Sync, W: Write>(
-    rt: &R,
-    alloc: Global,
-    writer: &mut W,
-    plan: &BenchPlan,
+    progress: &P,
 ) -> Result<(), ReportFault>
     requires plan { IsPlan plan.now }
     ensures written { OnOk result
@@ -85,10 +64,9 @@ pub fn run_bench_with_progress<R: Threads + Wait + Eprint + Sync, W: Write>(
         (LeavesSettled plan.now (W.contents writer.old) (W.contents writer.new)) }
 {
     let drawn = draw(alloc, plan)?;
-    say(rt, "rows drawn");
-    let reporter = Reporter::new(rt, plan.clients as u64 * plan.calls);
-    let settled = run_drawn(rt, alloc, plan, drawn, &reporter)?;
-    say(rt, "settled");
+    progress.tell("rows drawn");
+    let settled = run_drawn(rt, alloc, plan, drawn, progress)?;
+    progress.tell("settled");
     let text = lines_of(alloc, &settled)?;
     write_last(writer, text.as_bytes())?;
     Ok(())

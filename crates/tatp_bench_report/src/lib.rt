@@ -5,5 +5,7 @@ mod bench;
 mod fault;
 mod reporter;
 
-pub use bench::{run_bench, run_bench_with_progress};
+pub use bench::run_bench;
 pub use fault::ReportFault;
+pub use reporter::{Progress, Reporter};
+pub use tatp_threads::NoGate;

@@ -1,14 +1,27 @@
-//! The gate that tells how a run of the benchmark goes on.
+//! The gates that are told how a run of the benchmark goes on.
+ghost use Rattle.tatp_tasks.specs.Plans.{IsPlan};
 
 use std::sync::atomic::{AtomicU64, Ordering};
-use tatp_threads::Gate;
+use tatp_tasks::BenchPlan;
+use tatp_threads::{Gate, NoGate};
+
+/// A gate that is also told what is done before and after the calls.
+pub trait Progress: Gate {
+    /// This is done.
+    fn tell(&self, line: &str);
+}
+
+impl Progress for NoGate {
+    fn tell(&self, _line: &str) {}
+}
 
 /// In how many parts the calls are told.
 const PARTS: u64 = 20;
 
-/// Tells on standard error that the first call begins, and each twentieth of the calls as it ends.
+/// Tells on standard error how a run goes on, a line each: that the rows were drawn and opened,
+/// each twentieth of the calls as it ends, and that the run is settled.
 #[derive(Drop)]
-pub(crate) struct Reporter<'a, R> {
+pub struct Reporter<'a, R> {
     rt: &'a R,
     /// How many calls there are.
     calls: u64,
@@ -19,11 +32,13 @@ pub(crate) struct Reporter<'a, R> {
 }
 
 impl<'a, R> Reporter<'a, R> {
-    /// Of a run of so many calls, none of which has begun.
-    pub(crate) fn new(rt: &'a R, calls: u64) -> Reporter<'a, R> {
+    /// Of a run of this plan, none of whose calls has begun.
+    pub fn new(rt: &'a R, plan: &BenchPlan) -> Reporter<'a, R>
+        requires { IsPlan plan.now }
+    {
         Reporter {
             rt,
-            calls,
+            calls: plan.clients as u64 * plan.calls,
             opened: AtomicU64::new(0),
             ended: AtomicU64::new(0),
         }
@@ -31,7 +46,7 @@ impl<'a, R> Reporter<'a, R> {
 }
 
 /// Writes a line to standard error. Where it can't be written, the run goes on without it.
-pub(crate) fn say<R: Eprint>(rt: &R, line: &str) {
+fn say<R: Eprint>(rt: &R, line: &str) {
     let _printed = eprintln!(rt; "{line}");
 }
 
@@ -62,5 +77,11 @@ impl<R: Eprint> Gate for Reporter<'_, R> {
             let calls = self.calls;
             let _printed = eprintln!(self.rt; "{reached}/{PARTS} of {calls} calls ended");
         }
+    }
+}
+
+impl<R: Eprint> Progress for Reporter<'_, R> {
+    fn tell(&self, line: &str) {
+        say(self.rt, line);
     }
 }

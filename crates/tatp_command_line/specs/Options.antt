@@ -1,5 +1,5 @@
 -- What the options of a command ask for, among what a parse of the words found.
-use Rattle.std.specs.Prelude.{ℕ, ◌^◌, ◌-◌, Bool, false, List, Option, Some, None, IfSome, codes, bytes_eq, if◌then◌else◌}
+use Rattle.std.specs.Prelude.{ℕ, ◌^◌, ◌-◌, Bool, false, List, Option, Some, None, option_map, IfSome, codes, bytes_eq, if◌then◌else◌}
 use Rattle.std.specs.Option.{option_map_or}
 use Rattle.std.specs.Str.Parse.{digits_value}
 use Rattle.clap.specs.Matches.{first_value}
@@ -104,3 +104,10 @@ plan_asked found = record {
   moves = number_asked moves found;
   stops = number_asked stops found;
 }
+
+-- ---- the number that is to be explained, where one is given
+abbrev pub HasNumberToExplain : Found → Type 0
+HasNumberToExplain found = IfSome (first_value found (codes "number")) (IsNumberIn 0 (2 ^ 64 - 1))
+
+abbrev pub number_to_explain : Found → Option ℕ
+number_to_explain found = option_map (digits_value 10) (first_value found (codes "number"))

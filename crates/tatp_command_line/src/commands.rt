@@ -1,6 +1,6 @@
 //! The commands of the command line, with their options.
-use crate::help::{ASM, AUDIT, BENCH, CALL, CHECK, DIS, PROGRAM, TRACE};
-use crate::options::{CALLS, CLIENTS, GEN, MOVES, PARTITIONS, SEED, STOPS, SUBSCRIBERS};
+use crate::help::{ASM, AUDIT, BENCH, CALL, CHECK, DIS, EXPLAIN, PROGRAM, TRACE};
+use crate::options::{CALLS, CLIENTS, GEN, MOVES, NUMBER, PARTITIONS, SEED, STOPS, SUBSCRIBERS};
 use clap::{Arg, ArgAction, Command};
 use std::alloc::{AllocError, Global};
 
@@ -73,6 +73,13 @@ fn bench_with_moves<'a>(alloc: Global) -> Result<Command<'a>, AllocError> {
         ))
 }
 
+fn explain<'a>(alloc: Global) -> Result<Command<'a>, AllocError> {
+    Command::new(alloc, "explain")
+        .about("Say what the number of a refusal or a fault means, and what to do")
+        .after_help(EXPLAIN)
+        .arg(NUMBER.arg(alloc))
+}
+
 /// A command without options.
 fn plain<'a>(alloc: Global, name: &'a str, about: &'a str, more: &'a str) -> Command<'a> {
     Command::new(alloc, name).about(about).after_help(more)
@@ -103,5 +110,6 @@ pub(crate) fn command<'a>(alloc: Global) -> Result<Command<'a>, AllocError> {
             "Test whether rows are a clean population",
             AUDIT,
         ))?
-        .subcommand(bench_with_moves(alloc)?)
+        .subcommand(bench_with_moves(alloc)?)?
+        .subcommand(explain(alloc)?)
 }

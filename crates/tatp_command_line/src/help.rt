@@ -5,6 +5,8 @@ pub(crate) const PROGRAM: &str = "\
 Each command reads standard input and writes standard output. It ends with status 0; with 1 where
 it stops, telling why on standard error; with 2 where it can't make out these words.
 
+What it stops at, and what is refused, has a number: tatp explain NUMBER says what it means.
+
 Example: tatp call < examples/first-run.txt";
 
 /// Of `call`.
@@ -63,7 +65,10 @@ Subscriber 129 moves while a call waits for it (tatp trace --gen 130 < examples/
   route 3 1                                       SET 3 1
   begin 0                                         AWAY 1
   begin 1                                         BEGAN 0
-  steps 1 6                                       MOVED, five times; ENDED 0 OK";
+  steps 1 6                                       MOVED, five times; ENDED 0 OK
+
+A procedure of one's own:
+  tatp trace --procedures --gen 130 --seed 7 < examples/own-procedure.txt";
 
 /// Of `asm`.
 pub(crate) const ASM: &str = "\
@@ -102,3 +107,12 @@ The first two lines depend on the clients, their calls, the subscribers, --unifo
 alone. With moves and stops, in 2 partitions and in 8:
   tatp bench --subscribers 1000 --calls 5000 --moves 100 --stops 100
   tatp bench --subscribers 1000 --calls 5000 --moves 100 --stops 100 --partitions 8 --progress";
+
+/// Of `explain`.
+pub(crate) const EXPLAIN: &str = "\
+Nothing is read. Of a number prints what it means, an example and what to do; without one prints
+all numbers, a line each.
+
+Examples:
+  tatp explain 5
+  tatp explain | grep -i module";

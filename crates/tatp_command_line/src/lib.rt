@@ -6,4 +6,4 @@ mod help;
 mod options;
 mod words;
 
-pub use words::{not_text, task_of};
+pub use words::{not_explained, not_text, task_of};

@@ -1,4 +1,4 @@
-//! The options that take a number.
+//! The options, and a word, that take a number.
 ghost use Rattle.std.specs.Prelude.{◌≡◌, ◌==◌, ◌≤◌, SomeIff, OkIff, IfOk, slice_index};
 ghost use Rattle.std.specs.Option.{option_map};
 ghost use Rattle.std.specs.Str.Parse.{digits_value};
@@ -9,13 +9,15 @@ use clap::{Arg, ArgMatches};
 use std::alloc::Global;
 use std::fmt;
 
-/// An option that takes a number.
+/// An option that takes a number, or a word that is one.
 #[derive(Clone, Copy, Debug, PartialEq, Eq)]
 pub(crate) struct NumberOption {
-    /// Its word, after two hyphens.
+    /// Its name; of an option the word after two hyphens.
     pub(crate) name: &'static str,
     /// What stands for the number in texts.
     value: &'static str,
+    /// Whether it is the number alone, without an option's word before it.
+    alone: bool,
     least: u64,
     most: u64,
     /// What counts where it isn't given.
@@ -34,6 +36,7 @@ macro_rules! number_option {
         NumberOption {
             name: $name,
             value: $value,
+            alone: false,
             least: $least,
             most: $most,
             default: $default,
@@ -83,6 +86,18 @@ pub(crate) const STOPS: NumberOption = number_option!(
     "Stop, step and resume partitions T times meanwhile"
 );
 
+/// The number that is to be explained.
+pub(crate) const NUMBER: NumberOption = NumberOption {
+    name: "number",
+    value: "NUMBER",
+    alone: true,
+    least: 0,
+    most: u64::MAX,
+    default: None,
+    required: false,
+    help: "The number of a refusal or a fault",
+};
+
 /// What is wrong with an option: its text is no number of its range.
 #[derive(Clone, Copy, Debug, PartialEq, Eq)]
 pub(crate) struct BadNumber<'a> {
@@ -96,11 +111,16 @@ impl fmt::Display for BadNumber<'_> {
         let NumberOption {
             name,
             value,
+            alone,
             least,
             most,
             ..
         } = self.option;
-        write!(f, "invalid value '{text}' for '--{name} <{value}>': ")?;
+        if alone {
+            write!(f, "invalid value '{text}' for '[{value}]': ")?;
+        } else {
+            write!(f, "invalid value '{text}' for '--{name} <{value}>': ")?;
+        }
         if is_digits(text) {
             write!(f, "{text} is not in {least}..={most}")
         } else {
@@ -142,10 +162,10 @@ impl NumberOption {
     /// afterwards.
     pub(crate) fn arg<'a>(&self, alloc: Global) -> Arg<'a> {
         let arg = Arg::new(alloc, self.name)
-            .long(self.name)
             .value_name(self.value)
             .required(self.required)
             .help(self.help);
+        let arg = if self.alone { arg } else { arg.long(self.name) };
         match self.default {
             Some(text) => arg.default_value(text),
             None => arg,

@@ -5,10 +5,12 @@ ghost use Rattle.tatp_tasks.specs.Plans.{IsPlan};
 ghost use Rattle.tatp_tasks.specs.Populations.{IsPopulation, IsSetup};
 ghost use Rattle.tatp_tasks.specs.Tasks.{IsTask, name_of};
 ghost use Rattle.tatp_command_line.specs.Numbers.{HasNumber, number_asked};
-ghost use Rattle.tatp_command_line.specs.Options.{partitions, clients, HasPopulation, population_asked, HasSetup, setup_asked, HasPlan, plan_asked, distribution_asked, procedures_asked};
+ghost use Rattle.tatp_command_line.specs.Options.{partitions, clients, HasPopulation, population_asked, HasSetup, setup_asked, HasPlan, plan_asked, distribution_asked, procedures_asked, HasNumberToExplain, number_to_explain};
 
 use crate::commands::command;
-use crate::options::{BadNumber, CALLS, CLIENTS, GEN, MOVES, PARTITIONS, SEED, STOPS, SUBSCRIBERS};
+use crate::options::{
+    BadNumber, CALLS, CLIENTS, GEN, MOVES, NUMBER, PARTITIONS, SEED, STOPS, SUBSCRIBERS,
+};
 use clap::error::ErrorKind;
 use clap::{ArgMatches, Error};
 use std::alloc::{AllocError, Global};
@@ -103,6 +105,17 @@ fn plan_of<'a>(options: &ArgMatches<'a>) -> Result<BenchPlan, BadNumber<'a>>
     })
 }
 
+/// The number that is to be explained, where one is given.
+fn explained_of<'a>(options: &ArgMatches<'a>) -> Result<Option<u64>, BadNumber<'a>>
+    ensures { OkIff result (HasNumberToExplain (found_of options.now))
+        (number_to_explain (found_of options.now)) }
+{
+    match options.get_str(NUMBER.name) {
+        None => Ok(None),
+        Some(text) => Ok(Some(NUMBER.read(text)?)),
+    }
+}
+
 /// The task that the words were found to name; none where they name no command.
 fn task_in<'a>(matches: &ArgMatches<'a>) -> Result<Option<Task>, BadNumber<'a>>
     ensures named { IfOk result (λ found. IfSome found (λ task.
@@ -126,6 +139,7 @@ fn task_in<'a>(matches: &ArgMatches<'a>) -> Result<Option<Task>, BadNumber<'a>>
             plan: plan_of(options)?,
             progress: options.get_flag("progress"),
         })),
+        "explain" => Ok(Some(Task::Explain(explained_of(options)?))),
         _ => Ok(None),
     }
 }
@@ -151,4 +165,12 @@ pub fn task_of(alloc: Global, words: &[String]) -> Result<Task, Error>
 /// The answer to words that are no text.
 pub fn not_text(alloc: Global) -> Result<Error, AllocError> {
     command(alloc)?.error(ErrorKind::InvalidValue, "a word isn't UTF-8")
+}
+
+/// The answer to a number that no refusal and no fault has.
+pub fn not_explained(alloc: Global, number: u64) -> Result<Error, AllocError> {
+    let text = format!(in alloc;
+        "invalid value '{number}' for '[NUMBER]': no refusal or fault has this number"
+    )?;
+    command(alloc)?.error(ErrorKind::ValueValidation, text.as_str())
 }

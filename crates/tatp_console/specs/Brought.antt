@@ -22,8 +22,8 @@ use Rattle.tatp_console.specs.declared.fault.ConsoleFault.{ConsoleFault}
 use Rattle.tatp_console.specs.declared.fault.ConsoleFault.TheVariants.{Input, Text, Module, Unopened}
 
 -- ---- the module
--- it is the standard module, or the text before the first line `.` is a text of it and it keeps the
--- rules
+-- it is the standard module; or what stands before the first line `.` is a text of it, and it keeps
+-- the loader's rules
 abbrev pub IsModuleAsked : Procedures → List (List ℕ) → List Procedure → Type 0
 IsModuleAsked Standard lines m = m ≡ standard_module
 IsModuleAsked Read lines m = IsTextOf (text_before_dot lines) m × IsLawful m
@@ -39,7 +39,8 @@ RefusesModule Standard lines fault = ⊥
 RefusesModule Read lines fault = RefusesText (text_before_dot lines) fault
 
 -- ---- the rows, and the lines that are answered
--- by the lines after the text's line `.`, whose number n is; else that number
+-- what the lines after the text's line `.` bring; n is the number of that line, which is the fault
+-- where it is missing
 abbrev pub work_after : Population → ℕ → Option (List (List ℕ)) → Result Work ℕ
 work_after population n None = Err n
 work_after population n (Some lines) = work_of population (n + 1) lines
@@ -91,7 +92,7 @@ pub record Brings (setup : Setup) (m : List Procedure) (rows : Rows) (all left :
       ≡ Ok (record { rows = rows; lines = left.lines })
   pub input_length : left.input_length ≡ all.input_length
 
--- the same fault, in words of the console
+-- the same fault among those of a run over lines
 abbrev pub module_fault : AssemblyFault → ConsoleFault
 module_fault (assembly.Text fault) = Text fault
 module_fault (assembly.Module fault) = Module fault

@@ -1,5 +1,5 @@
 -- The events of a call, one after another, and their answers.
-use Rattle.std.proofs.Common.{◌≡◌, ◌≢◌, ℕ, zero, suc, Bool, true, false, List, [], ◌∷◌, ◌++◌, take, replicate, Some, None, Result, Ok, slice_get, refl, sym, ◌∙◌, ap, subst, arith}
+use Rattle.std.proofs.Common.{◌≡◌, ◌≢◌, ℕ, zero, suc, Bool, true, false, List, [], ◌∷◌, ◌++◌, take, replicate, Option, Some, None, Result, Ok, slice_get, refl, sym, ◌∙◌, ap, subst, arith}
 use Rattle.std.proofs.lemmas.Bool.{false≢true}
 use Rattle.std.proofs.lemmas.List.{append-nil, same_from_push, take-replicate}
 use Rattle.tatp_procs.specs.declared.ask.Ask.{Ask}
@@ -105,6 +105,17 @@ begun_runs w w' p client b = (
 )
 
 -- ---- the end
+-- what a step answers where the call didn't go on
+pub record IsEndAnswer (obstacle : Option Refusal) (w : WorldState) (p : ℕ) (w' : WorldState) : Type 0 where
+  pub free : obstacle ≡ None
+  pub completion : Completion
+  pub ends : EndsAt w p completion w'
+
+pub end_answered : (obstacle : Option Refusal) (w : WorldState) (p : ℕ) (answer : Answer) (w' : WorldState) → AdvancesAt obstacle w p (Ok answer) w' → (answer ≡ Moved → ⊥) → IsEndAnswer obstacle w p w'
+end_answered obstacle w p Moved w' h other = absurd (other refl)
+end_answered obstacle w p (Ended client reply) w' h other = record { free = h.0; completion = h.1.0; ends = h.1.3 }
+end_answered obstacle w p answer w' h other = absurd h
+
 -- a call that ends is its client's, and its reply is that of the last completion
 pub ends_briefly : (w mid w' : WorldState) (p k client : ℕ) (ask : Ask) (completion : Completion) → MovesFor k w p mid → StillRuns mid p client ask → step_obstacle_at mid p ≡ None → EndsAt mid p completion w' → IsWorld w' → GoesBriefly (StepsUpTo w p) client true w'
 ends_briefly w mid w' p k client ask completion moves runs free e good =

@@ -1,13 +1,12 @@
 //! Inboxes: bounded channels, each of whose messages meets a rule.
-ghost use Rattle.std.specs.Prelude.{◌≡◌, ◌<◌, ◌+◌, IfOk, IfSome, IsTrue, List, ℕ, vec_len};
-ghost use Rattle.crossbeam_channel.specs.Claims.{IsSeatAt};
-ghost use Rattle.crossbeam_channel.specs.Ends.{sends_on, receives_on};
-ghost use Rattle.tatp_inboxes.specs.Inboxes.{IsRuled};
+ghost use Rattle.std.specs.Prelude.{◌≡◌, ◌<◌, ◌++◌, List, [], ◌∷◌, All, IfOk, IfSome, map, vec_len};
+ghost use Rattle.tatp_inboxes.specs.Inboxes.{IsRuled, IsNew, Puts, Takes, end_beside};
 
 use crate::mailbox::TRIES;
-use crossbeam_channel::protocol::{Join, Lesson, Outcome, Protocol, Split};
+use crossbeam_channel::protocol::{Lesson, Outcome, Protocol, Split};
 use crossbeam_channel::{Pass, RuledReceiver, RuledSender, bounded_with};
 use std::alloc::{AllocError, Global};
+use std::collections::LinkedList;
 use std::marker::{Model, PhantomData};
 use std::sync::Wait;
 use std::thread;
@@ -17,72 +16,83 @@ pub trait MessageRule<M> {
     ghost allows: { M → Type 0 };
 }
 
+/// The messages that an end has put, or taken, as its pass knows them. No value of it is made.
+type History<M> = LinkedList<M>;
+
 /// The rule of the channel: each message in it is allowed.
 struct Allowed<L> {
     of: PhantomData<L>,
 }
 
-impl<M, L: MessageRule<M>> Protocol<M, ()> for Allowed<L> {
+impl<M, L: MessageRule<M>> Protocol<M, History<M>> for Allowed<L> {
     ghost holds = { IsRuled L.allows };
 
-    ghost first = { tt };
+    ghost first = { [] };
 }
 
-/// A put, of which nothing is told.
+/// A put: one more message in the history of the end.
 struct Put;
 
-impl<M> Outcome<M, ()> for Put {
-    ghost then = { λ v m w. Unit {0} };
+impl<M> Outcome<M, History<M>> for Put {
+    ghost then = { λ history message after. after ≡ history ++ message ∷ [] };
 }
 
-impl<M> Lesson<M, ()> for Put {
-    ghost fact = { λ v items. Unit {0} };
+impl<M> Lesson<M, History<M>> for Put {
+    ghost fact = { λ history messages. Unit {0} };
 }
 
-/// A take, which tells that the message is allowed.
+/// A take: one more message in the history of the end, and it is allowed.
 struct Take<L> {
     of: PhantomData<L>,
 }
 
-impl<M, L: MessageRule<M>> Outcome<M, ()> for Take<L> {
-    ghost then = { λ v m w. L.allows m };
+impl<M, L: MessageRule<M>> Outcome<M, History<M>> for Take<L> {
+    ghost then = { λ history message after.
+        (after ≡ history ++ message ∷ []) × L.allows message };
 }
 
-impl<M, L: MessageRule<M>> Lesson<M, ()> for Take<L> {
-    ghost fact = { λ v items. Unit {0} };
+impl<M, L: MessageRule<M>> Lesson<M, History<M>> for Take<L> {
+    ghost fact = { λ history messages. Unit {0} };
 }
 
-/// Passes know nothing, so a split and a join change nothing.
-struct Alike;
+/// One more end, whose history is empty.
+struct Beside;
 
-impl Split<()> for Alike {
-    ghost left = { λ v. v };
+impl<M> Split<History<M>> for Beside {
+    ghost left = { λ history. history };
 
-    ghost right = { λ v. v };
+    ghost right = { λ history. [] };
 }
 
-impl Join<()> for Alike {
-    ghost both = { λ v w. v };
+type Sender<M, L> = RuledSender<M, History<M>, Allowed<L>>;
 
-    ghost spent = { tt };
-}
-
-type Sender<M, L> = RuledSender<M, (), Allowed<L>>;
-
-type Receiver<M, L> = RuledReceiver<M, (), Allowed<L>>;
+type Receiver<M, L> = RuledReceiver<M, History<M>, Allowed<L>>;
 
 /// An end that puts, with a pass of its own.
 #[derive(Drop)]
 pub struct Port<M: Drop, L: MessageRule<M>> {
     sender: Sender<M, L>,
-    pass: Pass<M, ()>,
-    ghost seated: { IsSeatAt (sends_on sender) pass },
+    pass: Pass<M, History<M>>,
+}
+
+impl<M: Drop, L: MessageRule<M>> Model for Port<M, L> {
+    ghost use Rattle.crossbeam_channel.specs.Claims.{IsSeatAt};
+    ghost use Rattle.crossbeam_channel.specs.Ends.{sends_on, ruled_capacity};
+    ghost use Rattle.tatp_inboxes.specs.Inboxes.{End, end_by};
+
+    ghost Value = { End M };
+
+    ghost view = { λ p. end_by p.pass (ruled_capacity (sends_on p.sender)) };
+
+    ghost invariant = { λ p. IsSeatAt (sends_on p.sender) p.pass };
 }
 
 impl<M: Drop, L: MessageRule<M>> Port<M, L> {
-    /// Puts a message at the back. It comes back where there is no room.
+    /// Puts a message at the back. It comes back where there is no room, and where no end that
+    /// takes is left: no contract of a channel tells these two apart.
     pub fn put<R: Wait>(&mut self, rt: &R, message: M) -> Result<(), M>
         requires { L.allows message }
+        ensures { Puts self.old message result self.new }
     {
         self.sender
             .try_send_as::<Put, R>(rt, &mut self.pass, message)
@@ -90,15 +100,13 @@ impl<M: Drop, L: MessageRule<M>> Port<M, L> {
     }
 
     /// Another end of the same inbox.
-    fn again(&mut self) -> Result<Port<M, L>, AllocError> {
-        let pass = self.sender.another::<Alike>(&mut self.pass);
-        match self.sender.try_clone() {
-            Ok(sender) => Ok(Port { sender, pass }),
-            Err(error) => {
-                self.sender.absorb::<Alike>(&mut self.pass, pass);
-                Err(error)
-            }
-        }
+    fn again(&mut self) -> Result<Port<M, L>, AllocError>
+        ensures beside { IfOk result (λ port. port ≡ end_beside self.old) }
+        ensures same { self.new ≡ self.old }
+    {
+        let sender = self.sender.try_clone()?;
+        let pass = self.sender.another::<Beside>(&mut self.pass);
+        Ok(Port { sender, pass })
     }
 }
 
@@ -106,25 +114,27 @@ impl<M: Drop, L: MessageRule<M>> Port<M, L> {
 #[derive(Drop)]
 pub struct Reader<M: Drop, L: MessageRule<M>> {
     receiver: Receiver<M, L>,
-    pass: Pass<M, ()>,
+    pass: Pass<M, History<M>>,
 }
 
 impl<M: Drop, L: MessageRule<M>> Model for Reader<M, L> {
     ghost use Rattle.crossbeam_channel.specs.Claims.{IsSeatAt};
-    ghost use Rattle.crossbeam_channel.specs.Ends.{receives_on};
+    ghost use Rattle.crossbeam_channel.specs.Ends.{receives_on, ruled_capacity};
+    ghost use Rattle.tatp_inboxes.specs.Inboxes.{End, end_by};
 
-    ghost Value = { Unit {0} };
+    ghost Value = { End M };
 
-    ghost view = { λ _. tt };
+    ghost view = { λ r. end_by r.pass (ruled_capacity (receives_on r.receiver)) };
 
     ghost invariant = { λ r. IsSeatAt (receives_on r.receiver) r.pass };
 }
 
 impl<M: Drop, L: MessageRule<M>> Reader<M, L> {
     /// Takes the message at the front: looks for it a few times, and then sleeps until one comes.
-    /// None where no end that puts is left.
+    /// None where no end that puts is left; that none is left no contract of a channel says.
     pub fn take<R: Wait>(&mut self, rt: &R) -> Option<M>
-        ensures { IfSome result L.allows }
+        ensures allowed { IfSome result L.allows }
+        ensures taken { Takes self.old result self.new }
     {
         for _ in 0..TRIES {
             if let Some(message) = self.try_take(rt) {
@@ -136,7 +146,8 @@ impl<M: Drop, L: MessageRule<M>> Reader<M, L> {
     }
 
     fn try_take<R: Wait>(&mut self, rt: &R) -> Option<M>
-        ensures { IfSome result L.allows }
+        ensures allowed { IfSome result L.allows }
+        ensures taken { Takes self.old result self.new }
     {
         self.receiver
             .try_recv_as::<Take<L>, R>(rt, &mut self.pass)
@@ -144,7 +155,8 @@ impl<M: Drop, L: MessageRule<M>> Reader<M, L> {
     }
 
     fn wait<R: Wait>(&mut self, rt: &R) -> Option<M>
-        ensures { IfSome result L.allows }
+        ensures allowed { IfSome result L.allows }
+        ensures taken { Takes self.old result self.new }
     {
         self.receiver.recv_as::<Take<L>, R>(rt, &mut self.pass).ok()
     }
@@ -156,9 +168,13 @@ fn open_inbox<M: Drop, L: MessageRule<M>>(
     room: usize,
 ) -> Result<(Port<M, L>, Reader<M, L>), AllocError>
     requires { 0 < room }
+    ensures one { IfOk result (λ ends. ends.1 ≡ ends.0) }
+    ensures new { IfOk result (λ ends. IsNew room ends.0) }
 {
-    let (sender, receiver, mut pass) = bounded_with::<M, (), Allowed<L>, Global>(alloc, room)?;
-    let second = sender.another::<Alike>(&mut pass);
+    let (sender, receiver, mut pass) = bounded_with::<M, History<M>, Allowed<L>, Global>(
+        alloc, room,
+    )?;
+    let second = sender.another::<Beside>(&mut pass);
     Ok((
         Port { sender, pass },
         Reader {
@@ -169,12 +185,16 @@ fn open_inbox<M: Drop, L: MessageRule<M>>(
 }
 
 /// So many inboxes with room for so many messages each: the ends that put, and those that take.
+/// The two at one place are of one inbox: new ends, whose histories are empty, are then equal.
 pub fn open_inboxes<M: Drop, L: MessageRule<M>>(
     alloc: Global,
     count: usize,
     room: usize,
 ) -> Result<(Vec<Port<M, L>>, Vec<Reader<M, L>>), AllocError>
     requires { 0 < room }
+    ensures count { IfOk result (λ ends. vec_len ends.0 ≡ count) }
+    ensures pairs { IfOk result (λ ends. ends.1.items ≡ ends.0.items) }
+    ensures new { IfOk result (λ ends. All (IsNew room) ends.0.items) }
 {
     let mut ports = Vec::with_capacity(alloc, count)?;
     let mut readers = Vec::with_capacity(alloc, count)?;
@@ -190,7 +210,10 @@ pub fn open_inboxes<M: Drop, L: MessageRule<M>>(
 pub fn ends_of<M: Drop, L: MessageRule<M>>(
     alloc: Global,
     ports: &mut [Port<M, L>],
-) -> Result<Vec<Port<M, L>>, AllocError> {
+) -> Result<Vec<Port<M, L>>, AllocError>
+    ensures beside { IfOk result (λ ends. ends.items ≡ map end_beside ports.old) }
+    ensures same { ports.new ≡ ports.old }
+{
     let mut ends = Vec::with_capacity(alloc, ports.len())?;
     for port in ports.iter_mut() {
         ends.push(port.again()?)?;

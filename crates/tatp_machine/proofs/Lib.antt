@@ -4,6 +4,5 @@ pub mod KeptLaws
 pub mod FindLaws
 pub mod LaterLaws
 pub mod LineLaws
-pub mod ReadingLaws
 pub mod HomelessLaws
 pub mod RunLaws

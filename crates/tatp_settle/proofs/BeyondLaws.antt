@@ -1,5 +1,5 @@
 -- No extent that neither the population nor the closing has is a cause.
-use Rattle.std.proofs.Common.{◌≡◌, ℕ, ◌<◌, ◌≤◌, ◌==◌, None, true, false, [], All, Some, sym, ◌∙◌, ap, subst, arith}
+use Rattle.std.proofs.Common.{◌≡◌, ℕ, ◌<◌, ◌≤◌, ◌==◌, None, true, false, [], All, Contains, Some, sym, ◌∙◌, ap, subst, arith}
 use Rattle.std.specs.Option.{is_some}
 use Rattle.std.proofs.lemmas.Bool.{eq-eqb}
 use Rattle.std.proofs.lemmas.List.Elements.{All-nil}
@@ -13,21 +13,27 @@ use Rattle.tatp_settle.specs.ExtentTests.{IsExtentCause}
 use Rattle.tatp_settle.proofs.StandingLaws.{has_number, none_standing, times_standing_is, any_counted}
 use Rattle.tatp_settle.proofs.TestLaws.{decides_passes}
 use Rattle.tatp_settle.proofs.OpenedLaws.{not_populated}
-use Rattle.tatp_settle.proofs.MixedLaws.{parcel_is}
+use Rattle.tatp_settle.proofs.LogTestLaws.{parcel_is}
+
+-- no log has the number
+no_log : (c : ClosedState) (e : ℕ) → 1 ≤ e → extents_numbered c e ≡ [] → (log : ExtentLog) → Contains (logs_of c) log → log.extent ≡ e → ⊥
+no_log c e l none log stands is =
+    let times = none_standing c e l none in
+    let some = (any_counted (λ (log : ExtentLog). log.extent == e) (logs_of c)).0 ((decides_passes (λ (log : ExtentLog). log.extent == e) (logs_of c)).1 (log, stands, eq-eqb log.extent e is)) in
+    omega (arith, times, some)
 
 pub not_beyond : (cause : ExtentCause) (run : Run) (e : ℕ) → IsClosed run.closed → 1 ≤ e → extents_populated run.population < e → extents_numbered run.closed e ≡ [] → IsExtentCause cause run e → ⊥
 not_beyond OpenedElse run e h l above none is =
     let p : Rows = run.population in
     let no : homes_populated p e ≡ None = not_populated p e (λ _ k. omega (arith, above, k)) in
     is (record {
-      stands = λ s. absurd (let k : false ≡ true = ap is_some (sym no) ∙ s in cc);
-      homes = subst (All (λ (x : ExtentState). homes_populated p e ≡ Some x.opening)) (sym none) (All-nil (λ (x : ExtentState). homes_populated p e ≡ Some x.opening));
+      begins = record {
+        stands = λ s. absurd (let k : false ≡ true = ap is_some (sym no) ∙ s in cc);
+        homes = subst (All (λ (x : ExtentState). homes_populated p e ≡ Some x.opening)) (sym none) (All-nil (λ (x : ExtentState). homes_populated p e ≡ Some x.opening));
+      };
+      whole = λ out. no_log run.closed e l none out.0 out.1 out.2;
     })
-not_beyond IsAsMixed run e h l above none is =
-    let c : ClosedState = run.closed in
-    let none = none_standing c e l none in
-    let some = (any_counted (λ (log : ExtentLog). log.extent == e) (logs_of c)).0 ((decides_passes (λ (log : ExtentLog). log.extent == e) (logs_of c)).1 (is.0, is.1, eq-eqb is.0.extent e is.2)) in
-    omega (arith, none, some)
+not_beyond IsAsMixed run e h l above none is = no_log run.closed e l none is.0 is.1 is.2
 not_beyond InParcel run e h l above none is =
     let c : ClosedState = run.closed in
     let none = none_standing c e l none in

@@ -6,7 +6,7 @@ pub mod HereLaws
 pub mod LogLaws
 pub mod LogTableLaws
 pub mod TestLaws
-pub mod MixedLaws
+pub mod LogTestLaws
 pub mod TurnLaws
 pub mod PartLaws
 pub mod RunLaws

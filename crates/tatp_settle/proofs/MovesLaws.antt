@@ -125,7 +125,7 @@ are_within : (run : Run) → IsPopulationOnce run → All (λ (x : ExtentState).
 are_within run once k d l =
     let x : ExtentState = slice_index_or (extents_of run.closed) k d in
     let opened : homes_populated run.population x.number ≡ Some x.opening =
-    of_passing (λ (y : ExtentState). homes_populated run.population x.number ≡ Some y.opening) (has_number x.number) (extents_of run.closed) (once.opened x.number).homes k d l (eq-eqb x.number x.number refl) in
+    of_passing (λ (y : ExtentState). homes_populated run.population x.number ≡ Some y.opening) (has_number x.number) (extents_of run.closed) (once.opened x.number).begins.homes k d l (eq-eqb x.number x.number refl) in
     within_populated run.population x.number x.opening opened
 
 -- each extent stands once: its moves are counted by its number

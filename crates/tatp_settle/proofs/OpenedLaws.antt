@@ -1,4 +1,4 @@
--- Whether the extents of a number opened as the population has it.
+-- Whether the logs of the extents of a number begin at the population's homes.
 use Rattle.std.proofs.Common.{◌≡◌, ℕ, ◌+◌, ◌*◌, ◌-◌, ◌/◌, ◌≤◌, ◌&&◌, not, min, nat_le, Bool, true, false, cond, if◌then◌else◌, List, [], ◌∷◌, map, length, filter, take, drop, All, Option, Some, None, slice_get, refl, sym, ◌∙◌, ap, subst, arith}
 use Rattle.std.specs.Bool.{Decides}
 use Rattle.std.specs.List.{flat_map, list_all, range_with_len}
@@ -20,8 +20,8 @@ use Rattle.tatp_population.proofs.CutLaws.{drop-range, take-range}
 use Rattle.tatp_partition.specs.Sites.{slot}
 use Rattle.tatp_settle.specs.Closings.{ClosedSiteState, ClosedState, extents_of, extents_numbered, extent_numbered, IsClosed}
 use Rattle.tatp_settle.specs.Runs.{extents_populated, homes_populated}
-use Rattle.tatp_settle.specs.Causes.{OpenedAsPopulated}
-use Rattle.tatp_settle.specs.ExtentTests.{opened_with, opened_here, opened_as}
+use Rattle.tatp_settle.specs.Causes.{BeginsAsPopulated}
+use Rattle.tatp_settle.specs.ExtentTests.{begins_with, begins_here, begins_as}
 use Rattle.tatp_settle.proofs.StandingLaws.{has_number, here, in_sites}
 use Rattle.tatp_settle.proofs.LogLaws.{find_filtered}
 
@@ -77,28 +77,28 @@ all_joined : (t : ExtentState → Bool) (e : ℕ) (sites : List ClosedSiteState)
 all_joined t e [] = refl
 all_joined t e (s ∷ sites) = list_all-append t (here e s) (flat_map (here e) sites) ∙ (λ i. all_listed t (slot s.slots e) i && all_joined t e sites i)
 
-tested : (own : List SubscriberRows) (c : ClosedState) (e : ℕ) → IsClosed c → list_all (opened_with own) (extents_numbered c e) ≡ (list_all (opened_here own e) c.sites && list_all (opened_as own e) c.parcels)
+tested : (own : List SubscriberRows) (c : ClosedState) (e : ℕ) → IsClosed c → list_all (begins_with own) (extents_numbered c e) ≡ (list_all (begins_here own e) c.sites && list_all (begins_as own e) c.parcels)
 tested own c e h =
-    ap (list_all (opened_with own)) (in_sites c.sites c.parcels e h.sites)
-    ∙ (list_all-append (opened_with own) (flat_map (here e) c.sites) (filter (has_number e) c.parcels)
-    ∙ (λ i. all_joined (opened_with own) e c.sites i && all_filtered (has_number e) (opened_with own) c.parcels i))
+    ap (list_all (begins_with own)) (in_sites c.sites c.parcels e h.sites)
+    ∙ (list_all-append (begins_with own) (flat_map (here e) c.sites) (filter (has_number e) c.parcels)
+    ∙ (λ i. all_joined (begins_with own) e c.sites i && all_filtered (has_number e) (begins_with own) c.parcels i))
 
-each_decided : (own : List SubscriberRows) (v : Option (List SubscriberRows)) → v ≡ Some own → (x : ExtentState) → Decides (opened_with own x) (v ≡ Some x.opening)
+each_decided : (own : List SubscriberRows) (v : Option (List SubscriberRows)) → v ≡ Some own → (x : ExtentState) → Decides (begins_with own x) (v ≡ Some x.opening)
 each_decided own v is x =
-    Decides-like (opened_with own x) (λ (h : x.opening ≡ own). is ∙ ap Some (sym h)) (λ h. let k : Some own ≡ Some x.opening = sym is ∙ h in cc)
-    (slice_eq-Decides Decides-same_home x.opening own (opened_with own x) refl)
+    Decides-like (begins_with own x) (λ (h : x.opening ≡ own). is ∙ ap Some (sym h)) (λ h. let k : Some own ≡ Some x.opening = sym is ∙ h in cc)
+    (slice_eq-Decides Decides-same_home x.opening own (begins_with own x) refl)
 
-all_decided : (own : List SubscriberRows) (v : Option (List SubscriberRows)) → v ≡ Some own → (xs : List ExtentState) → Decides (list_all (opened_with own) xs) (All (λ (x : ExtentState). v ≡ Some x.opening) xs)
-all_decided own v is xs = Decides-by_and (opened_with own) (λ (x : ExtentState). v ≡ Some x.opening) (list_all (opened_with own)) (each_decided own v is) refl (λ _ _. refl) xs
+all_decided : (own : List SubscriberRows) (v : Option (List SubscriberRows)) → v ≡ Some own → (xs : List ExtentState) → Decides (list_all (begins_with own) xs) (All (λ (x : ExtentState). v ≡ Some x.opening) xs)
+all_decided own v is xs = Decides-by_and (begins_with own) (λ (x : ExtentState). v ≡ Some x.opening) (list_all (begins_with own)) (each_decided own v is) refl (λ _ _. refl) xs
 
 some_decided : {A : Type 0} (xs : List A) → Decides (is_some (slice_get xs 0)) (1 ≤ length xs)
 some_decided [] = (λ h. absurd (let k : false ≡ true = h in cc), λ h. absurd (omega (arith, h)))
 some_decided (x ∷ xs) = (λ h. omega arith, λ h. refl)
 
 -- where the population has the extent
-pub opened_is : (p : Rows) (c : ClosedState) (e : ℕ) (own : List SubscriberRows) → IsClosed c → homes_populated p e ≡ Some own → (s a b : Bool) → s ≡ is_some (extent_numbered c e) → a ≡ list_all (opened_here own e) c.sites → b ≡ list_all (opened_as own e) c.parcels
-    → Decides (s && (a && b)) (OpenedAsPopulated p c e)
-opened_is p c e own h is s a b ps pa pb =
+pub begins_is : (p : Rows) (c : ClosedState) (e : ℕ) (own : List SubscriberRows) → IsClosed c → homes_populated p e ≡ Some own → (s a b : Bool) → s ≡ is_some (extent_numbered c e) → a ≡ list_all (begins_here own e) c.sites → b ≡ list_all (begins_as own e) c.parcels
+    → Decides (s && (a && b)) (BeginsAsPopulated p c e)
+begins_is p c e own h is s a b ps pa pb =
     let stands : Decides s (1 ≤ length (extents_numbered c e)) =
     subst (λ r. Decides r (1 ≤ length (extents_numbered c e))) (sym (ps ∙ ap is_some (find_filtered (has_number e) (extents_of c)))) (some_decided (extents_numbered c e)) in
     let all : Decides (a && b) (All (λ (x : ExtentState). homes_populated p e ≡ Some x.opening) (extents_numbered c e)) =
@@ -108,17 +108,17 @@ opened_is p c e own h is s a b ps pa pb =
     (λ o. (o.stands (ap is_some is), o.homes))
     (Decides-and s (a && b) stands all)
 
-none_opened : (p : Rows) (c : ClosedState) (e : ℕ) → homes_populated p e ≡ None → (xs : List ExtentState) → extents_numbered c e ≡ xs → Decides (not (is_some (slice_get xs 0))) (OpenedAsPopulated p c e)
-none_opened p c e is [] none =
+none_begun : (p : Rows) (c : ClosedState) (e : ℕ) → homes_populated p e ≡ None → (xs : List ExtentState) → extents_numbered c e ≡ xs → Decides (not (is_some (slice_get xs 0))) (BeginsAsPopulated p c e)
+none_begun p c e is [] none =
     (λ _. record { stands = λ h. absurd (let k : false ≡ true = ap is_some (sym is) ∙ h in cc); homes = subst (All (λ (x : ExtentState). homes_populated p e ≡ Some x.opening)) (sym none) (All-nil (λ (x : ExtentState). homes_populated p e ≡ Some x.opening)) }, λ _. refl)
-none_opened p c e is (x ∷ xs) some = (
+none_begun p c e is (x ∷ xs) some = (
   λ h. absurd (let k : false ≡ true = h in cc),
   λ o. absurd (let k : None ≡ Some x.opening = sym is ∙ All-head (λ (x : ExtentState). homes_populated p e ≡ Some x.opening) x xs (subst (All (λ (x : ExtentState). homes_populated p e ≡ Some x.opening)) some o.homes) in cc),
 )
 
 -- where the population doesn't have it
-pub not_opened_is : (p : Rows) (c : ClosedState) (e : ℕ) → homes_populated p e ≡ None → (s : Bool) → s ≡ is_some (extent_numbered c e) → Decides (not s) (OpenedAsPopulated p c e)
-not_opened_is p c e is s ps = subst (λ r. Decides (not r) (OpenedAsPopulated p c e)) (sym (ps ∙ ap is_some (find_filtered (has_number e) (extents_of c)))) (none_opened p c e is (extents_numbered c e) refl)
+pub not_begun_is : (p : Rows) (c : ClosedState) (e : ℕ) → homes_populated p e ≡ None → (s : Bool) → s ≡ is_some (extent_numbered c e) → Decides (not s) (BeginsAsPopulated p c e)
+not_begun_is p c e is s ps = subst (λ r. Decides (not r) (BeginsAsPopulated p c e)) (sym (ps ∙ ap is_some (find_filtered (has_number e) (extents_of c)))) (none_begun p c e is (extents_numbered c e) refl)
 
 -- the piece as it is cut out
 pub own_piece : (homes : List SubscriberRows) (p : Rows) (e m : ℕ) → homes ≡ homes_in (database_of p) 1 (length p.subscribers) → 1 ≤ e → m ≡ min (64 * (e - 1) + 64) (length homes)

@@ -152,8 +152,11 @@ received run cells unmatched all agree =
 -- ---- extents
 opened_unless : (population : Rows) (closed : ClosedState) (e : ℕ) → ((OpenedAsPopulated population closed e → ⊥) → ⊥) → OpenedAsPopulated population closed e
 opened_unless population closed e h = record {
-  stands = λ some. at_most 1 _ (λ less. h (λ o. let m = o.stands some in omega (arith, less, m)));
-  homes = λ k d l. equal_unless (coded_option (coded_list subscriber_rows_code)) _ _ (λ other. h (λ o. other (o.homes k d l)));
+  begins = record {
+    stands = λ some. at_most 1 _ (λ less. h (λ o. let m = o.begins.stands some in omega (arith, less, m)));
+    homes = λ k d l. equal_unless (coded_option (coded_list subscriber_rows_code)) _ _ (λ other. h (λ o. other (o.begins.homes k d l)));
+  };
+  whole = λ out. h (λ o. o.whole out);
 }
 
 -- nothing is found: each extent stands once, at a site, as the population opened it, and is unmixed

@@ -135,10 +135,10 @@ stood : (run : Run) (e : ℕ) → IsClosed run.closed → IsPopulationOnce run �
 stood run e closed once l m =
     let c : ClosedState = run.closed in
     let there : homes_populated run.population e ≡ Some (homes_first run e) = populated run e l m in
-    let first = first_passing (is_numbered e) (extents_of c) ((once.opened e).stands (ap is_some there)) in
+    let first = first_passing (is_numbered e) (extents_of c) ((once.opened e).begins.stands (ap is_some there)) in
     let x : ExtentState = first.0 in
     let is : extent_numbered c e ≡ Some x = first.1 in
-    let opening : homes_populated run.population e ≡ Some x.opening = All-contains (λ (y : ExtentState). homes_populated run.population e ≡ Some y.opening) (extents_numbered c e) x (once.opened e).homes first.2 in
+    let opening : homes_populated run.population e ≡ Some x.opening = All-contains (λ (y : ExtentState). homes_populated run.population e ≡ Some y.opening) (extents_numbered c e) x (once.opened e).begins.homes first.2 in
     let extent : IsExtent x = All-contains IsExtent (extents_of c) x (are_extents c closed) (found (is_numbered e) (extents_of c) x is).0 in
     let log : find (log_has e) (logs_of c) ≡ Some (log_of_extent x) = log_of_number (filter of_partition_0 c.sites) (extents_of c) e (λ z. omega (arith, l, z)) ∙ ap (option_map log_of_extent) is in
     let placed = found (log_has e) (logs_of c) (log_of_extent x) log in

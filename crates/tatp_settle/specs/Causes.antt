@@ -22,11 +22,23 @@ use Rattle.tatp_settle.specs.Answering.{AreMatched, EntryFound, receipt_of}
 use Rattle.tatp_settle.specs.Receipts.{IsLater}
 
 -- ---- of extents
--- the extent stands exactly where the population has it, and opened with the population's homes
-pub record OpenedAsPopulated (population : Rows) (closed : ClosedState) (e : ℕ) : Type 0 where
+-- the extent stands exactly where the population has it, and its log begins at the population's
+-- homes
+pub record BeginsAsPopulated (population : Rows) (closed : ClosedState) (e : ℕ) : Type 0 where
   pub stands : IsSome (homes_populated population e) → 1 ≤ length (extents_numbered closed e)
   pub homes : All (λ (x : ExtentState). homes_populated population e ≡ Some x.opening)
       (extents_numbered closed e)
+
+-- a log of the extent has handed out a chapter, and so lacks its first entries
+abbrev pub HasHandedOut : ClosedState → ℕ → Type 0
+HasHandedOut c e =
+    (log : ExtentLog) × Contains (logs_of c) log × (log.extent ≡ e) × (1 ≤ log.chapters)
+
+-- the extent opened as the population has it, and has handed out no chapter: its log is of all
+-- calls since then
+pub record OpenedAsPopulated (population : Rows) (closed : ClosedState) (e : ℕ) : Type 0 where
+  pub begins : BeginsAsPopulated population closed e
+  pub whole : HasHandedOut closed e → ⊥
 
 -- a log of the extent is mixed
 abbrev pub IsMixed : ClosedState → ℕ → Type 0

@@ -1,5 +1,5 @@
 -- The causes that an extent is, as tests.
-use Rattle.std.specs.Prelude.{ℕ, ◌==◌, ◌&&◌, ◌||◌, ◌≤◌, Bool, true, false, List, if◌then◌else◌}
+use Rattle.std.specs.Prelude.{ℕ, ◌==◌, ◌&&◌, ◌||◌, ◌≤◌, nat_le, Bool, true, false, List, if◌then◌else◌}
 use Rattle.std.specs.Option.{option_map_or}
 use Rattle.std.specs.Cmp.Lexicographic.{pointwise}
 use Rattle.tatp_tables.specs.Home.{SubscriberRows, same_home}
@@ -21,17 +21,27 @@ mixed_here s e =
 abbrev pub mixed_as : ℕ → ExtentState → Bool
 mixed_as e x = (x.number == e) && x.mixed
 
--- whether the extent opened with these homes
-abbrev pub opened_with : List SubscriberRows → ExtentState → Bool
-opened_with homes x = pointwise same_home x.opening homes
+-- whether a log of this number that has handed out a chapter stood at the site
+abbrev pub handed_out_here : ClosedSiteState → ℕ → Bool
+handed_out_here s e =
+    ((e == 0) && ((s.partition == 0) && nat_le 1 s.homeless.chapters))
+    || option_map_or (λ (x : ExtentState). nat_le 1 x.chapters) (slot s.slots e) false
 
--- whether the extent of this number, if it stood at the site, opened with these homes
-abbrev pub opened_here : List SubscriberRows → ℕ → ClosedSiteState → Bool
-opened_here homes e s = option_map_or (opened_with homes) (slot s.slots e) true
+-- whether the extent has this number and has handed out a chapter
+abbrev pub handed_out_as : ℕ → ExtentState → Bool
+handed_out_as e x = (x.number == e) && nat_le 1 x.chapters
 
--- whether the extent, if it has this number, opened with these homes
-abbrev pub opened_as : List SubscriberRows → ℕ → ExtentState → Bool
-opened_as homes e x = if x.number == e then opened_with homes x else true
+-- whether the extent's log begins at these homes
+abbrev pub begins_with : List SubscriberRows → ExtentState → Bool
+begins_with homes x = pointwise same_home x.opening homes
+
+-- whether the log of the extent of this number, if it stood at the site, begins at these homes
+abbrev pub begins_here : List SubscriberRows → ℕ → ClosedSiteState → Bool
+begins_here homes e s = option_map_or (begins_with homes) (slot s.slots e) true
+
+-- whether the log of the extent, if it has this number, begins at these homes
+abbrev pub begins_as : List SubscriberRows → ℕ → ExtentState → Bool
+begins_as homes e x = if x.number == e then begins_with homes x else true
 
 -- the cause holds of the extent of this number
 abbrev pub IsExtentCause : ExtentCause → Run → ℕ → Type 0

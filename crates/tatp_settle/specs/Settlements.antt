@@ -23,7 +23,7 @@ use Rattle.tatp_settle.specs.Answering.{AreMatched, IsAnswered, HasReceipt, Entr
 use Rattle.tatp_settle.specs.Receipts.{is_done}
 use Rattle.tatp_settle.specs.Causes.{OpenedAsPopulated, IsMixed, IsFirstCause}
 
--- each extent stands once, at a site, as the population opened it, and is unmixed
+-- each extent stands once, at a site, as the population opened it, no chapter out, and unmixed
 pub record IsPopulationOnce (run : Run) : Type 0 where
   pub opened : (e : ℕ) → OpenedAsPopulated run.population run.closed e
   pub unmixed : (e : ℕ) → IsMixed run.closed e → ⊥
@@ -73,7 +73,7 @@ calls_by_kind run = map (λ kind. count_by (is_of_kind kind) (joined run.calls))
 abbrev pub moves_made : Run → ℕ
 moves_made run = sum_by (λ (x : ExtentState). x.moves) (extents_of run.closed)
 
--- the run is one history, and these are its counts
+-- the run is one history, of which no chapter is out, and these are its counts
 pub record IsSettled (run : Run) (settled : Settled) : Type 0 where
   pub one_history : IsOneHistory run
   pub completed : settled.completed ≡ completed run

@@ -3,10 +3,10 @@ ghost use Rattle.std.specs.Prelude.{◌≡◌, ◌≤◌, ◌==◌, ◌&&◌, �
 ghost use Rattle.std.specs.List.{list_any, list_all};
 ghost use Rattle.tatp_population.specs.Extents.{ExtentState};
 ghost use Rattle.tatp_settle.specs.Closings.{ClosedSiteState, is_here, times_standing};
-ghost use Rattle.tatp_settle.specs.Causes.{OpenedAsPopulated, IsMixed};
+ghost use Rattle.tatp_settle.specs.Causes.{BeginsAsPopulated, HasHandedOut, OpenedAsPopulated, IsMixed};
 ghost use Rattle.tatp_settle.specs.CallPlaces.{IsFirstNumber};
 ghost use Rattle.tatp_settle.specs.Runs.{AreHomesOf, shown};
-ghost use Rattle.tatp_settle.specs.ExtentTests.{mixed_here, mixed_as, opened_with, opened_here, opened_as, IsExtentCause};
+ghost use Rattle.tatp_settle.specs.ExtentTests.{mixed_here, mixed_as, handed_out_here, handed_out_as, begins_with, begins_here, begins_as, IsExtentCause};
 
 use crate::logs::{extent_numbered, log_count};
 use crate::run::Run;
@@ -17,7 +17,7 @@ use tatp_tables::Home;
 /// The causes that an extent is.
 #[derive(Clone, Copy)]
 pub(crate) enum ExtentCause {
-    /// It did not open with the homes of the population.
+    /// It did not open with the homes of the population, or has handed out a chapter.
     OpenedElse,
     /// It is mixed.
     IsAsMixed,
@@ -50,12 +50,21 @@ fn is_cause(cause: ExtentCause, run: &Run<'_>, homes: &[Home], number: u64) -> b
     }
 }
 
-/// Whether the extent stands exactly where the population has it, and opened with the population's
-/// homes.
+/// Whether the extent opened as the population has it, and has handed out no chapter.
 fn is_opened(run: &Run<'_>, homes: &[Home], number: u64) -> bool
     requires { AreHomesOf run.now.population.now homes.now }
     ensures { IsTrue result
         ↔ OpenedAsPopulated run.now.population.now run.now.closed.now number }
+{
+    begins_as_populated(run, homes, number) && !has_handed_out(run.closed, number)
+}
+
+/// Whether the extent stands exactly where the population has it, and its log begins at the
+/// population's homes.
+fn begins_as_populated(run: &Run<'_>, homes: &[Home], number: u64) -> bool
+    requires { AreHomesOf run.now.population.now homes.now }
+    ensures { IsTrue result
+        ↔ BeginsAsPopulated run.now.population.now run.now.closed.now number }
 {
     run.closed.what_holds();
     let stands = extent_numbered(run.closed, number).is_some();
@@ -65,47 +74,82 @@ fn is_opened(run: &Run<'_>, homes: &[Home], number: u64) -> bool
     let size = EXTENT_SIZE as usize;
     let first = size * (number as usize - 1);
     let own = &homes[first..(first + size).min(homes.len())];
-    stands && are_opened(run.closed, own, number)
+    stands && all_begin(run.closed, own, number)
 }
 
-/// Whether all extents that have a number opened with these homes.
-fn are_opened(closed: &Closed, homes: &[Home], number: u64) -> bool
+/// Whether the logs of all extents that have a number begin at these homes.
+fn all_begin(closed: &Closed, homes: &[Home], number: u64) -> bool
     ensures { result
-        ≡ (list_all (opened_here homes.now number) closed.now.sites
-        && list_all (opened_as homes.now number) closed.now.parcels) }
+        ≡ (list_all (begins_here homes.now number) closed.now.sites
+        && list_all (begins_as homes.now number) closed.now.parcels) }
 {
-    are_opened_at(closed.sites(), homes, number) && are_opened_in(closed.parcels(), homes, number)
+    all_begin_at(closed.sites(), homes, number) && all_begin_in(closed.parcels(), homes, number)
 }
 
-/// Whether the extents of a number that stood at sites opened with these homes.
-fn are_opened_at(sites: &[ClosedSite], homes: &[Home], number: u64) -> bool
-    ensures { result ≡ list_all (opened_here homes.now number) sites.now }
+/// Whether the logs of the extents of a number that stood at sites begin at these homes.
+fn all_begin_at(sites: &[ClosedSite], homes: &[Home], number: u64) -> bool
+    ensures { result ≡ list_all (begins_here homes.now number) sites.now }
 {
-    sites.iter().all(|site| is_opened_here(site, homes, number))
+    sites.iter().all(|site| begins_here(site, homes, number))
 }
 
-/// Whether the extent of a number, if it stood at the site, opened with these homes.
-fn is_opened_here(site: &ClosedSite, homes: &[Home], number: u64) -> bool
-    ensures { result ≡ opened_here homes.now number site.now }
+/// Whether the log of the extent of a number, if it stood at the site, begins at these homes.
+fn begins_here(site: &ClosedSite, homes: &[Home], number: u64) -> bool
+    ensures { result ≡ begins_here homes.now number site.now }
 {
     match site.extent(number) {
-        Some(extent) => has_opened_with(extent, homes),
+        Some(extent) => begins_with(extent, homes),
         None => true,
     }
 }
 
-/// Whether the extents that have a number opened with these homes.
-fn are_opened_in(extents: &[Extent], homes: &[Home], number: u64) -> bool
-    ensures { result ≡ list_all (opened_as homes.now number) extents.now }
+/// Whether the logs of the extents that have a number begin at these homes.
+fn all_begin_in(extents: &[Extent], homes: &[Home], number: u64) -> bool
+    ensures { result ≡ list_all (begins_as homes.now number) extents.now }
 {
-    extents.iter().all(|extent| extent.number() as u64 != number || has_opened_with(extent, homes))
+    extents.iter().all(|extent| extent.number() as u64 != number || begins_with(extent, homes))
 }
 
-/// Whether the extent opened with these homes.
-fn has_opened_with(extent: &Extent, homes: &[Home]) -> bool
-    ensures { result ≡ opened_with homes.now extent.now }
+/// Whether the extent's log begins at these homes.
+fn begins_with(extent: &Extent, homes: &[Home]) -> bool
+    ensures { result ≡ begins_with homes.now extent.now }
 {
     extent.opening() == homes
+}
+
+/// Whether a log of the number has handed out a chapter.
+fn has_handed_out(closed: &Closed, number: u64) -> bool
+    ensures { IsTrue result ↔ HasHandedOut closed.now number }
+{
+    has_handed_out_at(closed.sites(), number) || has_handed_out_in(closed.parcels(), number)
+}
+
+/// Whether a log of the number that stood at one of the sites has handed out a chapter.
+fn has_handed_out_at(sites: &[ClosedSite], number: u64) -> bool
+    ensures { result
+        ≡ list_any (λ (site : ClosedSiteState). handed_out_here site number) sites.now }
+{
+    sites.iter().any(|site| has_handed_out_here(site, number))
+}
+
+/// Whether a log of the number that stood at the site has handed out a chapter.
+fn has_handed_out_here(site: &ClosedSite, number: u64) -> bool
+    ensures { result ≡ handed_out_here site.now number }
+{
+    if number == 0 && site.partition() == 0 && site.homeless_chapters() >= 1 {
+        return true;
+    }
+    match site.extent(number) {
+        Some(extent) => extent.chapters() >= 1,
+        None => false,
+    }
+}
+
+/// Whether one of these extents has the number and has handed out a chapter.
+fn has_handed_out_in(extents: &[Extent], number: u64) -> bool
+    ensures { result ≡ list_any (handed_out_as number) extents.now }
+{
+    extents.iter().any(|extent| extent.number() as u64 == number && extent.chapters() >= 1)
 }
 
 /// Whether a log of the number is mixed.

@@ -79,9 +79,12 @@ fn remove_front(buffer: &mut Vec<u8>, count: usize)
     requires { count ≤ vec_len buffer.old }
     ensures { buffer.new.items ≡ drop count buffer.old.items }
 {
-    let len = buffer.len();
-    buffer.as_mut_slice().copy_within(count..len, 0);
-    buffer.truncate(len - count);
+    // (a long line comes in many pieces, and stays where it is)
+    if count > 0 {
+        let len = buffer.len();
+        buffer.as_mut_slice().copy_within(count..len, 0);
+        buffer.truncate(len - count);
+    }
 }
 
 impl LineReader {

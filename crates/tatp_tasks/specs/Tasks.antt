@@ -1,7 +1,7 @@
 -- Tasks that can be done.
 use Rattle.std.specs.Prelude.{ℕ, ◌≤◌, List, codes}
 use Rattle.tatp_tasks.specs.declared.task.Task.{Task}
-use Rattle.tatp_tasks.specs.declared.task.Task.TheVariants.{Call, Trace, Asm, Dis, Check, Audit, Bench}
+use Rattle.tatp_tasks.specs.declared.task.Task.TheVariants.{Call, Trace, Asm, Dis, Check, Audit, Bench, Explain}
 use Rattle.tatp_tasks.specs.Plans.{IsPlan}
 use Rattle.tatp_tasks.specs.Populations.{IsPopulation, IsSetup}
 
@@ -23,3 +23,4 @@ name_of Dis = codes "dis"
 name_of Check = codes "check"
 name_of Audit = codes "audit"
 name_of (Bench plan progress) = codes "bench"
+name_of (Explain number) = codes "explain"

@@ -24,4 +24,6 @@ pub enum Task {
         plan: BenchPlan,
         progress: bool,
     },
+    /// Say what a number of a refusal or fault means; without one, all of them.
+    Explain(Option<u64>),
 }

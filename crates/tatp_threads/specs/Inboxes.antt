@@ -1,6 +1,8 @@
--- The rule of an inbox.
-use Rattle.std.specs.Prelude.{ℕ, List}
+-- The inboxes of a run: their rule, and what is put into them.
+use Rattle.std.specs.Prelude.{◌≡◌, ℕ, List, Bool, true, false, Some, Result, Ok, Err, slice_get, slice_set}
 use Rattle.tatp_procs.specs.Asked.{Fits}
+use Rattle.tatp_partition.specs.declared.item.Item.{Item}
+use Rattle.tatp_inboxes.specs.Inboxes.{End, with_message}
 use Rattle.tatp_workers.specs.declared.message.Message.{Message}
 use Rattle.tatp_workers.specs.declared.message.Message.TheVariants.{Quit, Call}
 
@@ -8,3 +10,16 @@ use Rattle.tatp_workers.specs.declared.message.Message.TheVariants.{Quit, Call}
 abbrev pub IsMessage : List ℕ → Message → Type 0
 IsMessage arities Quit = Unit {0}
 IsMessage arities (Call item) = Fits arities item.ask
+
+-- a call is put into an inbox; or it comes back, and none was put
+abbrev pub PutsCall : End Message → Item → Result (Unit {0}) Item → End Message → Type 0
+PutsCall port item (Ok done) port' = port' ≡ with_message port (Call item)
+PutsCall port item (Err back) port' = (back ≡ item) × (port' ≡ port)
+
+-- a call is put into one of the inboxes, or into none
+abbrev pub SendsCall : List (End Message) → Item → Bool → List (End Message) → Type 0
+SendsCall ports item true ports' =
+    (partition : ℕ) × (port : End Message)
+    × (slice_get ports partition ≡ Some port)
+    × (ports' ≡ slice_set ports partition (with_message port (Call item)))
+SendsCall ports item false ports' = ports' ≡ ports

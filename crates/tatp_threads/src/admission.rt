@@ -1,6 +1,6 @@
 //! Which calls go into inboxes: those that fit the module of the run.
 ghost use Rattle.std.specs.Prelude.{◌≡◌, List, ℕ};
-ghost use Rattle.tatp_threads.specs.Inboxes.{IsMessage};
+ghost use Rattle.tatp_threads.specs.Inboxes.{IsMessage, PutsCall};
 
 use std::marker::{Brand, PhantomData};
 use std::sync::Wait;
@@ -54,7 +54,9 @@ impl<A: Arities> Admission<A> {
     }
 
     /// Puts a call where it fits. It comes back where it doesn't, and where there is no room.
-    pub(crate) fn put<R: Wait>(&self, rt: &R, port: &mut Port<A>, item: Item) -> Result<(), Item> {
+    pub(crate) fn put<R: Wait>(&self, rt: &R, port: &mut Port<A>, item: Item) -> Result<(), Item>
+        ensures { PutsCall port.old item result port.new }
+    {
         if !item_ok(&item, self.arities.as_slice()) {
             return Err(item);
         }

@@ -1,6 +1,8 @@
 //! What the threads fill and work with: all of it gets its room before they start.
-ghost use Rattle.std.specs.Prelude.{◌≡◌, ◌≤◌, IfOk, length, vec_len, vec_capacity};
+ghost use Rattle.std.specs.Prelude.{◌≡◌, ◌≤◌, ◌+◌, All, IfOk, length, vec_len, vec_capacity};
 ghost use Rattle.tatp_procs.specs.Asked.{arities_of};
+ghost use Rattle.tatp_inboxes.specs.Inboxes.{IsNew};
+ghost use Rattle.tatp_threads.specs.Seats.{AreExecutors, AreClients};
 
 use crate::admission::{Admission, Arities, Port, Reader};
 use crate::calls::arities_of;
@@ -63,7 +65,11 @@ fn seat_executors<A: Arities>(
     alloc: Global,
     readers: Vec<Reader<A>>,
     ports: &mut [Port<A>],
-) -> Result<Vec<ExecutorSeat<A>>, AllocError> {
+) -> Result<Vec<ExecutorSeat<A>>, AllocError>
+    requires { readers.items ≡ ports.old }
+    ensures seats { IfOk result (λ seats. AreExecutors ports.old seats.items) }
+    ensures same { ports.new ≡ ports.old }
+{
     let mut seats = Vec::with_capacity(alloc, readers.len())?;
     for reader in readers {
         seats.push(ExecutorSeat {
@@ -80,7 +86,9 @@ fn seat_clients<A: Arities>(
     lists: &[Vec<Ask>],
     ports: &mut [Port<A>],
 ) -> Result<Vec<ClientSeat<A>>, AllocError>
-    ensures { IfOk result (λ seats. vec_len seats ≡ length lists.now) }
+    ensures seats { IfOk result (λ seats. AreClients (length lists.now) ports.old seats.items) }
+    ensures count { IfOk result (λ seats. vec_len seats ≡ length lists.now) }
+    ensures same { ports.new ≡ ports.old }
 {
     let mut seats = Vec::with_capacity(alloc, lists.len())?;
     for list in lists {
@@ -94,7 +102,9 @@ fn seat_clients<A: Arities>(
 }
 
 /// So many empty mailboxes.
-fn make_mailboxes(alloc: Global, count: usize) -> Result<Vec<Mailbox<Delivery>>, AllocError> {
+fn make_mailboxes(alloc: Global, count: usize) -> Result<Vec<Mailbox<Delivery>>, AllocError>
+    ensures { IfOk result (λ mailboxes. vec_len mailboxes ≡ count) }
+{
     let mut mailboxes = Vec::with_capacity(alloc, count)?;
     for _ in 0..count {
         mailboxes.push(Mailbox::new())?;
@@ -128,7 +138,15 @@ impl<'m, A: Arities> Reserved<'m, A> {
     ) -> Result<Reserved<'m, A>, AllocError>
         requires clients { length lists.now ≤ 64 }
         requires rule { arities_of loaded.now ≡ A.arities }
-        ensures clients { IfOk result (λ room. vec_len room.clients ≡ length lists.now) }
+        ensures quit { IfOk result (λ room. vec_len room.quit ≡ partitions) }
+        ensures inboxes { IfOk result
+            (λ room. All (IsNew (length lists.now + 1)) room.quit.items) }
+        ensures executors { IfOk result
+            (λ room. AreExecutors room.quit.items room.executors.items) }
+        ensures clients { IfOk result
+            (λ room. AreClients (length lists.now) room.quit.items room.clients.items) }
+        ensures count { IfOk result (λ room. vec_len room.clients ≡ length lists.now) }
+        ensures mailboxes { IfOk result (λ room. vec_len room.mailboxes ≡ length lists.now) }
         ensures none { IfOk result (λ room. vec_len room.receipts ≡ 0) }
         ensures receipts { IfOk result (λ room. length lists.now ≤ vec_capacity room.receipts) }
         ensures partitions { IfOk result (λ room. partitions ≤ vec_capacity room.partitions.items) }

@@ -1,4 +1,5 @@
 //! What the threads share.
+ghost use Rattle.tatp_threads.specs.Inboxes.{SendsCall};
 
 use crate::admission::{Admission, Arities, Port};
 use crate::partition::Partition;
@@ -32,7 +33,9 @@ impl<'a, 'm, G, A: Arities> Shared<'a, 'm, G, A> {
     }
 
     /// Puts a call into the inbox that the route of its home names. Whether it was put there.
-    pub(crate) fn send<R: Wait>(&self, rt: &R, ports: &mut [Port<A>], item: Item) -> bool {
+    pub(crate) fn send<R: Wait>(&self, rt: &R, ports: &mut [Port<A>], item: Item) -> bool
+        ensures { SendsCall ports.old item result ports.new }
+    {
         let partition = self.routes.lock(rt).route(item.home) as usize;
         if partition >= ports.len() {
             return false;

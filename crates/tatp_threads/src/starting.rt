@@ -1,5 +1,7 @@
 //! The threads are started, and end.
 ghost use denote.Param.Send.{IsSend};
+ghost use Rattle.std.specs.Prelude.{◌≡◌, length, vec_len};
+ghost use Rattle.tatp_threads.specs.Seats.{AreExecutors, AreClients};
 
 use crate::admission::{Arities, Port};
 use crate::client::run_client;
@@ -33,7 +35,12 @@ pub(crate) fn run_threads<R: Threads + Wait + Sync, G: Gate + Sync, A: Arities +
     crew: Crew<'_, A>,
     clients: &mut [ClientSeat<A>],
     hand: &mut Vec<Parcel>,
-) -> bool {
+) -> bool
+    requires partitions { vec_len crew.quit ≡ length shared.now.partitions.now }
+    requires executors { AreExecutors crew.quit.items crew.executors.items }
+    requires clients { AreClients (length crew.lists.now) crew.quit.items clients.old }
+    requires mailboxes { length shared.now.mailboxes.now ≡ length crew.lists.now }
+{
     let Crew {
         mut quit,
         executors,

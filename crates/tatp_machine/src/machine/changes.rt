@@ -12,6 +12,7 @@ use tatp_tables::{Home, Refusal, Table, what_holds_of_every_home};
 
 impl<'m> Machine<'m> {
     /// Ends the call with a failure or a trap.
+    #[inline(never)]
     pub(super) fn fail(&mut self, home: &mut Home, n: u32) -> Progress
         requires { self.old.frame.home ≡ Some home.old.s_id }
         ensures turns { Turns (Stops (End.Failed n))
@@ -21,6 +22,7 @@ impl<'m> Machine<'m> {
         self.end_undone(home, End::Failed(n))
     }
 
+    #[inline(never)]
     pub(super) fn trap(&mut self, home: &mut Home, trap: Trap) -> Progress
         requires { self.old.frame.home ≡ Some home.old.s_id }
         ensures turns { Turns (Stops (End.Trapped trap))
@@ -30,6 +32,7 @@ impl<'m> Machine<'m> {
         self.end_undone(home, End::Trapped(trap))
     }
 
+    #[inline(never)]
     pub(super) fn put(&mut self, home: &mut Home, column: u32, a: Register) -> Progress
         requires home { self.old.frame.home ≡ Some home.old.s_id }
         requires here { IsNext self.old.frame (Instr.Put column a) }
@@ -54,6 +57,7 @@ impl<'m> Machine<'m> {
         }
     }
 
+    #[inline(never)]
     pub(super) fn ins(&mut self, home: &mut Home, d: Register, a: RowRegisters) -> Progress
         requires home { self.old.frame.home ≡ Some home.old.s_id }
         requires here { IsNext self.old.frame (Instr.Ins d a) }
@@ -78,6 +82,7 @@ impl<'m> Machine<'m> {
         }
     }
 
+    #[inline(never)]
     pub(super) fn del(&mut self, home: &mut Home) -> Progress
         requires home { self.old.frame.home ≡ Some home.old.s_id }
         requires here { IsNext self.old.frame Instr.Del }

@@ -29,6 +29,8 @@ pub enum Event {
     Taken(u32),
     /// The extent is taken, and is spent.
     Lost(u32),
+    /// The extent hands out a chapter, which is spent.
+    HandedOut(u32),
 }
 
 /// A reading of access data that a subscriber lacks: it has one row in Access_Info.
@@ -71,6 +73,17 @@ fn keeps(parcels: &mut Vec<Parcel>, parcel: Parcel) -> bool {
     }
 }
 
+/// Whether the extent handed out a chapter.
+fn hands_out(alloc: Global, site: &mut Site<'_>, e: u32) -> bool {
+    match site.checkpoint(alloc, e) {
+        Ok(chapter) => {
+            chapter.discard();
+            true
+        }
+        Err(_) => false,
+    }
+}
+
 /// Whether the event happened.
 fn happens(alloc: Global, site: &mut Site<'_>, parcels: &mut Vec<Parcel>, event: Event) -> bool {
     match event {
@@ -106,6 +119,7 @@ fn happens(alloc: Global, site: &mut Site<'_>, parcels: &mut Vec<Parcel>, event:
             }
             Err(_) => false,
         },
+        Event::HandedOut(e) => hands_out(alloc, site, e),
     }
 }
 

@@ -3,7 +3,7 @@
 ghost use Rattle.std.specs.Prelude.{◌≡◌, ◌≤◌, length, vec_len};
 
 use super::rows::clean_rows;
-use super::sites::{module, spend_parcels};
+use super::sites::{module, unpack};
 use std::alloc::{AllocError, Global};
 use std::process::Abort;
 use std::sync::Wait;
@@ -14,7 +14,7 @@ use tatp_dispatch::World;
 use tatp_partition::{Receipt, Site, close_sites};
 use tatp_procs::{Ask, Call};
 use tatp_tables::Rows;
-use tatp_threads::{Gate, Moves, Ran, RanParts, run_calls};
+use tatp_threads::{Gate, Moves, Ran, run_calls};
 
 /// How many subscribers there are, in three extents.
 const SUBSCRIBERS: u64 = 130;
@@ -194,19 +194,11 @@ struct Left {
 fn left_of(alloc: Global, ran: Ran<'_>) -> Result<Option<Left>, AllocError>
     requires { vec_len ran.parts.landings ≡ 0 }
 {
-    let RanParts {
-        sites,
-        parcels,
-        landings,
-        receipts,
-    } = ran.parts();
-    landings.destroy_empty();
-    let is_whole = parcels.is_empty();
-    spend_parcels(parcels);
+    let (sites, parcels, receipts) = unpack(ran);
     let rows = rows_at(alloc, &sites);
     close_sites(sites);
     let rows = rows?;
-    if is_whole {
+    if parcels == 0 {
         Ok(Some(Left { rows, receipts }))
     } else {
         Ok(None)

@@ -97,7 +97,7 @@ fn told_of<R: Threads + Sync>(
 type ExtentCase<'a> = (u64, &'a [u64], &'a [u8], &'a [Event], &'a str);
 
 /// In each row later causes hold too, for one that no client's call has a receipt.
-static EXTENTS: [ExtentCase<'static>; 9] = [
+static EXTENTS: [ExtentCase<'static>; 10] = [
     (128, &[], &[0], &[], "45 Unsettled Opening 3"),
     (194, &[], &[0], &[], "45 Unsettled Opening 4"),
     (
@@ -106,6 +106,18 @@ static EXTENTS: [ExtentCase<'static>; 9] = [
         &[0],
         &[Event::Raw(129), Event::Raw(65), Event::Taken(1)],
         "45 Unsettled Opening 2",
+    ),
+    (
+        192,
+        &[],
+        &[0],
+        &[
+            Event::Raw(129),
+            Event::HandedOut(2),
+            Event::HandedOut(1),
+            Event::Taken(1),
+        ],
+        "45 Unsettled Opening 1",
     ),
     (
         192,
@@ -356,6 +368,22 @@ static STAMPED: [Case<'static>; 4] = [
     ),
 ];
 
+/// Chapters that were handed out, where no other cause holds.
+static HANDED_OUT: [Case<'static>; 2] = [
+    (
+        &[Event::Call(1, 0, 1), Event::HandedOut(1)],
+        &[],
+        &[],
+        "45 Unsettled Opening 1",
+    ),
+    (
+        &[Event::Homeless(1, 0, 193), Event::HandedOut(0)],
+        &[],
+        &[],
+        "45 Unsettled Opening 0",
+    ),
+];
+
 #[test]
 fn calls_that_are_causes(rt: HostRuntime) -> Result<(), Fail> {
     for cases in [&LACKING[..], &DIFFERING[..], &STAMPED[..]] {
@@ -363,6 +391,15 @@ fn calls_that_are_causes(rt: HostRuntime) -> Result<(), Fail> {
             let told = told_of_calls(&rt, rt.alloc(), events, calls, got)?;
             expect_cause(&rt, told, text)?;
         }
+    }
+    Ok(())
+}
+
+#[test]
+fn chapters_that_are_causes(rt: HostRuntime) -> Result<(), Fail> {
+    for (events, calls, got, text) in &HANDED_OUT {
+        let told = told_of_calls(&rt, rt.alloc(), events, calls, got)?;
+        expect_cause(&rt, told, text)?;
     }
     Ok(())
 }

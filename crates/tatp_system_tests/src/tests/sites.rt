@@ -1,14 +1,16 @@
-//! Sites and parcels, and calls at a site.
+//! Sites and parcels, calls at a site, and what a run of threads leaves.
+ghost use Rattle.std.specs.Prelude.{◌≡◌, vec_len};
 
 use super::rows::clean_rows;
 use std::alloc::{AllocError, Global};
 use tatp_loader::Loaded;
 use tatp_partition::{
-    Completion, Item, NotGiven, Offer, Parcel, Site, SiteRefusal, Stepped,
+    Completion, Item, NotGiven, Offer, Parcel, Receipt, Site, SiteRefusal, Stepped,
     opened_extents_are_numbered,
 };
 use tatp_population::{discard, open};
 use tatp_procs::standard;
+use tatp_threads::{Ran, RanParts};
 
 /// The standard module, of which no test here has to know more.
 pub fn module(alloc: Global) -> Result<Loaded, AllocError> {
@@ -59,6 +61,22 @@ pub fn spend_parcels(parcels: Vec<Parcel>) {
         let _ = parcel.unpack().close();
     }
     rest.destroy_empty();
+}
+
+/// What a run of threads leaves: its sites, how many parcels, which are spent, and its receipts.
+pub fn unpack<'m>(ran: Ran<'m>) -> (Vec<Site<'m>>, usize, Vec<Vec<Receipt>>)
+    requires { vec_len ran.parts.landings ≡ 0 }
+{
+    let RanParts {
+        sites,
+        parcels,
+        landings,
+        receipts,
+    } = ran.parts();
+    landings.destroy_empty();
+    let parcels_left = parcels.len();
+    spend_parcels(parcels);
+    (sites, parcels_left, receipts)
 }
 
 /// Offers a call; whether it began.

@@ -3,7 +3,7 @@
 ghost use Rattle.std.specs.Prelude.{◌≡◌, ◌≤◌, length, vec_len};
 
 use super::rows::clean_rows;
-use super::sites::{module, spend_parcels};
+use super::sites::{module, unpack};
 use std::alloc::{AllocError, Global};
 use std::process::Abort;
 use std::sync::{Mutex, Wait};
@@ -13,7 +13,7 @@ use tatp_partition::Site;
 use tatp_population::ExtentParts;
 use tatp_procs::{Ask, Call, Reply};
 use tatp_settle::Receipt;
-use tatp_threads::{Gate, Moves, NoGate, Ran, RanParts, copy_extent, run_calls};
+use tatp_threads::{Gate, Moves, NoGate, Ran, copy_extent, run_calls};
 
 /// Moves to both partitions and to none, and stops of each.
 fn moves_and_stops(alloc: Global) -> Result<Moves, AllocError> {
@@ -90,21 +90,14 @@ fn look<R: Wait>(rt: &R, alloc: Global, sites: Vec<Site<'_>>, left: &mut Left) {
 fn left_by<R: Wait>(rt: &R, alloc: Global, ran: Ran<'_>) -> Left
     requires { vec_len ran.parts.landings ≡ 0 }
 {
-    let RanParts {
-        sites,
-        parcels,
-        landings,
-        receipts,
-    } = ran.parts();
-    landings.destroy_empty();
+    let (sites, parcels, receipts) = unpack(ran);
     let mut left = Left {
         stops: Vec::new(alloc),
         moves: Vec::new(alloc),
         copies: Vec::new(alloc),
-        parcels: parcels.len(),
+        parcels,
         receipts,
     };
-    spend_parcels(parcels);
     look(rt, alloc, sites, &mut left);
     left
 }

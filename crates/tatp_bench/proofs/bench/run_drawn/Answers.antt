@@ -9,6 +9,7 @@ use Rattle.tatp_bench.specs.SettledRuns.{run_left, SettlesRun, RefusesToSettleRu
 use Rattle.tatp_bench.specs.Drawing.{rows_drawn, calls_drawn}
 use Rattle.tatp_bench.proofs.PlanLaws.{few_calls, calls_are_run, rows_are_opened, run_refused, clients_listed}
 use Rattle.tatp_bench.proofs.SettlingLaws.{left_of_plan, plan_settled, plan_refused, plan_counted}
+use Rattle.tatp_bench.proofs.bench.run_drawn.Given as given
 use Rattle.tatp_bench.proofs.bench.run_drawn.Goals as goal
 
 pub run_calls-requires-clause-some_clients : goal.run_calls-requires-clause-some_clients
@@ -41,8 +42,13 @@ settle_run-requires-clause-few g c κs within =
     let same : lists_of c.as_slice-lists.result.now ≡ calls_drawn c.args.plan.now = search rules in
     subst (λ lists. length (joined lists) < 2 ^ 64) (sym same) (few_calls c.args.plan.now c.requires.plan)
 
-pub returns-clause-settled : goal.returns-clause-settled
-returns-clause-settled g c =
+-- what the threads left
+abbrev left : (g : given.Over) (c : goal.After-drop-loaded-inside-2 g) → Run
+left g c = run_left c.parts-population.result.0 c.parts.result c.as_slice-lists.result.now
+
+-- it is a run of the plan
+of_plan : (g : given.Over) (c : goal.After-drop-loaded-inside-2 g) → IsRunOf c.args.plan.now (left g c)
+of_plan g c =
     let plan = c.args.plan.now in
     let lists = c.as_slice-lists.result.now in
     let parts = c.parts.result in
@@ -50,33 +56,20 @@ returns-clause-settled g c =
     let population : c.parts-population.result.0 ≡ rows_drawn plan = search rules in
     let sites : vec_len parts.sites ≡ plan.partitions = ap (λ (p : RanParts). vec_len p.sites) c.parts.ensures ∙ c.in-Ok.ensures.sites in
     let receipts : vec_len parts.receipts ≡ plan.clients = ap (λ (p : RanParts). vec_len p.receipts) c.parts.ensures ∙ (c.in-Ok.ensures.receipts ∙ clients_listed plan lists same) in
-    let run : Run = run_left c.parts-population.result.0 parts lists in
-    let of_plan : IsRunOf plan run = left_of_plan plan c.parts-population.result.0 parts lists population same sites receipts in
-    IfOk-weaker c.settle_run.result (SettlesRun run) (SettlesPlan plan) (plan_settled plan run of_plan) c.settle_run.ensures.settled
+    left_of_plan plan c.parts-population.result.0 parts lists population same sites receipts
+
+pub returns-clause-settled : goal.returns-clause-settled
+returns-clause-settled g c =
+    let plan = c.args.plan.now in
+    IfOk-weaker c.settle_run.result (SettlesRun (left g c)) (SettlesPlan plan) (plan_settled plan (left g c) (of_plan g c)) c.settle_run.ensures.settled
 
 pub returns-clause-calls : goal.returns-clause-calls
 returns-clause-calls g c =
     let plan = c.args.plan.now in
-    let lists = c.as_slice-lists.result.now in
-    let parts = c.parts.result in
-    let same : lists_of lists ≡ calls_drawn plan = search rules in
-    let population : c.parts-population.result.0 ≡ rows_drawn plan = search rules in
-    let sites : vec_len parts.sites ≡ plan.partitions = ap (λ (p : RanParts). vec_len p.sites) c.parts.ensures ∙ c.in-Ok.ensures.sites in
-    let receipts : vec_len parts.receipts ≡ plan.clients = ap (λ (p : RanParts). vec_len p.receipts) c.parts.ensures ∙ (c.in-Ok.ensures.receipts ∙ clients_listed plan lists same) in
-    let run : Run = run_left c.parts-population.result.0 parts lists in
-    let of_plan : IsRunOf plan run = left_of_plan plan c.parts-population.result.0 parts lists population same sites receipts in
-    IfOk-weaker c.settle_run.result (SettlesRun run) (λ (settled : Settled). settled.completed + settled.refused ≡ plan.clients * plan.calls)
-    (λ settled settles. plan_counted plan settled (plan_settled plan run of_plan settled settles)) c.settle_run.ensures.settled
+    IfOk-weaker c.settle_run.result (SettlesRun (left g c)) (λ (settled : Settled). settled.completed + settled.refused ≡ plan.clients * plan.calls)
+    (λ settled settles. plan_counted plan settled (plan_settled plan (left g c) (of_plan g c) settled settles)) c.settle_run.ensures.settled
 
 pub returns-clause-refusal : goal.returns-clause-refusal
 returns-clause-refusal g c =
     let plan = c.args.plan.now in
-    let lists = c.as_slice-lists.result.now in
-    let parts = c.parts.result in
-    let same : lists_of lists ≡ calls_drawn plan = search rules in
-    let population : c.parts-population.result.0 ≡ rows_drawn plan = search rules in
-    let sites : vec_len parts.sites ≡ plan.partitions = ap (λ (p : RanParts). vec_len p.sites) c.parts.ensures ∙ c.in-Ok.ensures.sites in
-    let receipts : vec_len parts.receipts ≡ plan.clients = ap (λ (p : RanParts). vec_len p.receipts) c.parts.ensures ∙ (c.in-Ok.ensures.receipts ∙ clients_listed plan lists same) in
-    let run : Run = run_left c.parts-population.result.0 parts lists in
-    let of_plan : IsRunOf plan run = left_of_plan plan c.parts-population.result.0 parts lists population same sites receipts in
-    IfErr-weaker c.settle_run.result (RefusesToSettleRun run) (RefusesBench plan) (plan_refused plan run of_plan) c.settle_run.ensures.refusal
+    IfErr-weaker c.settle_run.result (RefusesToSettleRun (left g c)) (RefusesBench plan) (plan_refused plan (left g c) (of_plan g c)) c.settle_run.ensures.refusal

@@ -7,7 +7,7 @@ use Rattle.tatp_settle.specs.Causes.{IsInParcel}
 use Rattle.tatp_settle.specs.Closings.{ClosedState}
 use Rattle.tatp_settle.specs.ExtentTests.{IsExtentCause}
 use Rattle.tatp_settle.specs.Runs.{shown}
-use Rattle.tatp_settle.proofs.MixedLaws.{parcel_is}
+use Rattle.tatp_settle.proofs.LogTestLaws.{parcel_is}
 use Rattle.tatp_settle.proofs.extents.is_cause.Goals as goal
 
 pub returns-in-InParcel : goal.returns-in-InParcel

@@ -5,7 +5,7 @@ use Rattle.tatp_population.specs.Extents.{ExtentState}
 use Rattle.tatp_settle.specs.Closings.{ClosedSiteState}
 use Rattle.tatp_settle.specs.Causes.{IsMixed}
 use Rattle.tatp_settle.specs.ExtentTests.{mixed_here, mixed_as}
-use Rattle.tatp_settle.proofs.MixedLaws.{mixed_is}
+use Rattle.tatp_settle.proofs.LogTestLaws.{mixed_is}
 use Rattle.tatp_settle.proofs.extents.is_mixed.Goals as goal
 
 pub returns-then-is_mixed_at : goal.returns-then-is_mixed_at

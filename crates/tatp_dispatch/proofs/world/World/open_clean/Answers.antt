@@ -11,7 +11,7 @@ use Rattle.tatp_partition.specs.Dealing.{AreSitesOpened}
 use Rattle.tatp_dispatch.specs.Opened.{new_client, IsOpened}
 use Rattle.tatp_dispatch.specs.Serving.{IsWorld}
 use Rattle.tatp_dispatch.specs.Worlds.{WorldState}
-use Rattle.tatp_dispatch.proofs.OpenLaws.{length-opened_extents, opened_are_numbered}
+use Rattle.tatp_partition.proofs.NumberLaws.{length-opened_extents, opened_are_numbered}
 use Rattle.tatp_dispatch.proofs.NewLaws.{Opens, new_world, no_parcels, is_world, is_opened, none_under_way, none_to_end}
 use Rattle.tatp_dispatch.proofs.world.World.open_clean.Goals as goal
 

@@ -1,0 +1,26 @@
+-- A listing that grows by a number.
+use Rattle.std.proofs.Common.{◌≡◌, ℕ, suc, ◌+◌, refl, sym, ◌∙◌, ap, Bool, true, false, List, [], ◌∷◌, ◌++◌, map, arith, add-one, append_assoc}
+use Rattle.std.specs.List.{flat_map}
+use Rattle.std.proofs.lemmas.List.{append-nil, map-append}
+use Rattle.std.proofs.lemmas.Grind.{flat_map-append}
+use Rattle.tatp_explanations.specs.declared.explanation.Explanation.{Explanation}
+use Rattle.tatp_explanations.specs.Numbers.{is_explained, numbers_below}
+use Rattle.tatp_explanations.specs.Texts.{line_text, IsListing}
+
+pub nothing_listed : IsListing [] []
+nothing_listed = record { rows = []; own = refl; told = refl }
+
+pub one_more : (n : ℕ) (text line : List ℕ) (row : Explanation) → IsListing (numbers_below n) text
+    → row.number ≡ n → is_explained n ≡ true → line ≡ line_text row → IsListing (numbers_below (n + 1)) (text ++ line)
+one_more n text line row before own known told = record {
+  rows = before.rows ++ row ∷ [];
+  own = rw (add-one, map-append, before.own, own, known) refl;
+  told = rw (flat_map-append, before.told, told) (ap (λ rest. flat_map line_text before.rows ++ rest) (sym (append-nil (line_text row))));
+}
+
+pub no_more : (n : ℕ) (text : List ℕ) → IsListing (numbers_below n) text → is_explained n ≡ false → IsListing (numbers_below (n + 1)) text
+no_more n text before unknown = record {
+  rows = before.rows;
+  own = rw (add-one, unknown, append-nil) before.own;
+  told = before.told;
+}

@@ -1,0 +1,15 @@
+use Rattle.std.proofs.Common.{◌+◌, length, ap, ◌∙◌, arith}
+use Rattle.std.proofs.lemmas.List.{length_push, map_push}
+use Rattle.tatp_threads.specs.Seats.{numbers_of}
+use Rattle.tatp_threads.proofs.SeatLaws.{one_more_with_ends, one_more_numbered}
+use Rattle.tatp_threads.proofs.reserved.seat_clients.Goals as goal
+
+pub loop-list-preserved : goal.loop-list-preserved
+loop-list-preserved g c = record {
+  count = ap length c.in_ok-push.ensures.items ∙ (length_push c.loop-list.seats.items _ ∙ ap (λ n. n + 1) c.loop-list.invariant.count);
+  numbers = ap numbers_of c.in_ok-push.ensures.items ∙ (map_push (λ seat. seat.number) c.loop-list.seats.items _
+      ∙ one_more_numbered c.loop-list.list-index _ (numbers_of c.loop-list.seats.items) c.loop-list.invariant.numbers
+      (omega (arith, c.len-in-loop-list.ensures, c.loop-list.invariant.count, c.loop-list.seats.ok.0)));
+  ports = one_more_with_ends (λ seat. seat.ports) c.loop-list.ports c.ends_of.new.ports c.loop-list.seats.items c.push.new.self.items _ c.in_ok-push.ensures.items c.ends_of.ensures.same c.loop-list.invariant.ports c.in_ok-ends_of.ensures.beside;
+  same = c.ends_of.ensures.same ∙ c.loop-list.invariant.same;
+}

@@ -1,8 +1,14 @@
 use Rattle.std.proofs.Common.{rules}
 use Rattle.std.proofs.lemmas.Result.{err_from_is_err_and}
+use Rattle.tatp_streams.proofs.StreamLaws.{appends_none}
 use Rattle.tatp_bench_report.specs.Reports.{TellsSettled}
 use Rattle.tatp_bench_report.proofs.ReportLaws.{settled_cut}
 use Rattle.tatp_bench_report.proofs.bench.run_bench.Goals as goal
+
+pub returns-in_err-text-clause-faults : goal.returns-in_err-text-clause-faults
+returns-in_err-text-clause-faults g c =
+    let p = err_from_is_err_and c.from_residual-in_err-text.result c.from_residual-in_err-text.ensures.1 in
+    rw (p.1, p.2) (appends_none (g.W.Write.contents c.args.writer.now))
 
 pub returns-in_err-write_last-clause-faults : goal.returns-in_err-write_last-clause-faults
 returns-in_err-write_last-clause-faults g c =

@@ -100,7 +100,7 @@ has_rows c h = record { count = length-map-range_with_len (empty_row c) 0 (least
         let zero_is : 0 + e ≡ e = omega arith in
         ap (λ (v : Option (List (Option (Bor ChapterState)))). option_map_or length v 0)
         (slice_get-map (empty_row c) (range_with_len 0 (least_above c)) e ∙ (ap (option_map (empty_row c)) (range_gives 0 (least_above c) e l) ∙ ap (λ (k : ℕ). Some (empty_row c k)) zero_is))
-        ∙ length-replicate (chapter_count c e) None
+        ∙ length-replicate {A = Option (Bor ChapterState)} (chapter_count c e) None
     row e (inr l) =
         let long = length-map-range_with_len (empty_row c) 0 (least_above c) in
         ap (λ (v : Option (List (Option (Bor ChapterState)))). option_map_or length v 0) (slice_get_past (empty_rows c) e (omega (arith, long, l)))
@@ -244,7 +244,7 @@ module _ (c : ClosedState) (xs : List ChapterState) (x : Bor ChapterState) (exte
         from_either : (place : ChapterPlace) → twice' ≡ Some place → (twice' ≡ twice) ⊎ (twice' ≡ Some (record { extent = extent; index = index })) → IsTwiceIn c (xs ++ x.now ∷ []) place.extent place.index
         from_either place was (inl same) = more_often _ _ (chapter_count c place.extent) place.index (no_rarer place.extent place.index) (h.from place (sym same ∙ was))
         from_either place was (inr own) =
-            let same : record { extent = extent; index = index } ≡ place = same_Some _ place (sym own ∙ was) in
+            let same : ◌≡◌ {A = ChapterPlace} (record { extent = extent; index = index }) place = same_Some _ place (sym own ∙ was) in
             subst (λ (p : ChapterPlace). IsTwiceIn c (xs ++ x.now ∷ []) p.extent p.index) same (own_twice (cells_of before extent index) refl)
 
 -- with all chapters, it has them

@@ -5,6 +5,7 @@ pub mod ClosingLaws
 pub mod HereLaws
 pub mod LogLaws
 pub mod LogTableLaws
+pub mod WholeLogLaws
 pub mod TestLaws
 pub mod LogTestLaws
 pub mod TurnLaws

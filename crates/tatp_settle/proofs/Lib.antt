@@ -6,6 +6,7 @@ pub mod HereLaws
 pub mod LogLaws
 pub mod NumberedLaws
 pub mod LogTableLaws
+pub mod WholeLogLaws
 pub mod TestLaws
 pub mod LogTestLaws
 pub mod TurnLaws

@@ -1,6 +1,7 @@
 -- Whole logs, joined from their parts.
-use Rattle.std.specs.Prelude.{◌≡◌, ℕ, ◌+◌, List, [], ◌∷◌, length}
+use Rattle.std.specs.Prelude.{◌≡◌, ℕ, ◌+◌, ◌-◌, List, [], ◌∷◌, length, Option, slice_get}
 use Rattle.std.specs.List.{flat_map}
+use Rattle.std.specs.Option.{option_and_then}
 use Rattle.tatp_procs.specs.declared.entry.Entry.{Entry}
 use Rattle.tatp_settle.specs.declared.log_parts.JoinedPart.{JoinedPart}
 
@@ -15,3 +16,8 @@ AreJoined before [] len = len ≡ before
 AreJoined before (part ∷ more) len =
     (part.first ≡ before)
     × AreJoined (before + length part.entries.now.entries) more len
+
+-- the entry of this place in all parts, if it stands in this one
+abbrev pub entry_in_part : Option JoinedPart → ℕ → Option Entry
+entry_in_part part index =
+    option_and_then (λ (p : JoinedPart). slice_get p.entries.now.entries (index - p.first)) part

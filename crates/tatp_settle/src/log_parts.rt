@@ -1,10 +1,12 @@
 //! Parts of whole logs, and whole logs joined from them.
-ghost use Rattle.std.specs.Prelude.{◌≡◌, ◌<◌, ◌++◌, [], OnOk, length, slice_get};
+ghost use Rattle.std.specs.Prelude.{◌≡◌, ◌<◌, ◌≤◌, ◌++◌, [], IfSome, OnOk, length, slice_get};
+ghost use Rattle.std.specs.Option.{option_copied};
 ghost use Rattle.tatp_population.specs.Logs.{IsOfCall};
+ghost use Rattle.tatp_settle.specs.WholeLogs.{entry_in_part};
 
 use std::alloc::{AllocError, Global};
 use std::marker::Model;
-use tatp_population::{Chapter, Log};
+use tatp_population::Log;
 use tatp_procs::Entry;
 use tatp_tables::Home;
 
@@ -76,7 +78,10 @@ impl<'a> WholeLog<'a> {
     }
 
     /// The part in which the entry of this place stands, if there is one.
-    fn part_of(&self, index: usize) -> Option<&JoinedPart<'a>> {
+    fn part_of(&self, index: usize) -> Option<&JoinedPart<'a>>
+        ensures first { IfSome result (λ part. part.now.first ≤ index) }
+        ensures entry { slice_get self.now index ≡ entry_in_part (option_copied result) index }
+    {
         let later = self.parts.partition_point(|part| part.first <= index);
         self.parts.get(later.checked_sub(1)?)
     }

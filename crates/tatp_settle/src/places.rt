@@ -52,7 +52,10 @@ pub(crate) fn lesser(least: Option<CallPlace>, other: CallPlace) -> Option<CallP
 }
 
 /// The lesser of two chapters.
-pub(crate) fn lesser_chapter(least: Option<ChapterPlace>, other: ChapterPlace) -> Option<ChapterPlace>
+pub(crate) fn lesser_chapter(
+    least: Option<ChapterPlace>,
+    other: ChapterPlace,
+) -> Option<ChapterPlace>
     ensures keeps { (extent index : ℕ)
         → IsChapterAtMost least extent index → IsChapterAtMost result extent index }
     ensures at { IsChapterAtMost result other.extent other.index }

@@ -1,6 +1,6 @@
 //! Tables of cells, row by row, each of which is filled at most once.
 ghost use Rattle.std.specs.Prelude.{◌≡◌, ◌++◌, ◌∷◌, [], None, IfOk, OnOk, length, replicate, slice_get};
-ghost use Rattle.std.specs.Option.{option_copied, option_map_or};
+ghost use Rattle.std.specs.Option.{option_map_or};
 ghost use Rattle.tatp_settle.specs.Runs.{at_call, lists_of};
 ghost use Rattle.tatp_settle.specs.Placing.{cells_of, IsFresh, Puts};
 
@@ -49,7 +49,8 @@ impl<P: Copy> Table<P> {
     pub(crate) fn add_row(&mut self, alloc: Global, count: usize) -> Result<(), AllocError>
         ensures { OnOk result (self.new ≡ self.old ++ replicate count None ∷ []) }
     {
-        self.rows.push(fresh_row(alloc, count)?)
+        self.rows.push(fresh_row(alloc, count)?)?;
+        Ok(())
     }
 
     /// How many rows there are.
@@ -89,11 +90,10 @@ impl<P: Copy> Table<P> {
     }
 
     /// The rows of another, behind its own.
-    pub(crate) fn append(&mut self, other: Table<P>) -> Result<(), AllocError>
+    pub(crate) fn append(&mut self, mut other: Table<P>) -> Result<(), AllocError>
         ensures { OnOk result (self.new ≡ self.old ++ other) }
     {
-        let mut more = other;
-        self.rows.append(&mut more.rows)
+        self.rows.append(&mut other.rows)
     }
 }
 

@@ -18,7 +18,7 @@ use Rattle.tatp_settle.specs.Closings.{ClosedState, ExtentLog, log_numbered, cha
 use Rattle.tatp_settle.specs.Causes.{IsChapterMissing, IsChapterTwice, homes_before, entries_of_part}
 use Rattle.tatp_settle.specs.CallPlaces.{IsSooner}
 use Rattle.tatp_settle.specs.Runs.{at_call}
-use Rattle.tatp_settle.specs.Placing.{Cells, cells_of, Puts}
+use Rattle.tatp_settle.specs.Placing.{cells_of}
 use Rattle.tatp_settle.specs.ChapterTables.{IsFirstChapter, IsChapterAtMost, chapter_handed_out, empty_rows, HasRows, HasChapters}
 use Rattle.tatp_settle.proofs.NumberLaws.{range_more}
 use Rattle.tatp_settle.proofs.NumberedLaws.{or_nothing, no_log_beyond}
@@ -141,45 +141,45 @@ none_listed c h = record {
     none e i (inl h) = omega (arith, h)
     none e i (inr h) = omega (arith, h.0)
 
-module _ (c : ClosedState) (xs : List ChapterState) (x : Bor ChapterState) (extent index : ℕ) (of_extent : x.now.extent ≡ extent) (of_index : x.now.index ≡ index) where
-  is_this : (e i : ℕ) → is_chapter e i x.now ≡ true → (e ≡ extent) × (i ≡ index)
+module _ (c : ClosedState) (xs : List ChapterState) (x : ChapterState) (extent index : ℕ) (of_extent : x.extent ≡ extent) (of_index : x.index ≡ index) where
+  is_this : (e i : ℕ) → is_chapter e i x ≡ true → (e ≡ extent) × (i ≡ index)
   is_this e i is =
-      let parts = and_parts (x.now.extent == e) (x.now.index == i) is in
-      (sym (eqb-true x.now.extent e parts.0) ∙ of_extent, sym (eqb-true x.now.index i parts.1) ∙ of_index)
+      let parts = and_parts (x.extent == e) (x.index == i) is in
+      (sym (eqb-true x.extent e parts.0) ∙ of_extent, sym (eqb-true x.index i parts.1) ∙ of_index)
 
-  this_is : (e i : ℕ) → e ≡ extent → i ≡ index → is_chapter e i x.now ≡ true
-  this_is e i p q = and_from (x.now.extent == e) (x.now.index == i) (eq-eqb x.now.extent e (of_extent ∙ sym p)) (eq-eqb x.now.index i (of_index ∙ sym q))
+  this_is : (e i : ℕ) → e ≡ extent → i ≡ index → is_chapter e i x ≡ true
+  this_is e i p q = and_from (x.extent == e) (x.index == i) (eq-eqb x.extent e (of_extent ∙ sym p)) (eq-eqb x.index i (of_index ∙ sym q))
 
-  is_other : (e i : ℕ) → is_chapter e i x.now ≡ false → e ≡ extent → i ≡ index → ⊥
+  is_other : (e i : ℕ) → is_chapter e i x ≡ false → e ≡ extent → i ≡ index → ⊥
   is_other e i is p q = false≢true (sym is ∙ this_is e i p q)
 
-  found_more : (e i : ℕ) (b : Bool) → is_chapter e i x.now ≡ b → find (is_chapter e i) (xs ++ x.now ∷ []) ≡ option_or (find (is_chapter e i) xs) (cond b (Some x.now) None)
-  found_more e i b is = find-append (is_chapter e i) xs (x.now ∷ []) ∙ ap (λ (d : Bool). option_or (find (is_chapter e i) xs) (cond d (Some x.now) None)) is
+  found_more : (e i : ℕ) (b : Bool) → is_chapter e i x ≡ b → find (is_chapter e i) (xs ++ x ∷ []) ≡ option_or (find (is_chapter e i) xs) (cond b (Some x) None)
+  found_more e i b is = find-append (is_chapter e i) xs (x ∷ []) ∙ ap (λ (d : Bool). option_or (find (is_chapter e i) xs) (cond d (Some x) None)) is
 
-  counted_more : (e i : ℕ) (b : Bool) → is_chapter e i x.now ≡ b → count_by (is_chapter e i) (xs ++ x.now ∷ []) ≡ count_by (is_chapter e i) xs + cond b 1 0
-  counted_more e i b is = sum_by_push (λ y. cond (is_chapter e i y) 1 0) xs x.now ∙ ap (λ (d : Bool). count_by (is_chapter e i) xs + cond d 1 0) is
+  counted_more : (e i : ℕ) (b : Bool) → is_chapter e i x ≡ b → count_by (is_chapter e i) (xs ++ x ∷ []) ≡ count_by (is_chapter e i) xs + cond b 1 0
+  counted_more e i b is = sum_by_push (λ y. cond (is_chapter e i y) 1 0) xs x ∙ ap (λ (d : Bool). count_by (is_chapter e i) xs + cond d 1 0) is
 
-  no_rarer : (e i : ℕ) → count_by (is_chapter e i) xs ≤ count_by (is_chapter e i) (xs ++ x.now ∷ [])
-  no_rarer e i = let more = counted_more e i (is_chapter e i x.now) refl in omega (arith, more)
+  no_rarer : (e i : ℕ) → count_by (is_chapter e i) xs ≤ count_by (is_chapter e i) (xs ++ x ∷ [])
+  no_rarer e i = let more = counted_more e i (is_chapter e i x) refl in omega (arith, more)
 
   -- of another chapter nothing changes
-  other_found : (e i : ℕ) → is_chapter e i x.now ≡ false → find (is_chapter e i) (xs ++ x.now ∷ []) ≡ find (is_chapter e i) xs
+  other_found : (e i : ℕ) → is_chapter e i x ≡ false → find (is_chapter e i) (xs ++ x ∷ []) ≡ find (is_chapter e i) xs
   other_found e i is = found_more e i false is ∙ or_nothing (find (is_chapter e i) xs)
 
-  other_twice : (e i : ℕ) → is_chapter e i x.now ≡ false → IsTwiceIn c (xs ++ x.now ∷ []) e i → IsTwiceIn c xs e i
+  other_twice : (e i : ℕ) → is_chapter e i x ≡ false → IsTwiceIn c (xs ++ x ∷ []) e i → IsTwiceIn c xs e i
   other_twice e i is two = let same = counted_more e i false is in more_often _ _ (chapter_count c e) i (omega (arith, same)) two
 
   -- what holds of this chapter and of any other holds of all
-  by_chapter : (P : ℕ → ℕ → Type 0) → P extent index → ((e i : ℕ) → is_chapter e i x.now ≡ false → P e i) → (e i : ℕ) → P e i
-  by_chapter P this others e i = elim (is_chapter e i x.now) as (λ b. is_chapter e i x.now ≡ b → P e i) [
+  by_chapter : (P : ℕ → ℕ → Type 0) → P extent index → ((e i : ℕ) → is_chapter e i x ≡ false → P e i) → (e i : ℕ) → P e i
+  by_chapter P this others e i = elim (is_chapter e i x) as (λ b. is_chapter e i x ≡ b → P e i) [
     | true ↦ λ is. let own = is_this e i is in subst (λ (k : ℕ). P k i) (sym own.0) (subst (λ (k : ℕ). P extent k) (sym own.1) this)
     | false ↦ λ is. others e i is
   ] refl
 
-  own_found : (v : Option ChapterState) → find (is_chapter extent index) xs ≡ v → find (is_chapter extent index) (xs ++ x.now ∷ []) ≡ option_or v (Some x.now)
-  own_found v is = found_more extent index true (this_is extent index refl refl) ∙ ap (λ (w : Option ChapterState). option_or w (Some x.now)) is
+  own_found : (v : Option ChapterState) → find (is_chapter extent index) xs ≡ v → find (is_chapter extent index) (xs ++ x ∷ []) ≡ option_or v (Some x)
+  own_found v is = found_more extent index true (this_is extent index refl refl) ∙ ap (λ (w : Option ChapterState). option_or w (Some x)) is
 
-  own_counted : count_by (is_chapter extent index) (xs ++ x.now ∷ []) ≡ count_by (is_chapter extent index) xs + 1
+  own_counted : count_by (is_chapter extent index) (xs ++ x ∷ []) ≡ count_by (is_chapter extent index) xs + 1
   own_counted = counted_more extent index true (this_is extent index refl refl)
 
   module _ (before after : List (List (Option (Bor ChapterState)))) (twice : Option ChapterPlace) (h : AreListed c before twice xs) (long : length after ≡ length before) where
@@ -188,64 +188,65 @@ module _ (c : ClosedState) (xs : List ChapterState) (x : Bor ChapterState) (exte
     rows_stay same = record { count = long ∙ h.rows.count; rows = λ e. same_row before after e (same e) ∙ h.rows.rows e }
 
     -- the chapter is put into its empty cell
-    pub put_listed : Puts (cells_of before) extent index x true (cells_of after) → AreListed c after twice (xs ++ x.now ∷ [])
-    put_listed puts = record {
-      rows = rows_stay (by_chapter (λ e i. is_some (cells_of after e i) ≡ is_some (cells_of before e i)) (ap is_some puts.1 ∙ sym (ap is_some puts.0)) (λ e i is. ap is_some (puts.2 e i (is_other e i is))));
-      cells = by_chapter (λ e i. (cell : Option (Bor ChapterState)) → cells_of after e i ≡ Some cell → option_copied cell ≡ find (is_chapter e i) (xs ++ x.now ∷ []))
-          (λ cell is. ap option_copied (same_Some cell (Some x) (sym is ∙ puts.1)) ∙ sym (own_found None absent))
-          (λ e i other cell is. h.cells e i cell (sym (puts.2 e i (is_other e i other)) ∙ is) ∙ sym (other_found e i other));
-      seen = by_chapter (λ e i. IsTwiceIn c (xs ++ x.now ∷ []) e i → IsChapterAtMost twice e i)
+    pub put_listed : {y : Bor ChapterState} → cells_of before extent index ≡ Some None → cells_of after extent index ≡ Some (Some y) → ((e i : ℕ) → (e ≡ extent → i ≡ index → ⊥) → cells_of after e i ≡ cells_of before e i) → y.now ≡ x
+        → AreListed c after twice (xs ++ x ∷ [])
+    put_listed {y} empty filled others same = record {
+      rows = rows_stay (by_chapter (λ e i. is_some (cells_of after e i) ≡ is_some (cells_of before e i)) (ap is_some filled ∙ sym (ap is_some empty)) (λ e i is. ap is_some (others e i (is_other e i is))));
+      cells = by_chapter (λ e i. (cell : Option (Bor ChapterState)) → cells_of after e i ≡ Some cell → option_copied cell ≡ find (is_chapter e i) (xs ++ x ∷ []))
+          (λ cell is. ap option_copied (same_Some cell (Some y) (sym is ∙ filled)) ∙ (ap (λ (z : ChapterState). Some z) same ∙ sym (own_found None absent)))
+          (λ e i other cell is. h.cells e i cell (sym (others e i (is_other e i other)) ∙ is) ∙ sym (other_found e i other));
+      seen = by_chapter (λ e i. IsTwiceIn c (xs ++ x ∷ []) e i → IsChapterAtMost twice e i)
           (λ two. absurd (not_twice two))
           (λ e i other two. h.seen e i (other_twice e i other two));
       from = λ place is. more_often _ _ (chapter_count c place.extent) place.index (no_rarer place.extent place.index) (h.from place is);
     }
       where
         absent : find (is_chapter extent index) xs ≡ None
-        absent = sym (h.cells extent index None puts.0)
+        absent = sym (h.cells extent index None empty)
 
-        not_twice : IsTwiceIn c (xs ++ x.now ∷ []) extent index → ⊥
+        not_twice : IsTwiceIn c (xs ++ x ∷ []) extent index → ⊥
         not_twice (inl two) =
             let none = none_found (is_chapter extent index) xs absent in
             omega (arith, own_counted, none, two)
         not_twice (inr past) =
-            let within : nat_lt index (chapter_count c extent) ≡ true = sym (cell_within c before extent index h.rows) ∙ ap is_some puts.0 in
+            let within : nat_lt index (chapter_count c extent) ≡ true = sym (cell_within c before extent index h.rows) ∙ ap is_some empty in
             let l = ltb-true index (chapter_count c extent) within in
             omega (arith, l, past.1)
 
     -- the chapter has no empty cell of its own
-    pub left_listed : (twice' : Option ChapterPlace) → Puts (cells_of before) extent index x false (cells_of after)
+    pub left_listed : (twice' : Option ChapterPlace) → (cells_of before extent index ≡ Some None → ⊥) → ((e i : ℕ) → cells_of after e i ≡ cells_of before e i)
         → ((e i : ℕ) → IsChapterAtMost twice e i → IsChapterAtMost twice' e i) → IsChapterAtMost twice' extent index → (twice' ≡ twice) ⊎ (twice' ≡ Some (record { extent = extent; index = index }))
-        → AreListed c after twice' (xs ++ x.now ∷ [])
-    left_listed twice' puts keeps at is = record {
-      rows = rows_stay (λ e i. ap is_some (puts.1 e i));
-      cells = by_chapter (λ e i. (cell : Option (Bor ChapterState)) → cells_of after e i ≡ Some cell → option_copied cell ≡ find (is_chapter e i) (xs ++ x.now ∷ []))
-          (λ cell there. own_cell cell (sym (puts.1 extent index) ∙ there))
-          (λ e i other cell there. h.cells e i cell (sym (puts.1 e i) ∙ there) ∙ sym (other_found e i other));
-      seen = by_chapter (λ e i. IsTwiceIn c (xs ++ x.now ∷ []) e i → IsChapterAtMost twice' e i)
+        → AreListed c after twice' (xs ++ x ∷ [])
+    left_listed twice' taken same keeps at is = record {
+      rows = rows_stay (λ e i. ap is_some (same e i));
+      cells = by_chapter (λ e i. (cell : Option (Bor ChapterState)) → cells_of after e i ≡ Some cell → option_copied cell ≡ find (is_chapter e i) (xs ++ x ∷ []))
+          (λ cell there. own_cell cell (sym (same extent index) ∙ there))
+          (λ e i other cell there. h.cells e i cell (sym (same e i) ∙ there) ∙ sym (other_found e i other));
+      seen = by_chapter (λ e i. IsTwiceIn c (xs ++ x ∷ []) e i → IsChapterAtMost twice' e i)
           (λ two. at)
           (λ e i other two. keeps e i (h.seen e i (other_twice e i other two)));
       from = λ place was. from_either place was is;
     }
       where
-        own_cell : (cell : Option (Bor ChapterState)) → cells_of before extent index ≡ Some cell → option_copied cell ≡ find (is_chapter extent index) (xs ++ x.now ∷ [])
-        own_cell None there = absurd (puts.0 there)
+        own_cell : (cell : Option (Bor ChapterState)) → cells_of before extent index ≡ Some cell → option_copied cell ≡ find (is_chapter extent index) (xs ++ x ∷ [])
+        own_cell None there = absurd (taken there)
         own_cell (Some y) there = sym (own_found (Some y.now) (sym (h.cells extent index (Some y) there)))
 
         -- it came before, or has no cell
-        own_twice : (v : Option (Option (Bor ChapterState))) → cells_of before extent index ≡ v → IsTwiceIn c (xs ++ x.now ∷ []) extent index
+        own_twice : (v : Option (Option (Bor ChapterState))) → cells_of before extent index ≡ v → IsTwiceIn c (xs ++ x ∷ []) extent index
         own_twice None there =
             let beyond : nat_lt index (chapter_count c extent) ≡ false = sym (cell_within c before extent index h.rows) ∙ ap is_some there in
             inr (omega (arith, own_counted), ltb-false index (chapter_count c extent) beyond)
-        own_twice (Some None) there = absurd (puts.0 there)
+        own_twice (Some None) there = absurd (taken there)
         own_twice (Some (Some y)) there =
             let some : count_by (is_chapter extent index) xs ≡ 0 → ⊥ = some_found (is_chapter extent index) xs y.now (sym (h.cells extent index (Some y) there)) in
             inl (omega (arith, own_counted, some))
 
-        from_either : (place : ChapterPlace) → twice' ≡ Some place → (twice' ≡ twice) ⊎ (twice' ≡ Some (record { extent = extent; index = index })) → IsTwiceIn c (xs ++ x.now ∷ []) place.extent place.index
-        from_either place was (inl same) = more_often _ _ (chapter_count c place.extent) place.index (no_rarer place.extent place.index) (h.from place (sym same ∙ was))
+        from_either : (place : ChapterPlace) → twice' ≡ Some place → (twice' ≡ twice) ⊎ (twice' ≡ Some (record { extent = extent; index = index })) → IsTwiceIn c (xs ++ x ∷ []) place.extent place.index
+        from_either place was (inl kept) = more_often _ _ (chapter_count c place.extent) place.index (no_rarer place.extent place.index) (h.from place (sym kept ∙ was))
         from_either place was (inr own) =
             let same : ◌≡◌ {A = ChapterPlace} (record { extent = extent; index = index }) place = same_Some _ place (sym own ∙ was) in
-            subst (λ (p : ChapterPlace). IsTwiceIn c (xs ++ x.now ∷ []) p.extent p.index) same (own_twice (cells_of before extent index) refl)
+            subst (λ (p : ChapterPlace). IsTwiceIn c (xs ++ x ∷ []) p.extent p.index) same (own_twice (cells_of before extent index) refl)
 
 -- with all chapters, it has them
 pub all_listed : (c : ClosedState) (table : List (List (Option (Bor ChapterState)))) (twice : Option ChapterPlace) → AreListed c table twice c.chapters → HasChapters c table

@@ -65,6 +65,7 @@ impl<'a> ChapterTable<'a> {
         ensures twice { IfOk result (λ listed.
             IsFirstChapter (IsChapterTwice closed.entry.now) listed.twice) }
     {
+        closed.what_holds();
         let mut table = empty_table(alloc, closed)?;
         let mut twice: Option<ChapterPlace> = None;
         'chapters: for chapter in closed.chapters() {

@@ -1,8 +1,6 @@
-use Rattle.std.proofs.Common.{◌∙◌, Some, None, sym, ap, arith, List, []}
-use Rattle.std.specs.Option.{option_copied, option_map}
-use Rattle.tatp_settle.specs.declared.log_parts.LogPart.{LogPart}
-use Rattle.tatp_settle.specs.ChapterTables.{entries_of_some}
-use Rattle.tatp_settle.proofs.ChapterTableLaws.{chapter_before, chapter_entries, last_before, last_entries}
+use Rattle.std.proofs.Common.{◌∙◌, Some, sym, ap, arith}
+use Rattle.std.specs.Option.{option_copied}
+use Rattle.tatp_settle.proofs.ChapterTableLaws.{chapter_before, chapter_entries}
 use Rattle.tatp_settle.proofs.chapter_table.ChapterTable.part.Goals as goal
 
 pub returns-then-index-chapter_count : goal.returns-then-index-chapter_count
@@ -10,6 +8,6 @@ returns-then-index-chapter_count c =
     let l = c.if-index-chapter_count.true in
     let count = c.chapter_count.ensures in
     record {
-      before = ap Some c.before.ensures ∙ chapter_before c.args.self.now c.args.number c.args.index (Some c.in_ok-chapter.chapter.now) (omega (arith, l, count)) (sym (ap option_copied c.in_ok-chapter.was) ∙ c.chapter.ensures);
+      before = ap Some c.before-then-index-chapter_count.ensures ∙ chapter_before c.args.self.now c.args.number c.args.index (Some c.in_ok-chapter.chapter.now) (omega (arith, l, count)) (sym (ap option_copied c.in_ok-chapter.was) ∙ c.chapter.ensures);
       entries = c.entries.ensures ∙ chapter_entries c.args.self.now c.args.number c.args.index (Some c.in_ok-chapter.chapter.now) (omega (arith, l, count)) (sym (ap option_copied c.in_ok-chapter.was) ∙ c.chapter.ensures);
     }

@@ -1,7 +1,8 @@
 -- The first part of a whole log that isn't joined to the parts before it, by homes and by stamps.
-use Rattle.std.proofs.Common.{◌≡◌, ◌≢◌, ℕ, zero, suc, ◌+◌, ◌<◌, ◌≤◌, ◌⊎◌, inl, inr, nat_lt, Bool, true, false, if◌then◌else◌, List, [], ◌∷◌, length, Contains, Option, Some, None, slice_get, slice_index_or, refl, sym, ◌∙◌, ap, subst, arith, add-one}
+use Rattle.std.proofs.Common.{◌≡◌, ◌≢◌, ℕ, zero, suc, ◌+◌, ◌<◌, ◌≤◌, ◌⊎◌, inl, inr, nat_lt, Bool, true, false, if◌then◌else◌, List, [], ◌∷◌, length, Contains, Option, Some, None, slice_get, slice_index_or, Decides, refl, sym, ◌∙◌, ap, subst, arith, add-one}
 use Rattle.std.specs.Option.{option_map, option_map_or}
 use Rattle.std.proofs.lemmas.Bool.{le-ltb, ltb-true, ltb-false, cases_Bool}
+use Rattle.std.proofs.lemmas.Bool.Decides.{Decides-like}
 use Rattle.tatp_tables.specs.Home.{SubscriberRows}
 use Rattle.tatp_tables.specs.declared.row.Rows.{Rows}
 use Rattle.tatp_procs.specs.declared.entry.Entry.{Entry}
@@ -50,25 +51,25 @@ below_last least (y ∷ more) (suc k) x rise l is =
     omega (arith, later, same)
 
 -- an entry of the part has this stamp
-record HasStamp (log : List Entry) (stamp : ℕ) : Type 0 where
+pub record IsStampIn (log : List Entry) (stamp : ℕ) : Type 0 where
   pub entry : Entry
   pub stands : Contains log entry
   pub is : entry.stamp ≡ stamp
 
-later_stamp : (x : Entry) (more : List Entry) (stamp : ℕ) → HasStamp more stamp → HasStamp (x ∷ more) stamp
+later_stamp : (x : Entry) (more : List Entry) (stamp : ℕ) → IsStampIn more stamp → IsStampIn (x ∷ more) stamp
 later_stamp x more stamp h = record { entry = h.entry; stands = (suc h.stands.0, (let l = h.stands.1 in omega (arith, l)), h.stands.2); is = h.is }
 
 -- the last stamp is an entry's, or the one before it
-last_is : (least : ℕ) (log : List Entry) → (last_stamp_from least log ≡ least) ⊎ HasStamp log (last_stamp_from least log)
+last_is : (least : ℕ) (log : List Entry) → (last_stamp_from least log ≡ least) ⊎ IsStampIn log (last_stamp_from least log)
 last_is least [] = inl refl
 last_is least (x ∷ more) = by (last_is x.stamp more)
   where
     same : last_stamp_from least (x ∷ more) ≡ last_stamp_from x.stamp more
     same = last_of_more least x more
 
-    by : (last_stamp_from x.stamp more ≡ x.stamp) ⊎ HasStamp more (last_stamp_from x.stamp more) → (last_stamp_from least (x ∷ more) ≡ least) ⊎ HasStamp (x ∷ more) (last_stamp_from least (x ∷ more))
+    by : (last_stamp_from x.stamp more ≡ x.stamp) ⊎ IsStampIn more (last_stamp_from x.stamp more) → (last_stamp_from least (x ∷ more) ≡ least) ⊎ IsStampIn (x ∷ more) (last_stamp_from least (x ∷ more))
     by (inl own) = inr (record { entry = x; stands = (0, omega arith, refl); is = sym own ∙ sym same })
-    by (inr later) = inr (subst (λ (n : ℕ). HasStamp (x ∷ more) n) (sym same) (later_stamp x more (last_stamp_from x.stamp more) later))
+    by (inr later) = inr (subst (λ (n : ℕ). IsStampIn (x ∷ more) n) (sym same) (later_stamp x more (last_stamp_from x.stamp more) later))
 
 -- where the first stamp isn't above, it is at most this
 first_falls : (last : ℕ) (log : List Entry) → first_is_above last log ≡ false → (x : Entry) × Contains log x × (x.stamp ≤ last)
@@ -90,19 +91,19 @@ module _ (c : ClosedState) (e i : ℕ) (closed : IsClosed c) (unmixed : IsMixed 
 
 -- ---- the parts before this one
 -- one of them has an entry with this stamp
-record HasEarlier (c : ClosedState) (e i stamp : ℕ) : Type 0 where
+pub record IsStampBefore (c : ClosedState) (e i stamp : ℕ) : Type 0 where
   pub earlier : ℕ
   pub before : earlier < i
-  pub has : HasStamp (entries_of_part c e earlier) stamp
+  pub has : IsStampIn (entries_of_part c e earlier) stamp
 
 -- no stamp of theirs is above this one, which is theirs, or 0
-record HaveLast (c : ClosedState) (e i last : ℕ) : Type 0 where
+pub record IsLastBefore (c : ClosedState) (e i last : ℕ) : Type 0 where
   pub seen : (j : ℕ) (x : Entry) → j < i → Contains (entries_of_part c e j) x → x.stamp ≤ last
-  pub from : (last ≡ 0) ⊎ HasEarlier c e i last
+  pub from : (last ≡ 0) ⊎ IsStampBefore c e i last
 
 -- they are joined, from the first homes on; this part is to go on from these homes, with stamps above the last one
 pub record AreJoinedTo (c : ClosedState) (e i : ℕ) (first due : Option (List SubscriberRows)) (last : ℕ) : Type 0 where
-  pub stamps : HaveLast c e i last
+  pub stamps : IsLastBefore c e i last
   pub due_is : (population : Rows) → first ≡ homes_at_first population e → due ≡ homes_due population c e i
   pub clear : (population : Rows) → first ≡ homes_at_first population e → Clear (IsUnjoined population c e) i
 
@@ -116,6 +117,14 @@ joined_from c e first = record {
 -- what is tested of a part
 abbrev pub GoesOn : ClosedState → ℕ → ℕ → Option (List SubscriberRows) → ℕ → Type 0
 GoesOn c e i due last = (homes_before c e i ≡ due) × (first_is_above last (entries_of_part c e i) ≡ true)
+
+-- what the test says of a part at hand, it says of this part
+pub goes_on_is : (c : ClosedState) (e i : ℕ) (due : Option (List SubscriberRows)) (last : ℕ) (homes : Option (List SubscriberRows)) (entries : List Entry) (r : Bool) → homes ≡ homes_before c e i → entries ≡ entries_of_part c e i
+    → Decides r ((homes ≡ due) × (first_is_above last entries ≡ true)) → Decides r (GoesOn c e i due last)
+goes_on_is c e i due last homes entries r before of_part h = Decides-like r
+    (λ (on : (homes ≡ due) × (first_is_above last entries ≡ true)). (sym before ∙ on.0, ap (first_is_above last) (sym of_part) ∙ on.1))
+    (λ on. (before ∙ on.0, ap (first_is_above last) of_part ∙ on.1))
+    h
 
 module _ (c : ClosedState) (e i : ℕ) (first due : Option (List SubscriberRows)) (last : ℕ) (h : AreJoinedTo c e i first due last) (rise : StampsRise 0 (entries_of_part c e i)) where
   -- a part that goes on is joined
@@ -132,7 +141,7 @@ module _ (c : ClosedState) (e i : ℕ) (first due : Option (List SubscriberRows)
   stamps_fall : first_is_above last (entries_of_part c e i) ≡ false → PartStampFalls c e i
   stamps_fall falls = by (first_falls last (entries_of_part c e i) falls) h.stamps.from
     where
-      by : (x : Entry) × Contains (entries_of_part c e i) x × (x.stamp ≤ last) → (last ≡ 0) ⊎ HasEarlier c e i last → PartStampFalls c e i
+      by : (x : Entry) × Contains (entries_of_part c e i) x × (x.stamp ≤ last) → (last ≡ 0) ⊎ IsStampBefore c e i last → PartStampFalls c e i
       by f (inl none) = let above = above_least 0 (entries_of_part c e i) f.1.0 f.0 rise f.1.1 f.1.2 in let low = f.2 in absurd (omega (arith, above, low, none))
       by f (inr w) = record {
         earlier = w.earlier;
@@ -152,7 +161,7 @@ module _ (c : ClosedState) (e i : ℕ) (first due : Option (List SubscriberRows)
       by (inl above) = inl (λ same. not (same ∙ sym (h.due_is population is), above))
       by (inr falls) = inr (stamps_fall falls)
 
-  last_more : GoesOn c e i due last → HaveLast c e (i + 1) (last_stamp_from last (entries_of_part c e i))
+  last_more : GoesOn c e i due last → IsLastBefore c e (i + 1) (last_stamp_from last (entries_of_part c e i))
   last_more on = record { seen = λ j x l stands. by j x l stands (lt_or j i); from = here (last_is last (entries_of_part c e i)) h.stamps.from }
     where
       above : StampsRise last (entries_of_part c e i)
@@ -168,16 +177,16 @@ module _ (c : ClosedState) (e i : ℕ) (first due : Option (List SubscriberRows)
           let own : Contains (entries_of_part c e i) x = subst (λ (k : ℕ). Contains (entries_of_part c e k) x) same stands in
           below_last last (entries_of_part c e i) own.0 x above own.1 own.2
 
-      earlier : HasEarlier c e i last → HasEarlier c e (i + 1) last
+      earlier : IsStampBefore c e i last → IsStampBefore c e (i + 1) last
       earlier w = record { earlier = w.earlier; before = (let l = w.before in omega (arith, l)); has = w.has }
 
-      kept : (last ≡ 0) ⊎ HasEarlier c e i last → (last ≡ 0) ⊎ HasEarlier c e (i + 1) last
+      kept : (last ≡ 0) ⊎ IsStampBefore c e i last → (last ≡ 0) ⊎ IsStampBefore c e (i + 1) last
       kept (inl none) = inl none
       kept (inr w) = inr (earlier w)
 
-      here : (last_stamp_from last (entries_of_part c e i) ≡ last) ⊎ HasStamp (entries_of_part c e i) (last_stamp_from last (entries_of_part c e i)) → (last ≡ 0) ⊎ HasEarlier c e i last
-          → (last_stamp_from last (entries_of_part c e i) ≡ 0) ⊎ HasEarlier c e (i + 1) (last_stamp_from last (entries_of_part c e i))
-      here (inl same) from = subst (λ (n : ℕ). (n ≡ 0) ⊎ HasEarlier c e (i + 1) n) (sym same) (kept from)
+      here : (last_stamp_from last (entries_of_part c e i) ≡ last) ⊎ IsStampIn (entries_of_part c e i) (last_stamp_from last (entries_of_part c e i)) → (last ≡ 0) ⊎ IsStampBefore c e i last
+          → (last_stamp_from last (entries_of_part c e i) ≡ 0) ⊎ IsStampBefore c e (i + 1) (last_stamp_from last (entries_of_part c e i))
+      here (inl same) from = subst (λ (n : ℕ). (n ≡ 0) ⊎ IsStampBefore c e (i + 1) n) (sym same) (kept from)
       here (inr own) from = inr (record { earlier = i; before = omega arith; has = own })
 
   -- and then to the next

@@ -45,10 +45,7 @@ pub(crate) struct Listed<'a> {
 }
 
 /// For each number a row, with an empty cell for each chapter that was handed out.
-fn empty_table<'a>(
-    alloc: Global,
-    closed: &'a Closed,
-) -> Result<Table<&'a Chapter>, AllocError>
+fn empty_table<'a>(alloc: Global, closed: &'a Closed) -> Result<Table<&'a Chapter>, AllocError>
     ensures { IfOk result (λ table. table ≡ empty_rows closed.entry.now) }
 {
     let mut table = Table::new(alloc);

@@ -81,11 +81,7 @@ fn last_stamp(part: Option<LogPart<'_>>, last: u64) -> u64
 }
 
 /// The first part of a number's whole log that isn't joined to the parts before it.
-fn unjoined_part(
-    chapters: &ChapterTable<'_>,
-    number: u64,
-    first: Option<&[Home]>,
-) -> Option<u64>
+fn unjoined_part(chapters: &ChapterTable<'_>, number: u64, first: Option<&[Home]>) -> Option<u64>
     requires unmixed { IsMixed chapters.now number → ⊥ }
     ensures { (population : Rows) → option_copied first.entry ≡ homes_at_first population number
         → IsFirstNumber (IsUnjoined population chapters.now number) result }

@@ -8,7 +8,7 @@ use Rattle.tatp_settle.proofs.joins.first_unjoined.Goals as goal
 pub returns : goal.returns
 returns c = λ population is.
     none_of_all (IsUnjoined population c.args.chapters.now) c.extents.extent (c.extents.invariant population is) (λ e i l.
-        let past = c.extents-test.false in
-        let most = c.max-count.ensures in
-        let count = c.extent_count.ensures in
-        none_unjoined_beyond population c.args.chapters.now e i (c.count.ensures.beyond e (omega (arith, l, past, most))) (first_beyond c.args.homes.now population e is (omega (arith, l, past, most, count))))
+    let past = c.extents-test.false in
+    let most = c.max-count.ensures in
+    let count = c.extent_count.ensures in
+    none_unjoined_beyond population c.args.chapters.now e i (c.count.ensures.beyond e (omega (arith, l, past, most))) (first_beyond c.args.homes.now population e is (omega (arith, l, past, most, count))))

@@ -13,7 +13,7 @@ chapters-preserved c =
     let xs : List ChapterState = c.args.closed.now.chapters in
     let long = ap length c.chapters-chapter-items.ensures in
     let more : take (c.chapters.chapter-index + 1) xs ≡ take c.chapters.chapter-index xs ++ c.chapter-item.result ∷ [] = (let test = c.chapters-test.true in
-        take_more xs c.chapters.chapter-index c.chapter-item.result (omega (arith, test, long)) ∙ ap (λ (x : ChapterState). take c.chapters.chapter-index xs ++ x ∷ []) (sym (c.chapter-item.is ∙ ap (λ (ys : List ChapterState). get_or ys c.chapters.chapter-index c.chapter-item.result) c.chapters-chapter-items.ensures))) in
+    take_more xs c.chapters.chapter-index c.chapter-item.result (omega (arith, test, long)) ∙ ap (λ (x : ChapterState). take c.chapters.chapter-index xs ++ x ∷ []) (sym (c.chapter-item.is ∙ ap (λ (ys : List ChapterState). get_or ys c.chapters.chapter-index c.chapter-item.result) c.chapters-chapter-items.ensures))) in
     subst (λ (ys : List ChapterState). AreListed c.args.closed.now c.put.new.self c.if-not-put.twice ys) (sym more) (elim c.if-not-put.branch [
       | then-not-put w ↦ rw w.twice-is
           (left_listed c.args.closed.now (take c.chapters.chapter-index xs) c.chapter-item.result c.extent.result c.index.result (sym c.extent.ensures) (sym c.index.ensures) c.chapters.table c.put.new.self c.chapters.twice c.chapters.invariant

@@ -11,13 +11,13 @@ chapters-preserved c =
     let l : c.chapters.index < chapter_count c.args.self.now c.args.number = (let test = c.chapters-test.true in let count = c.chapter_count-index-end.ensures in omega (arith, test, count)) in
     elim c.match-chapter.branch [
       | in-Some+in_ok-push w ↦ rw w.log-is (
-        w.in_ok-push.ensures
-        ∙ ((λ i. c.chapters.invariant i ++ w.entries.ensures i)
-        ∙ sym (joined_more c.args.self.now c.args.number c.chapters.index (Some w.in-Some.chapter.now) l (sym (ap option_copied w.in-Some.is) ∙ c.chapter.ensures)))
-      )
+          w.in_ok-push.ensures
+          ∙ ((λ i. c.chapters.invariant i ++ w.entries.ensures i)
+          ∙ sym (joined_more c.args.self.now c.args.number c.chapters.index (Some w.in-Some.chapter.now) l (sym (ap option_copied w.in-Some.is) ∙ c.chapter.ensures)))
+          )
       | in_default w ↦ rw w.log-is (
-        c.chapters.invariant
-        ∙ (sym (append-nil _)
-        ∙ sym (joined_more c.args.self.now c.args.number c.chapters.index None l (sym (ap option_copied w.in_default.is) ∙ c.chapter.ensures)))
-      )
+          c.chapters.invariant
+          ∙ (sym (append-nil _)
+          ∙ sym (joined_more c.args.self.now c.args.number c.chapters.index None l (sym (ap option_copied w.in_default.is) ∙ c.chapter.ensures)))
+          )
     ]

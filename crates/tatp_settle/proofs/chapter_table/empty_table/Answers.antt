@@ -1,6 +1,5 @@
-use Rattle.std.proofs.Common.{◌≡◌, ℕ, None, ◌∷◌, ◌++◌, [], List, Option, Bor, map, replicate, sym, ◌∙◌, ap, arith}
+use Rattle.std.proofs.Common.{◌≡◌, ℕ, None, ◌∷◌, ◌++◌, [], map, replicate, sym, ◌∙◌, ap, arith}
 use Rattle.std.specs.List.{range_with_len}
-use Rattle.tatp_population.specs.Chapters.{ChapterState}
 use Rattle.tatp_settle.specs.Closings.{least_above}
 use Rattle.tatp_settle.proofs.ChapterTableLaws.{empty_row, empty_more}
 use Rattle.tatp_settle.proofs.chapter_table.empty_table.Goals as goal

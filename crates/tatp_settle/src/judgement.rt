@@ -28,7 +28,7 @@ use std::alloc::{AllocError, Global};
 use std::thread::{Threads, join};
 use tatp_audits::{Verdict, audit};
 use tatp_numbers::Directory;
-use tatp_tables::{Home, homes};
+use tatp_tables::homes;
 
 /// What a settled run counts, or why the run isn't settled.
 pub(crate) fn judge<R: Threads + Sync>(

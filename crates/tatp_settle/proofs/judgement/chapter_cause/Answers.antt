@@ -1,4 +1,4 @@
-use Rattle.std.proofs.Common.{◌≡◌, ℕ, Option, Some, None, subst, sym}
+use Rattle.std.proofs.Common.{◌≡◌, ℕ, Option, Some, None, subst, sym, ◌∙◌}
 use Rattle.tatp_settle.specs.declared.cause.Unsettled.{Unsettled}
 use Rattle.tatp_settle.specs.declared.places.ChapterPlace.{ChapterPlace}
 use Rattle.tatp_settle.specs.ChapterTables.{IsFirstChapter}
@@ -32,4 +32,4 @@ returns c = λ before.
     let none4 : NoneOfFirst 4 run = none_missing run before (gathered IsChapterMissing c.args.chapters.now run.closed None None c.requires.gathered (λ _. None) c.in_default.ensures) in
     let none5 : NoneOfFirst 5 run = none_twice run none4 (gathered IsChapterTwice c.args.chapters.now run.closed c.args.twice None c.requires.gathered c.in_default-twice.is c.requires.twice) in
     subst (λ (cause : Option Unsettled). IsFirstOf 6 run cause) (sym c.join_cause.ensures)
-    (join_cause_is run c.first_unjoined.result (gathered (IsUnjoined run.population) c.args.chapters.now run.closed c.first_unjoined.result c.first_unjoined.result c.requires.gathered (λ _. c.first_unjoined.result) (c.first_unjoined.ensures run.population c.in_ok-homes.ensures)) none5)
+    (join_cause_is run c.first_unjoined.result (gathered (IsUnjoined run.population) c.args.chapters.now run.closed c.first_unjoined.result c.first_unjoined.result c.requires.gathered (λ _. c.first_unjoined.result) (c.first_unjoined.ensures run.population (c.deref.ensures.value ∙ c.in_ok-homes.ensures))) none5)

@@ -1,11 +1,9 @@
-use Rattle.std.proofs.Common.{◌≡◌, Option, Some, IfNone, sym, subst, arith, ◌∙◌}
+use Rattle.std.proofs.Common.{Option, IfNone, sym, subst, arith, ◌∙◌}
 use Rattle.std.proofs.lemmas.Result.{IfOk-at_ok}
 use Rattle.tatp_tables.specs.Clean.{IsClean}
 use Rattle.tatp_settle.specs.declared.cause.Unsettled.{Unsettled}
 use Rattle.tatp_settle.specs.declared.cause.Unsettled.TheVariants.{Mixed}
-use Rattle.tatp_settle.specs.declared.places.ChapterPlace.{ChapterPlace}
-use Rattle.tatp_settle.specs.ChapterTables.{IsFirstChapter}
-use Rattle.tatp_settle.specs.Causes.{IsMixed, IsChapterTwice}
+use Rattle.tatp_settle.specs.Causes.{IsMixed}
 use Rattle.tatp_settle.specs.Closings.{ClosedState}
 use Rattle.tatp_settle.specs.Runs.{Run, rows_left, shown}
 use Rattle.tatp_settle.specs.Placing.{ArePlaced}
@@ -16,17 +14,8 @@ use Rattle.tatp_settle.proofs.MovesLaws.{moves_by_number}
 use Rattle.tatp_settle.proofs.JudgeLaws.{as_many_receipts, matched_of, judged, judged_in_any_order, none_found, cause_found}
 use Rattle.tatp_settle.proofs.judgement.judge.Goals as goal
 
-pub chapter_cause-cause-requires : goal.chapter_cause-cause-requires
-chapter_cause-cause-requires g c =
-    let run : Run = shown c.args.run.now in
-    let chapters : ClosedState = c.in_ok-chapters.field-0.chapters in
-    let is : chapters ≡ run.closed = c.in_ok-chapters.ensures.chapters in
-    record {
-      clean = c.requires.clean;
-      gathered = is;
-      twice = subst (λ (closed : ClosedState). IsFirstChapter (IsChapterTwice closed) c.in_ok-chapters.field-0.twice) (sym is) c.in_ok-chapters.ensures.twice;
-      unmixed = λ e h. c.in_default.ensures (Mixed e) (omega arith) (subst (λ (closed : ClosedState). IsMixed closed e) is h);
-    }
+pub chapter_cause-requires-clause-unmixed : goal.chapter_cause-requires-clause-unmixed
+chapter_cause-requires-clause-unmixed g c = λ e h. c.in_default.ensures (Mixed e) (omega arith) (subst (λ (closed : ClosedState). IsMixed closed e) c.in_ok-chapters.ensures.chapters h)
 
 pub returns-in-Some-2-clause-refusal : goal.returns-in-Some-2-clause-refusal
 returns-in-Some-2-clause-refusal g c =

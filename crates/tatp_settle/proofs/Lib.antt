@@ -10,12 +10,13 @@ pub mod TestLaws
 pub mod LogTestLaws
 pub mod TurnLaws
 pub mod PartLaws
+pub mod FoundLaws
 pub mod RunLaws
-pub mod OpenedLaws
 pub mod BeyondLaws
 pub mod NumberLaws
 pub mod NamedLaws
 pub mod StableLaws
+pub mod JoinLaws
 pub mod ReceivedLaws
 pub mod CauseLaws
 pub mod SettledLaws

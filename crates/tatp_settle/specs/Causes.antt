@@ -79,7 +79,7 @@ pub record PartStampFalls (c : ClosedState) (e i : ℕ) : Type 0 where
 pub record IsUnjoined (population : Rows) (c : ClosedState) (e i : ℕ) : Type 0 where
   pub within : i ≤ chapter_count c e
   pub differs
-      : (homes_before c e i ≢ homes_due population c e i) ⊎ StampsFall c e i
+      : (homes_before c e i ≢ homes_due population c e i) ⊎ PartStampFalls c e i
 
 -- ---- of calls
 -- a call without its receipt, or a receipt without its call

@@ -4,6 +4,7 @@ pub mod StandingLaws
 pub mod ClosingLaws
 pub mod HereLaws
 pub mod LogLaws
+pub mod NumberedLaws
 pub mod LogTableLaws
 pub mod WholeLogLaws
 pub mod TestLaws
@@ -12,8 +13,11 @@ pub mod TurnLaws
 pub mod PartLaws
 pub mod FoundLaws
 pub mod RunLaws
+pub mod PopulatedLaws
 pub mod BeyondLaws
 pub mod NumberLaws
+pub mod ChapterTableLaws
+pub mod UnjoinedLaws
 pub mod NamedLaws
 pub mod StableLaws
 pub mod JoinLaws

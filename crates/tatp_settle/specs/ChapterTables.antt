@@ -1,7 +1,8 @@
 -- The chapters that came, in a table with a cell for each that was handed out.
-use Rattle.std.specs.Prelude.{◌≡◌, ℕ, ◌⊎◌, nat_lt, if◌then◌else◌, List, [], length, Option, Some, None, slice_get}
+use Rattle.std.specs.Prelude.{◌≡◌, ℕ, nat_lt, if◌then◌else◌, List, [], map, length, replicate, Option, Some, None, slice_get}
 use Rattle.std.specs.Borrow.{Bor}
-use Rattle.std.specs.Option.{option_copied, option_map, option_map_or}
+use Rattle.std.specs.List.{range_with_len}
+use Rattle.std.specs.Option.{option_copied, option_map_or}
 use Rattle.tatp_procs.specs.declared.entry.Entry.{Entry}
 use Rattle.tatp_population.specs.Chapters.{ChapterState}
 use Rattle.tatp_settle.specs.declared.places.ChapterPlace.{ChapterPlace}
@@ -28,9 +29,15 @@ chapter_handed_out c e i = if nat_lt i (chapter_count c e) then chapter_numbered
 abbrev pub entries_of_some : Option LogPart → List Entry
 entries_of_some part = option_map_or (λ (p : LogPart). p.entries.now.entries) part []
 
+-- a row for each number up to the least above all, with an empty cell for each chapter that was
+-- handed out
+abbrev pub empty_rows : ClosedState → List (List (Option (Bor ChapterState)))
+empty_rows c = map (λ e. replicate (chapter_count c e) None) (range_with_len 0 (least_above c))
+
 -- there is a row for each number up to the least above all, with a cell for each chapter that was
 -- handed out
-pub record HasRows (c : ClosedState) (table : List (List (Option (Bor ChapterState)))) : Type 0 where
+pub record HasRows (c : ClosedState) (table : List (List (Option (Bor ChapterState))))
+    : Type 0 where
   pub count : length table ≡ least_above c
   pub rows : (e : ℕ) → option_map_or length (slice_get table e) 0 ≡ chapter_count c e
 

@@ -1,10 +1,11 @@
 //! The chapters that came, each at its extent and index.
-ghost use Rattle.std.specs.Prelude.{◌≡◌, ◌≤◌, ℕ, None, IfOk};
+ghost use Rattle.std.specs.Prelude.{◌≡◌, ◌≤◌, ◌↔◌, ℕ, None, IfOk, IsTrue};
 ghost use Rattle.std.specs.Option.{option_copied, option_map};
+ghost use Rattle.tatp_population.specs.Chapters.{ChapterState};
 ghost use Rattle.tatp_settle.specs.Closings.{chapter_count, entries_numbered, least_above, log_numbered};
 ghost use Rattle.tatp_settle.specs.Causes.{homes_before, entries_of_part, IsChapterMissing, IsChapterTwice};
 ghost use Rattle.tatp_settle.specs.CallPlaces.{IsFirstNumber};
-ghost use Rattle.tatp_settle.specs.ChapterTables.{IsFirstChapter, chapter_handed_out, HasRows, entries_of_some};
+ghost use Rattle.tatp_settle.specs.ChapterTables.{IsFirstChapter, chapter_handed_out, empty_rows, entries_of_some};
 
 use crate::Closed;
 use crate::log_parts::{LogPart, WholeLog};
@@ -14,6 +15,7 @@ use crate::table::Table;
 use std::alloc::{AllocError, Global};
 use std::marker::Model;
 use tatp_population::Chapter;
+use tatp_tables::Home;
 
 /// What was gathered, with each chapter at hand that its extent handed out and that came.
 #[derive(Drop)]
@@ -24,8 +26,7 @@ pub(crate) struct ChapterTable<'a> {
 
 impl<'a> Model for ChapterTable<'a> {
     ghost use Rattle.tatp_settle.specs.Closings.{ClosedState, closed_state_code};
-    ghost use Rattle.tatp_settle.specs.CallPlaces.{IsFirstNumber};
-ghost use Rattle.tatp_settle.specs.ChapterTables.{HasChapters};
+    ghost use Rattle.tatp_settle.specs.ChapterTables.{HasChapters};
 
     ghost Value = { ClosedState };
 
@@ -48,7 +49,7 @@ fn empty_table<'a>(
     alloc: Global,
     closed: &'a Closed,
 ) -> Result<Table<&'a Chapter>, AllocError>
-    ensures { IfOk result (HasRows closed.entry.now) }
+    ensures { IfOk result (λ table. table ≡ empty_rows closed.entry.now) }
 {
     let mut table = Table::new(alloc);
     'numbers: for number in 0..log_count(closed) {
@@ -64,6 +65,7 @@ impl<'a> ChapterTable<'a> {
         ensures twice { IfOk result (λ listed.
             IsFirstChapter (IsChapterTwice closed.entry.now) listed.twice) }
     {
+        closed.what_holds();
         let mut table = empty_table(alloc, closed)?;
         let mut twice: Option<ChapterPlace> = None;
         'chapters: for chapter in closed.chapters() {
@@ -93,6 +95,7 @@ impl<'a> ChapterTable<'a> {
         ensures value { result ≡ least_above self.now }
         ensures beyond { (e : ℕ) → result ≤ e → log_numbered self.now e ≡ None }
     {
+        self.closed.what_holds();
         self.table.len() as u64
     }
 
@@ -108,6 +111,15 @@ impl<'a> ChapterTable<'a> {
         ensures { option_copied result ≡ chapter_handed_out self.now number index }
     {
         self.table.cell(number, index)?
+    }
+
+    /// The homes after one of them, if it came.
+    pub(crate) fn homes_after(&self, number: u64, index: u64) -> Option<&'a [Home]>
+        ensures { option_copied result ≡ option_map (λ (x : ChapterState). x.after)
+            (chapter_handed_out self.now number index) }
+    {
+        let chapter = self.chapter(number, index)?;
+        Some(chapter.after())
     }
 
     /// A part of the whole log of a number: a chapter, or after the last of them its log.
@@ -158,6 +170,13 @@ impl<'a> ChapterTable<'a> {
     fn missing_of(&self, number: u64) -> Option<u64>
         ensures { IsFirstNumber (IsChapterMissing self.now number) result }
     {
-        (0..self.chapter_count(number)).find(|index| self.chapter(number, *index).is_none())
+        (0..self.chapter_count(number)).find(|index| self.is_missing(number, *index))
+    }
+
+    /// Whether a chapter was handed out and did not come.
+    fn is_missing(&self, number: u64, index: u64) -> bool
+        ensures { IsTrue result ↔ IsChapterMissing self.now number index }
+    {
+        index < self.chapter_count(number) && self.chapter(number, index).is_none()
     }
 }

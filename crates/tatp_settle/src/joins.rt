@@ -1,5 +1,6 @@
-//! Whether chapters join end to end, from the population's homes to those from which the log goes on.
-ghost use Rattle.std.specs.Prelude.{◌≡◌, ◌↔◌, IsTrue, ℕ};
+//! Whether chapters join end to end, from the population's homes to those from which the log goes
+//! on.
+ghost use Rattle.std.specs.Prelude.{◌≡◌, ◌↔◌, IsTrue, true, ℕ};
 ghost use Rattle.std.specs.Option.{option_copied, option_map};
 ghost use Rattle.tatp_tables.specs.declared.row.Rows.{Rows};
 ghost use Rattle.tatp_settle.specs.Runs.{AreHomesOf, homes_at_first};
@@ -34,7 +35,7 @@ fn homes_at_first(homes: &[Home], number: u64) -> Option<&[Home]>
 /// Whether a part goes on from these homes, or there is neither.
 fn goes_on_from(part: Option<LogPart<'_>>, due: Option<&[Home]>) -> bool
     ensures { IsTrue result
-        ↔ (option_map (λ (part : LogPart). part.before.now) part ≡ option_copied due) }
+        ↔ (option_map (λ (p : LogPart). p.before.now) part.entry ≡ option_copied due.entry) }
 {
     match (part, due) {
         (Some(part), Some(due)) => part.before == due,
@@ -46,22 +47,34 @@ fn goes_on_from(part: Option<LogPart<'_>>, due: Option<&[Home]>) -> bool
 
 /// Whether the first stamp of a part, if it has one, is above the last stamp before it.
 fn rises_from(part: Option<LogPart<'_>>, last: u64) -> bool
-    ensures { result ≡ first_is_above last (entries_of_some part) }
+    ensures { result ≡ first_is_above last (entries_of_some part.entry) }
 {
-    match part.and_then(|part| part.entries.get(0)) {
+    let Some(part) = part else {
+        return true;
+    };
+    match part.entries.get(0) {
         Some(entry) => entry.stamp > last,
         None => true,
     }
 }
 
+/// Whether a part goes on from these homes, with stamps above the last one before it.
+fn is_joined(part: Option<LogPart<'_>>, due: Option<&[Home]>, last: u64) -> bool
+    ensures { IsTrue result
+        ↔ ((option_map (λ (p : LogPart). p.before.now) part.entry ≡ option_copied due.entry)
+        × (first_is_above last (entries_of_some part.entry) ≡ true)) }
+{
+    goes_on_from(part, due) && rises_from(part, last)
+}
+
 /// The last stamp of a part, or the last one before it, where it has none.
 fn last_stamp(part: Option<LogPart<'_>>, last: u64) -> u64
-    ensures { result ≡ last_stamp_from last (entries_of_some part) }
+    ensures { result ≡ last_stamp_from last (entries_of_some part.entry) }
 {
     let Some(part) = part else {
         return last;
     };
-    match part.entries.get(part.entries.len().wrapping_sub(1)) {
+    match part.entries.get(part.entries.len().saturating_sub(1)) {
         Some(entry) => entry.stamp,
         None => last,
     }
@@ -77,17 +90,23 @@ fn unjoined_part(
     ensures { (population : Rows) → option_copied first.entry ≡ homes_at_first population number
         → IsFirstNumber (IsUnjoined population chapters.now number) result }
 {
+    chapters.closed().what_holds();
+    let count = chapters.chapter_count(number);
     let mut due = first;
     let mut last = 0;
-    'parts: for index in 0..chapters.chapter_count(number) + 1 {
+    'parts: for index in 0..count {
         let part = chapters.part(number, index);
-        if !goes_on_from(part, due) || !rises_from(part, last) {
+        if !is_joined(part, due, last) {
             return Some(index);
         }
-        due = chapters.chapter(number, index).map(|chapter| chapter.after());
+        due = chapters.homes_after(number, index);
         last = last_stamp(part, last);
     }
-    None
+    if is_joined(chapters.part(number, count), due, last) {
+        None
+    } else {
+        Some(count)
+    }
 }
 
 /// The first extent and part of its whole log that isn't joined to the parts before it.

@@ -20,6 +20,7 @@ pub mod ChapterTableLaws
 pub mod UnjoinedLaws
 pub mod NamedLaws
 pub mod StableLaws
+pub mod JoinLaws
 pub mod ReceivedLaws
 pub mod CauseLaws
 pub mod SettledLaws

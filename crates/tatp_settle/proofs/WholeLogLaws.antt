@@ -1,5 +1,5 @@
 -- Whole logs, joined from their parts: in which part an entry stands.
-use Rattle.std.proofs.Common.{◌≡◌, ℕ, zero, suc, ◌+◌, ◌-◌, ◌<◌, ◌≤◌, ◌⊎◌, inl, inr, true, false, leb, List, [], ◌∷◌, ◌++◌, length, get_or, Option, Some, None, IfSome, slice_get, Bor, refl, sym, ◌∙◌, ap, subst, append-nil, length-append, arith}
+use Rattle.std.proofs.Common.{◌≡◌, ℕ, zero, suc, ◌+◌, ◌-◌, ◌<◌, ◌≤◌, ◌⊎◌, inl, inr, true, false, leb, List, [], ◌∷◌, ◌++◌, length, get_or, Option, Some, None, SomeIff, IfSome, slice_get, Bor, refl, sym, ◌∙◌, ap, subst, append-nil, length-append, arith}
 use Rattle.std.specs.List.{flat_map}
 use Rattle.std.specs.List.Sorted.{IsNonDecreasingBy, IsPartitionPoint, IsPartitionedBy}
 use Rattle.std.specs.Option.{option_copied}
@@ -16,6 +16,10 @@ abbrev pub entries_in : JoinedPart → List Entry
 entries_in part = part.entries.now.entries
 
 -- ---- one part more
+pub some_sum : (o : Option ℕ) (P : Type 0) (sum x : ℕ) → SomeIff o P sum → o ≡ Some x → x ≡ sum
+some_sum None P sum x h is = absurd (none-some x is)
+some_sum (Some y) P sum x h is = sym (same_Some y x is) ∙ h.1
+
 pub joined_more : (before : ℕ) (parts : List JoinedPart) (part : JoinedPart) (len : ℕ) → AreJoined before parts len → part.first ≡ len → AreJoined before (parts ++ part ∷ []) (len + length (entries_in part))
 joined_more before [] part len h is = (is ∙ h, ap (λ (n : ℕ). n + length (entries_in part)) h)
 joined_more before (p ∷ parts) part len h is = (h.0, joined_more (before + length (entries_in p)) parts part len h.1 is)

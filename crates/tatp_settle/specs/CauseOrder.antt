@@ -34,8 +34,8 @@ IsFirstOf kinds run (Some cause) = IsFirstCause run cause
 abbrev pub IsFirstAfter : ℕ → ℕ → Run → Option Unsettled → Type 0
 IsFirstAfter before kinds run cause = NoneOfFirst before run → IsFirstOf kinds run cause
 
--- where no extent and no chapter is a cause: the first cause that a call is by its receipt and its entries; where
--- no call is one, each entry has its place in some table of calls
+-- where no extent and no chapter is a cause: the first cause that a call is by its receipt and its
+-- entries; where no call is one, each entry has its place in some table of calls
 pub record IsFirstInCalls (run : Run) (cause : Option Unsettled) : Type 0 where
   pub first : IsFirstAfter 6 10 run cause
   pub placed : IfNone cause (ArePlaced run.closed run.receipts)

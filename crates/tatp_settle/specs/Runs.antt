@@ -15,8 +15,8 @@ use Rattle.tatp_partition.specs.declared.receipt.Receipt.{Receipt}
 use Rattle.tatp_settle.specs.declared.run.Run.{Run as HeldRun}
 use Rattle.tatp_settle.specs.Closings.{ClosedState, entries_numbered, homes_numbered, moves_numbered}
 
--- the population's rows, what sites, parcels and chapters left, and for each client its receipts and its
--- calls
+-- the population's rows, what sites, parcels and chapters left, and for each client its receipts
+-- and its calls
 pub record Run : Type 0 where
   pub population : Rows
   pub closed : ClosedState
@@ -72,8 +72,8 @@ homes_at_first population zero = Some []
 homes_at_first population (suc e) = homes_populated population (suc e)
 
 -- ---- what was left
--- the whole logs of the extents 0, 1 and so on, as many as the population has; extent 0 is that of the
--- calls without a home
+-- the whole logs of the extents 0, 1 and so on, as many as the population has; extent 0 is that of
+-- the calls without a home
 abbrev pub logs_left : Run → List (List Entry)
 logs_left run =
     map (entries_numbered run.closed) (range_with_len 0 (extents_populated run.population + 1))

@@ -28,7 +28,7 @@ use std::alloc::{AllocError, Global};
 use std::thread::{Threads, join};
 use tatp_audits::{Verdict, audit};
 use tatp_numbers::Directory;
-use tatp_tables::{Home, homes};
+use tatp_tables::homes;
 
 /// What a settled run counts, or why the run isn't settled.
 pub(crate) fn judge<R: Threads + Sync>(
@@ -90,7 +90,7 @@ fn audit_beside_calls<R: Threads + Sync>(
         ensures { IfOk result (IsAuditOf (rows_left (shown run.entry.now))) }
     { audit_left(alloc, run) };
     let in_calls = || -> Result<Option<Unsettled>, AllocError>
-        requires { IsSync R.row × (chapters.entry.now ≡ run.entry.now.closed.now) }
+        requires { IsSync R.row × (chapters.now ≡ run.now.closed.now) }
         ensures { IfOk result (IsFirstInCalls (shown run.entry.now)) }
     { cause_in_calls(rt, alloc, run, chapters) };
     join(rt, audited, in_calls)

@@ -1,5 +1,5 @@
 //! The whole logs of all numbers, each put together once.
-ghost use Rattle.std.specs.Prelude.{◌≡◌, ◌<◌, ◌≤◌, ℕ, [], IfOk, length, slice_get};
+ghost use Rattle.std.specs.Prelude.{◌≡◌, ◌<◌, ◌≤◌, ℕ, List, [], IfOk, length, slice_get};
 ghost use Rattle.std.specs.Option.{option_copied, option_map_or};
 ghost use Rattle.tatp_procs.specs.declared.entry.Entry.{Entry};
 ghost use Rattle.tatp_population.specs.Logs.{IsOfCall};

@@ -1,7 +1,7 @@
-use Rattle.std.proofs.Common.{◌≡◌, ℕ, Option, IfNone, [], sym, ◌∙◌, subst}
+use Rattle.std.proofs.Common.{◌≡◌, ℕ, Option, IfNone, [], All, sym, subst}
 use Rattle.tatp_population.specs.Chapters.{IsChapter}
-use Rattle.std.specs.List.{All}
 use Rattle.tatp_settle.specs.Closings.{ClosedState, closed_of, IsMissing, IsClosed}
+use Rattle.tatp_settle.specs.Settlements.{IsLeastMissing}
 use Rattle.tatp_settle.proofs.MissingLaws.{missing_without, least_with}
 use Rattle.tatp_settle.proofs.gathering.gather.Goals as goal
 
@@ -25,3 +25,8 @@ invariant_of-result c = is_closed c
 
 pub returns-clause-whole : goal.returns-clause-whole
 returns-clause-whole c = is_closed c
+
+pub returns-in-Some-clause-refusal : goal.returns-in-Some-clause-refusal
+returns-in-Some-clause-refusal c =
+    let items : closed_of c.deref-2.result.now c.deref-3.result.now [] ≡ closed_of c.args.sites.items c.args.parcels.items [] = λ i. closed_of (c.deref-2.ensures.value i) (c.deref-3.ensures.value i) [] in
+    least_with c.args.sites.items c.args.parcels.items c.args.chapters.items c.in-Some.number (subst (λ (d : ClosedState). IsLeastMissing d c.in-Some.number) items c.in-Some.ensures.missing)

@@ -1,18 +1,13 @@
--- No extent that neither the population nor the closing has is a cause.
-use Rattle.std.proofs.Common.{◌≡◌, ℕ, ◌<◌, ◌≤◌, ◌==◌, None, true, false, [], All, Contains, Some, sym, ◌∙◌, ap, subst, arith}
-use Rattle.std.specs.Option.{is_some}
+-- No extent that the closing doesn't have is a cause.
+use Rattle.std.proofs.Common.{◌≡◌, ℕ, ◌≤◌, ◌==◌, [], Contains, arith}
 use Rattle.std.proofs.lemmas.Bool.{eq-eqb}
-use Rattle.std.proofs.lemmas.List.Elements.{All-nil}
-use Rattle.tatp_tables.specs.declared.row.Rows.{Rows}
-use Rattle.tatp_population.specs.Extents.{ExtentState}
 use Rattle.tatp_settle.specs.declared.extents.ExtentCause.{ExtentCause}
-use Rattle.tatp_settle.specs.declared.extents.ExtentCause.TheVariants.{OpenedElse, IsAsMixed, InParcel, StandsTwice}
+use Rattle.tatp_settle.specs.declared.extents.ExtentCause.TheVariants.{IsAsMixed, InParcel, StandsTwice}
 use Rattle.tatp_settle.specs.Closings.{ClosedState, ExtentLog, logs_of, extents_numbered, IsClosed}
-use Rattle.tatp_settle.specs.Runs.{Run, extents_populated, homes_populated}
+use Rattle.tatp_settle.specs.Runs.{Run}
 use Rattle.tatp_settle.specs.ExtentTests.{IsExtentCause}
 use Rattle.tatp_settle.proofs.StandingLaws.{has_number, none_standing, times_standing_is, any_counted}
 use Rattle.tatp_settle.proofs.TestLaws.{decides_passes}
-use Rattle.tatp_settle.proofs.OpenedLaws.{not_populated}
 use Rattle.tatp_settle.proofs.LogTestLaws.{parcel_is}
 
 -- no log has the number
@@ -22,22 +17,12 @@ no_log c e l none log stands is =
     let some = (any_counted (λ (log : ExtentLog). log.extent == e) (logs_of c)).0 ((decides_passes (λ (log : ExtentLog). log.extent == e) (logs_of c)).1 (log, stands, eq-eqb log.extent e is)) in
     omega (arith, times, some)
 
-pub not_beyond : (cause : ExtentCause) (run : Run) (e : ℕ) → IsClosed run.closed → 1 ≤ e → extents_populated run.population < e → extents_numbered run.closed e ≡ [] → IsExtentCause cause run e → ⊥
-not_beyond OpenedElse run e h l above none is =
-    let p : Rows = run.population in
-    let no : homes_populated p e ≡ None = not_populated p e (λ _ k. omega (arith, above, k)) in
-    is (record {
-      begins = record {
-        stands = λ s. absurd (let k : false ≡ true = ap is_some (sym no) ∙ s in cc);
-        homes = subst (All (λ (x : ExtentState). homes_populated p e ≡ Some x.opening)) (sym none) (All-nil (λ (x : ExtentState). homes_populated p e ≡ Some x.opening));
-      };
-      whole = λ out. no_log run.closed e l none out.0 out.1 out.2;
-    })
-not_beyond IsAsMixed run e h l above none is = no_log run.closed e l none is.0 is.1 is.2
-not_beyond InParcel run e h l above none is =
+pub not_beyond : (cause : ExtentCause) (run : Run) (e : ℕ) → IsClosed run.closed → 1 ≤ e → extents_numbered run.closed e ≡ [] → IsExtentCause cause run e → ⊥
+not_beyond IsAsMixed run e h l none is = no_log run.closed e l none is.0 is.1 is.2
+not_beyond InParcel run e h l none is =
     let c : ClosedState = run.closed in
     let none = none_standing c e l none in
     let some = (any_counted (has_number e) c.parcels).0 ((parcel_is c e).1 is) in
     let times = times_standing_is c e h.sites in
     omega (arith, none, some, times)
-not_beyond StandsTwice run e h l above none is = let none = none_standing run.closed e l none in omega (arith, none, is)
+not_beyond StandsTwice run e h l none is = let none = none_standing run.closed e l none in omega (arith, none, is)

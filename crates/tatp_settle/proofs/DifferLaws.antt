@@ -17,7 +17,7 @@ use Rattle.tatp_settle.specs.Agreeing.{Agrees}
 use Rattle.tatp_settle.proofs.StableLaws.{equal_or_not}
 use Rattle.tatp_settle.proofs.ReceivedLaws.{matched_unless, in_cell, one_entry, is_of, differs_from_entry, differs_without}
 
-module _ (closed : ClosedState) (calls : List (List Ask)) (receipts : List (List Receipt)) (cells : Cells) (unmatched : HoldsNowhere (IsUnmatched calls receipts)) (all : AllPlaced closed receipts cells) where
+module _ (closed : ClosedState) (calls : List (List Ask)) (receipts : List (List Receipt)) (cells : Cells LogPlace) (unmatched : HoldsNowhere (IsUnmatched calls receipts)) (all : AllPlaced closed receipts cells) where
   matched : (client number : ℕ) → AreMatched client number (at_call calls client number) (at_call receipts client number)
   matched client number = matched_unless client number (at_call calls client number) (at_call receipts client number) (unmatched client number)
 

@@ -7,8 +7,9 @@ use Rattle.tatp_tables.specs.Database.{database_of}
 use Rattle.tatp_procs.specs.declared.ask.Ask.{Ask}
 use Rattle.tatp_partition.specs.declared.receipt.Receipt.{Receipt}
 use Rattle.tatp_settle.specs.declared.places.CallPlace.{CallPlace}
+use Rattle.tatp_settle.specs.declared.places.ChapterPlace.{ChapterPlace}
 use Rattle.tatp_settle.specs.declared.cause.Unsettled.{Unsettled}
-use Rattle.tatp_settle.specs.declared.cause.Unsettled.TheVariants.{Opening, Mixed, ParcelLeft, Doubled, CallMissing, ReplyDiffers, StampOrder, HasHome}
+use Rattle.tatp_settle.specs.declared.cause.Unsettled.TheVariants.{ChapterDiffers, CallMissing, HasHome}
 use Rattle.tatp_settle.specs.Closings.{IsClosed}
 use Rattle.tatp_settle.specs.Runs.{Run, at_call, joined, rows_left}
 use Rattle.tatp_settle.specs.Answering.{AreMatched}
@@ -16,15 +17,21 @@ use Rattle.tatp_settle.specs.Placing.{ArePlaced}
 use Rattle.tatp_settle.specs.Interleaving.{IsOneHistoryInAnyOrder}
 use Rattle.tatp_settle.specs.Settlements.{IsOneHistory}
 use Rattle.tatp_settle.specs.CallPlaces.{IsFirstCall, HoldsNowhere}
-use Rattle.tatp_settle.specs.Causes.{NamesHome, IsUnmatched, IsFirstCause}
+use Rattle.tatp_settle.specs.Causes.{IsUnjoined, NamesHome, IsUnmatched, IsFirstCause}
+use Rattle.tatp_settle.specs.ChapterTables.{IsFirstChapter}
 use Rattle.tatp_settle.specs.CauseOrder.{NoneOfFirst, IsFirstOf}
-use Rattle.tatp_settle.proofs.CauseLaws.{none_named, first_named}
-use Rattle.tatp_settle.proofs.ReceivedLaws.{population_once}
+use Rattle.tatp_settle.proofs.CauseLaws.{of_fewer, none_unjoined, first_unjoined, none_named, first_named}
+use Rattle.tatp_settle.proofs.JoinLaws.{population_once}
 use Rattle.tatp_settle.proofs.RunLaws.{runs_are_one_history_in_any_order}
 use Rattle.tatp_settle.proofs.SettledLaws.{one_history}
 
-pub home_cause_is : (run : Run) (v : Option CallPlace) → IsFirstCall (NamesHome (database_of run.population).subscribers run.closed) v → NoneOfFirst 8 run
-    → IsFirstOf 9 run (option_map (λ (call : CallPlace). HasHome call.client call.number) v)
+pub join_cause_is : (run : Run) (v : Option ChapterPlace) → IsFirstChapter (IsUnjoined run.population run.closed) v → NoneOfFirst 5 run
+    → IsFirstOf 6 run (option_map (λ (chapter : ChapterPlace). ChapterDiffers chapter.extent chapter.index) v)
+join_cause_is run None first before = none_unjoined run before first
+join_cause_is run (Some chapter) first before = first_unjoined run chapter.extent chapter.index before first
+
+pub home_cause_is : (run : Run) (v : Option CallPlace) → IsFirstCall (NamesHome (database_of run.population).subscribers run.closed) v → NoneOfFirst 10 run
+    → IsFirstOf 11 run (option_map (λ (call : CallPlace). HasHome call.client call.number) v)
 home_cause_is run None first before = none_named run before first
 home_cause_is run (Some call) first before = first_named run call.client call.number before first
 
@@ -69,23 +76,17 @@ pub as_many_receipts : (calls : List (List Ask)) (receipts : List (List Receipt)
 as_many_receipts calls receipts h = same_count receipts calls (λ c n. beside c n (at_call calls c n) (at_call receipts c n) (h c n))
 
 -- ---- what kinds of causes don't hold
-pub matched_of : (run : Run) → NoneOfFirst 8 run → HoldsNowhere (IsUnmatched run.calls run.receipts)
+pub matched_of : (run : Run) → NoneOfFirst 10 run → HoldsNowhere (IsUnmatched run.calls run.receipts)
 matched_of run none client number h = none (CallMissing client number) (omega arith) h
 
 -- a run in which no cause holds, and whose rows now are clean, is one history
-pub judged : (run : Run) → IsClean run.population → IsClosed run.closed → NoneOfFirst 9 run → ArePlaced run.closed run.receipts → IsClean (rows_left run) → IsOneHistory run
-judged run population closed none placed clean =
-    one_history run placed.0 population closed
-    (λ e h. none (Opening e) (omega arith) h) (λ e h. none (Mixed e) (omega arith) h) (λ e h. none (ParcelLeft e) (omega arith) h) (λ e h. none (Doubled e) (omega arith) h)
-    (λ c n h. none (CallMissing c n) (omega arith) h) placed.1 (λ c n h. none (ReplyDiffers c n) (omega arith) h) (λ c n h. none (StampOrder c n) (omega arith) h)
-    (λ c n h. none (HasHome c n) (omega arith) h) clean
+pub judged : (run : Run) → IsClean run.population → IsClosed run.closed → NoneOfFirst 11 run → ArePlaced run.closed run.receipts → IsClean (rows_left run) → IsOneHistory run
+judged run population closed none placed clean = one_history run placed.0 population closed none placed.1 clean
 
 -- where no cause is found, the logs are one history in any order that keeps their own
-pub judged_in_any_order : (run : Run) → IsClean run.population → IsClosed run.closed → NoneOfFirst 9 run → IsOneHistoryInAnyOrder run
+pub judged_in_any_order : (run : Run) → IsClean run.population → IsClosed run.closed → NoneOfFirst 11 run → IsOneHistoryInAnyOrder run
 judged_in_any_order run population closed none =
-    runs_are_one_history_in_any_order run population closed
-    (population_once run (λ e h. none (Opening e) (omega arith) h) (λ e h. none (Mixed e) (omega arith) h) (λ e h. none (ParcelLeft e) (omega arith) h) (λ e h. none (Doubled e) (omega arith) h))
-    (λ c n h. none (HasHome c n) (omega arith) h)
+    runs_are_one_history_in_any_order run population closed (population_once run closed (of_fewer run 6 11 (omega arith) none)) (λ c n h. none (HasHome c n) (omega arith) h)
 
 -- what a pass that found nothing says
 pub none_found : (kinds : ℕ) (run : Run) (v : Option Unsettled) → v ≡ None → IsFirstOf kinds run v → NoneOfFirst kinds run

@@ -1,14 +1,14 @@
 -- The log of a number, and the extent.
 use Rattle.std.proofs.Common.{◌≡◌, ◌≢◌, ℕ, zero, suc, ◌+◌, ◌<◌, ◌≤◌, ◌==◌, Bool, true, false, cond, List, [], ◌∷◌, ◌++◌, map, length, filter, find, All, max, Option, Some, None, slice_get, refl, sym, ◌∙◌, ap, subst, arith, drop, get_or}
 use Rattle.std.specs.List.{fold, flat_map}
-use Rattle.std.specs.Option.{option_to_list, option_map, option_map_or, option_or}
+use Rattle.std.specs.Option.{option_to_list, option_map, option_or}
 use Rattle.std.proofs.lemmas.Bool.{ne_eqb}
 use Rattle.std.proofs.lemmas.List.Elements.{All-nil, All-cons, All-head, All-tail, All-get_or}
 use Rattle.std.proofs.lemmas.List.{at_drop_more}
 use Rattle.std.proofs.lemmas.List.Folds.{find-append}
 use Rattle.tatp_population.specs.Extents.{ExtentState, IsExtent}
 use Rattle.tatp_partition.specs.Sites.{slot}
-use Rattle.tatp_settle.specs.Closings.{ClosedSiteState, ClosedState, ExtentLog, extents_in_slots, extents_of, extents_numbered, extent_numbered, entries_numbered, most_places, above_all, log_of_homeless, log_of_extent, IsClosedSite, IsClosed, extents_at}
+use Rattle.tatp_settle.specs.Closings.{ClosedSiteState, ClosedState, ExtentLog, extents_in_slots, extents_numbered, extent_numbered, most_places, above_all, log_of_homeless, log_of_extent, IsClosedSite, IsClosed, extents_at}
 use Rattle.tatp_settle.proofs.StandingLaws.{has_number, here, in_site, in_sites, none_at_zero}
 
 pub find_filtered : {A : Type 0} (p : A → Bool) (xs : List A) → find p xs ≡ slice_get (filter p xs) 0
@@ -63,21 +63,11 @@ pub log_found : (xs : List ExtentState) (e : ℕ) → find (log_has e) (map log_
 log_found [] e = refl
 log_found (x ∷ xs) e = ap (λ (v : Option ExtentLog). cond (x.number == e) (Some (log_of_extent x)) v) (log_found xs e) ∙ one_log x (find (has_number e) xs) (x.number == e)
 
-entries_mapped : (v : Option ExtentState) → option_map_or (λ (log : ExtentLog). log.entries) (option_map log_of_extent v) [] ≡ option_map_or (λ (x : ExtentState). x.log) v []
-entries_mapped None = refl
-entries_mapped (Some x) = refl
-
 -- that of an extent is no log of calls without a home
 pub log_of_number : (sites : List ClosedSiteState) (xs : List ExtentState) (e : ℕ) → e ≢ 0 → find (log_has e) (map log_of_homeless sites ++ map log_of_extent xs) ≡ option_map log_of_extent (find (has_number e) xs)
 log_of_number sites xs e h =
     find-append (log_has e) (map log_of_homeless sites) (map log_of_extent xs)
     ∙ (λ i. option_or (no_homeless sites e h i) (log_found xs e i))
-
--- the log of an extent is that of its number
-pub entries_of_extent : (c : ClosedState) (e : ℕ) → e ≢ 0 → entries_numbered c e ≡ option_map_or (λ (x : ExtentState). x.log) (extent_numbered c e) []
-entries_of_extent c e h =
-    ap (λ (v : Option ExtentLog). option_map_or (λ (log : ExtentLog). log.entries) v []) (log_of_number (filter (λ (s : ClosedSiteState). s.partition == 0) c.sites) (extents_of c) e h)
-    ∙ entries_mapped (extent_numbered c e)
 
 -- no extent has the number 0
 pub none_zero : (xs : List ExtentState) → All IsExtent xs → find (has_number 0) xs ≡ None
@@ -94,25 +84,6 @@ none_zero_at (s ∷ sites) all =
 
 pub no_extent_zero : (c : ClosedState) → IsClosed c → extent_numbered c 0 ≡ None
 no_extent_zero c h = found_anywhere c 0 ∙ (λ i. option_or (none_zero_at c.sites h.sites i) (none_zero c.parcels h.parcels i))
-
-homeless_found : (sites : List ClosedSiteState) → find (log_has 0) (map log_of_homeless (filter (λ (s : ClosedSiteState). s.partition == 0) sites)) ≡ option_map log_of_homeless (find (λ (s : ClosedSiteState). s.partition == 0) sites)
-homeless_found sites = by (filter (λ (s : ClosedSiteState). s.partition == 0) sites) ∙ ap (option_map log_of_homeless) (sym (find_filtered (λ (s : ClosedSiteState). s.partition == 0) sites))
-  where
-    by : (xs : List ClosedSiteState) → find (log_has 0) (map log_of_homeless xs) ≡ option_map log_of_homeless (slice_get xs 0)
-    by [] = refl
-    by (x ∷ xs) = refl
-
-entries_homeless : (v : Option ClosedSiteState) → option_map_or (λ (log : ExtentLog). log.entries) (option_or (option_map log_of_homeless v) None) [] ≡ option_map_or (λ (s : ClosedSiteState). s.homeless.log) v []
-entries_homeless None = refl
-entries_homeless (Some s) = refl
-
--- the log of the calls without a home is that of the number 0
-pub entries_of_homeless : (c : ClosedState) → IsClosed c → entries_numbered c 0 ≡ option_map_or (λ (s : ClosedSiteState). s.homeless.log) (find (λ (s : ClosedSiteState). s.partition == 0) c.sites) []
-entries_of_homeless c h =
-    ap (λ (v : Option ExtentLog). option_map_or (λ (log : ExtentLog). log.entries) v [])
-    (find-append (log_has 0) (map log_of_homeless (filter (λ (s : ClosedSiteState). s.partition == 0) c.sites)) (map log_of_extent (extents_of c))
-    ∙ ((λ i. option_or (homeless_found c.sites i) ((log_found (extents_of c) 0 ∙ ap (option_map log_of_extent) (no_extent_zero c h)) i))))
-    ∙ entries_homeless (find (λ (s : ClosedSiteState). s.partition == 0) c.sites)
 
 -- ---- numbers above all
 above_places : (slots : List (Option ExtentState)) (e : ℕ) → length slots ≤ e → slot slots e ≡ None
@@ -135,11 +106,6 @@ none_above_at (s ∷ sites) n e l all =
 
 pub no_extent_above : (c : ClosedState) (m n e : ℕ) → IsClosed c → All (λ (s : ClosedSiteState). length s.slots ≤ m) c.sites → All (λ (x : ExtentState). x.number < n) c.parcels → m ≤ e → n ≤ e → extents_numbered c e ≡ []
 no_extent_above c m n e h places numbers l k = in_sites c.sites c.parcels e h.sites ∙ (λ i. none_above_at c.sites m e l places i ++ none_above c.parcels n e k numbers i)
-
-pub no_entries_above : (c : ClosedState) (e : ℕ) → e ≢ 0 → extents_numbered c e ≡ [] → entries_numbered c e ≡ []
-no_entries_above c e h none =
-    entries_of_extent c e h
-    ∙ ap (λ (v : Option ExtentState). option_map_or (λ (x : ExtentState). x.log) v []) (find_filtered (has_number e) (extents_of c) ∙ ap (λ (xs : List ExtentState). slice_get xs 0) none)
 
 -- what is the most, or above all, is so of each
 most_from : List ClosedSiteState → ℕ → ℕ

@@ -1,39 +1,42 @@
--- The logs of all numbers, put into one list.
-use Rattle.std.proofs.Common.{◌≡◌, ℕ, zero, suc, ◌+◌, ◌<◌, ◌≤◌, ◌⊎◌, inl, inr, List, [], ◌∷◌, ◌++◌, length, Bor, Option, refl, sym, ◌∙◌, ap, subst, arith}
+-- The whole logs of all numbers, put into one list.
+use Rattle.std.proofs.Common.{◌≡◌, ℕ, zero, suc, ◌+◌, ◌<◌, ◌≤◌, ◌⊎◌, inl, inr, List, [], ◌∷◌, ◌++◌, length, Option, None, refl, sym, ◌∙◌, ap, subst, arith}
 use Rattle.std.proofs.lemmas.Option.{slice_get_past}
 use Rattle.std.proofs.lemmas.Bool.{cases_lt}
-use Rattle.std.specs.Option.{option_copied, option_map_or}
-use Rattle.tatp_population.specs.Logs.{LogState}
-use Rattle.tatp_settle.specs.Closings.{ClosedState, entries_numbered, least_above}
-use Rattle.tatp_settle.specs.LogTables.{entries_of, log_in, HasLogs}
+use Rattle.std.proofs.lemmas.List.{length_push}
+use Rattle.std.specs.Option.{option_map_or}
+use Rattle.tatp_procs.specs.declared.entry.Entry.{Entry}
+use Rattle.tatp_population.specs.Chapters.{chapters_listed, entries_joined}
+use Rattle.tatp_settle.specs.Closings.{ClosedState, ExtentLog, log_numbered, chapter_numbered, entries_numbered, least_above}
+use Rattle.tatp_settle.specs.LogTables.{log_in, HasLogs}
+
+-- a number without a log has no entries
+pub without_log : (c : ClosedState) (e : ℕ) → log_numbered c e ≡ None → entries_numbered c e ≡ []
+without_log c e none =
+    ap (λ (v : Option ExtentLog). entries_joined (chapters_listed (chapter_numbered c e) 0 (option_map_or (λ (log : ExtentLog). log.chapters) v 0)) ++ option_map_or (λ (log : ExtentLog). log.entries) v []) none
 
 -- the list has the logs of the numbers below the count, and no more
-pub record LogsBelow (closed : ClosedState) (logs : List (Option (Bor LogState))) (count : ℕ) : Type 0 where
+pub record LogsBelow (closed : ClosedState) (logs : List (List Entry)) (count : ℕ) : Type 0 where
   pub len : length logs ≡ count
   pub are : (e : ℕ) → e < count → entries_numbered closed e ≡ log_in logs e
 
 pub logs_start : (closed : ClosedState) → LogsBelow closed [] 0
 logs_start closed = record { len = refl; are = λ e l. absurd (omega (arith, l)) }
 
-pub none_past : (logs : List (Option (Bor LogState))) (e : ℕ) → length logs ≤ e → log_in logs e ≡ []
-none_past logs e l = ap (λ (v : Option (Option (Bor LogState))). option_map_or (λ (log : Option (Bor LogState)). entries_of (option_copied log)) v []) (slice_get_past logs e l)
+none_past : (logs : List (List Entry)) (e : ℕ) → length logs ≤ e → log_in logs e ≡ []
+none_past logs e l = ap (λ (v : Option (List Entry)). option_map_or (λ (log : List Entry). log) v []) (slice_get_past logs e l)
 
-len_push : (logs : List (Option (Bor LogState))) (log : Option (Bor LogState)) → length (logs ++ log ∷ []) ≡ length logs + 1
-len_push [] log = refl
-len_push (x ∷ logs) log = let rest = len_push logs log in omega (arith, rest)
-
-kept : (logs : List (Option (Bor LogState))) (log : Option (Bor LogState)) (e : ℕ) → e < length logs → log_in (logs ++ log ∷ []) e ≡ log_in logs e
+kept : (logs : List (List Entry)) (log : List Entry) (e : ℕ) → e < length logs → log_in (logs ++ log ∷ []) e ≡ log_in logs e
 kept [] log e l = absurd (omega (arith, l))
 kept (x ∷ logs) log zero l = refl
 kept (x ∷ logs) log (suc e) l = kept logs log e (omega (arith, l))
 
-last : (logs : List (Option (Bor LogState))) (log : Option (Bor LogState)) → log_in (logs ++ log ∷ []) (length logs) ≡ entries_of (option_copied log)
+last : (logs : List (List Entry)) (log : List Entry) → log_in (logs ++ log ∷ []) (length logs) ≡ log
 last [] log = refl
 last (x ∷ logs) log = last logs log
 
-pub logs_more : (closed : ClosedState) (logs : List (Option (Bor LogState))) (log : Option (Bor LogState)) (count : ℕ) → LogsBelow closed logs count → entries_of (option_copied log) ≡ entries_numbered closed count → LogsBelow closed (logs ++ log ∷ []) (count + 1)
+pub logs_more : (closed : ClosedState) (logs : List (List Entry)) (log : List Entry) (count : ℕ) → LogsBelow closed logs count → log ≡ entries_numbered closed count → LogsBelow closed (logs ++ log ∷ []) (count + 1)
 logs_more closed logs log count h is = record {
-  len = len_push logs log ∙ ap (λ (n : ℕ). n + 1) h.len;
+  len = length_push logs log ∙ ap (λ (n : ℕ). n + 1) h.len;
   are = λ e l. by_cases e (cases_lt e count) l;
 }
   where
@@ -43,9 +46,9 @@ logs_more closed logs log count h is = record {
         let here : count ≡ e = omega (arith, l, within) in
         subst (λ (n : ℕ). entries_numbered closed n ≡ log_in (logs ++ log ∷ []) n) here (sym is ∙ (sym (last logs log) ∙ ap (λ (n : ℕ). log_in (logs ++ log ∷ []) n) h.len))
 
-pub logs_all : (closed : ClosedState) (logs : List (Option (Bor LogState))) (count : ℕ) → LogsBelow closed logs count → count ≡ least_above closed → ((e : ℕ) → count ≤ e → entries_numbered closed e ≡ []) → HasLogs closed logs
+pub logs_all : (closed : ClosedState) (logs : List (List Entry)) (count : ℕ) → LogsBelow closed logs count → count ≡ least_above closed → ((e : ℕ) → count ≤ e → log_numbered closed e ≡ None) → HasLogs closed logs
 logs_all closed logs count h is past = record { count = h.len ∙ is; are = λ e. by_cases e (cases_lt e count) }
   where
     by_cases : (e : ℕ) → (e < count) ⊎ (count ≤ e) → entries_numbered closed e ≡ log_in logs e
     by_cases e (inl l) = h.are e l
-    by_cases e (inr l) = past e l ∙ sym (none_past logs e (omega (arith, l, h.len)))
+    by_cases e (inr l) = without_log closed e (past e l) ∙ sym (none_past logs e (omega (arith, l, h.len)))

@@ -1,17 +1,17 @@
--- Whether a log of a number passes a test: is mixed, or has handed out a chapter.
-use Rattle.std.proofs.Common.{◌≡◌, ℕ, zero, suc, ◌+◌, ◌==◌, ◌||◌, ◌&&◌, ◌≤◌, nat_le, Bool, true, false, List, [], ◌∷◌, map, filter, All, Contains, refl, sym, ◌∙◌, ap, subst, arith, add-one}
+-- Whether a log of a number passes a test, as that it is mixed.
+use Rattle.std.proofs.Common.{◌≡◌, ℕ, zero, suc, ◌+◌, ◌==◌, ◌||◌, ◌&&◌, Bool, true, false, List, [], ◌∷◌, map, filter, All, Contains, refl, sym, ◌∙◌, ap, subst, arith, add-one}
 use Rattle.std.specs.Bool.{Decides}
 use Rattle.std.specs.List.{list_any}
 use Rattle.std.specs.Option.{option_map_or}
 use Rattle.std.proofs.lemmas.Bool.{ne_eqb, eq-eqb, eqb-true}
-use Rattle.std.proofs.lemmas.Bool.Decides.{Decides-like, nat_tests}
+use Rattle.std.proofs.lemmas.Bool.Decides.{Decides-like}
 use Rattle.std.proofs.lemmas.List.Elements.{All-head, All-tail}
 use Rattle.std.proofs.lemmas.List.Folds.{list_any-append}
 use Rattle.tatp_population.specs.Extents.{ExtentState}
 use Rattle.tatp_partition.specs.Sites.{slot}
 use Rattle.tatp_settle.specs.Closings.{ClosedSiteState, ClosedState, ExtentLog, extents_in_slots, extents_of, logs_of, log_of_homeless, log_of_extent, IsClosedSite, IsClosed, extents_at}
-use Rattle.tatp_settle.specs.Causes.{HasHandedOut, IsMixed, IsInParcel}
-use Rattle.tatp_settle.specs.ExtentTests.{handed_out_here, handed_out_as, mixed_here, mixed_as}
+use Rattle.tatp_settle.specs.Causes.{IsMixed, IsInParcel}
+use Rattle.tatp_settle.specs.ExtentTests.{mixed_here, mixed_as}
 use Rattle.tatp_settle.proofs.StandingLaws.{has_number, in_site}
 use Rattle.tatp_settle.proofs.TestLaws.{Passes, decides_passes, any_mapped, any_filtered, any_both, any_joined, any_listed}
 
@@ -101,21 +101,9 @@ log_is test c e h a b p q =
     (λ m. (m.0, m.1, and_both (m.0.extent == e) (test m.0) (eq-eqb m.0.extent e m.2) m.3))
     (decides_passes (log_passes test e) (logs_of c)))
 
--- ---- the two tests
+-- ---- the tests of extents
 pub mixed_is : (c : ClosedState) (e : ℕ) → IsClosed c → (a b : Bool) → a ≡ list_any (λ s. mixed_here s e) c.sites → b ≡ list_any (mixed_as e) c.parcels → Decides (a || b) (IsMixed c e)
 mixed_is c e h a b p q = log_is (λ log. log.mixed) c e h a b p q
-
-one_or_more : (n : ℕ) → nat_le 1 n ≡ true → 1 ≤ n
-one_or_more n h = grind (arith, nat_tests, h)
-
-more_than_none : (n : ℕ) → 1 ≤ n → nat_le 1 n ≡ true
-more_than_none n l = grind (arith, nat_tests, l)
-
-pub handed_out_is : (c : ClosedState) (e : ℕ) → IsClosed c → (a b : Bool) → a ≡ list_any (λ s. handed_out_here s e) c.sites → b ≡ list_any (handed_out_as e) c.parcels → Decides (a || b) (HasHandedOut c e)
-handed_out_is c e h a b p q = Decides-like (a || b)
-    (λ (m : LogPasses (λ log. nat_le 1 log.chapters) c e). (m.0, m.1, m.2, one_or_more m.0.chapters m.3))
-    (λ m. (m.0, m.1, m.2, more_than_none m.0.chapters m.3))
-    (log_is (λ log. nat_le 1 log.chapters) c e h a b p q)
 
 pub parcel_is : (c : ClosedState) (e : ℕ) → Decides (list_any (has_number e) c.parcels) (IsInParcel c e)
 parcel_is c e = Decides-like (list_any (has_number e) c.parcels)

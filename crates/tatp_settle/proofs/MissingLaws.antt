@@ -1,8 +1,11 @@
 -- The extents that are missing: what a search by number finds.
-use Rattle.std.proofs.Common.{◌≡◌, ℕ, ◌+◌, ◌<◌, ◌≤◌, Option, Some, None, arith}
+use Rattle.std.proofs.Common.{◌≡◌, ℕ, ◌+◌, ◌<◌, ◌≤◌, List, [], Option, Some, None, arith}
 use Rattle.std.specs.Option.{IfNone, IfSome, MatchOption}
 use Rattle.tatp_settle.specs.CallPlaces.{IsFirstNumber}
-use Rattle.tatp_settle.specs.Closings.{ClosedState, greatest_place, times_standing, IsMissing}
+use Rattle.tatp_population.specs.Extents.{ExtentState}
+use Rattle.tatp_population.specs.Chapters.{ChapterState}
+use Rattle.tatp_partition.specs.Sites.{SiteState}
+use Rattle.tatp_settle.specs.Closings.{ClosedState, closed_of, greatest_place, times_standing, IsMissing}
 use Rattle.tatp_settle.specs.Settlements.{IsLeastMissing}
 
 -- what the search of the numbers up to the greatest place finds
@@ -19,3 +22,16 @@ missing_some c (Some e) first = record { missing = first.0; least = first.1 }
 pub missing_none : (c : ClosedState) (r : Option ℕ) → IsFirstNumber (IsMissing c) r → IfNone r ((e : ℕ) → IsMissing c e → ⊥)
 missing_none c None first = first
 missing_none c (Some e) first = tt
+
+-- what is missing of sites and parcels is so whatever chapters came
+pub missing_with : (sites : List SiteState) (parcels : List ExtentState) (chapters : List ChapterState) (e : ℕ) → IsMissing (closed_of sites parcels []) e → IsMissing (closed_of sites parcels chapters) e
+missing_with sites parcels chapters e missing = record { within = missing.within; nowhere = missing.nowhere }
+
+pub missing_without : (sites : List SiteState) (parcels : List ExtentState) (chapters : List ChapterState) (e : ℕ) → IsMissing (closed_of sites parcels chapters) e → IsMissing (closed_of sites parcels []) e
+missing_without sites parcels chapters e missing = record { within = missing.within; nowhere = missing.nowhere }
+
+pub least_with : (sites : List SiteState) (parcels : List ExtentState) (chapters : List ChapterState) (e : ℕ) → IsLeastMissing (closed_of sites parcels []) e → IsLeastMissing (closed_of sites parcels chapters) e
+least_with sites parcels chapters e h = record {
+  missing = missing_with sites parcels chapters e h.missing;
+  least = λ other sooner missing. h.least other sooner (missing_without sites parcels chapters other missing);
+}

@@ -1,22 +1,23 @@
 -- Moves counted number by number are those of all extents.
-use Rattle.std.proofs.Common.{◌≡◌, ℕ, zero, suc, ◌+◌, ◌<◌, ◌≤◌, ◌==◌, ◌&&◌, nat_le, Bool, true, false, cond, List, [], ◌∷◌, ◌++◌, map, length, filter, find, count_by, sum_by, All, Some, slice_index_or, zero-add, add-zero, refl, sym, ◌∙◌, ap, arith, inl, inr}
+use Rattle.std.proofs.Common.{◌≡◌, ℕ, zero, suc, ◌+◌, ◌<◌, ◌≤◌, ◌==◌, ◌&&◌, nat_le, Bool, true, false, cond, if◌then◌else◌, List, [], ◌∷◌, ◌++◌, map, length, filter, find, count_by, sum_by, All, Some, None, is_some, slice_index_or, zero-add, add-zero, refl, sym, ◌∙◌, ap, arith, inl, inr}
 use Rattle.std.specs.List.{range_with_len}
-use Rattle.std.specs.Option.{option_map_or}
+use Rattle.std.specs.Option.{option_map, option_map_or}
 use Rattle.std.proofs.lemmas.Bool.{cases_eq, ne_eqb, eq-eqb, false≢true}
 use Rattle.std.proofs.lemmas.Bool.Decides.{nat_tests}
-use Rattle.std.proofs.lemmas.Option.{cond_some}
-use Rattle.std.proofs.lemmas.List.Elements.{All-nil, All-cons, All-head, All-tail}
+use Rattle.std.proofs.lemmas.List.Elements.{All-head, All-tail, Contains-get_or}
 use Rattle.std.proofs.lemmas.List.Sums.{sum_by-cons}
 use Rattle.tatp_tables.specs.declared.row.Rows.{Rows}
-use Rattle.tatp_population.specs.Extents.{ExtentState}
+use Rattle.tatp_population.specs.Extents.{ExtentState, IsExtent}
 use Rattle.tatp_population.specs.Opening.{homes_of_extent}
 use Rattle.tatp_tables.specs.Database.{database_of}
-use Rattle.tatp_tables.specs.Home.{SubscriberRows}
-use Rattle.tatp_settle.specs.Closings.{ClosedSiteState, extents_of, log_of_homeless, log_of_extent, extents_numbered, moves_numbered}
-use Rattle.tatp_settle.specs.Runs.{Run, extents_populated, homes_populated, moves_left}
+use Rattle.tatp_settle.specs.Closings.{ClosedSiteState, ClosedState, extents_of, log_of_homeless, log_of_extent, log_numbered, extents_numbered, moves_numbered, IsClosed}
+use Rattle.tatp_settle.specs.Runs.{Run, extents_populated, homes_at_first, moves_left}
 use Rattle.tatp_settle.specs.Settlements.{IsPopulationOnce, moves_made}
-use Rattle.tatp_settle.proofs.StandingLaws.{has_number, count_cons}
+use Rattle.tatp_settle.proofs.StandingLaws.{has_number, count_cons, any_counted}
+use Rattle.tatp_settle.proofs.TestLaws.{decides_passes}
 use Rattle.tatp_settle.proofs.LogLaws.{log_has}
+use Rattle.tatp_settle.proofs.NumberedLaws.{extent_log_numbered}
+use Rattle.tatp_settle.proofs.FoundLaws.{first_counted, are_extents}
 
 -- ---- sums over a range
 sum_same : (f g : ℕ → ℕ) (es : List ℕ) → ((e : ℕ) → f e ≡ g e) → sum_by f es ≡ sum_by g es
@@ -105,35 +106,37 @@ counted e (s ∷ sites) extents =
     let rest = counted e sites extents in
     omega (arith, more, rest)
 
--- what holds of those that pass
-of_passing : (P : ExtentState → Type 0) (p : ExtentState → Bool) (xs : List ExtentState) → All P (filter p xs) → All (λ (x : ExtentState). p x ≡ true → P x) xs
-of_passing P p [] all = All-nil (λ (x : ExtentState). p x ≡ true → P x)
-of_passing P p (x ∷ xs) all =
-    elim (p x) as (λ b. p x ≡ b → All P (cond b (x ∷ filter p xs) (filter p xs)) → All (λ (y : ExtentState). p y ≡ true → P y) (x ∷ xs)) [
-      | true ↦ λ is all. All-cons (λ (y : ExtentState). p y ≡ true → P y) x xs (λ _. All-head P x (filter p xs) all) (of_passing P p xs (All-tail P x (filter p xs) all))
-      | false ↦ λ is all. All-cons (λ (y : ExtentState). p y ≡ true → P y) x xs (λ passes. absurd (false≢true (sym is ∙ passes))) (of_passing P p xs all)
-    ] refl all
+-- ---- where the extents stand
+if_some : {A : Type 0} (b : Bool) (x : A) → is_some (if b then Some x else None) ≡ true → b ≡ true
+if_some true x h = refl
+if_some false x h = absurd (false≢true h)
 
 passed_tests : (e n : ℕ) → (nat_le 1 e && nat_le e n) ≡ true → (1 ≤ e) × (e < 1 + n)
 passed_tests e n h = (grind (arith, nat_tests, h), grind (arith, nat_tests, h))
 
-within_populated : (population : Rows) (e : ℕ) (homes : List SubscriberRows) → homes_populated population e ≡ Some homes → (1 ≤ e) × (e < 1 + extents_populated population)
-within_populated population e homes h =
-    passed_tests e (extents_populated population) (cond_some (nat_le 1 e && nat_le e (extents_populated population)) (homes_of_extent (database_of population) (length population.subscribers) e) homes h).0
+within_populated : (population : Rows) (e : ℕ) → 1 ≤ e → is_some (homes_at_first population e) ≡ true → (1 ≤ e) × (e < 1 + extents_populated population)
+within_populated population zero l h = absurd (omega (arith, l))
+within_populated population (suc e) l h =
+    passed_tests (suc e) (extents_populated population) (if_some (nat_le 1 (suc e) && nat_le (suc e) (extents_populated population)) (homes_of_extent (database_of population) (length population.subscribers) (suc e)) h)
 
-are_within : (run : Run) → IsPopulationOnce run → All (λ (x : ExtentState). (1 ≤ x.number) × (x.number < 1 + extents_populated run.population)) (extents_of run.closed)
-are_within run once k d l =
-    let x : ExtentState = slice_index_or (extents_of run.closed) k d in
-    let opened : homes_populated run.population x.number ≡ Some x.opening =
-    of_passing (λ (y : ExtentState). homes_populated run.population x.number ≡ Some y.opening) (has_number x.number) (extents_of run.closed) (once.opened x.number).begins.homes k d l (eq-eqb x.number x.number refl) in
-    within_populated run.population x.number x.opening opened
+-- each extent that stands is one of the population's
+are_within : (run : Run) → IsClosed run.closed → IsPopulationOnce run → All (λ (x : ExtentState). (1 ≤ x.number) × (x.number < 1 + extents_populated run.population)) (extents_of run.closed)
+are_within run closed once k d l =
+    let c : ClosedState = run.closed in
+    let x : ExtentState = slice_index_or (extents_of c) k d in
+    let extent : IsExtent x = are_extents c closed k d l in
+    let least : 1 ≤ x.number = extent.of_extent.numbered in
+    let counted = (any_counted (has_number x.number) (extents_of c)).0 ((decides_passes (has_number x.number) (extents_of c)).1 (x, Contains-get_or (extents_of c) k d l, eq-eqb x.number x.number refl)) in
+    let here = first_counted (has_number x.number) (extents_of c) counted in
+    let log : log_numbered c x.number ≡ Some (log_of_extent here.0) = extent_log_numbered c x.number (λ z. omega (arith, least, z)) ∙ ap (option_map log_of_extent) here.1 in
+    within_populated run.population x.number least (sym (once.stands x.number) ∙ ap is_some log)
 
 -- each extent stands once: its moves are counted by its number
-pub moves_by_number : (run : Run) → IsPopulationOnce run → moves_left run ≡ moves_made run
-moves_by_number run once =
+pub moves_by_number : (run : Run) → IsClosed run.closed → IsPopulationOnce run → moves_left run ≡ moves_made run
+moves_by_number run closed once =
     sum_same (moves_numbered run.closed) (λ e. sum_by (λ (x : ExtentState). x.moves) (extents_numbered run.closed e)) (range_with_len 1 (extents_populated run.population))
     (λ e. sym (only_one (λ (x : ExtentState). x.moves) (has_number e) (extents_of run.closed) (at_most_once e)))
-    ∙ by_number (λ (x : ExtentState). x.moves) 1 (extents_populated run.population) (extents_of run.closed) (are_within run once)
+    ∙ by_number (λ (x : ExtentState). x.moves) 1 (extents_populated run.population) (extents_of run.closed) (are_within run closed once)
   where
     at_most_once : (e : ℕ) → length (extents_numbered run.closed e) ≤ 1
     at_most_once e =

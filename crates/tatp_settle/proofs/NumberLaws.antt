@@ -26,10 +26,10 @@ found_number (y ∷ xs) e x h = number_one e x y (find (has_number e) xs) (y.num
 pub has_its_number : (c : ClosedState) (e : ℕ) (x : ExtentState) → extent_numbered c e ≡ Some x → x.number ≡ e
 has_its_number c e x h = found_number (extents_of c) e x h
 
-range_more : (n : ℕ) → range_with_len 1 (n + 1) ≡ range_with_len 1 n ++ (n + 1) ∷ []
-range_more n =
-    let next : 1 + n ≡ n + 1 = omega arith in
-    sym (map-id (range_with_len 1 (n + 1))) ∙ (map-range_with_len_more (λ (k : ℕ). k) 1 n (n + 1) next ∙ ap (λ (xs : List ℕ). xs ++ (n + 1) ∷ []) (map-id (range_with_len 1 n)))
+-- one number more
+pub range_more : (first n next : ℕ) → first + n ≡ next → range_with_len first (n + 1) ≡ range_with_len first n ++ next ∷ []
+range_more first n next is =
+    sym (map-id (range_with_len first (n + 1))) ∙ (map-range_with_len_more (λ (k : ℕ). k) first n next is ∙ ap (λ (xs : List ℕ). xs ++ next ∷ []) (map-id (range_with_len first n)))
 
 -- one extent's homes more
 pub rows_more : (f : ℕ → List SubscriberRows) (n : ℕ) (rows : Rows) → rows ≡ rows_of_homes (flat_map f (range_with_len 1 n))
@@ -39,10 +39,10 @@ rows_more f n rows is =
     ∙ (sym (fold-append (λ all (home : SubscriberRows). with_home all home.tables) (record { subscribers = []; accesses = []; facilities = []; forwardings = [] }) (flat_map f (range_with_len 1 n)) (f (n + 1)))
     ∙ ap rows_of_homes
     (ap (λ (xs : List SubscriberRows). flat_map f (range_with_len 1 n) ++ xs) (sym (append-nil (f (n + 1))))
-    ∙ (sym (flat_map-append f (range_with_len 1 n) ((n + 1) ∷ [])) ∙ ap (flat_map f) (sym (range_more n)))))
+    ∙ (sym (flat_map-append f (range_with_len 1 n) ((n + 1) ∷ [])) ∙ ap (flat_map f) (sym (range_more 1 n (n + 1) (omega arith))))))
 
 -- one extent's moves more
 pub moves_more : (f : ℕ → ℕ) (n : ℕ) → sum_by f (range_with_len 1 (n + 1)) ≡ sum_by f (range_with_len 1 n) + f (n + 1)
 moves_more f n =
     let one = sum_by-cons f (n + 1) [] in
-    ap (sum_by f) (range_more n) ∙ (sum_by-append f (range_with_len 1 n) ((n + 1) ∷ []) ∙ ap (λ (k : ℕ). sum_by f (range_with_len 1 n) + k) (let k : sum_by f ((n + 1) ∷ []) ≡ f (n + 1) = omega (arith, one) in k))
+    ap (sum_by f) (range_more 1 n (n + 1) (omega arith)) ∙ (sum_by-append f (range_with_len 1 n) ((n + 1) ∷ []) ∙ ap (λ (k : ℕ). sum_by f (range_with_len 1 n) + k) (let k : sum_by f ((n + 1) ∷ []) ≡ f (n + 1) = omega (arith, one) in k))

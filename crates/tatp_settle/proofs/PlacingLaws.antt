@@ -1,9 +1,8 @@
 -- The entries of all logs, put into the table of calls one after another.
-use Rattle.std.proofs.Common.{Vec, Global, ◌≡◌, ℕ, ◌<◌, ◌≤◌, ◌+◌, ◌⊎◌, inl, inr, Bool, zero, suc, ◌-◌, ◌++◌, [], ◌∷◌, length, List, Option, Some, None, true, false, refl, sym, ◌∙◌, ap, subst, arith}
+use Rattle.std.proofs.Common.{◌≡◌, ℕ, ◌<◌, ◌≤◌, ◌+◌, ◌⊎◌, inl, inr, Bool, zero, suc, ◌-◌, ◌++◌, [], ◌∷◌, length, List, Option, Some, None, true, false, refl, sym, ◌∙◌, ap, subst, length-append, arith}
 use Rattle.std.specs.Option.{option_or}
 use Rattle.std.proofs.lemmas.Option.{same_Some, none-some}
 use Rattle.std.proofs.lemmas.Bool.{false≢true}
-use Rattle.std.proofs.Math.ListN.{length-map}
 use Rattle.tatp_procs.specs.declared.entry.Entry.{Entry}
 use Rattle.tatp_partition.specs.declared.receipt.Receipt.{Receipt}
 use Rattle.tatp_settle.specs.declared.places.LogPlace.{LogPlace}
@@ -11,7 +10,7 @@ use Rattle.tatp_settle.specs.declared.places.CallPlace.{CallPlace}
 use Rattle.tatp_settle.specs.declared.placement.Placed.{Placed}
 use Rattle.tatp_population.specs.Logs.{IsOfCall}
 use Rattle.tatp_settle.specs.Closings.{ClosedState, entries_numbered, StandsAt}
-use Rattle.tatp_settle.specs.Runs.{at_call, lists_of}
+use Rattle.tatp_settle.specs.Runs.{at_call}
 use Rattle.tatp_settle.specs.Answering.{EntryFound}
 use Rattle.tatp_settle.specs.CallPlaces.{IsSooner, IsFirstCall}
 use Rattle.tatp_settle.specs.Causes.{HasEntryTooMany}
@@ -24,7 +23,7 @@ abbrev pub IsVisited : ℕ → ℕ → ℕ → ℕ → Type 0
 IsVisited extent index e i = (e < extent) ⊎ ((e ≡ extent) × (i < index))
 
 -- of the clients that belong there, the entries before a place are in the cells of their calls, or stand no sooner than the least call with an entry too many
-pub record PlacedBefore (closed : ClosedState) (receipts : List (List Receipt)) (first : ℕ) (last : Bool) (cells : Cells) (least : Option CallPlace) (extent index : ℕ) : Type 0 where
+pub record PlacedBefore (closed : ClosedState) (receipts : List (List Receipt)) (first : ℕ) (last : Bool) (cells : Cells LogPlace) (least : Option CallPlace) (extent index : ℕ) : Type 0 where
   pub none : (at number : ℕ) → at_call receipts at number ≡ None → cells at number ≡ None
   pub some : (at number : ℕ) → cells at number ≡ None → at_call receipts at number ≡ None
   pub points : (at number : ℕ) (place : LogPlace) → cells at number ≡ Some (Some place) → Points closed (first + at) number place × IsVisited extent index place.extent place.index
@@ -64,7 +63,7 @@ abbrev place_at : ℕ → ℕ → LogPlace
 place_at extent index = record { extent = extent; index = index }
 
 -- the whole log was seen
-pub placed_log : (closed : ClosedState) (receipts : List (List Receipt)) (first : ℕ) (last : Bool) (cells : Cells) (least : Option CallPlace) (x count : ℕ) → PlacedBefore closed receipts first last cells least x count → ((i : ℕ) (entry : Entry) → count ≤ i → StandsAt closed x i entry → ⊥) → PlacedBefore closed receipts first last cells least (x + 1) 0
+pub placed_log : (closed : ClosedState) (receipts : List (List Receipt)) (first : ℕ) (last : Bool) (cells : Cells LogPlace) (least : Option CallPlace) (x count : ℕ) → PlacedBefore closed receipts first last cells least x count → ((i : ℕ) (entry : Entry) → count ≤ i → StandsAt closed x i entry → ⊥) → PlacedBefore closed receipts first last cells least (x + 1) 0
 placed_log closed receipts first last cells least x count h past = record {
   none = h.none;
   some = h.some;
@@ -84,7 +83,7 @@ entry_there : (closed : ClosedState) (x i e j : ℕ) (entry f : Entry) → Stand
 entry_there closed x i e j entry f at g s t = same_Some entry f (sym at ∙ (subst (λ (d : ℕ). StandsAt closed x d f) t (subst (λ (d : ℕ). StandsAt closed d j f) s g)))
 
 -- the entry's client doesn't belong there
-pub placed_other : (closed : ClosedState) (receipts : List (List Receipt)) (first : ℕ) (last : Bool) (cells : Cells) (least : Option CallPlace) (x i : ℕ) (entry : Entry) → PlacedBefore closed receipts first last cells least x i → StandsAt closed x i entry
+pub placed_other : (closed : ClosedState) (receipts : List (List Receipt)) (first : ℕ) (last : Bool) (cells : Cells LogPlace) (least : Option CallPlace) (x i : ℕ) (entry : Entry) → PlacedBefore closed receipts first last cells least x i → StandsAt closed x i entry
     → ((at : ℕ) → first + at ≡ entry.client → BelongsAt receipts last at → ⊥) → PlacedBefore closed receipts first last cells least x (i + 1)
 placed_other closed receipts first last cells least x i entry h here other = record {
   none = h.none;
@@ -98,7 +97,7 @@ placed_other closed receipts first last cells least x i entry h here other = rec
 }
 
 -- the entry's cell was empty, and has its place now
-pub placed_put : (closed : ClosedState) (receipts : List (List Receipt)) (first : ℕ) (last : Bool) (cells cells' : Cells) (least : Option CallPlace) (x i k : ℕ) (entry : Entry) → PlacedBefore closed receipts first last cells least x i → StandsAt closed x i entry → first + k ≡ entry.client
+pub placed_put : (closed : ClosedState) (receipts : List (List Receipt)) (first : ℕ) (last : Bool) (cells cells' : Cells LogPlace) (least : Option CallPlace) (x i k : ℕ) (entry : Entry) → PlacedBefore closed receipts first last cells least x i → StandsAt closed x i entry → first + k ≡ entry.client
     → Puts cells k entry.number (record { extent = x; index = i }) true cells' → PlacedBefore closed receipts first last cells' least x (i + 1)
 placed_put closed receipts first last cells cells' least x i k entry h here here_is q = record {
   none = λ c n e. elim (same_or c n k entry.number) as (λ _. cells' c n ≡ None) [
@@ -141,7 +140,7 @@ placed_put closed receipts first last cells cells' least x i k entry h here here
         subst (λ (m : ℕ). cells' m f.number ≡ Some (Some place)) place_is (subst (λ (r : Entry). cells' k r.number ≡ Some (Some place)) same q.1)
 
 -- the entry's cell was filled or isn't there: its call has an entry too many
-pub placed_kept : (closed : ClosedState) (receipts : List (List Receipt)) (first : ℕ) (last : Bool) (cells cells' : Cells) (least least' : Option CallPlace) (x i k : ℕ) (entry : Entry) → PlacedBefore closed receipts first last cells least x i → StandsAt closed x i entry → first + k ≡ entry.client → BelongsAt receipts last k
+pub placed_kept : (closed : ClosedState) (receipts : List (List Receipt)) (first : ℕ) (last : Bool) (cells cells' : Cells LogPlace) (least least' : Option CallPlace) (x i k : ℕ) (entry : Entry) → PlacedBefore closed receipts first last cells least x i → StandsAt closed x i entry → first + k ≡ entry.client → BelongsAt receipts last k
     → Puts cells k entry.number (record { extent = x; index = i }) false cells'
     → ((c n : ℕ) → IsAtMost least c n → IsAtMost least' c n) → IsAtMost least' entry.client entry.number → (least' ≡ least) ⊎ (least' ≡ Some (record { client = entry.client; number = entry.number })) → PlacedBefore closed receipts first last cells' least' x (i + 1)
 placed_kept closed receipts first last cells cells' least least' x i k entry h here here_is belongs q keeps most is = record {
@@ -171,18 +170,18 @@ placed_kept closed receipts first last cells cells' least least' x i k entry h h
         inr (record { one = found; other = record { extent = p.extent; place = p.index; entry = old.0.entry; stands = old.0.stands; own = record { client = old.0.own.client ∙ here_is; number = old.0.own.number } }; apart = λ a b. unvisited p.extent p.index old.1 a b })
 
 -- ---- the same, of an entry of which only its call is read
-pub caller_other : (closed : ClosedState) (receipts : List (List Receipt)) (first : ℕ) (last : Bool) (cells : Cells) (least : Option CallPlace) (x i client number : ℕ) → PlacedBefore closed receipts first last cells least x i → IsOfCall (entries_numbered closed x) i client number
+pub caller_other : (closed : ClosedState) (receipts : List (List Receipt)) (first : ℕ) (last : Bool) (cells : Cells LogPlace) (least : Option CallPlace) (x i client number : ℕ) → PlacedBefore closed receipts first last cells least x i → IsOfCall (entries_numbered closed x) i client number
     → ((at : ℕ) → first + at ≡ client → BelongsAt receipts last at → ⊥) → PlacedBefore closed receipts first last cells least x (i + 1)
 caller_other closed receipts first last cells least x i client number h call other =
     placed_other closed receipts first last cells least x i call.entry h call.stands (λ at is own. other at (is ∙ call.of_client) own)
 
-pub caller_put : (closed : ClosedState) (receipts : List (List Receipt)) (first : ℕ) (last : Bool) (cells cells' : Cells) (least : Option CallPlace) (x i k client number : ℕ) → PlacedBefore closed receipts first last cells least x i → IsOfCall (entries_numbered closed x) i client number → first + k ≡ client
+pub caller_put : (closed : ClosedState) (receipts : List (List Receipt)) (first : ℕ) (last : Bool) (cells cells' : Cells LogPlace) (least : Option CallPlace) (x i k client number : ℕ) → PlacedBefore closed receipts first last cells least x i → IsOfCall (entries_numbered closed x) i client number → first + k ≡ client
     → Puts cells k number (record { extent = x; index = i }) true cells' → PlacedBefore closed receipts first last cells' least x (i + 1)
 caller_put closed receipts first last cells cells' least x i k client number h call is q =
     placed_put closed receipts first last cells cells' least x i k call.entry h call.stands (is ∙ sym call.of_client)
     (subst (λ (n : ℕ). Puts cells k n (record { extent = x; index = i }) true cells') (sym call.of_number) q)
 
-pub caller_kept : (closed : ClosedState) (receipts : List (List Receipt)) (first : ℕ) (last : Bool) (cells cells' : Cells) (least least' : Option CallPlace) (x i k client number : ℕ) → PlacedBefore closed receipts first last cells least x i → IsOfCall (entries_numbered closed x) i client number → first + k ≡ client → BelongsAt receipts last k
+pub caller_kept : (closed : ClosedState) (receipts : List (List Receipt)) (first : ℕ) (last : Bool) (cells cells' : Cells LogPlace) (least least' : Option CallPlace) (x i k client number : ℕ) → PlacedBefore closed receipts first last cells least x i → IsOfCall (entries_numbered closed x) i client number → first + k ≡ client → BelongsAt receipts last k
     → Puts cells k number (record { extent = x; index = i }) false cells'
     → ((c n : ℕ) → IsAtMost least c n → IsAtMost least' c n) → IsAtMost least' client number → (least' ≡ least) ⊎ (least' ≡ Some (record { client = client; number = number })) → PlacedBefore closed receipts first last cells' least' x (i + 1)
 caller_kept closed receipts first last cells cells' least least' x i k client number h call here_is belongs q keeps most is =
@@ -197,7 +196,7 @@ caller_kept closed receipts first last cells cells' least least' x i k client nu
     ])
 
 -- all logs were seen
-pub placed_part : (closed : ClosedState) (receipts : List (List Receipt)) (first : ℕ) (last : Bool) (cells : Cells) (least : Option CallPlace) (count : ℕ) → ((e i : ℕ) (entry : Entry) → count ≤ e → StandsAt closed e i entry → ⊥) → PlacedBefore closed receipts first last cells least count 0 → ArePlacedIn closed receipts first last cells least
+pub placed_part : (closed : ClosedState) (receipts : List (List Receipt)) (first : ℕ) (last : Bool) (cells : Cells LogPlace) (least : Option CallPlace) (count : ℕ) → ((e i : ℕ) (entry : Entry) → count ≤ e → StandsAt closed e i entry → ⊥) → PlacedBefore closed receipts first last cells least count 0 → ArePlacedIn closed receipts first last cells least
 placed_part closed receipts first last cells least count past h = record {
   none = h.none;
   some = h.some;
@@ -220,15 +219,7 @@ at_back : {A : Type 0} (xs ys : List (List A)) (k n : ℕ) → at_call (xs ++ ys
 at_back [] ys k n = ap (λ (m : ℕ). at_call ys m n) (let e : 0 + k ≡ k = omega arith in e)
 at_back (x ∷ xs) ys k n = ap (λ (m : ℕ). at_call (x ∷ xs ++ ys) m n) (let e : suc (length xs) + k ≡ suc (length xs + k) = omega arith in e) ∙ at_back xs ys k n
 
-length_both : {A : Type 0} (xs ys : List A) → length (xs ++ ys) ≡ length xs + length ys
-length_both [] ys = omega arith
-length_both (x ∷ xs) ys = let rest = length_both xs ys in omega (arith, rest)
-
-lists_both : {A : Type 0} (xs ys : List (Vec A Global)) → lists_of (xs ++ ys) ≡ lists_of xs ++ lists_of ys
-lists_both [] ys = refl
-lists_both (x ∷ xs) ys = ap (λ t. x.items ∷ t) (lists_both xs ys)
-
-module _ (closed : ClosedState) (low high : List (List Receipt)) (first : ℕ) (last : Bool) (front back cells : Cells)
+module _ (closed : ClosedState) (low high : List (List Receipt)) (first : ℕ) (last : Bool) (front back cells : Cells LogPlace)
     (at_low : (k n : ℕ) → k < length low → cells k n ≡ front k n) (at_high : (k n : ℕ) → cells (length low + k) n ≡ back k n) where
   which : (k : ℕ) → (k < length low) ⊎ ((j : ℕ) × (length low + j ≡ k))
   which k = elim (lt_or k (length low)) as (λ _. (k < length low) ⊎ ((j : ℕ) × (length low + j ≡ k))) [ inl l ↦ inl l | inr g ↦ inr (k - length low, omega (arith, g)) ]
@@ -255,15 +246,15 @@ module _ (closed : ClosedState) (low high : List (List Receipt)) (first : ℕ) (
   ]
 
   belongs_high : (j k : ℕ) → length low + j ≡ k → BelongsAt (low ++ high) last k → BelongsAt high last j
-  belongs_high j k e (inl l) = let both = length_both low high in inl (omega (arith, e, l, both))
+  belongs_high j k e (inl l) = let both = length-append low high in inl (omega (arith, e, l, both))
   belongs_high j k e (inr all) = inr all
 
   belongs_low : (k : ℕ) → BelongsAt low false k → BelongsAt (low ++ high) last k
-  belongs_low k (inl l) = let both = length_both low high in inl (omega (arith, l, both))
+  belongs_low k (inl l) = let both = length-append low high in inl (omega (arith, l, both))
   belongs_low k (inr never) = absurd (false≢true never)
 
   belongs_both : (j : ℕ) → BelongsAt high last j → BelongsAt (low ++ high) last (length low + j)
-  belongs_both j (inl l) = let both = length_both low high in inl (omega (arith, l, both))
+  belongs_both j (inl l) = let both = length-append low high in inl (omega (arith, l, both))
   belongs_both j (inr all) = inr all
 
   most_front : (least other : Option CallPlace) (c n : ℕ) → IsAtMost least c n → IsAtMost (option_or least other) c n
@@ -322,34 +313,27 @@ module _ (closed : ClosedState) (low high : List (List Receipt)) (first : ℕ) (
   both_placed least other f b = record { none = both_none least other f b; some = both_some least other f b; points = both_points least other f b; seen = both_seen least other f b; extra = both_extra least other f b }
 
 -- the rows of two tables, one after the other
-pub both_tables : (closed : ClosedState) (low high : List (List Receipt)) (first : ℕ) (last : Bool) (front back both : Placed) → both.table.rows.items ≡ front.table.rows.items ++ back.table.rows.items → both.extra ≡ option_or front.extra back.extra
+pub both_tables : (closed : ClosedState) (low high : List (List Receipt)) (first : ℕ) (last : Bool) (front back both : Placed) → both.table ≡ front.table ++ back.table → both.extra ≡ option_or front.extra back.extra
     → IsTableOf closed low first false front → IsTableOf closed high (first + length low) last back → IsTableOf closed (low ++ high) first last both
 both_tables closed low high first last front back both rows extra f b = record {
-  len = both.table.rows.ok.0 ∙ (ap length rows ∙ (length_both front.table.rows.items back.table.rows.items ∙ (sum ∙ sym (length_both low high))));
+  len = ap length rows ∙ (length-append front.table back.table ∙ ((λ i. f.len i + b.len i) ∙ sym (length-append low high)));
   placed = subst (λ (v : Option CallPlace). ArePlacedIn closed (low ++ high) first last (cells_of both.table) v) (sym extra)
       (both_placed closed low high first last (cells_of front.table) (cells_of back.table) (cells_of both.table) at_low at_high front.extra back.extra f.placed b.placed);
 }
   where
-    sum : length front.table.rows.items + length back.table.rows.items ≡ length low + length high
-    sum = let l = sym front.table.rows.ok.0 ∙ f.len in let h = sym back.table.rows.ok.0 ∙ b.len in omega (arith, l, h)
-
-    same : lists_of both.table.rows.items ≡ lists_of front.table.rows.items ++ lists_of back.table.rows.items
-    same = ap lists_of rows ∙ lists_both front.table.rows.items back.table.rows.items
-
-    front_len : length (lists_of front.table.rows.items) ≡ length low
-    front_len = length-map front.table.rows.items (λ v. v.items) ∙ (sym front.table.rows.ok.0 ∙ f.len)
-
     at_low : (k n : ℕ) → k < length low → cells_of both.table k n ≡ cells_of front.table k n
-    at_low k n l = ap (λ rows. at_call rows k n) same ∙ at_front (lists_of front.table.rows.items) (lists_of back.table.rows.items) k n (omega (arith, l, front_len))
+    at_low k n l = ap (λ (t : List (List (Option LogPlace))). cells_of t k n) rows ∙ at_front front.table back.table k n (omega (arith, l, f.len))
 
     at_high : (k n : ℕ) → cells_of both.table (length low + k) n ≡ cells_of back.table k n
-    at_high k n = ap (λ rows. at_call rows (length low + k) n) same ∙ (ap (λ (m : ℕ). at_call (lists_of front.table.rows.items ++ lists_of back.table.rows.items) (m + k) n) (sym front_len) ∙ at_back (lists_of front.table.rows.items) (lists_of back.table.rows.items) k n)
+    at_high k n =
+        ap (λ (t : List (List (Option LogPlace))). cells_of t (length low + k) n) rows
+        ∙ (ap (λ (m : ℕ). cells_of (front.table ++ back.table) (m + k) n) (sym f.len) ∙ at_back front.table back.table k n)
 
 -- ---- the lists of all clients
 from_zero : (n : ℕ) → 0 + n ≡ n
 from_zero n = omega arith
 
-module _ (closed : ClosedState) (receipts : List (List Receipt)) (cells : Cells) where
+module _ (closed : ClosedState) (receipts : List (List Receipt)) (cells : Cells LogPlace) where
   pub placed_all : ArePlacedIn closed receipts 0 true cells None → AllPlaced closed receipts cells
   placed_all h = record {
     some = h.some;

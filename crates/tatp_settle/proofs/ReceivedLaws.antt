@@ -1,26 +1,22 @@
 -- Where no pass over receipts, calls and logs finds anything, the clients received what was logged.
-use Rattle.std.proofs.Common.{◌≡◌, ℕ, ◌≤◌, List, [], ◌∷◌, Contains, Option, Some, None, slice_get, refl, sym, ◌∙◌, ap, subst, arith, inl, inr}
-use Rattle.std.specs.Coded.{coded_list, coded_option}
+use Rattle.std.proofs.Common.{◌≡◌, ℕ, List, Option, Some, None, slice_get, refl, sym, ◌∙◌, ap, subst, inl, inr}
 use Rattle.std.proofs.lemmas.Option.{same_Some, none-some}
-use Rattle.tatp_tables.specs.Home.{subscriber_rows_code}
-use Rattle.tatp_tables.specs.declared.row.Rows.{Rows}
 use Rattle.tatp_procs.specs.declared.ask.Ask.{Ask}
 use Rattle.tatp_procs.specs.declared.entry.Entry.{Entry}
 use Rattle.tatp_procs.specs.contracts.ask.Ask as ask
-use Rattle.tatp_population.specs.Extents.{ExtentState}
 use Rattle.tatp_partition.specs.declared.receipt.Receipt.{Receipt}
 use Rattle.tatp_partition.specs.declared.receipt.Receipt.TheVariants.{Done, Refused}
 use Rattle.tatp_partition.specs.contracts.receipt.Receipt as receipt
 use Rattle.tatp_settle.specs.declared.places.LogPlace.{LogPlace}
-use Rattle.tatp_settle.specs.Closings.{ClosedState, entries_numbered, times_standing, StandsAt}
+use Rattle.tatp_settle.specs.Closings.{ClosedState, entries_numbered, StandsAt}
 use Rattle.tatp_settle.specs.Runs.{Run, at_call}
 use Rattle.tatp_settle.specs.Receipts.{IsOf}
 use Rattle.tatp_settle.specs.Answering.{AreMatched, EntryFound, receipt_of, IsAnswered, HasReceipt}
 use Rattle.tatp_settle.specs.CallPlaces.{HoldsNowhere}
-use Rattle.tatp_settle.specs.Causes.{OpenedAsPopulated, IsMixed, IsInParcel, IsUnmatched, ReceiptDiffers, Differs}
+use Rattle.tatp_settle.specs.Causes.{IsUnmatched, ReceiptDiffers, Differs}
 use Rattle.tatp_settle.specs.Placing.{AllPlaced, Cells}
-use Rattle.tatp_settle.specs.Settlements.{IsPopulationOnce, IsReceived}
-use Rattle.tatp_settle.proofs.StableLaws.{equal_numbers, at_most, equal_unless}
+use Rattle.tatp_settle.specs.Settlements.{IsReceived}
+use Rattle.tatp_settle.proofs.StableLaws.{equal_numbers, equal_unless}
 
 -- ---- calls and receipts
 pub matched_unless : (client number : ℕ) (call : Option Ask) (got : Option Receipt) → ((AreMatched client number call got → ⊥) → ⊥) → AreMatched client number call got
@@ -36,7 +32,7 @@ of_call client number None got r m is = absurd (subst (AreMatched client number 
 of_call client number (Some a) got r m is = subst (AreMatched client number (Some a)) is m
 
 -- ---- entries in their cells
-module _ (closed : ClosedState) (receipts : List (List Receipt)) (cells : Cells) (all : AllPlaced closed receipts cells) where
+module _ (closed : ClosedState) (receipts : List (List Receipt)) (cells : Cells LogPlace) (all : AllPlaced closed receipts cells) where
   pub in_cell : (client number : ℕ) (f : EntryFound closed client number) → cells client number ≡ Some (Some (record { extent = f.extent; index = f.place }))
   in_cell client number f = (λ i. cells (sym f.own.client i) (sym f.own.number i)) ∙ all.placed f.extent f.place f.entry f.stands
 
@@ -138,7 +134,7 @@ module _ (closed : ClosedState) (receipts : List (List Receipt)) (cells : Cells)
           by (Some r) is = is ∙ ap Some (as_logged entry.client entry.number f r is)
 
 -- nothing is found: each client's receipts are its calls in order, and each entry has its receipt
-pub received : (run : Run) (cells : Cells) → HoldsNowhere (IsUnmatched run.calls run.receipts) → AllPlaced run.closed run.receipts cells → HoldsNowhere (Differs run.closed run.calls run.receipts) → IsReceived run
+pub received : (run : Run) (cells : Cells LogPlace) → HoldsNowhere (IsUnmatched run.calls run.receipts) → AllPlaced run.closed run.receipts cells → HoldsNowhere (Differs run.closed run.calls run.receipts) → IsReceived run
 received run cells unmatched all agree =
     let matched : (client number : ℕ) → AreMatched client number (at_call run.calls client number) (at_call run.receipts client number) =
     λ client number. matched_unless client number (at_call run.calls client number) (at_call run.receipts client number) (unmatched client number) in
@@ -148,27 +144,3 @@ received run cells unmatched all agree =
       known = has_receipt run.closed run.receipts cells all run.calls matched agree;
       once = λ client number one other. one_place run.closed run.receipts cells all client number one other;
     }
-
--- ---- extents
-opened_unless : (population : Rows) (closed : ClosedState) (e : ℕ) → ((OpenedAsPopulated population closed e → ⊥) → ⊥) → OpenedAsPopulated population closed e
-opened_unless population closed e h = record {
-  begins = record {
-    stands = λ some. at_most 1 _ (λ less. h (λ o. let m = o.begins.stands some in omega (arith, less, m)));
-    homes = λ k d l. equal_unless (coded_option (coded_list subscriber_rows_code)) _ _ (λ other. h (λ o. other (o.begins.homes k d l)));
-  };
-  whole = λ out. h (λ o. o.whole out);
-}
-
--- nothing is found: each extent stands once, at a site, as the population opened it, and is unmixed
-pub population_once : (run : Run) → ((e : ℕ) → (OpenedAsPopulated run.population run.closed e → ⊥) → ⊥) → ((e : ℕ) → IsMixed run.closed e → ⊥) → ((e : ℕ) → IsInParcel run.closed e → ⊥) → ((e : ℕ) → 2 ≤ times_standing run.closed e → ⊥)
-    → IsPopulationOnce run
-population_once run opened mixed left twice = record {
-  opened = λ e. opened_unless run.population run.closed e (opened e);
-  unmixed = mixed;
-  landed = no_parcel run.closed.parcels refl;
-  once = λ e. at_most (times_standing run.closed e) 1 (λ more. twice e (omega (arith, more)));
-}
-  where
-    no_parcel : (parcels : List ExtentState) → run.closed.parcels ≡ parcels → run.closed.parcels ≡ []
-    no_parcel [] is = is
-    no_parcel (x ∷ more) is = absurd (left x.number (x, subst (λ (l : List ExtentState). Contains l x) (sym is) (0, omega arith, refl), refl))

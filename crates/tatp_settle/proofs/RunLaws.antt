@@ -1,11 +1,10 @@
 -- The logs that a run left are those of separate extents of its population, merged into one history of it.
-use Rattle.std.proofs.Common.{◌≡◌, ℕ, zero, suc, ◌+◌, ◌≤◌, ◌==◌, ◌&&◌, nat_le, Bool, true, false, cond, if◌then◌else◌, List, [], ◌∷◌, ◌++◌, map, length, filter, find, All, Contains, Option, Some, None, IsSome, is_some, slice_get, zero-add, refl, sym, ◌∙◌, ap, subst, arith}
+use Rattle.std.proofs.Common.{◌≡◌, ℕ, zero, suc, ◌+◌, ◌≤◌, ◌==◌, Bool, true, false, List, [], ◌∷◌, ◌++◌, map, length, filter, find, All, Contains, Option, Some, None, IsSome, is_some, slice_get, zero-add, refl, sym, ◌∙◌, ap, subst, arith}
 use Rattle.std.specs.List.{range_with_len}
 use Rattle.std.specs.Option.{option_map, option_map_or}
-use Rattle.std.proofs.lemmas.Bool.Decides.{nat_tests}
-use Rattle.std.proofs.lemmas.Bool.{eqb-true, false≢true}
-use Rattle.std.proofs.lemmas.Option.{slice_get-map, same_Some}
-use Rattle.std.proofs.lemmas.List.Elements.{All-nil, All-head, All-tail, All-append, All-filter, All-contains}
+use Rattle.std.proofs.lemmas.Bool.{eqb-true, false≢true, false_from_ne_true}
+use Rattle.std.proofs.lemmas.Option.{slice_get-map}
+use Rattle.std.proofs.lemmas.List.Elements.{All-nil, All-head, All-tail, All-filter, All-contains}
 use Rattle.tatp_tables.specs.Tuples.{Tuple, rows_of, no_rows}
 use Rattle.tatp_tables.specs.Keys.{has_key, has_number}
 use Rattle.tatp_tables.specs.Database.{Database, database_of, no_tables}
@@ -25,65 +24,34 @@ use Rattle.tatp_procs.specs.declared.reply.Reply.TheVariants.{Failed}
 use Rattle.tatp_procs.specs.Transactions.{Answer, transaction}
 use Rattle.tatp_procs.proofs.ConsistentLaws.{IsConsistent-home, IsConsistent-clean}
 use Rattle.tatp_procs.proofs.LocalityLaws.{fails_without_home}
-use Rattle.tatp_population.specs.Histories.{Leads, IsHistory}
+use Rattle.tatp_population.specs.Histories.{Leads}
 use Rattle.tatp_population.specs.Extents.{ExtentState, IsExtent}
-use Rattle.tatp_population.specs.HomelessLog.{RecordsHomeless, IsHomelessHistory}
+use Rattle.tatp_population.specs.HomelessLog.{RecordsHomeless}
+use Rattle.tatp_population.specs.Chapters.{ChapterState, IsChapterOfHomes, IsChapterWithoutHomes, Joins, EachLeads, entries_joined}
 use Rattle.tatp_population.specs.Opening.{homes_of_extent}
 use Rattle.tatp_population.specs.HomeRows.{database_of_homes, AreRowsOf}
 use Rattle.tatp_population.proofs.HomeRowsLaws.{rows_are_the_database}
 use Rattle.tatp_population.proofs.CleanRowsLaws.{rows_of_clean}
+use Rattle.tatp_population.proofs.ChapterLaws.{joined_lead, joined_homeless}
 use Rattle.tatp_procs.specs.Asked.{key_asked}
-use Rattle.tatp_settle.specs.Closings.{ClosedSiteState, ClosedState, ExtentLog, extents_in_slots, extents_of, logs_of, log_of_homeless, log_of_extent, extent_numbered, extents_numbered, entries_numbered, IsClosedSite, IsClosed, extents_at, homes_numbered}
+use Rattle.tatp_settle.specs.Closings.{ClosedSiteState, ClosedState, ExtentLog, extents_of, logs_of, log_of_homeless, log_of_extent, log_numbered, extent_numbered, homes_numbered, chapter_numbered, chapter_count, chapters_numbered, entries_since, entries_numbered, IsClosedSite, IsClosed}
 use Rattle.tatp_settle.specs.Merging.{PlacedEntry, IsMergeable, IsAnsweredInOrder, OneHistory}
-use Rattle.tatp_settle.specs.Runs.{Run, extents_populated, homes_populated, logs_left, homes_left, rows_left}
+use Rattle.tatp_settle.specs.Runs.{Run, extents_populated, homes_at_first, logs_left, homes_left, rows_left}
 use Rattle.tatp_settle.specs.Answering.{HasReceipt}
 use Rattle.tatp_settle.specs.CallPlaces.{HoldsNowhere}
 use Rattle.tatp_settle.specs.Causes.{StampFalls, NamesHome}
 use Rattle.tatp_settle.specs.Settlements.{IsPopulationOnce, IsReceived}
 use Rattle.tatp_settle.specs.Separate.{Parts, AllFindNone, LogAt, LeadsToLast}
 use Rattle.tatp_settle.proofs.StandingLaws.{has_number as is_numbered}
-use Rattle.tatp_settle.proofs.LogLaws.{log_has, log_found, log_of_number, none_zero}
+use Rattle.tatp_settle.proofs.LogLaws.{log_has, log_found, none_zero}
+use Rattle.tatp_settle.proofs.NumberedLaws.{extent_log_numbered}
+use Rattle.tatp_settle.proofs.PopulatedLaws.{populated}
+use Rattle.tatp_settle.proofs.FoundLaws.{found, are_extents, chapter_found, all_listed}
 use Rattle.tatp_settle.specs.Interleaving.{IsOneHistoryInAnyOrder}
 use Rattle.tatp_settle.proofs.MergeLaws.{map_get, every_interleaving_is_one_history, merges_interleave}
 use Rattle.tatp_settle.proofs.TakingLaws.{logs_can_be_merged}
 use Rattle.tatp_settle.proofs.TurnLaws.{Rises, EachRises, StandsIn, clients_are_in_turn}
 use Rattle.tatp_settle.proofs.PartLaws.{range_got, range_gives, ids_of_extent, extents_are_separate, extents_joined, rows_stay}
-
--- ---- finds
--- what is found stands in the list, and passes
-found : {A : Type 0} (p : A → Bool) (xs : List A) (x : A) → find p xs ≡ Some x → Contains xs x × (p x ≡ true)
-found p [] x h = absurd cc
-found p (y ∷ ys) x h = elim (p y) as (λ b. p y ≡ b → cond b (Some y) (find p ys) ≡ Some x → Contains (y ∷ ys) x × (p x ≡ true)) [
-  | true ↦ λ is h. let same : y ≡ x = cc in ((0, omega arith, same), ap p (sym same) ∙ is)
-  | false ↦ λ is h. let rest = found p ys x h in ((suc rest.0.0, omega (arith, rest.0.1), rest.0.2), rest.1)
-] refl h
-
--- where some pass, the first that does is found
-first_passing : {A : Type 0} (p : A → Bool) (xs : List A) → 1 ≤ length (filter p xs) → (x : A) × (find p xs ≡ Some x) × Contains (filter p xs) x
-first_passing p [] h = absurd (omega (arith, h))
-first_passing p (y ∷ ys) h =
-    elim (p y) as (λ b. 1 ≤ length (cond b (y ∷ filter p ys) (filter p ys)) → (x : _) × (cond b (Some y) (find p ys) ≡ Some x) × Contains (cond b (y ∷ filter p ys) (filter p ys)) x) [
-      | true ↦ λ _. (y, refl, (0, omega arith, refl))
-      | false ↦ λ h. first_passing p ys h
-    ] h
-
--- ---- the extents of a closed database
-in_slots : (slots : List (Option ExtentState)) → ((e : ℕ) (x : ExtentState) → slice_get slots e ≡ Some (Some x) → IsExtent x) → All IsExtent (extents_in_slots slots)
-in_slots [] each = All-nil IsExtent
-in_slots (None ∷ slots) each = in_slots slots (λ e x h. each (suc e) x h)
-in_slots (Some x ∷ slots) each = All-append IsExtent (x ∷ []) (extents_in_slots slots) (one x (each 0 x refl)) (in_slots slots (λ e y h. each (suc e) y h))
-  where
-    one : (x : ExtentState) → IsExtent x → All IsExtent (x ∷ [])
-    one x h zero d l = h
-    one x h (suc i) d l = absurd (omega (arith, l))
-
-at_sites : (sites : List ClosedSiteState) → All IsClosedSite sites → All IsExtent (extents_at sites)
-at_sites [] all = All-nil IsExtent
-at_sites (s ∷ sites) all =
-    All-append IsExtent (extents_in_slots s.slots) (extents_at sites) (in_slots s.slots (All-head IsClosedSite s sites all).extents) (at_sites sites (All-tail IsClosedSite s sites all))
-
-are_extents : (c : ClosedState) → IsClosed c → All IsExtent (extents_of c)
-are_extents c closed = All-append IsExtent (extents_at c.sites) c.parcels (at_sites c.sites closed.sites) closed.parcels
 
 -- ---- the log of a number
 abbrev find_log : ℕ → List ClosedSiteState → List ExtentState → Option ExtentLog
@@ -92,69 +60,71 @@ find_log e sites extents = find (log_has e) (map log_of_homeless sites ++ map lo
 abbrev entries_in : Option ExtentLog → List Entry
 entries_in log = option_map_or (λ (log : ExtentLog). log.entries) log []
 
-not_true : (b : Bool) → (b ≡ true → ⊥) → b ≡ false
-not_true true h = absurd (h refl)
-not_true false h = refl
-
--- a log is of calls without a home, whose stamps rise from some stamp
-abbrev HasHomelessHistory : List Entry → Type 0
-HasHomelessHistory log = (least : ℕ) × IsHomelessHistory least log
-
 -- the log of number 0 is that of the calls without a home
 homeless_log : (sites : List ClosedSiteState) (extents : List ExtentState) → All IsClosedSite sites → All IsExtent extents
     → ((log : ExtentLog) → Contains (map log_of_homeless sites ++ map log_of_extent extents) log → log.extent ≡ 0 → log.mixed ≡ true → ⊥)
-    → HasHomelessHistory (entries_in (find_log 0 sites extents))
+    → All RecordsHomeless (entries_in (find_log 0 sites extents))
 homeless_log [] extents closed are unmixed =
     let none : find_log 0 [] extents ≡ None = log_found extents 0 ∙ ap (option_map log_of_extent) (none_zero extents are) in
-    subst (λ (log : Option ExtentLog). HasHomelessHistory (entries_in log)) (sym none) (0, record { entries = All-nil RecordsHomeless; rise = tt })
+    subst (λ (log : Option ExtentLog). All RecordsHomeless (entries_in log)) (sym none) (All-nil RecordsHomeless)
 homeless_log (s ∷ sites) extents closed are unmixed =
-    (s.homeless.kept_stamp, (All-head IsClosedSite s sites closed).homeless (not_true s.homeless.mixed (unmixed (log_of_homeless s) (0, omega arith, refl) refl)))
+    ((All-head IsClosedSite s sites closed).homeless (false_from_ne_true s.homeless.mixed (unmixed (log_of_homeless s) (0, omega arith, refl) refl))).entries
 
 -- ---- the extents of a run
 abbrev homes_first : Run → ℕ → List SubscriberRows
 homes_first run e = homes_of_extent (database_of run.population) (length run.population.subscribers) e
 
-both_tests : (e n : ℕ) → 1 ≤ e → e ≤ n → (nat_le 1 e && nat_le e n) ≡ true
-both_tests e n l m = grind (arith, nat_tests, l, m)
-
-populated : (run : Run) (e : ℕ) → 1 ≤ e → e ≤ extents_populated run.population → homes_populated run.population e ≡ Some (homes_first run e)
-populated run e l m = ap (λ b. if b then Some (homes_first run e) else None) (both_tests e (extents_populated run.population) l m)
-
--- an extent that stands in what the run left, with its history from the population's homes on
+-- an extent that stands in what the run left, where its log leads
 record Stood (run : Run) (e : ℕ) : Type 0 where
   pub extent : ExtentState
-  pub history : IsHistory extent.kept_stamp extent.opening extent.log extent.homes
-  pub opening : extent.opening ≡ homes_first run e
-  pub entries : entries_numbered run.closed e ≡ extent.log
-  pub homes : homes_numbered run.closed e ≡ extent.homes
+  pub is : extent_numbered run.closed e ≡ Some extent
+  pub log : log_numbered run.closed e ≡ Some (log_of_extent extent)
+  pub leads : Leads extent.opening extent.log extent.homes
 
 abbrev of_partition_0 : ClosedSiteState → Bool
 of_partition_0 s = s.partition == 0
 
-stood : (run : Run) (e : ℕ) → IsClosed run.closed → IsPopulationOnce run → 1 ≤ e → e ≤ extents_populated run.population → Stood run e
-stood run e closed once l m =
-    let c : ClosedState = run.closed in
-    let there : homes_populated run.population e ≡ Some (homes_first run e) = populated run e l m in
-    let first = first_passing (is_numbered e) (extents_of c) ((once.opened e).begins.stands (ap is_some there)) in
-    let x : ExtentState = first.0 in
-    let is : extent_numbered c e ≡ Some x = first.1 in
-    let opening : homes_populated run.population e ≡ Some x.opening = All-contains (λ (y : ExtentState). homes_populated run.population e ≡ Some y.opening) (extents_numbered c e) x (once.opened e).begins.homes first.2 in
-    let extent : IsExtent x = All-contains IsExtent (extents_of c) x (are_extents c closed) (found (is_numbered e) (extents_of c) x is).0 in
-    let log : find (log_has e) (logs_of c) ≡ Some (log_of_extent x) = log_of_number (filter of_partition_0 c.sites) (extents_of c) e (λ z. omega (arith, l, z)) ∙ ap (option_map log_of_extent) is in
-    let placed = found (log_has e) (logs_of c) (log_of_extent x) log in
-    let unmixed : x.mixed ≡ false = not_true x.mixed (λ mixed. once.unmixed e (log_of_extent x, placed.0, eqb-true x.number e placed.1, mixed)) in
-    record {
-      extent = x;
-      history = extent.history unmixed;
-      opening = same_Some x.opening (homes_first run e) (sym opening ∙ there);
-      entries = ap entries_in log;
-      homes = ap (λ (v : Option ExtentState). option_map_or (λ (y : ExtentState). y.homes) v []) is;
-    }
+stood : (run : Run) (e : ℕ) → IsClosed run.closed → IsPopulationOnce run → 1 ≤ e → is_some (log_numbered run.closed e) ≡ true → Stood run e
+stood run e closed once l there = by (extent_numbered run.closed e) refl
+  where
+    of_extent : log_numbered run.closed e ≡ option_map log_of_extent (extent_numbered run.closed e)
+    of_extent = extent_log_numbered run.closed e (λ z. omega (arith, l, z))
 
-homeless_stood : (run : Run) → IsClosed run.closed → IsPopulationOnce run → HasHomelessHistory (entries_numbered run.closed 0)
-homeless_stood run closed once =
-    homeless_log (filter of_partition_0 run.closed.sites) (extents_of run.closed) (All-filter of_partition_0 IsClosedSite run.closed.sites closed.sites) (are_extents run.closed closed)
-    (λ log stands number mixed. once.unmixed 0 (log, stands, number, mixed))
+    by : (v : Option ExtentState) → extent_numbered run.closed e ≡ v → Stood run e
+    by None is = absurd (false≢true (sym (ap is_some (of_extent ∙ ap (option_map log_of_extent) is)) ∙ there))
+    by (Some x) is =
+        let log : log_numbered run.closed e ≡ Some (log_of_extent x) = of_extent ∙ ap (option_map log_of_extent) is in
+        let extent : IsExtent x = All-contains IsExtent (extents_of run.closed) x (are_extents run.closed closed) (found (is_numbered e) (extents_of run.closed) x is).0 in
+        let placed = found (log_has e) (logs_of run.closed) (log_of_extent x) log in
+        let unmixed : x.mixed ≡ false = false_from_ne_true x.mixed (λ mixed. once.unmixed e (log_of_extent x, placed.0, eqb-true x.number e placed.1, mixed)) in
+        record { extent = x; is = is; log = log; leads = (extent.history unmixed).leads }
+
+chapters_lead : (c : ClosedState) (e : ℕ) → IsClosed c → EachLeads (chapters_numbered c (suc e))
+chapters_lead c e closed =
+    all_listed (λ (d : ChapterState). Leads d.before d.entries d.after) (chapter_numbered c (suc e)) 0 (chapter_count c (suc e)) (λ i d is. let h : IsChapterOfHomes d = chapter_found c (suc e) i d closed is in h.history.leads)
+
+-- the whole log of an extent leads from the population's homes to its homes now
+whole_log_leads : (run : Run) (e : ℕ) → IsClosed run.closed → IsPopulationOnce run → suc e ≤ extents_populated run.population → Leads (homes_first run (suc e)) (entries_numbered run.closed (suc e)) (homes_numbered run.closed (suc e))
+whole_log_leads run e closed once l =
+    let c : ClosedState = run.closed in
+    let first : homes_at_first run.population (suc e) ≡ Some (homes_first run (suc e)) = populated run.population (suc e) (omega arith) l in
+    let s : Stood run (suc e) = stood run (suc e) closed once (omega arith) (once.stands (suc e) ∙ ap is_some first) in
+    let x : ExtentState = s.extent in
+    let joined : Joins (homes_first run (suc e)) (chapters_numbered c (suc e)) x.opening = once.joined (suc e) (log_of_extent x) (homes_first run (suc e)) s.log first in
+    let led : Leads (homes_first run (suc e)) (entries_joined (chapters_numbered c (suc e)) ++ x.log) x.homes =
+    joined_lead (homes_first run (suc e)) (chapters_numbered c (suc e)) x.opening x.log x.homes joined (chapters_lead c e closed) s.leads in
+    let since : entries_since c (suc e) ≡ x.log = ap entries_in s.log in
+    let homes : homes_numbered c (suc e) ≡ x.homes = ap (λ (v : Option ExtentState). option_map_or (λ (y : ExtentState). y.homes) v []) s.is in
+    subst (λ (now : List SubscriberRows). Leads (homes_first run (suc e)) (entries_numbered c (suc e)) now) (sym homes)
+    (subst (λ (log : List Entry). Leads (homes_first run (suc e)) (entries_joined (chapters_numbered c (suc e)) ++ log) x.homes) (sym since) led)
+
+-- that of the calls without a home is of transactions without rows
+whole_log_homeless : (run : Run) → IsClosed run.closed → IsPopulationOnce run → All RecordsHomeless (entries_numbered run.closed 0)
+whole_log_homeless run closed once =
+    let c : ClosedState = run.closed in
+    joined_homeless (chapters_numbered c 0) (entries_since c 0)
+    (all_listed (λ (d : ChapterState). All RecordsHomeless d.entries) (chapter_numbered c 0) 0 (chapter_count c 0) (λ i d is. let h : IsChapterWithoutHomes d = chapter_found c 0 i d closed is in h.history.entries))
+    (homeless_log (filter of_partition_0 c.sites) (extents_of c) (All-filter of_partition_0 IsClosedSite c.sites closed.sites) (are_extents c closed) (λ log stands number mixed. once.unmixed 0 (log, stands, number, mixed)))
 
 -- ---- calls without a home
 nothing_found : (p : Tuple → Bool) → find p (rows_of no_rows) ≡ None
@@ -202,18 +172,12 @@ parts_of run = record { ids = ids_of_extent (length run.population.subscribers);
 
 module _ (run : Run) (closed : IsClosed run.closed) (once : IsPopulationOnce run) where
   each_rises : EachRises (logs_left run)
-  each_rises zero log g =
-      let h : HasHomelessHistory (entries_numbered run.closed 0) = homeless_stood run closed once in
-      subst Rises (left_at run 0 log g).1 (h.0, h.1.rise)
-  each_rises (suc e) log g =
-      let at = left_at run (suc e) log g in
-      let s : Stood run (suc e) = stood run (suc e) closed once (omega arith) at.0 in
-      subst Rises (sym s.entries ∙ at.1) (s.extent.kept_stamp, s.history.rise)
+  each_rises e log g = subst Rises (left_at run e log g).1 (0, once.rise e)
 
   at_extent : HoldsNowhere (NamesHome (database_of run.population).subscribers run.closed) → (e : ℕ) (log : List Entry) → slice_get (logs_left run) e ≡ Some log → LogAt (parts_of run) (database_of run.population) e log
   at_extent homeless zero log g =
       let at = left_at run 0 log g in
-      subst (AllFindNone (database_of run.population)) at.1 (find_none (database_of run.population) (entries_numbered run.closed 0) (homeless_stood run closed once).1.entries (λ place entry here.
+      subst (AllFindNone (database_of run.population)) at.1 (find_none (database_of run.population) (entries_numbered run.closed 0) (whole_log_homeless run closed once) (λ place entry here.
       none_from (home_of_key (database_of run.population).subscribers (key_asked entry.ask)) (λ names. homeless entry.client entry.number (record {
         found = record { extent = 0; place = place; entry = entry; stands = here; own = record { client = refl; number = refl } };
         homeless = refl;
@@ -221,11 +185,7 @@ module _ (run : Run) (closed : IsClosed run.closed) (once : IsPopulationOnce run
       }))))
   at_extent homeless (suc e) log g =
       let at = left_at run (suc e) log g in
-      let s : Stood run (suc e) = stood run (suc e) closed once (omega arith) at.0 in
-      let leads : Leads s.extent.opening s.extent.log s.extent.homes = s.history.leads in
-      let from_first : Leads (homes_first run (suc e)) s.extent.log s.extent.homes = subst (λ b. Leads b s.extent.log s.extent.homes) s.opening leads in
-      let to_now : Leads (homes_first run (suc e)) s.extent.log (homes_numbered run.closed (suc e)) = subst (λ a. Leads (homes_first run (suc e)) s.extent.log a) (sym s.homes) from_first in
-      subst (λ l. Leads (homes_first run (suc e)) l (homes_numbered run.closed (suc e))) (sym s.entries ∙ at.1) to_now
+      subst (λ (l : List Entry). Leads (homes_first run (suc e)) l (homes_numbered run.closed (suc e))) at.1 (whole_log_leads run e closed once at.0)
 
   known : IsReceived run → (p : PlacedEntry) → StandsIn (logs_left run) p → HasReceipt run.receipts p
   known received p s =

@@ -1,7 +1,7 @@
 -- Searches in the order of numbers.
 use Rattle.std.proofs.Common.{◌≡◌, ℕ, ◌<◌, ◌≤◌, ◌+◌, arith, subst, ◌⊎◌, inl, inr, Option, Some, None}
 use Rattle.std.specs.Option.{MatchOption}
-use Rattle.tatp_settle.specs.CallPlaces.{IsFirstNumber}
+use Rattle.tatp_settle.specs.CallPlaces.{IsSooner, IsLeastCall, HoldsNowhere, IsFirstNumber}
 
 pub lt_or : (m n : ℕ) → (m < n) ⊎ (n ≤ m)
 lt_or m n = grind arith
@@ -35,3 +35,32 @@ first_number P count None past none = λ n p. by_cases n p (lt_or n count)
     by_cases n p (inl l) = none n (omega arith) l p
     by_cases n p (inr l) = past n l p
 first_number P count (Some i) past found = (found.2, λ k l. found.3 k (omega arith) l)
+
+-- ---- the chapters of all extents, extent by extent
+-- it holds of no chapter of an extent before this one
+pub record ClearBefore (P : ℕ → ℕ → Type 0) (extent : ℕ) : Type 0 where
+  pub below : (e i : ℕ) → e < extent → P e i → ⊥
+
+pub none_before : (P : ℕ → ℕ → Type 0) → ClearBefore P 0
+none_before P = record { below = λ e i l p. omega (arith, l) }
+
+pub none_of_one : (P : ℕ → ℕ → Type 0) (extent : ℕ) → ClearBefore P extent → IsFirstNumber (P extent) None → ClearBefore P (extent + 1)
+none_of_one P extent h none = record { below = λ e i l p. by_cases e i l p (lt_or e extent) }
+  where
+    by_cases : (e i : ℕ) → e < extent + 1 → P e i → (e < extent) ⊎ (extent ≤ e) → ⊥
+    by_cases e i l p (inl sooner) = h.below e i sooner p
+    by_cases e i l p (inr later) = none i (subst (λ (k : ℕ). P k i) (let same : e ≡ extent = omega (arith, l, later) in same) p)
+
+pub first_of_one : (P : ℕ → ℕ → Type 0) (extent index : ℕ) → ClearBefore P extent → IsFirstNumber (P extent) (Some index) → IsLeastCall P extent index
+first_of_one P extent index h first = record { holds = first.0; least = by_cases }
+  where
+    by_cases : (e i : ℕ) → IsSooner e i extent index → P e i → ⊥
+    by_cases e i (inl sooner) p = h.below e i sooner p
+    by_cases e i (inr same) p = first.1 i same.1 (subst (λ (k : ℕ). P k i) same.0 p)
+
+pub none_of_all : (P : ℕ → ℕ → Type 0) (extent : ℕ) → ClearBefore P extent → ((e i : ℕ) → extent ≤ e → P e i → ⊥) → HoldsNowhere P
+none_of_all P extent h past e i p = by_cases (lt_or e extent)
+  where
+    by_cases : (e < extent) ⊎ (extent ≤ e) → ⊥
+    by_cases (inl l) = h.below e i l p
+    by_cases (inr l) = past e i l p

@@ -8,6 +8,7 @@ use Rattle.std.proofs.lemmas.List.Elements.{filter-append, All-head, All-tail}
 use Rattle.std.proofs.lemmas.List.Sums.{length-filter, sum_by-cons}
 use Rattle.std.proofs.lemmas.List.Concat.{length-flat_map}
 use Rattle.tatp_population.specs.Extents.{ExtentState}
+use Rattle.tatp_population.specs.Chapters.{ChapterState}
 use Rattle.tatp_partition.specs.Sites.{SiteState, slot}
 use Rattle.tatp_partition.specs.Sound.{IsSite}
 use Rattle.tatp_settle.specs.Closings.{ClosedSiteState, ClosedState, ExtentLog, extents_in_slots, extents_of, log_of_homeless, log_of_extent, times_standing, is_here, closed_site, closed_of, IsClosedSite, extents_at}
@@ -218,9 +219,9 @@ any_mapped p f [] = refl
 any_mapped p f (x ∷ xs) = ap (λ b. p (f x) || b) (any_mapped p f xs)
 
 -- of sites and parcels that are yet to be gathered
-pub stands_gathered : (sites : List SiteState) (parcels : List ExtentState) (e : ℕ) (b : Bool) → All IsSite sites → b ≡ (list_any (λ (s : SiteState). is_here (closed_site s) e) sites || list_any (has_number e) parcels)
-    → (b ≡ true → times_standing (closed_of sites parcels) e ≡ 0 → ⊥) × (b ≡ false → times_standing (closed_of sites parcels) e ≡ 0)
-stands_gathered sites parcels e b all is =
+pub stands_gathered : (sites : List SiteState) (parcels : List ExtentState) (chapters : List ChapterState) (e : ℕ) (b : Bool) → All IsSite sites → b ≡ (list_any (λ (s : SiteState). is_here (closed_site s) e) sites || list_any (has_number e) parcels)
+    → (b ≡ true → times_standing (closed_of sites parcels chapters) e ≡ 0 → ⊥) × (b ≡ false → times_standing (closed_of sites parcels chapters) e ≡ 0)
+stands_gathered sites parcels chapters e b all is =
     let same : b ≡ stands_anywhere e (map closed_site sites) parcels = is ∙ ap (λ a. a || list_any (has_number e) parcels) (any_mapped (λ s. is_here s e) closed_site sites) in
-    let counted = stands_counted (closed_of sites parcels) e (are_closed_sites sites all) in
+    let counted = stands_counted (closed_of sites parcels chapters) e (are_closed_sites sites all) in
     (λ h. counted.0 (sym same ∙ h), λ h. counted.1 (sym same ∙ h))

@@ -1,47 +1,95 @@
--- The table of calls: its cells, and how they are filled.
-use Rattle.std.proofs.Common.{◌≡◌, ℕ, zero, suc, ◌+◌, ◌<◌, ◌⊎◌, inl, inr, true, List, [], ◌∷◌, ◌++◌, length, map, take, replicate, Option, Some, None, Vec, Global, slice_get, slice_set, slice_index_or, refl, sym, ◌∙◌, ap, arith}
-use Rattle.std.specs.Option.{option_and_then}
-use Rattle.tatp_settle.specs.declared.places.LogPlace.{LogPlace}
+-- Tables: their cells, and how they are filled.
+use Rattle.std.proofs.Common.{◌≡◌, ℕ, zero, suc, ◌+◌, ◌<◌, inl, inr, true, List, [], ◌∷◌, ◌++◌, length, map, take, replicate, Option, Some, None, Result, Ok, Err, OnOk, is_ok, if◌then◌else◌, Vec, Global, vec_len, slice_get, slice_set, slice_index_or, Bor, refl, sym, ◌∙◌, ap, subst, arith}
+use Rattle.std.specs.Option.{option_and_then, option_copied, option_map, option_map_or}
+use Rattle.std.specs.Slice.{IsItemAt}
+use Rattle.std.proofs.lemmas.Bool.{cases_eq}
+use Rattle.std.proofs.lemmas.List.{map_push, map-append, length-map, length-set}
+use Rattle.std.proofs.lemmas.Option.{slice_get_past, slice_get_read, slice_get-map}
 use Rattle.tatp_settle.specs.Placing.{IsFresh, IsFreshCell, Puts}
 use Rattle.tatp_settle.specs.Runs.{at_call, lists_of}
 
--- as many empty cells in each row as there are elements in the list
-abbrev pub fresh_rows : {A : Type 0} → List (List A) → List (List (Option LogPlace))
-fresh_rows lists = map (λ list. replicate (length list) None) lists
+-- as many empty cells as there are elements in the list, and so in each row
+abbrev pub fresh_row : {A : Type 0} → (P : Type 0) → List A → List (Option P)
+fresh_row P list = replicate (length list) None
 
-fresh_cell : {A : Type 0} (list : List A) (number : ℕ) → IsFreshCell (slice_get list number) (slice_get (replicate (length list) None) number)
-fresh_cell [] number = refl
-fresh_cell (x ∷ list) zero = refl
-fresh_cell (x ∷ list) (suc number) = fresh_cell list number
+abbrev pub fresh_rows : {A : Type 0} → (P : Type 0) → List (List A) → List (List (Option P))
+fresh_rows P lists = map (fresh_row P) lists
 
-pub fresh_are_fresh : {A : Type 0} (lists : List (List A)) → IsFresh (at_call lists) (at_call (fresh_rows lists))
-fresh_are_fresh [] client number = refl
-fresh_are_fresh (list ∷ lists) zero number = fresh_cell list number
-fresh_are_fresh (list ∷ lists) (suc client) number = fresh_are_fresh lists client number
+fresh_cell : {A : Type 0} (P : Type 0) (list : List A) (number : ℕ) → IsFreshCell (slice_get list number) (slice_get (fresh_row P list) number)
+fresh_cell P [] number = refl
+fresh_cell P (x ∷ list) zero = refl
+fresh_cell P (x ∷ list) (suc number) = fresh_cell P list number
 
--- ---- one cell filled
+pub fresh_are_fresh : {A : Type 0} (P : Type 0) (lists : List (List A)) → IsFresh (at_call lists) (at_call (fresh_rows P lists))
+fresh_are_fresh P [] client number = refl
+fresh_are_fresh P (list ∷ lists) zero number = fresh_cell P list number
+fresh_are_fresh P (list ∷ lists) (suc client) number = fresh_are_fresh P lists client number
+
+-- ---- what stands where
+-- what a slice lends at an index is the element there
+pub lent_at : {A : Type 0} (xs : List A) (i : ℕ) (r : Option (Bor A)) → IsItemAt xs i r → option_copied r ≡ slice_get xs i
+lent_at xs i None h = sym (slice_get_past xs i h.3)
+lent_at xs i (Some x) h = sym (slice_get_read xs (length xs) i x.now refl h.3.0 h.1)
+
 module _ {A : Type 0} where
-  pub at_other : (rows : List (Vec A Global)) (client : ℕ) (row : Vec A Global) (c n : ℕ) → (c ≡ client → ⊥) → at_call (lists_of (slice_set rows client row)) c n ≡ at_call (lists_of rows) c n
-  at_other [] client row c n other = refl
-  at_other (r ∷ rows) zero row zero n other = absurd (other refl)
-  at_other (r ∷ rows) zero row (suc c) n other = refl
-  at_other (r ∷ rows) (suc client) row zero n other = refl
-  at_other (r ∷ rows) (suc client) row (suc c) n other = at_other rows client row c n (λ e. other (ap suc e))
+  pub at_row : (rows : List (Vec A Global)) (r : ℕ) (row : Vec A Global) (n : ℕ) → slice_get rows r ≡ Some row → at_call (lists_of rows) r n ≡ slice_get row.items n
+  at_row [] r row n here = absurd cc
+  at_row (v ∷ rows) zero row n here = ap (λ (o : Option (Vec A Global)). option_and_then (λ (v : Vec A Global). slice_get v.items n) o) here
+  at_row (v ∷ rows) (suc r) row n here = at_row rows r row n here
 
-  pub at_same : (rows : List (Vec A Global)) (client : ℕ) (row row' : Vec A Global) (n : ℕ) → slice_get rows client ≡ Some row → at_call (lists_of (slice_set rows client row')) client n ≡ slice_get row'.items n
-  at_same [] client row row' n here = absurd cc
-  at_same (r ∷ rows) zero row row' n here = refl
-  at_same (r ∷ rows) (suc client) row row' n here = at_same rows client row row' n here
+  pub row_is : (rows : List (Vec A Global)) (r n : ℕ) (x : A) (d : Vec A Global) → at_call (lists_of rows) r n ≡ Some x → d ≡ slice_index_or rows r d → slice_get rows r ≡ Some d
+  row_is [] r n x d h e = absurd cc
+  row_is (v ∷ rows) zero n x d h e = ap (λ (v : Vec A Global). Some v) (sym e)
+  row_is (v ∷ rows) (suc r) n x d h e = row_is rows r n x d h e
 
-  pub at_row : (rows : List (Vec A Global)) (client : ℕ) (row : Vec A Global) (n : ℕ) → slice_get rows client ≡ Some row → at_call (lists_of rows) client n ≡ slice_get row.items n
-  at_row [] client row n here = absurd cc
-  at_row (r ∷ rows) zero row n here = ap (λ (o : Option (Vec A Global)). option_and_then (λ (v : Vec A Global). slice_get v.items n) o) here
-  at_row (r ∷ rows) (suc client) row n here = at_row rows client row n here
+  pub row_within : (rows : List (Vec A Global)) (r n : ℕ) (x : A) → at_call (lists_of rows) r n ≡ Some x → r < length rows
+  row_within [] r n x h = absurd cc
+  row_within (v ∷ rows) zero n x h = omega arith
+  row_within (v ∷ rows) (suc r) n x h = let rest = row_within rows r n x h in omega (arith, rest)
 
-  pub row_is : (rows : List (Vec A Global)) (client n : ℕ) (x : A) (d : Vec A Global) → at_call (lists_of rows) client n ≡ Some x → d ≡ slice_index_or rows client d → slice_get rows client ≡ Some d
-  row_is [] client n x d h e = absurd cc
-  row_is (r ∷ rows) zero n x d h e = ap (λ (v : Vec A Global). Some v) (sym e)
-  row_is (r ∷ rows) (suc client) n x d h e = row_is rows client n x d h e
+  pub row_got : (rows : List (Vec A Global)) (r : ℕ) → slice_get (lists_of rows) r ≡ option_map (λ (v : Vec A Global). v.items) (slice_get rows r)
+  row_got rows r = slice_get-map (λ (v : Vec A Global). v.items) rows r
+
+  -- the cell of a table, by its row; there is none without the row
+  pub cell_here : (rows : List (Vec A Global)) (table : List (List A)) (r n : ℕ) (row : Vec A Global) → lists_of rows ≡ table → slice_get rows r ≡ Some row → slice_get row.items n ≡ at_call table r n
+  cell_here rows table r n row is here = sym (at_row rows r row n here) ∙ ap (λ (t : List (List A)). at_call t r n) is
+
+  pub cell_nowhere : (rows : List (Vec A Global)) (table : List (List A)) (r n : ℕ) → lists_of rows ≡ table → slice_get rows r ≡ None → None ≡ at_call table r n
+  cell_nowhere rows table r n is none =
+      sym (ap (λ (o : Option (List A)). option_and_then (λ (list : List A). slice_get list n) o) (row_got rows r ∙ ap (λ (o : Option (Vec A Global)). option_map (λ (v : Vec A Global). v.items) o) none))
+      ∙ ap (λ (t : List (List A)). at_call t r n) is
+
+  -- how long a row is
+  pub len_here : (rows : List (Vec A Global)) (table : List (List A)) (r : ℕ) (row : Vec A Global) → lists_of rows ≡ table → slice_get rows r ≡ Some row → vec_len row ≡ option_map_or length (slice_get table r) 0
+  len_here rows table r row is here =
+      row.ok.0
+      ∙ (sym (ap (λ (o : Option (List A)). option_map_or length o 0) (row_got rows r ∙ ap (λ (o : Option (Vec A Global)). option_map (λ (v : Vec A Global). v.items) o) here))
+      ∙ ap (λ (t : List (List A)). option_map_or length (slice_get t r) 0) is)
+
+  pub len_nowhere : (rows : List (Vec A Global)) (table : List (List A)) (r : ℕ) → lists_of rows ≡ table → slice_get rows r ≡ None → 0 ≡ option_map_or length (slice_get table r) 0
+  len_nowhere rows table r is none =
+      sym (ap (λ (o : Option (List A)). option_map_or length o 0) (row_got rows r ∙ ap (λ (o : Option (Vec A Global)). option_map (λ (v : Vec A Global). v.items) o) none))
+      ∙ ap (λ (t : List (List A)). option_map_or length (slice_get t r) 0) is
+
+  -- how many rows there are
+  pub rows_counted : (rows : List (Vec A Global)) (table : List (List A)) → lists_of rows ≡ table → length rows ≡ length table
+  rows_counted rows table is = sym (length-map rows (λ (v : Vec A Global). v.items)) ∙ ap length is
+
+  pub rows_kept : (rows : List (Vec A Global)) (table : List (List A)) (r : ℕ) (row : Vec A Global) → lists_of rows ≡ table → length (lists_of (slice_set rows r row)) ≡ length table
+  rows_kept rows table r row is = length-map (slice_set rows r row) (λ (v : Vec A Global). v.items) ∙ (length-set rows r row ∙ rows_counted rows table is)
+
+  -- ---- one cell filled
+  at_other : (rows : List (Vec A Global)) (r : ℕ) (row : Vec A Global) (c n : ℕ) → (c ≡ r → ⊥) → at_call (lists_of (slice_set rows r row)) c n ≡ at_call (lists_of rows) c n
+  at_other [] r row c n other = refl
+  at_other (v ∷ rows) zero row zero n other = absurd (other refl)
+  at_other (v ∷ rows) zero row (suc c) n other = refl
+  at_other (v ∷ rows) (suc r) row zero n other = refl
+  at_other (v ∷ rows) (suc r) row (suc c) n other = at_other rows r row c n (λ e. other (ap suc e))
+
+  at_same : (rows : List (Vec A Global)) (r : ℕ) (row row' : Vec A Global) (n : ℕ) → slice_get rows r ≡ Some row → at_call (lists_of (slice_set rows r row')) r n ≡ slice_get row'.items n
+  at_same [] r row row' n here = absurd cc
+  at_same (v ∷ rows) zero row row' n here = refl
+  at_same (v ∷ rows) (suc r) row row' n here = at_same rows r row row' n here
 
   set_same : (xs : List A) (n : ℕ) (x y : A) → slice_get xs n ≡ Some y → slice_get (slice_set xs n x) n ≡ Some x
   set_same [] n x y here = absurd cc
@@ -55,51 +103,49 @@ module _ {A : Type 0} where
   set_other (z ∷ xs) (suc n) x zero other = refl
   set_other (z ∷ xs) (suc n) x (suc m) other = set_other xs n x m (λ e. other (ap suc e))
 
-same_or : (m n : ℕ) → (m ≡ n) ⊎ (m ≡ n → ⊥)
-same_or m n = elim (order m n) as (λ _. (m ≡ n) ⊎ (m ≡ n → ⊥)) [ inl e ↦ inl e | inr l ↦ inr (λ e. apart l e) ]
-  where
-    order : (m n : ℕ) → (m ≡ n) ⊎ ((m < n) ⊎ (n < m))
-    order m n = grind arith
+module _ {P : Type 0} where
+  cell_filled : (rows : List (Vec (Option P) Global)) (r n : ℕ) (value : P) (row row' : Vec (Option P) Global) → slice_get rows r ≡ Some row → at_call (lists_of rows) r n ≡ Some None → row'.items ≡ slice_set row.items n (Some value)
+      → Puts (at_call (lists_of rows)) r n value true (at_call (lists_of (slice_set rows r row')))
+  cell_filled rows r n value row row' here empty is = (
+    empty,
+    at_same rows r row row' n here ∙ (ap (λ xs. slice_get xs n) is ∙ set_same row.items n (Some value) None (sym (at_row rows r row n here) ∙ empty)),
+    λ c m other. elim (cases_eq c r) as (λ _. at_call (lists_of (slice_set rows r row')) c m ≡ at_call (lists_of rows) c m) [
+      | inr apart ↦ at_other rows r row' c m apart
+      | inl e ↦ rw e (at_same rows r row row' m here ∙ (ap (λ xs. slice_get xs m) is ∙ (set_other row.items n (Some value) m (λ k. other e k) ∙ sym (at_row rows r row m here))))
+    ],
+  )
 
-    apart : (m < n) ⊎ (n < m) → m ≡ n → ⊥
-    apart l e = grind arith
-
--- the cell that was empty is filled, the others are kept
-pub cell_filled : (rows : List (Vec (Option LogPlace) Global)) (client number : ℕ) (place : LogPlace) (row row' : Vec (Option LogPlace) Global) → slice_get rows client ≡ Some row → at_call (lists_of rows) client number ≡ Some None → row'.items ≡ slice_set row.items number (Some place)
-    → Puts (at_call (lists_of rows)) client number place true (at_call (lists_of (slice_set rows client row')))
-cell_filled rows client number place row row' here empty is = (
-  empty,
-  at_same rows client row row' number here ∙ (ap (λ xs. slice_get xs number) is ∙ set_same row.items number (Some place) None (sym (at_row rows client row number here) ∙ empty)),
-  λ c n other. elim (same_or c client) as (λ _. at_call (lists_of (slice_set rows client row')) c n ≡ at_call (lists_of rows) c n) [
-    | inr apart ↦ at_other rows client row' c n apart
-    | inl e ↦ rw e (at_same rows client row row' n here ∙ (ap (λ xs. slice_get xs n) is ∙ (set_other row.items number (Some place) n (λ m. other e m) ∙ sym (at_row rows client row n here))))
-  ],
-)
+  -- the cell of a table that was empty is filled, the others are kept
+  pub filled : (rows : List (Vec (Option P) Global)) (table : List (List (Option P))) (r n : ℕ) (value : P) (row row' : Vec (Option P) Global) → lists_of rows ≡ table → slice_get rows r ≡ Some row → at_call table r n ≡ Some None → row'.items ≡ slice_set row.items n (Some value)
+      → Puts (at_call table) r n value true (at_call (lists_of (slice_set rows r row')))
+  filled rows table r n value row row' is here empty set =
+      subst (λ (t : List (List (Option P))). Puts (at_call t) r n value true (at_call (lists_of (slice_set rows r row')))) is
+      (cell_filled rows r n value row row' here (ap (λ (t : List (List (Option P))). at_call t r n) is ∙ empty) set)
 
 -- ---- row by row
-map_push : {A B : Type 0} (f : A → B) (xs : List A) (y : A) → map f (xs ++ y ∷ []) ≡ map f xs ++ f y ∷ []
-map_push f [] y = refl
-map_push f (x ∷ xs) y = ap (λ t. f x ∷ t) (map_push f xs y)
+-- one more row
+pub row_pushed : {A : Type 0} (rows : List (Vec A Global)) (table : List (List A)) (row : Vec A Global) (cells : List A) → lists_of rows ≡ table → row.items ≡ cells → lists_of (rows ++ row ∷ []) ≡ table ++ cells ∷ []
+row_pushed rows table row cells is same = map_push (λ (v : Vec _ Global). v.items) rows row ∙ (λ i. is i ++ same i ∷ [])
 
 take_push : {A B : Type 0} (f : A → B) (xs : List A) (i : ℕ) (y : A) → slice_get xs i ≡ Some y → take (suc i) (map f xs) ≡ take i (map f xs) ++ f y ∷ []
 take_push f [] i y here = absurd cc
 take_push f (x ∷ xs) zero y here = let e : x ≡ y = cc in ap (λ z. f z ∷ []) e
 take_push f (x ∷ xs) (suc i) y here = ap (λ t. f x ∷ t) (take_push f xs i y here)
 
--- one more row
-pub fresh_more : {A : Type 0} (lists : List (Vec A Global)) (rows : List (Vec (Option LogPlace) Global)) (i : ℕ) (list : Vec A Global) (row : Vec (Option LogPlace) Global) → slice_get lists i ≡ Some list → row.items ≡ replicate (length list.items) None
-    → lists_of rows ≡ fresh_rows (take i (lists_of lists)) → lists_of (rows ++ row ∷ []) ≡ fresh_rows (take (i + 1) (lists_of lists))
-fresh_more lists rows i list row here is before =
-    map_push (λ (v : Vec (Option LogPlace) Global). v.items) rows row
-    ∙ (ap (λ t. t ++ row.items ∷ []) before
-    ∙ (ap (λ t. fresh_rows (take i (lists_of lists)) ++ t ∷ []) is
-    ∙ (sym (map_push (λ xs. replicate (length xs) None) (take i (lists_of lists)) list.items)
-    ∙ ap fresh_rows (sym (take_push (λ v. v.items) lists i list here) ∙ ap (λ n. take n (lists_of lists)) next))))
+pub fresh_more : {A : Type 0} (P : Type 0) (lists : List (Vec A Global)) (table : List (List (Option P))) (i : ℕ) (list : Vec A Global) → slice_get lists i ≡ Some list
+    → table ≡ fresh_rows P (take i (lists_of lists)) → table ++ fresh_row P list.items ∷ [] ≡ fresh_rows P (take (i + 1) (lists_of lists))
+fresh_more P lists table i list here before =
+    ap (λ (t : List (List (Option P))). t ++ fresh_row P list.items ∷ []) before
+    ∙ (sym (map_push (fresh_row P) (take i (lists_of lists)) list.items)
+    ∙ ap (fresh_rows P) (sym (take_push (λ v. v.items) lists i list here) ∙ ap (λ n. take n (lists_of lists)) next))
   where
     next : suc i ≡ i + 1
     next = omega arith
 
 pub got_within : {A : Type 0} (xs : List A) (i : ℕ) (x : A) → i < length xs → x ≡ slice_index_or xs i x → slice_get xs i ≡ Some x
-got_within [] i x l e = absurd (omega (arith, l))
-got_within (y ∷ xs) zero x l e = ap (λ z. Some z) (sym e)
-got_within (y ∷ xs) (suc i) x l e = got_within xs i x (omega (arith, l)) e
+got_within xs i x l e = slice_get_read xs (length xs) i x refl l e
+
+-- the rows of a table behind those of another
+pub appended : {A T E : Type 0} (r : Result T E) (now low high : List (Vec A Global)) (front back : List (List A)) → lists_of low ≡ front → lists_of high ≡ back → now ≡ (if is_ok r then low ++ high else low) → OnOk r (lists_of now ≡ front ++ back)
+appended (Ok x) now low high front back l h is = ap (λ (rows : List (Vec _ Global)). lists_of rows) is ∙ (map-append (λ (v : Vec _ Global). v.items) low high ∙ (λ i. l i ++ h i))
+appended (Err e) now low high front back l h is = tt

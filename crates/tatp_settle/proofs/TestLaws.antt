@@ -1,9 +1,11 @@
--- Tests of lists: what they decide.
-use Rattle.std.proofs.Common.{◌≡◌, ℕ, zero, suc, ◌<◌, ◌||◌, ◌&&◌, Bool, true, false, cond, List, [], ◌∷◌, map, length, filter, Option, Some, None, slice_index_or, refl, ◌∙◌, ap, arith}
+-- Tests of lists: what they decide, and what is found by them.
+use Rattle.std.proofs.Common.{◌≡◌, ℕ, zero, suc, ◌+◌, ◌<◌, ◌||◌, ◌&&◌, nat_le, Bool, true, false, cond, List, [], ◌∷◌, map, length, filter, find, count_by, Option, Some, None, is_some, slice_index_or, refl, sym, ◌∙◌, ap, arith}
 use Rattle.std.specs.Bool.{Decides}
 use Rattle.std.specs.List.{flat_map, list_any, Contains}
 use Rattle.std.specs.Option.{option_to_list, option_map_or}
+use Rattle.std.proofs.lemmas.Bool.Decides.{nat_tests}
 use Rattle.std.proofs.lemmas.List.Folds.{list_any-append}
+use Rattle.tatp_settle.proofs.StandingLaws.{count_cons}
 
 -- an element that passes
 abbrev pub Passes : {A : Type 0} → (A → Bool) → List A → Type 0
@@ -34,6 +36,25 @@ found q (y ∷ xs) x (suc k) l is h = or_true (q y) (list_any q xs) (found q xs 
 
 pub decides_passes : {A : Type 0} (q : A → Bool) (xs : List A) → Decides (list_any q xs) (Passes q xs)
 decides_passes q xs = (passing q xs, λ p. found q xs p.0 p.1.0 p.1.1 p.1.2 p.2)
+
+-- ---- one that passes, and how many do
+counted_one : {A : Type 0} (q : A → Bool) (x : A) (xs : List A) (b : Bool) → is_some (find q xs) ≡ nat_le 1 (count_by q xs) → q x ≡ b → is_some (cond b (Some x) (find q xs)) ≡ nat_le 1 (count_by q (x ∷ xs))
+counted_one q x xs true rest is = let e : count_by q (x ∷ xs) ≡ 1 + count_by q xs = count_cons q x xs ∙ ap (λ b. cond b 1 0 + count_by q xs) is in grind (arith, nat_tests, e)
+counted_one q x xs false rest is =
+    let e : count_by q (x ∷ xs) ≡ 0 + count_by q xs = count_cons q x xs ∙ ap (λ b. cond b 1 0 + count_by q xs) is in
+    let same : count_by q xs ≡ count_by q (x ∷ xs) = omega (arith, e) in
+    rest ∙ ap (λ (n : ℕ). nat_le 1 n) same
+
+-- one is found where one passes
+pub found_counted : {A : Type 0} (q : A → Bool) (xs : List A) → is_some (find q xs) ≡ nat_le 1 (count_by q xs)
+found_counted q [] = refl
+found_counted q (x ∷ xs) = counted_one q x xs (q x) (found_counted q xs) refl
+
+pub none_found : {A : Type 0} (q : A → Bool) (xs : List A) → find q xs ≡ None → count_by q xs ≡ 0
+none_found q xs is = let k : false ≡ nat_le 1 (count_by q xs) = ap is_some (sym is) ∙ found_counted q xs in grind (arith, nat_tests, k)
+
+pub some_found : {A : Type 0} (q : A → Bool) (xs : List A) (x : A) → find q xs ≡ Some x → count_by q xs ≡ 0 → ⊥
+some_found q xs x is none = let k : true ≡ nat_le 1 (count_by q xs) = ap is_some (sym is) ∙ found_counted q xs in grind (arith, nat_tests, k, none)
 
 -- ---- tests of joined, mapped and filtered lists
 pub any_mapped : {A B : Type 0} (q : B → Bool) (f : A → B) (xs : List A) → list_any q (map f xs) ≡ list_any (λ x. q (f x)) xs

@@ -1,9 +1,8 @@
 -- A table with a cell for each call, in which the place of the call's entry is kept.
-use Rattle.std.specs.Prelude.{◌≡◌, ℕ, ◌+◌, ◌<◌, ◌⊎◌, Bool, true, false, Option, Some, None, List, length, vec_len, IfNone}
+use Rattle.std.specs.Prelude.{◌≡◌, ℕ, ◌+◌, ◌<◌, ◌⊎◌, Bool, true, false, Option, Some, None, List, length, IfNone}
 use Rattle.tatp_procs.specs.declared.entry.Entry.{Entry}
 use Rattle.tatp_partition.specs.declared.receipt.Receipt.{Receipt}
 use Rattle.tatp_settle.specs.declared.places.LogPlace.{LogPlace}
-use Rattle.tatp_settle.specs.declared.table.Table.{Table}
 use Rattle.tatp_settle.specs.declared.placement.Part.{Part}
 use Rattle.tatp_settle.specs.declared.placement.Placed.{Placed}
 use Rattle.tatp_settle.specs.Closings.{ClosedState, StandsAt}
@@ -13,25 +12,25 @@ use Rattle.tatp_settle.specs.Causes.{HasEntryTooMany, HasTwoEntries}
 use Rattle.tatp_settle.specs.declared.places.CallPlace.{CallPlace}
 use Rattle.tatp_settle.specs.CallPlaces.{IsSooner, IsFirstCall}
 
--- for each call its cell, if there is one: empty, or with the place of an entry
-abbrev pub Cells : Type 0
-Cells = ℕ → ℕ → Option (Option LogPlace)
+-- by row and column the cell, if there is one: empty, or filled
+abbrev pub Cells : Type 0 → Type 0
+Cells A = ℕ → ℕ → Option (Option A)
 
 -- the cell of a client's call; none where the table has no such cell
-abbrev pub cells_of : Table → ℕ → ℕ → Option (Option LogPlace)
-cells_of table client number = at_call (lists_of table.rows.items) client number
+abbrev pub cells_of : {A : Type 0} → List (List (Option A)) → Cells A
+cells_of table client number = at_call table client number
 
 -- there is an empty cell exactly where something stands
-abbrev pub IsFreshCell : {A : Type 0} → Option A → Option (Option LogPlace) → Type 0
+abbrev pub IsFreshCell : {A P : Type 0} → Option A → Option (Option P) → Type 0
 IsFreshCell None cell = cell ≡ None
 IsFreshCell (Some x) cell = cell ≡ Some None
 
-abbrev pub IsFresh : {A : Type 0} → (ℕ → ℕ → Option A) → Cells → Type 0
+abbrev pub IsFresh : {A P : Type 0} → (ℕ → ℕ → Option A) → Cells P → Type 0
 IsFresh lists cells = (client number : ℕ) → IsFreshCell (lists client number) (cells client number)
 
 -- the cell was empty and has the place now, the others are kept; or it was filled or isn't there,
 -- and all are kept
-abbrev pub Puts : Cells → ℕ → ℕ → LogPlace → Bool → Cells → Type 0
+abbrev pub Puts : {P : Type 0} → Cells P → ℕ → ℕ → P → Bool → Cells P → Type 0
 Puts before client number place true after =
     (before client number ≡ Some None)
     × (after client number ≡ Some (Some place))
@@ -47,7 +46,8 @@ pub record Points (closed : ClosedState) (client number : ℕ) (place : LogPlace
 
 -- each entry is in the cell of its call, and nothing else is; each call that has a receipt has a
 -- cell, and no other
-pub record AllPlaced (closed : ClosedState) (receipts : List (List Receipt)) (cells : Cells)
+pub record AllPlaced (closed : ClosedState) (receipts : List (List Receipt))
+    (cells : Cells LogPlace)
     : Type 0 where
   pub some : (client number : ℕ) → cells client number ≡ None
       → at_call receipts client number ≡ None
@@ -60,7 +60,7 @@ pub record AllPlaced (closed : ClosedState) (receipts : List (List Receipt)) (ce
 
 -- each entry has its place in some table of calls
 abbrev pub ArePlaced : ClosedState → List (List Receipt) → Type 0
-ArePlaced closed receipts = (cells : Cells) × AllPlaced closed receipts cells
+ArePlaced closed receipts = (cells : Cells LogPlace) × AllPlaced closed receipts cells
 
 -- the call stands no sooner than the least one so far
 abbrev pub IsAtMost : Option CallPlace → ℕ → ℕ → Type 0
@@ -88,7 +88,7 @@ pub record HasTooManyIn (closed : ClosedState) (receipts : List (List Receipt)) 
 -- each entry of a client that belongs there is in the cell of its call, or stands no sooner than
 -- the least call with an entry too many; each call that has a receipt has a cell, and no other
 pub record ArePlacedIn (closed : ClosedState) (receipts : List (List Receipt)) (first : ℕ)
-    (last : Bool) (cells : Cells) (least : Option CallPlace) : Type 0 where
+    (last : Bool) (cells : Cells LogPlace) (least : Option CallPlace) : Type 0 where
   pub none : (at number : ℕ) → at_call receipts at number ≡ None → cells at number ≡ None
   pub some : (at number : ℕ) → cells at number ≡ None → at_call receipts at number ≡ None
   pub points : (at number : ℕ) (place : LogPlace) → cells at number ≡ Some (Some place)
@@ -103,7 +103,7 @@ pub record ArePlacedIn (closed : ClosedState) (receipts : List (List Receipt)) (
 -- the table of these lists, row by row, and the least call with an entry too many
 pub record IsTableOf (closed : ClosedState) (receipts : List (List Receipt)) (first : ℕ)
     (last : Bool) (made : Placed) : Type 0 where
-  pub len : vec_len made.table.rows ≡ length receipts
+  pub len : length made.table ≡ length receipts
   pub placed : ArePlacedIn closed receipts first last (cells_of made.table) made.extra
 
 -- the table of a part of the clients, and the least call of theirs with an entry too many

@@ -1,5 +1,5 @@
 -- A run that is to be settled: what it began with, and what it left.
-use Rattle.std.specs.Prelude.{◌≡◌, ℕ, ◌+◌, ◌&&◌, nat_le, if◌then◌else◌, List, map, length, sum_by, Option, Some, None, slice_get, Vec}
+use Rattle.std.specs.Prelude.{◌≡◌, ℕ, zero, suc, ◌+◌, ◌&&◌, nat_le, if◌then◌else◌, List, [], map, length, sum_by, Option, Some, None, slice_get, Vec}
 use Rattle.std.specs.List.{flat_map, range_with_len}
 use Rattle.std.specs.Option.{option_and_then}
 use Rattle.std.specs.declared.alloc.Global.{Global}
@@ -15,8 +15,8 @@ use Rattle.tatp_partition.specs.declared.receipt.Receipt.{Receipt}
 use Rattle.tatp_settle.specs.declared.run.Run.{Run as HeldRun}
 use Rattle.tatp_settle.specs.Closings.{ClosedState, entries_numbered, homes_numbered, moves_numbered}
 
--- the population's rows, what sites and parcels left, and for each client its receipts and its
--- calls
+-- the population's rows, what sites, parcels and chapters left, and for each client its receipts
+-- and its calls
 pub record Run : Type 0 where
   pub population : Rows
   pub closed : ClosedState
@@ -66,9 +66,14 @@ homes_populated population e =
     then Some (homes_of_extent (database_of population) (length population.subscribers) e)
     else None
 
+-- the homes from which the whole log of an extent goes on: the population's; extent 0 has none
+abbrev pub homes_at_first : Rows → ℕ → Option (List SubscriberRows)
+homes_at_first population zero = Some []
+homes_at_first population (suc e) = homes_populated population (suc e)
+
 -- ---- what was left
--- the logs of the extents 0, 1 and so on, as many as the population has; extent 0 is that of the
--- calls without a home
+-- the whole logs of the extents 0, 1 and so on, as many as the population has; extent 0 is that of
+-- the calls without a home
 abbrev pub logs_left : Run → List (List Entry)
 logs_left run =
     map (entries_numbered run.closed) (range_with_len 0 (extents_populated run.population + 1))

@@ -2,33 +2,47 @@
 -- What a settled run is, and what it counts; what gathering and settling refuse.
 use Rattle.std.specs.Prelude.{◌≡◌, ℕ, ◌<◌, ◌≤◌, not, true, List, [], map, count_by, sum_by, Some}
 use Rattle.std.specs.List.{range_with_len}
+use Rattle.std.specs.Option.{is_some}
 use Rattle.tatp_tables.specs.Clean.{IsClean}
 use Rattle.tatp_tables.specs.Database.{database_of}
+use Rattle.tatp_tables.specs.Home.{SubscriberRows}
 use Rattle.tatp_audits.specs.declared.verdict.Verdict.{Verdict}
 use Rattle.tatp_audits.specs.Audits.{IsVerdict, clean_of, says_clean}
 use Rattle.tatp_tables.specs.declared.row.Rows.{Rows}
 use Rattle.tatp_procs.specs.declared.ask.Ask.{Ask}
 use Rattle.tatp_procs.specs.declared.entry.Entry.{Entry}
+use Rattle.tatp_population.specs.Histories.{StampsRise}
 use Rattle.tatp_population.specs.Extents.{ExtentState}
+use Rattle.tatp_population.specs.Chapters.{Joins}
 use Rattle.tatp_partition.specs.declared.receipt.Receipt.{Receipt}
 use Rattle.tatp_settle.specs.declared.settled.Settled.{Settled}
 use Rattle.tatp_settle.specs.declared.refusals.GatherError.{GatherError}
 use Rattle.tatp_settle.specs.declared.refusals.GatherError.TheVariants.{ExtentMissing, NoMemory as NoMemoryToGather}
 use Rattle.tatp_settle.specs.declared.refusals.SettleError.{SettleError}
 use Rattle.tatp_settle.specs.declared.refusals.SettleError.TheVariants.{Because, NoMemory}
-use Rattle.tatp_settle.specs.Closings.{ClosedState, IsMissing, extents_of, times_standing, StandsAt}
+use Rattle.tatp_settle.specs.Closings.{ClosedState, ExtentLog, IsMissing, extents_of, times_standing, log_numbered, chapter_count, times_come, chapters_numbered, entries_numbered, StandsAt}
 use Rattle.tatp_settle.specs.Merging.{OneHistory}
-use Rattle.tatp_settle.specs.Runs.{Run, at_call, joined, logs_left, rows_left}
+use Rattle.tatp_settle.specs.Runs.{Run, at_call, homes_at_first, joined, logs_left, rows_left}
 use Rattle.tatp_settle.specs.Answering.{AreMatched, IsAnswered, HasReceipt, EntriesStandOnce, is_of_kind}
 use Rattle.tatp_settle.specs.Receipts.{is_done}
-use Rattle.tatp_settle.specs.Causes.{OpenedAsPopulated, IsMixed, IsFirstCause}
+use Rattle.tatp_settle.specs.Causes.{IsMixed, IsFirstCause}
 
--- each extent stands once, at a site, as the population opened it, no chapter out, and unmixed
+-- each extent of the population stands once, at a site and unmixed, and no other does; the chapters
+-- that it handed out came once each, and no other did; and these, joined end to end, lead from the
+-- population's homes to those from which its log goes on, with stamps that rise through them all
 pub record IsPopulationOnce (run : Run) : Type 0 where
-  pub opened : (e : ℕ) → OpenedAsPopulated run.population run.closed e
   pub unmixed : (e : ℕ) → IsMixed run.closed e → ⊥
   pub landed : run.closed.parcels ≡ []
   pub once : (e : ℕ) → times_standing run.closed e ≤ 1
+  pub stands : (e : ℕ)
+      → is_some (log_numbered run.closed e) ≡ is_some (homes_at_first run.population e)
+  pub came : (e i : ℕ) → i < chapter_count run.closed e → times_come run.closed e i ≡ 1
+  pub no_other : (e i : ℕ) → chapter_count run.closed e ≤ i → times_come run.closed e i ≡ 0
+  pub joined : (e : ℕ) (log : ExtentLog) (homes : List SubscriberRows)
+      → log_numbered run.closed e ≡ Some log
+      → homes_at_first run.population e ≡ Some homes
+      → Joins homes (chapters_numbered run.closed e) log.opening
+  pub rise : (e : ℕ) → StampsRise 0 (entries_numbered run.closed e)
 
 -- each client's receipts are its calls in order, and each entry has its receipt
 pub record IsReceived (run : Run) : Type 0 where
@@ -73,7 +87,7 @@ calls_by_kind run = map (λ kind. count_by (is_of_kind kind) (joined run.calls))
 abbrev pub moves_made : Run → ℕ
 moves_made run = sum_by (λ (x : ExtentState). x.moves) (extents_of run.closed)
 
--- the run is one history, of which no chapter is out, and these are its counts
+-- the run is one history, and these are its counts
 pub record IsSettled (run : Run) (settled : Settled) : Type 0 where
   pub one_history : IsOneHistory run
   pub completed : settled.completed ≡ completed run

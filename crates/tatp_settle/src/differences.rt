@@ -59,7 +59,7 @@ pub(crate) struct Differing<'a, 'c> {
     /// The logs of the entries.
     pub(crate) logs: &'a LogTable<'c>,
     /// Where the entry of each call stands.
-    pub(crate) table: &'a Table,
+    pub(crate) table: &'a Table<LogPlace>,
     /// What each client got for its calls.
     pub(crate) receipts: &'a [Vec<Receipt>],
     /// What each client asked.

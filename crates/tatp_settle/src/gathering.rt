@@ -1,8 +1,9 @@
-//! What sites and parcels leave is gathered.
+//! What sites, parcels and chapters leave is gathered.
 ghost use Rattle.std.specs.Prelude.{◌≡◌, ◌+◌, ◌<◌, ◌≤◌, ◌^◌, ◌==◌, ◌||◌, ◌↔◌, IsTrue, ℕ, IfOk, IfErr, IfSome, IfNone, [], All, List, length, map, vec_len};
 ghost use Rattle.std.specs.Vec.{vec_capacity};
 ghost use Rattle.std.specs.List.{list_any};
 ghost use Rattle.tatp_population.specs.Extents.{ExtentState, IsExtent};
+ghost use Rattle.tatp_population.specs.Chapters.{ChapterState, IsChapter};
 ghost use Rattle.tatp_partition.specs.Sites.{SiteState};
 ghost use Rattle.tatp_partition.specs.Sound.{IsSite};
 ghost use Rattle.tatp_settle.specs.Closings.{closed_of, closed_site, greatest_place, is_here, times_standing, IsClosedSite, IsMissing, IsClosed};
@@ -11,28 +12,35 @@ ghost use Rattle.tatp_settle.specs.Settlements.{IsLeastMissing, RefusesToGather}
 use crate::{Closed, ClosedSite, GatherError, NotGathered};
 use std::alloc::Global;
 use tatp_partition::{Parcel, Site, what_holds_of_every_parcel, what_holds_of_every_site};
-use tatp_population::{Extent, first_subscriber};
+use tatp_population::{Chapter, Extent, first_subscriber, what_holds_of_every_chapter};
 
-/// What these sites and parcels leave: each extent and each log in its place, running calls set
-/// back. Refused, sites and parcels come back.
+/// What these sites, parcels and chapters leave: each extent and each log in its place, running
+/// calls set back. Refused, they come back.
 pub fn gather<'m>(
     alloc: Global,
     sites: Vec<Site<'m>>,
     parcels: Vec<Parcel>,
+    chapters: Vec<Chapter>,
 ) -> Result<Closed, NotGathered<'m>>
-    ensures closed { IfOk result (λ closed. closed ≡ closed_of sites.entry.items parcels.items) }
+    ensures closed { IfOk result (λ closed.
+        closed ≡ closed_of sites.entry.items parcels.items chapters.items) }
     ensures whole { IfOk result IsClosed }
-    ensures sound { All IsClosedSite (closed_of sites.entry.items parcels.items).sites }
+    ensures sound { All IsClosedSite
+        (closed_of sites.entry.items parcels.items chapters.items).sites }
     ensures refusal { IfErr result (λ refused.
-        RefusesToGather (closed_of sites.entry.items parcels.items) refused.error) }
+        RefusesToGather (closed_of sites.entry.items parcels.items chapters.items)
+        refused.error) }
     ensures sites { IfErr result (λ refused. refused.sites.items ≡ sites.entry.items) }
     ensures parcels { IfErr result (λ refused. refused.parcels.items ≡ parcels.items) }
+    ensures chapters { IfErr result (λ refused. refused.chapters.items ≡ chapters.items) }
 {
+    what_holds_of_these_chapters(&chapters);
     if let Some(number) = least_missing(&sites, &parcels) {
         return Err(NotGathered {
             error: GatherError::ExtentMissing(number),
             sites,
             parcels,
+            chapters,
         });
     }
     let Ok(mut closed) = Vec::with_capacity(alloc, sites.len()) else {
@@ -40,6 +48,7 @@ pub fn gather<'m>(
             error: GatherError::NoMemory,
             sites,
             parcels,
+            chapters,
         });
     };
     let Ok(mut extents) = Vec::with_capacity(alloc, parcels.len()) else {
@@ -48,6 +57,7 @@ pub fn gather<'m>(
             error: GatherError::NoMemory,
             sites,
             parcels,
+            chapters,
         });
     };
     close_all(&mut closed, sites);
@@ -55,14 +65,15 @@ pub fn gather<'m>(
     Ok(Closed {
         sites: closed,
         parcels: extents,
+        chapters,
     })
 }
 
 /// The least extent that stands in no site and no parcel.
 fn least_missing(sites: &[Site<'_>], parcels: &[Parcel]) -> Option<u64>
-    ensures sound { All IsClosedSite (closed_of sites.now parcels.now).sites }
-    ensures missing { IfSome result (IsLeastMissing (closed_of sites.now parcels.now)) }
-    ensures none { IfNone result ((e : ℕ) → IsMissing (closed_of sites.now parcels.now) e → ⊥) }
+    ensures sound { All IsClosedSite (closed_of sites.now parcels.now []).sites }
+    ensures missing { IfSome result (IsLeastMissing (closed_of sites.now parcels.now [])) }
+    ensures none { IfNone result ((e : ℕ) → IsMissing (closed_of sites.now parcels.now []) e → ⊥) }
 {
     what_holds_of_these_sites(sites);
     let greatest = greatest_number(sites) as u64;
@@ -71,8 +82,8 @@ fn least_missing(sites: &[Site<'_>], parcels: &[Parcel]) -> Option<u64>
 
 /// The greatest number of an extent that one of the sites has a place for, 0 without a site.
 fn greatest_number(sites: &[Site<'_>]) -> u32
-    ensures { (parcels : List ExtentState)
-        → result ≡ greatest_place (closed_of sites.now parcels) }
+    ensures { (parcels : List ExtentState) (chapters : List ChapterState)
+        → result ≡ greatest_place (closed_of sites.now parcels chapters) }
 {
     sites
         .iter()
@@ -84,7 +95,7 @@ fn is_missing(sites: &[Site<'_>], parcels: &[Parcel], number: u64) -> bool
     requires few { number < 2 ^ 32 }
     requires sound { All IsSite sites.now }
     ensures { IsTrue result
-        ↔ (times_standing (closed_of sites.now parcels.now) number ≡ 0) }
+        ↔ (times_standing (closed_of sites.now parcels.now []) number ≡ 0) }
 {
     !stands(sites, parcels, number)
 }
@@ -123,6 +134,15 @@ fn what_holds_of_these_sites(sites: &[Site<'_>])
 {
     'sites: for site in sites {
         what_holds_of_every_site(site);
+    }
+}
+
+/// What holds of every chapter holds of these.
+fn what_holds_of_these_chapters(chapters: &[Chapter])
+    ensures { All IsChapter chapters.now }
+{
+    'chapters: for chapter in chapters {
+        what_holds_of_every_chapter(chapter);
     }
 }
 

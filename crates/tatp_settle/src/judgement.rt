@@ -1,20 +1,24 @@
 //! The verdict on a run: settled, or its first cause.
-ghost use Rattle.std.specs.Prelude.{◌≡◌, ◌<◌, ◌^◌, IfOk, IfErr, OnOk, length};
+ghost use Rattle.std.specs.Prelude.{◌≡◌, ◌<◌, ◌^◌, ℕ, IfOk, IfErr, OnOk, length};
 ghost use Rattle.std.specs.Option.{option_map};
 ghost use denote.Param.Send.{IsSync};
 ghost use Rattle.tatp_tables.specs.Clean.{IsClean};
-ghost use Rattle.tatp_settle.specs.Runs.{AreHomesOf, joined, lists_of, rows_left, shown};
+ghost use Rattle.tatp_settle.specs.Causes.{IsMixed, IsChapterTwice};
+ghost use Rattle.tatp_settle.specs.ChapterTables.{IsFirstChapter};
+ghost use Rattle.tatp_settle.specs.Runs.{joined, lists_of, rows_left, shown};
 ghost use Rattle.tatp_settle.specs.CauseOrder.{IsFirstOf, IsFirstAfter, IsFirstInCalls};
 ghost use Rattle.tatp_settle.specs.Interleaving.{IsOneHistoryInAnyOrder};
 ghost use Rattle.tatp_settle.specs.Settlements.{IsAuditOf, IsSettled, RefusesToSettle};
 
+use crate::chapter_table::{ChapterTable, Listed};
 use crate::counts::{count_kinds, count_receipts};
 use crate::differences::{Differing, first_differing};
 use crate::extents::{ExtentCause, first_extent};
+use crate::joins::first_unjoined;
 use crate::log_table::LogTable;
 use crate::named_calls::first_homed;
 use crate::placement::{Placed, place_entries};
-use crate::places::CallPlace;
+use crate::places::{CallPlace, ChapterPlace};
 use crate::rows::{count_moves, rows_now};
 use crate::run::Run;
 use crate::stamps::first_falling;
@@ -24,7 +28,7 @@ use std::alloc::{AllocError, Global};
 use std::thread::{Threads, join};
 use tatp_audits::{Verdict, audit};
 use tatp_numbers::Directory;
-use tatp_tables::{Home, homes};
+use tatp_tables::homes;
 
 /// What a settled run counts, or why the run isn't settled.
 pub(crate) fn judge<R: Threads + Sync>(
@@ -39,14 +43,18 @@ pub(crate) fn judge<R: Threads + Sync>(
     ensures refusal { IfErr result (RefusesToSettle (shown run.now)) }
 {
     run.closed.what_holds();
-    if let Some(cause) = cause_in_extents(alloc, run)? {
+    if let Some(cause) = extent_cause(run) {
         return Err(SettleError::Because(cause));
     }
-    let (audited, in_calls) = audit_beside_calls(rt, alloc, run);
+    let Listed { chapters, twice } = ChapterTable::new(alloc, run.closed)?;
+    if let Some(cause) = chapter_cause(alloc, run, &chapters, twice)? {
+        return Err(SettleError::Because(cause));
+    }
+    let (audited, in_calls) = audit_beside_calls(rt, alloc, run, &chapters);
     if let Some(cause) = in_calls? {
         return Err(SettleError::Because(cause));
     }
-    if let Some(cause) = cause_without_home(alloc, run)? {
+    if let Some(cause) = cause_without_home(alloc, run, &chapters)? {
         return Err(SettleError::Because(cause));
     }
     let verdict = audited?;
@@ -63,16 +71,18 @@ pub(crate) fn judge<R: Threads + Sync>(
     })
 }
 
-/// The verdict on the rows now, and the first cause that a call is, where no extent is a cause:
-/// each by a thread of its own, where one can be made.
+/// The verdict on the rows now, and the first cause that a call is, where no extent and no chapter
+/// is one: each by a thread of its own, where one can be made.
 fn audit_beside_calls<R: Threads + Sync>(
     rt: &R,
     alloc: Global,
     run: &Run<'_>,
+    chapters: &ChapterTable<'_>,
 ) -> (
     Result<Verdict, AllocError>,
     Result<Option<Unsettled>, AllocError>,
 )
+    requires { chapters.now ≡ run.now.closed.now }
     ensures audit { IfOk result.0 (IsAuditOf (rows_left (shown run.now))) }
     ensures calls { IfOk result.1 (IsFirstInCalls (shown run.now)) }
 {
@@ -80,9 +90,9 @@ fn audit_beside_calls<R: Threads + Sync>(
         ensures { IfOk result (IsAuditOf (rows_left (shown run.entry.now))) }
     { audit_left(alloc, run) };
     let in_calls = || -> Result<Option<Unsettled>, AllocError>
-        requires { IsSync R.row }
+        requires { IsSync R.row × (chapters.now ≡ run.now.closed.now) }
         ensures { IfOk result (IsFirstInCalls (shown run.entry.now)) }
-    { cause_in_calls(rt, alloc, run) };
+    { cause_in_calls(rt, alloc, run, chapters) };
     join(rt, audited, in_calls)
 }
 
@@ -95,40 +105,70 @@ fn audit_left(alloc: Global, run: &Run<'_>) -> Result<Verdict, AllocError>
 }
 
 /// The first cause that an extent is.
-fn cause_in_extents(alloc: Global, run: &Run<'_>) -> Result<Option<Unsettled>, AllocError>
-    requires { IsClean run.now.population.now }
-    ensures { IfOk result (IsFirstOf 4 (shown run.now)) }
+fn extent_cause(run: &Run<'_>) -> Option<Unsettled>
+    ensures { IsFirstOf 3 (shown run.now) result }
 {
-    let homes = homes(alloc, run.population)?;
-    Ok(extent_cause(run, &homes))
-}
-
-/// The first cause that an extent is, by the homes of the population.
-fn extent_cause(run: &Run<'_>, homes: &[Home]) -> Option<Unsettled>
-    requires { AreHomesOf run.now.population.now homes.now }
-    ensures { IsFirstOf 4 (shown run.now) result }
-{
-    if let Some(number) = first_extent(ExtentCause::OpenedElse, run, homes) {
-        return Some(Unsettled::Opening(number));
-    }
-    if let Some(number) = first_extent(ExtentCause::IsAsMixed, run, homes) {
+    if let Some(number) = first_extent(ExtentCause::IsAsMixed, run) {
         return Some(Unsettled::Mixed(number));
     }
-    if let Some(number) = first_extent(ExtentCause::InParcel, run, homes) {
+    if let Some(number) = first_extent(ExtentCause::InParcel, run) {
         return Some(Unsettled::ParcelLeft(number));
     }
-    if let Some(number) = first_extent(ExtentCause::StandsTwice, run, homes) {
+    if let Some(number) = first_extent(ExtentCause::StandsTwice, run) {
         return Some(Unsettled::Doubled(number));
     }
     None
 }
 
-/// The first cause that a call is by its receipt and its entries, where no extent is a cause.
+/// The first cause that a chapter is, where no extent is a cause.
+fn chapter_cause(
+    alloc: Global,
+    run: &Run<'_>,
+    chapters: &ChapterTable<'_>,
+    twice: Option<ChapterPlace>,
+) -> Result<Option<Unsettled>, AllocError>
+    requires clean { IsClean run.now.population.now }
+    requires gathered { chapters.now ≡ run.now.closed.now }
+    requires twice { IsFirstChapter (IsChapterTwice chapters.now) twice }
+    requires unmixed { (e : ℕ) → IsMixed chapters.now e → ⊥ }
+    ensures { IfOk result (IsFirstAfter 3 6 (shown run.now)) }
+{
+    if let Some(place) = chapters.first_missing() {
+        return Ok(Some(Unsettled::ChapterMissing {
+            extent: place.extent,
+            index: place.index,
+        }));
+    }
+    if let Some(place) = twice {
+        return Ok(Some(Unsettled::ChapterTwice {
+            extent: place.extent,
+            index: place.index,
+        }));
+    }
+    let homes = homes(alloc, run.population)?;
+    Ok(join_cause(first_unjoined(chapters, &homes)))
+}
+
+/// That the chapter differs.
+fn join_cause(place: Option<ChapterPlace>) -> Option<Unsettled>
+    ensures { result ≡ option_map (λ (chapter : ChapterPlace).
+        Unsettled.ChapterDiffers chapter.extent chapter.index) place }
+{
+    place.map(|chapter| Unsettled::ChapterDiffers {
+        extent: chapter.extent,
+        index: chapter.index,
+    })
+}
+
+/// The first cause that a call is by its receipt and its entries, where no extent and no chapter is
+/// one.
 fn cause_in_calls<R: Threads + Sync>(
     rt: &R,
     alloc: Global,
     run: &Run<'_>,
+    chapters: &ChapterTable<'_>,
 ) -> Result<Option<Unsettled>, AllocError>
+    requires { chapters.now ≡ run.now.closed.now }
     ensures { IfOk result (IsFirstInCalls (shown run.now)) }
 {
     if let Some(place) = first_unmatched(rt, run.receipts, run.calls) {
@@ -137,7 +177,7 @@ fn cause_in_calls<R: Threads + Sync>(
             number: place.number,
         }));
     }
-    let logs = LogTable::new(alloc, run.closed)?;
+    let logs = LogTable::new(alloc, chapters)?;
     let Placed { table, extra } = place_entries(rt, alloc, &logs, run.receipts)?;
     if let Some(place) = extra {
         return Ok(Some(Unsettled::ReceiptMissing {
@@ -167,12 +207,17 @@ fn cause_in_calls<R: Threads + Sync>(
 }
 
 /// The first call without a home whose key names a subscriber, where there is no cause before it.
-fn cause_without_home(alloc: Global, run: &Run<'_>) -> Result<Option<Unsettled>, AllocError>
-    requires { IsClean run.now.population.now }
-    ensures { IfOk result (IsFirstAfter 8 9 (shown run.now)) }
+fn cause_without_home(
+    alloc: Global,
+    run: &Run<'_>,
+    chapters: &ChapterTable<'_>,
+) -> Result<Option<Unsettled>, AllocError>
+    requires clean { IsClean run.now.population.now }
+    requires gathered { chapters.now ≡ run.now.closed.now }
+    ensures { IfOk result (IsFirstAfter 10 11 (shown run.now)) }
 {
     let directory = Directory::of_clean(alloc, run.population)?;
-    Ok(home_cause(first_homed(&directory, run.closed)))
+    Ok(home_cause(first_homed(alloc, &directory, chapters)?))
 }
 
 /// That the call has a home.

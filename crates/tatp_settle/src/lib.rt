@@ -1,16 +1,19 @@
-//! The closing of a run: what its sites and parcels leave, and whether the logs, the receipts and
-//! the calls are one history of transactions.
+//! The closing of a run: what its sites, parcels and chapters leave, and whether the logs, the
+//! receipts and the calls are one history of transactions.
 #![tactic(auto)]
 
 mod cause;
+mod chapter_table;
 mod closed;
 mod counts;
 mod differences;
 mod equality;
 mod extents;
 mod gathering;
+mod joins;
 mod judgement;
 mod lists;
+mod log_parts;
 mod log_table;
 mod logs;
 mod named_calls;

@@ -1,22 +1,22 @@
-//! The logs of all numbers, each looked up once.
-ghost use Rattle.std.specs.Prelude.{◌≡◌, ◌<◌, ◌≤◌, ℕ, [], IfOk, length, slice_get};
-ghost use Rattle.std.specs.Option.{option_copied};
+//! The whole logs of all numbers, each put together once.
+ghost use Rattle.std.specs.Prelude.{◌≡◌, ◌<◌, ◌≤◌, ℕ, List, [], IfOk, length, slice_get};
+ghost use Rattle.std.specs.Option.{option_copied, option_map_or};
+ghost use Rattle.tatp_procs.specs.declared.entry.Entry.{Entry};
 ghost use Rattle.tatp_population.specs.Logs.{IsOfCall};
 ghost use Rattle.tatp_settle.specs.Closings.{entries_numbered, least_above};
-ghost use Rattle.tatp_settle.specs.LogTables.{entries_of};
 
 use crate::Closed;
-use crate::logs::{log_count, log_of};
+use crate::chapter_table::ChapterTable;
+use crate::log_parts::WholeLog;
 use std::alloc::{AllocError, Global};
 use std::marker::Model;
-use tatp_population::Log;
 use tatp_procs::Entry;
 
-/// What was gathered, with the log of each number at hand.
+/// What was gathered, with the whole log of each number at hand.
 #[derive(Drop)]
 pub(crate) struct LogTable<'a> {
     closed: &'a Closed,
-    logs: Vec<Option<&'a Log>>,
+    logs: Vec<WholeLog<'a>>,
 }
 
 impl<'a> Model for LogTable<'a> {
@@ -34,15 +34,20 @@ impl<'a> Model for LogTable<'a> {
 
 impl<'a> LogTable<'a> {
     /// The logs of what was gathered.
-    pub(crate) fn new(alloc: Global, closed: &'a Closed) -> Result<LogTable<'a>, AllocError>
-        ensures { IfOk result (λ table. table ≡ closed.entry.now) }
+    pub(crate) fn new(
+        alloc: Global,
+        chapters: &ChapterTable<'a>,
+    ) -> Result<LogTable<'a>, AllocError>
+        ensures { IfOk result (λ table. table ≡ chapters.now) }
     {
-        let count = log_count(closed);
         let mut logs = Vec::new(alloc);
-        'logs: for number in 0..count {
-            logs.push(log_of(closed, number))?;
+        'logs: for number in 0..chapters.count() {
+            logs.push(chapters.whole_log(alloc, number)?)?;
         }
-        Ok(LogTable { closed, logs })
+        Ok(LogTable {
+            closed: chapters.closed(),
+            logs,
+        })
     }
 
     /// The least number above those of all extents and logs.
@@ -53,11 +58,12 @@ impl<'a> LogTable<'a> {
         self.logs.len() as u64
     }
 
-    /// The log of a number, if there is one.
-    fn log(&self, number: u64) -> Option<&Log>
-        ensures { entries_of (option_copied result) ≡ entries_numbered self.now number }
+    /// The whole log of a number, if there is one.
+    fn log(&self, number: u64) -> Option<&WholeLog<'a>>
+        ensures { option_map_or (λ (log : List Entry). log) (option_copied result) []
+            ≡ entries_numbered self.now number }
     {
-        *self.logs.get(number as usize)?
+        self.logs.get(number as usize)
     }
 
     /// How many entries stand under a number.

@@ -1,12 +1,13 @@
 //! What sites and parcels have under a number: extents and logs.
-ghost use Rattle.std.specs.Prelude.{◌≡◌, ◌≤◌, ◌^◌, ◌==◌, ℕ, find, [], All};
-ghost use Rattle.std.specs.Option.{option_copied, option_map_or};
+ghost use Rattle.std.specs.Prelude.{◌≡◌, ◌≤◌, ◌^◌, ◌==◌, ℕ, find, [], None, All};
+ghost use Rattle.std.specs.Option.{option_copied, option_map};
 ghost use Rattle.tatp_population.specs.Extents.{ExtentState};
-ghost use Rattle.tatp_settle.specs.LogTables.{entries_of};
-ghost use Rattle.tatp_settle.specs.Closings.{ClosedSiteState, extents_at, extents_numbered, extent_numbered, entries_numbered, most_places, above_all, least_above, IsClosedSite};
+ghost use Rattle.tatp_settle.specs.ChapterTables.{entries_of_some};
+ghost use Rattle.tatp_settle.specs.Closings.{ClosedSiteState, ExtentLog, extents_at, extents_numbered, extent_numbered, log_numbered, entries_since, chapter_count, most_places, above_all, least_above, IsClosedSite};
 
+use crate::log_parts::LogPart;
 use crate::{Closed, ClosedSite};
-use tatp_population::{Extent, Log};
+use tatp_population::Extent;
 
 /// The first of these extents that has a number.
 fn first_of(extents: &[Extent], number: u64) -> Option<&Extent>
@@ -41,30 +42,49 @@ pub(crate) fn extent_numbered(closed: &Closed, number: u64) -> Option<&Extent>
     }
 }
 
-/// The first log of calls without a home, if there is one.
-fn homeless_of(sites: &[ClosedSite]) -> Option<&Log>
-    ensures { entries_of (option_copied result)
-        ≡ option_map_or (λ (site : ClosedSiteState). site.homeless.log)
-        (find (λ (site : ClosedSiteState). site.partition == 0) sites.now) [] }
+/// The first site that kept a log of calls without a home.
+fn homeless_at(sites: &[ClosedSite]) -> Option<&ClosedSite>
+    ensures { option_copied result
+        ≡ find (λ (site : ClosedSiteState). site.partition == 0) sites.now }
 {
-    'sites: for site in sites {
-        if site.partition() == 0 {
-            return Some(site.homeless_log());
-        }
-    }
-    None
+    sites.iter().find(|site| site.partition() == 0)
 }
 
-/// The first log that has a number, if there is one; that of the calls without a home has the
-/// number 0.
-pub(crate) fn log_of(closed: &Closed, number: u64) -> Option<&Log>
-    ensures { entries_of (option_copied result) ≡ entries_numbered closed.now number }
+/// The first log that has a number, and the homes from which it goes on; that of the calls without
+/// a home has the number 0, and no homes.
+pub(crate) fn last_part(closed: &Closed, number: u64) -> Option<LogPart<'_>>
+    ensures before { option_map (λ (part : LogPart). part.before.now) result
+        ≡ option_map (λ (log : ExtentLog). log.opening) (log_numbered closed.now number) }
+    ensures entries { entries_of_some result ≡ entries_since closed.now number }
 {
     if number == 0 {
-        return homeless_of(closed.sites());
+        let site = homeless_at(closed.sites())?;
+        return Some(LogPart {
+            before: &[],
+            entries: site.homeless_log(),
+        });
     }
     let extent = extent_numbered(closed, number)?;
-    Some(extent.log())
+    Some(LogPart {
+        before: extent.opening(),
+        entries: extent.log(),
+    })
+}
+
+/// How many chapters were handed out of a number, 0 where it doesn't stand.
+pub(crate) fn chapter_count(closed: &Closed, number: u64) -> u16
+    ensures { result ≡ chapter_count closed.now number }
+{
+    if number == 0 {
+        return match homeless_at(closed.sites()) {
+            Some(site) => site.homeless_chapters(),
+            None => 0,
+        };
+    }
+    match extent_numbered(closed, number) {
+        Some(extent) => extent.chapters(),
+        None => 0,
+    }
 }
 
 /// How many places the site has that has the most: a number above that of each extent that stood
@@ -93,7 +113,7 @@ fn numbers_of(extents: &[Extent]) -> u64
 pub(crate) fn log_count(closed: &Closed) -> u64
     ensures value { result ≡ least_above closed.now }
     ensures least { 1 ≤ result }
-    ensures entries { (e : ℕ) → result ≤ e → entries_numbered closed.now e ≡ [] }
+    ensures logs { (e : ℕ) → result ≤ e → log_numbered closed.now e ≡ None }
     ensures extents { (e : ℕ) → result ≤ e → extents_numbered closed.now e ≡ [] }
 {
     places_of(closed.sites())

@@ -26,7 +26,7 @@ pub(crate) struct Part<'a> {
 /// Where the entry of each call stands.
 #[derive(Drop)]
 pub(crate) struct Placed {
-    pub(crate) table: Table,
+    pub(crate) table: Table<LogPlace>,
     /// The first call with an entry that has no cell of its own.
     pub(crate) extra: Option<CallPlace>,
 }
@@ -73,11 +73,12 @@ fn put_together(
         → IfOk back (IsTableOf closed high (first + length low) last)
         → IfOk result (IsTableOf closed (low ++ high) first last) }
 {
-    let mut front = front?;
-    let mut back = back?;
-    front.table.rows.append(&mut back.table.rows)?;
+    let front = front?;
+    let back = back?;
+    let mut table = front.table;
+    table.append(back.table)?;
     Ok(Placed {
-        table: front.table,
+        table,
         extra: front.extra.or(back.extra),
     })
 }

@@ -1,6 +1,7 @@
 //! Where calls and entries stand.
 ghost use Rattle.std.specs.Prelude.{◌≡◌, ◌⊎◌, ℕ, Some};
 ghost use Rattle.tatp_settle.specs.Placing.{IsAtMost};
+ghost use Rattle.tatp_settle.specs.ChapterTables.{IsChapterAtMost};
 
 /// One of a client's calls.
 #[derive(Clone, Copy, Debug, PartialEq, Eq)]
@@ -11,7 +12,16 @@ pub struct CallPlace {
     pub number: u64,
 }
 
-/// A place in the log of an extent.
+/// One of an extent's chapters, or after the last of them its log.
+#[derive(Clone, Copy, Debug, PartialEq, Eq)]
+pub(crate) struct ChapterPlace {
+    /// Which extent, 0 for the calls without a home.
+    pub(crate) extent: u64,
+    /// How many of its chapters stand before it.
+    pub(crate) index: u64,
+}
+
+/// A place in the whole log of an extent.
 #[derive(Clone, Copy, Debug, PartialEq, Eq)]
 pub(crate) struct LogPlace {
     /// Which extent, 0 for the calls without a home.
@@ -32,6 +42,30 @@ pub(crate) fn lesser(least: Option<CallPlace>, other: CallPlace) -> Option<CallP
         Some(place) => {
             if other.client < place.client
                 || other.client == place.client && other.number < place.number
+            {
+                Some(other)
+            } else {
+                Some(place)
+            }
+        }
+    }
+}
+
+/// The lesser of two chapters.
+pub(crate) fn lesser_chapter(
+    least: Option<ChapterPlace>,
+    other: ChapterPlace,
+) -> Option<ChapterPlace>
+    ensures keeps { (extent index : ℕ)
+        → IsChapterAtMost least extent index → IsChapterAtMost result extent index }
+    ensures at { IsChapterAtMost result other.extent other.index }
+    ensures is { (result ≡ least) ⊎ (result ≡ Some other) }
+{
+    match least {
+        None => Some(other),
+        Some(place) => {
+            if other.extent < place.extent
+                || other.extent == place.extent && other.index < place.index
             {
                 Some(other)
             } else {

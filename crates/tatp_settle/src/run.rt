@@ -8,7 +8,7 @@ use tatp_tables::Rows;
 pub(crate) struct Run<'a> {
     /// The rows from which it began.
     pub(crate) population: &'a Rows,
-    /// What its sites and parcels left.
+    /// What its sites, parcels and chapters left.
     pub(crate) closed: &'a Closed,
     /// What each client got for its calls.
     pub(crate) receipts: &'a [Vec<Receipt>],

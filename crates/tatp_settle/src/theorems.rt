@@ -36,9 +36,10 @@ pub fn merged_logs_are_one_history()
         → LeadsToLast parts u logs history }
 {}
 
-/// The logs that a run left are one history, from the population to the rows that it left: where
-/// each extent stands once, unmixed and opened as the population has it, each entry has its
-/// receipt, each client's stamps rise, and no entry without a home names a subscriber.
+/// The whole logs that a run left are one history, from the population to the rows that it left:
+/// where each extent stands once and unmixed, and its chapters lead end to end from the
+/// population's homes to its log; each entry has its receipt; each client's stamps rise; and no
+/// entry without a home names a subscriber.
 pub fn runs_are_one_history()
     ensures { (run : Run)
         → IsClean run.population → IsClosed run.closed → IsPopulationOnce run → IsReceived run
@@ -47,9 +48,10 @@ pub fn runs_are_one_history()
         → OneHistory (database_of run.population) (logs_left run) (database_of (rows_left run)) }
 {}
 
-/// The logs that a run left are one history in every order that keeps each log's own, from the
-/// population to the rows that it left: where each extent stands once, unmixed and opened as the
-/// population has it, and no entry without a home names a subscriber.
+/// The whole logs that a run left are one history in every order that keeps each log's own, from
+/// the population to the rows that it left: where each extent stands once and unmixed, its chapters
+/// lead end to end from the population's homes to its log, and no entry without a home names a
+/// subscriber.
 pub fn runs_are_one_history_in_any_order()
     ensures { (run : Run)
         → IsClean run.population → IsClosed run.closed → IsPopulationOnce run

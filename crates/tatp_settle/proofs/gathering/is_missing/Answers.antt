@@ -1,4 +1,4 @@
-use Rattle.std.proofs.Common.{◌≡◌, ◌↔◌, Bool, IsTrue, not, true, false, refl}
+use Rattle.std.proofs.Common.{◌≡◌, ◌↔◌, Bool, IsTrue, not, true, false, [], refl}
 use Rattle.tatp_settle.specs.Closings.{closed_of, times_standing}
 use Rattle.tatp_settle.proofs.StandingLaws.{stands_gathered}
 use Rattle.tatp_settle.proofs.gathering.is_missing.Goals as goal
@@ -10,5 +10,5 @@ opposite A false apart other = (λ t. other refl, λ a. refl)
 
 pub returns : goal.returns
 returns c =
-    let counted = stands_gathered c.args.sites.now c.args.parcels.now c.args.number c.stands.result c.requires.sound c.stands.ensures in
-    opposite (times_standing (closed_of c.args.sites.now c.args.parcels.now) c.args.number ≡ 0) c.stands.result counted.0 counted.1
+    let counted = stands_gathered c.args.sites.now c.args.parcels.now [] c.args.number c.stands.result c.requires.sound c.stands.ensures in
+    opposite (times_standing (closed_of c.args.sites.now c.args.parcels.now []) c.args.number ≡ 0) c.stands.result counted.0 counted.1

@@ -1,4 +1,4 @@
-use Rattle.std.proofs.Common.{◌≡◌, Option, Some, None, IfNone, rules, subst}
+use Rattle.std.proofs.Common.{◌≡◌, Option, Some, None, IfNone, rules, subst, ◌∙◌}
 use Rattle.tatp_settle.specs.declared.places.CallPlace.{CallPlace}
 use Rattle.tatp_settle.specs.CallPlaces.{IsFirstCall}
 use Rattle.tatp_settle.specs.CauseOrder.{NoneOfFirst}
@@ -27,7 +27,7 @@ returns-in-Some-extra g c =
     let run : Run = shown c.args.run.now in
     record {
       first = λ before. first_too_many run c.in-Some-extra.place.client c.in-Some-extra.place.number (none_unmatched run before c.in_default.ensures)
-          (too_many run c.in_ok-logs.logs c.in_ok-table.field-0.extra (Some c.in-Some-extra.place) c.in_ok-logs.ensures c.in-Some-extra.is c.in_ok-table.ensures.first);
+          (too_many run c.in_ok-logs.logs c.in_ok-table.field-0.extra (Some c.in-Some-extra.place) (c.in_ok-logs.ensures ∙ c.requires) c.in-Some-extra.is c.in_ok-table.ensures.first);
       placed = tt;
     }
 
@@ -45,21 +45,21 @@ returns-in-Some-first_differing g c =
     let run : Run = shown c.args.run.now in
     record {
       first = λ before. first_differing run c.in-Some-first_differing.place.client c.in-Some-first_differing.place.number
-          (none_too_many run (none_unmatched run before c.in_default.ensures) (too_many run c.in_ok-logs.logs c.in_ok-table.field-0.extra None c.in_ok-logs.ensures c.in_default-extra.is c.in_ok-table.ensures.first))
-          (differing run c.in_ok-logs.logs (Some c.in-Some-first_differing.place) c.in_ok-logs.ensures c.in-Some-first_differing.ensures);
+          (none_too_many run (none_unmatched run before c.in_default.ensures) (too_many run c.in_ok-logs.logs c.in_ok-table.field-0.extra None (c.in_ok-logs.ensures ∙ c.requires) c.in_default-extra.is c.in_ok-table.ensures.first))
+          (differing run c.in_ok-logs.logs (Some c.in-Some-first_differing.place) (c.in_ok-logs.ensures ∙ c.requires) c.in-Some-first_differing.ensures);
       placed = tt;
     }
 
 -- no call is a cause by its receipt, its entries or its ask
-none7 : (run : Run) (logs : ClosedState) (extra : Option CallPlace) → logs ≡ run.closed → extra ≡ None → NoneOfFirst 5 run → IsFirstCall (HasEntryTooMany logs run.receipts) extra → IsFirstCall (Differs logs run.calls run.receipts) None → NoneOfFirst 7 run
-none7 run logs extra is none before many same = none_differing run (none_too_many run before (too_many run logs extra None is none many)) (differing run logs None is same)
+none9 : (run : Run) (logs : ClosedState) (extra : Option CallPlace) → logs ≡ run.closed → extra ≡ None → NoneOfFirst 7 run → IsFirstCall (HasEntryTooMany logs run.receipts) extra → IsFirstCall (Differs logs run.calls run.receipts) None → NoneOfFirst 9 run
+none9 run logs extra is none before many same = none_differing run (none_too_many run before (too_many run logs extra None is none many)) (differing run logs None is same)
 
 pub returns-in-Some-first_falling : goal.returns-in-Some-first_falling
 returns-in-Some-first_falling g c =
     let run : Run = shown c.args.run.now in
     record {
       first = λ before. first_falling run c.in-Some-first_falling.place.client c.in-Some-first_falling.place.number
-          (none7 run c.in_ok-logs.logs c.in_ok-table.field-0.extra c.in_ok-logs.ensures c.in_default-extra.is (none_unmatched run before c.in_default.ensures) c.in_ok-table.ensures.first c.in_default-first_differing.ensures)
+          (none9 run c.in_ok-logs.logs c.in_ok-table.field-0.extra (c.in_ok-logs.ensures ∙ c.requires) c.in_default-extra.is (none_unmatched run before c.in_default.ensures) c.in_ok-table.ensures.first c.in_default-first_differing.ensures)
           c.in-Some-first_falling.ensures;
       placed = tt;
     }
@@ -69,11 +69,11 @@ returns g c =
     let run : Run = shown c.args.run.now in
     record {
       first = λ before. none_falling run
-          (none7 run c.in_ok-logs.logs c.in_ok-table.field-0.extra c.in_ok-logs.ensures c.in_default-extra.is (none_unmatched run before c.in_default.ensures) c.in_ok-table.ensures.first c.in_default-first_differing.ensures)
+          (none9 run c.in_ok-logs.logs c.in_ok-table.field-0.extra (c.in_ok-logs.ensures ∙ c.requires) c.in_default-extra.is (none_unmatched run before c.in_default.ensures) c.in_ok-table.ensures.first c.in_default-first_differing.ensures)
           c.in_default-first_falling.ensures;
       placed = (
         cells_of c.in_ok-table.field-0.table,
-        subst (λ (closed : ClosedState). AllPlaced closed run.receipts (cells_of c.in_ok-table.field-0.table)) c.in_ok-logs.ensures
+        subst (λ (closed : ClosedState). AllPlaced closed run.receipts (cells_of c.in_ok-table.field-0.table)) (c.in_ok-logs.ensures ∙ c.requires)
             (subst (λ (v : Option CallPlace). IfNone v (AllPlaced c.in_ok-logs.logs run.receipts (cells_of c.in_ok-table.field-0.table))) c.in_default-extra.is c.in_ok-table.ensures.all),
       );
     }

@@ -2,6 +2,9 @@ use Rattle.std.proofs.Common.{Option, IfNone, sym, subst, arith, ◌∙◌}
 use Rattle.std.proofs.lemmas.Result.{IfOk-at_ok}
 use Rattle.tatp_tables.specs.Clean.{IsClean}
 use Rattle.tatp_settle.specs.declared.cause.Unsettled.{Unsettled}
+use Rattle.tatp_settle.specs.declared.cause.Unsettled.TheVariants.{Mixed}
+use Rattle.tatp_settle.specs.Causes.{IsMixed}
+use Rattle.tatp_settle.specs.Closings.{ClosedState}
 use Rattle.tatp_settle.specs.Runs.{Run, rows_left, shown}
 use Rattle.tatp_settle.specs.Placing.{ArePlaced}
 use Rattle.tatp_settle.specs.CauseOrder.{NoneOfFirst, IsFirstInCalls}
@@ -11,63 +14,68 @@ use Rattle.tatp_settle.proofs.MovesLaws.{moves_by_number}
 use Rattle.tatp_settle.proofs.JudgeLaws.{as_many_receipts, matched_of, judged, judged_in_any_order, none_found, cause_found}
 use Rattle.tatp_settle.proofs.judgement.judge.Goals as goal
 
-pub returns-in-Some-clause-refusal : goal.returns-in-Some-clause-refusal
-returns-in-Some-clause-refusal g c = cause_found 4 (shown c.args.run.now) c.in_ok-cause.field-0 c.in-Some.cause c.in-Some.is c.in_ok-cause.ensures
+pub chapter_cause-requires-clause-unmixed : goal.chapter_cause-requires-clause-unmixed
+chapter_cause-requires-clause-unmixed g c = λ e h. c.in_default.ensures (Mixed e) (omega arith) (subst (λ (closed : ClosedState). IsMixed closed e) c.in_ok-chapters.ensures.chapters h)
 
 pub returns-in-Some-2-clause-refusal : goal.returns-in-Some-2-clause-refusal
 returns-in-Some-2-clause-refusal g c =
     let run : Run = shown c.args.run.now in
-    let none4 : NoneOfFirst 4 run = none_found 4 run c.in_ok-cause.field-0 c.in_default.is c.in_ok-cause.ensures in
-    cause_found 8 run c.in_ok-cause-2.field-0 c.in-Some-2.cause c.in-Some-2.is ((IfOk-at_ok (IsFirstInCalls run) c.in_ok-cause-2.was c.audit_beside_calls-audited.ensures.calls).first none4)
+    cause_found 6 run c.in_ok-cause.field-0 c.in-Some-2.cause c.in-Some-2.is (c.in_ok-cause.ensures c.in_default.ensures)
 
 pub returns-in-Some-3-clause-refusal : goal.returns-in-Some-3-clause-refusal
 returns-in-Some-3-clause-refusal g c =
     let run : Run = shown c.args.run.now in
-    let none4 : NoneOfFirst 4 run = none_found 4 run c.in_ok-cause.field-0 c.in_default.is c.in_ok-cause.ensures in
-    let none8 : NoneOfFirst 8 run = none_found 8 run c.in_ok-cause-2.field-0 c.in_default-2.is ((IfOk-at_ok (IsFirstInCalls run) c.in_ok-cause-2.was c.audit_beside_calls-audited.ensures.calls).first none4) in
-    cause_found 9 run c.in_ok-cause-3.field-0 c.in-Some-3.cause c.in-Some-3.is (c.in_ok-cause-3.ensures none8)
+    let none6 : NoneOfFirst 6 run = none_found 6 run c.in_ok-cause.field-0 c.in_default-2.is (c.in_ok-cause.ensures c.in_default.ensures) in
+    cause_found 10 run c.in_ok-cause-2.field-0 c.in-Some-3.cause c.in-Some-3.is ((IfOk-at_ok (IsFirstInCalls run) c.in_ok-cause-2.was c.audit_beside_calls-audited.ensures.calls).first none6)
+
+pub returns-in-Some-4-clause-refusal : goal.returns-in-Some-4-clause-refusal
+returns-in-Some-4-clause-refusal g c =
+    let run : Run = shown c.args.run.now in
+    let none6 : NoneOfFirst 6 run = none_found 6 run c.in_ok-cause.field-0 c.in_default-2.is (c.in_ok-cause.ensures c.in_default.ensures) in
+    let none10 : NoneOfFirst 10 run = none_found 10 run c.in_ok-cause-2.field-0 c.in_default-3.is ((IfOk-at_ok (IsFirstInCalls run) c.in_ok-cause-2.was c.audit_beside_calls-audited.ensures.calls).first none6) in
+    cause_found 11 run c.in_ok-cause-3.field-0 c.in-Some-4.cause c.in-Some-4.is (c.in_ok-cause-3.ensures none10)
 
 pub returns-then-not-is_clean-clause-refusal : goal.returns-then-not-is_clean-clause-refusal
 returns-then-not-is_clean-clause-refusal g c =
     let run : Run = shown c.args.run.now in
-    let none4 : NoneOfFirst 4 run = none_found 4 run c.in_ok-cause.field-0 c.in_default.is c.in_ok-cause.ensures in
-    let none8 : NoneOfFirst 8 run = none_found 8 run c.in_ok-cause-2.field-0 c.in_default-2.is ((IfOk-at_ok (IsFirstInCalls run) c.in_ok-cause-2.was c.audit_beside_calls-audited.ensures.calls).first none4) in
-    let none9 : NoneOfFirst 9 run = none_found 9 run c.in_ok-cause-3.field-0 c.in_default-3.is (c.in_ok-cause-3.ensures none8) in
-    first_audit run c.in_ok-verdict.verdict none9 ((IfOk-at_ok (IsAuditOf (rows_left run)) c.in_ok-verdict.was c.audit_beside_calls-audited.ensures.audit).told, sym c.is_clean.ensures ∙ c.if-not-is_clean.true)
+    let none6 : NoneOfFirst 6 run = none_found 6 run c.in_ok-cause.field-0 c.in_default-2.is (c.in_ok-cause.ensures c.in_default.ensures) in
+    let none10 : NoneOfFirst 10 run = none_found 10 run c.in_ok-cause-2.field-0 c.in_default-3.is ((IfOk-at_ok (IsFirstInCalls run) c.in_ok-cause-2.was c.audit_beside_calls-audited.ensures.calls).first none6) in
+    let none11 : NoneOfFirst 11 run = none_found 11 run c.in_ok-cause-3.field-0 c.in_default-4.is (c.in_ok-cause-3.ensures none10) in
+    first_audit run c.in_ok-verdict.verdict none11 ((IfOk-at_ok (IsAuditOf (rows_left run)) c.in_ok-verdict.was c.audit_beside_calls-audited.ensures.audit).told, sym c.is_clean.ensures ∙ c.if-not-is_clean.true)
 
 pub count_receipts-completed-requires : goal.count_receipts-completed-requires
 count_receipts-completed-requires g c =
     let run : Run = shown c.args.run.now in
-    let none4 : NoneOfFirst 4 run = none_found 4 run c.in_ok-cause.field-0 c.in_default.is c.in_ok-cause.ensures in
-    let none8 : NoneOfFirst 8 run = none_found 8 run c.in_ok-cause-2.field-0 c.in_default-2.is ((IfOk-at_ok (IsFirstInCalls run) c.in_ok-cause-2.was c.audit_beside_calls-audited.ensures.calls).first none4) in
-    let many = as_many_receipts run.calls run.receipts (matched_of run none8) in
+    let none6 : NoneOfFirst 6 run = none_found 6 run c.in_ok-cause.field-0 c.in_default-2.is (c.in_ok-cause.ensures c.in_default.ensures) in
+    let none10 : NoneOfFirst 10 run = none_found 10 run c.in_ok-cause-2.field-0 c.in_default-3.is ((IfOk-at_ok (IsFirstInCalls run) c.in_ok-cause-2.was c.audit_beside_calls-audited.ensures.calls).first none6) in
+    let many = as_many_receipts run.calls run.receipts (matched_of run none10) in
     let few = c.requires.few in
     record { few = omega (arith, many, few) }
 
 pub returns-clause-settled : goal.returns-clause-settled
 returns-clause-settled g c =
     let run : Run = shown c.args.run.now in
-    let none4 : NoneOfFirst 4 run = none_found 4 run c.in_ok-cause.field-0 c.in_default.is c.in_ok-cause.ensures in
+    let none6 : NoneOfFirst 6 run = none_found 6 run c.in_ok-cause.field-0 c.in_default-2.is (c.in_ok-cause.ensures c.in_default.ensures) in
     let calls : IsFirstInCalls run c.in_ok-cause-2.field-0 = IfOk-at_ok (IsFirstInCalls run) c.in_ok-cause-2.was c.audit_beside_calls-audited.ensures.calls in
-    let none8 : NoneOfFirst 8 run = none_found 8 run c.in_ok-cause-2.field-0 c.in_default-2.is (calls.first none4) in
-    let none9 : NoneOfFirst 9 run = none_found 9 run c.in_ok-cause-3.field-0 c.in_default-3.is (c.in_ok-cause-3.ensures none8) in
-    let placed : ArePlaced run.closed run.receipts = subst (λ (v : Option Unsettled). IfNone v (ArePlaced run.closed run.receipts)) c.in_default-2.is calls.placed in
+    let none10 : NoneOfFirst 10 run = none_found 10 run c.in_ok-cause-2.field-0 c.in_default-3.is (calls.first none6) in
+    let none11 : NoneOfFirst 11 run = none_found 11 run c.in_ok-cause-3.field-0 c.in_default-4.is (c.in_ok-cause-3.ensures none10) in
+    let placed : ArePlaced run.closed run.receipts = subst (λ (v : Option Unsettled). IfNone v (ArePlaced run.closed run.receipts)) c.in_default-3.is calls.placed in
     let audit : IsAuditOf (rows_left run) c.in_ok-verdict.verdict = IfOk-at_ok (IsAuditOf (rows_left run)) c.in_ok-verdict.was c.audit_beside_calls-audited.ensures.audit in
     let clean : IsClean (rows_left run) = audit.clean (sym c.is_clean.ensures ∙ c.if-not-is_clean.false) in
-    let one : IsOneHistory run = judged run c.requires.clean c.what_holds.ensures none9 placed clean in
+    let one : IsOneHistory run = judged run c.requires.clean c.what_holds.ensures none11 placed clean in
     record {
       one_history = one;
       completed = c.count_receipts-completed.ensures.completed;
       refused = c.count_receipts-completed.ensures.refused;
       kinds = c.count_kinds.ensures;
       verdict = audit.counts clean;
-      moves = c.count_moves.ensures ∙ moves_by_number run one.extents;
+      moves = c.count_moves.ensures ∙ moves_by_number run c.what_holds.ensures one.extents;
     }
 
 pub returns-clause-any_order : goal.returns-clause-any_order
 returns-clause-any_order g c =
     let run : Run = shown c.args.run.now in
-    let none4 : NoneOfFirst 4 run = none_found 4 run c.in_ok-cause.field-0 c.in_default.is c.in_ok-cause.ensures in
-    let none8 : NoneOfFirst 8 run = none_found 8 run c.in_ok-cause-2.field-0 c.in_default-2.is ((IfOk-at_ok (IsFirstInCalls run) c.in_ok-cause-2.was c.audit_beside_calls-audited.ensures.calls).first none4) in
-    let none9 : NoneOfFirst 9 run = none_found 9 run c.in_ok-cause-3.field-0 c.in_default-3.is (c.in_ok-cause-3.ensures none8) in
-    judged_in_any_order run c.requires.clean c.what_holds.ensures none9
+    let none6 : NoneOfFirst 6 run = none_found 6 run c.in_ok-cause.field-0 c.in_default-2.is (c.in_ok-cause.ensures c.in_default.ensures) in
+    let none10 : NoneOfFirst 10 run = none_found 10 run c.in_ok-cause-2.field-0 c.in_default-3.is ((IfOk-at_ok (IsFirstInCalls run) c.in_ok-cause-2.was c.audit_beside_calls-audited.ensures.calls).first none6) in
+    let none11 : NoneOfFirst 11 run = none_found 11 run c.in_ok-cause-3.field-0 c.in_default-4.is (c.in_ok-cause-3.ensures none10) in
+    judged_in_any_order run c.requires.clean c.what_holds.ensures none11

@@ -9,6 +9,6 @@ use Rattle.tatp_settle.proofs.named_calls.first_named.Given as goal
 
 abbrev pub invariant-entries : goal.invariant-entries
 invariant-entries l = record {
-  seen : (j : ℕ) (entry : Entry) → j < l.index → slice_get l.log.entries j ≡ Some entry → IsSome (answer l.directory (key_asked entry.ask)) → IsAtMost l.least entry.client entry.number;
-  named : (place : CallPlace) → l.least ≡ Some place → IsNamedIn l.log.entries l.directory place.client place.number;
+  seen : (j : ℕ) (entry : Entry) → j < l.index → slice_get l.log j ≡ Some entry → IsSome (answer l.directory (key_asked entry.ask)) → IsAtMost l.least entry.client entry.number;
+  named : (place : CallPlace) → l.least ≡ Some place → IsNamedIn l.log l.directory place.client place.number;
 }

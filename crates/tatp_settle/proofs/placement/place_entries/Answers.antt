@@ -2,6 +2,7 @@ use Rattle.std.proofs.Common.{List, true, Result, Ok, Err, None, Some, IfOk, IfN
 use Rattle.std.specs.declared.alloc.AllocError.{AllocError}
 use Rattle.tatp_partition.specs.declared.receipt.Receipt.{Receipt}
 use Rattle.tatp_settle.specs.declared.places.CallPlace.{CallPlace}
+use Rattle.tatp_settle.specs.declared.places.LogPlace.{LogPlace}
 use Rattle.tatp_settle.specs.declared.placement.Placed.{Placed}
 use Rattle.tatp_settle.specs.Closings.{ClosedState}
 use Rattle.tatp_settle.specs.Runs.{lists_of}
@@ -10,7 +11,7 @@ use Rattle.tatp_settle.proofs.PlacingLaws.{placed_all, placed_end}
 use Rattle.tatp_settle.proofs.placement.place_entries.Goals as goal
 
 -- where there is no entry too many, all are placed
-all_unless : (closed : ClosedState) (receipts : List (List Receipt)) (cells : Cells) (extra : Option CallPlace) → ArePlacedIn closed receipts 0 true cells extra → IfNone extra (AllPlaced closed receipts cells)
+all_unless : (closed : ClosedState) (receipts : List (List Receipt)) (cells : Cells LogPlace) (extra : Option CallPlace) → ArePlacedIn closed receipts 0 true cells extra → IfNone extra (AllPlaced closed receipts cells)
 all_unless closed receipts cells None h = placed_all closed receipts cells h
 all_unless closed receipts cells (Some place) h = tt
 

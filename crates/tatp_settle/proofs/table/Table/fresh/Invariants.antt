@@ -4,4 +4,4 @@ use Rattle.tatp_settle.proofs.TableLaws.{fresh_rows}
 use Rattle.tatp_settle.proofs.table.Table.fresh.Given as goal
 
 abbrev pub invariant-lists : goal.invariant-lists
-invariant-lists g l = lists_of l.rows.items ≡ fresh_rows (take l.list-index (lists_of l.lists))
+invariant-lists g l = l.table ≡ fresh_rows _ (take l.list-index (lists_of l.lists))

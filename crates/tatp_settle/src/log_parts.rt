@@ -1,0 +1,107 @@
+//! Parts of whole logs, and whole logs joined from them.
+ghost use Rattle.std.specs.Prelude.{◌≡◌, ◌<◌, ◌≤◌, ◌++◌, [], IfSome, OnOk, length, slice_get};
+ghost use Rattle.std.specs.Option.{option_copied};
+ghost use Rattle.tatp_population.specs.Logs.{IsOfCall};
+ghost use Rattle.tatp_settle.specs.WholeLogs.{entry_in_part};
+
+use std::alloc::{AllocError, Global};
+use std::marker::Model;
+use tatp_population::Log;
+use tatp_procs::Entry;
+use tatp_tables::Home;
+
+/// A part of an extent's whole log: a chapter, or what was logged since the last of them.
+#[derive(Clone, Copy)]
+pub(crate) struct LogPart<'a> {
+    /// The homes from which its entries lead on.
+    pub(crate) before: &'a [Home],
+    /// Its entries.
+    pub(crate) entries: &'a Log,
+}
+
+/// A part that has its place in a whole log.
+#[derive(Clone, Copy)]
+struct JoinedPart<'a> {
+    /// How many entries stand before it.
+    first: usize,
+    entries: &'a Log,
+}
+
+/// A whole log, joined from the logs of its parts.
+#[derive(Drop)]
+pub(crate) struct WholeLog<'a> {
+    parts: Vec<JoinedPart<'a>>,
+    len: usize,
+}
+
+impl<'a> Model for WholeLog<'a> {
+    ghost use Rattle.std.specs.Prelude.{List};
+    ghost use Rattle.tatp_procs.specs.declared.entry.Entry.{Entry};
+    ghost use Rattle.tatp_settle.specs.WholeLogs.{entries_of_parts, AreJoined};
+
+    ghost Value = { List Entry };
+
+    ghost view = { λ a. entries_of_parts a.parts.items };
+
+    ghost invariant = { λ a. AreJoined 0 a.parts.items a.len };
+}
+
+impl<'a> WholeLog<'a> {
+    /// A log without a part.
+    pub(crate) fn new(alloc: Global) -> WholeLog<'a>
+        ensures { result ≡ [] }
+    {
+        WholeLog {
+            parts: Vec::new(alloc),
+            len: 0,
+        }
+    }
+
+    /// One part more. More entries than can be counted count as more than there is memory for.
+    pub(crate) fn push(&mut self, entries: &'a Log) -> Result<(), AllocError>
+        ensures { OnOk result (self.new ≡ self.old ++ entries.entry.now.entries) }
+    {
+        let len = self.len.checked_add(entries.len()).ok_or(AllocError)?;
+        self.parts.push(JoinedPart {
+            first: self.len,
+            entries,
+        })?;
+        self.len = len;
+        Ok(())
+    }
+
+    /// How many entries it has.
+    pub(crate) fn len(&self) -> usize
+        ensures { result ≡ length self.now }
+    {
+        self.len
+    }
+
+    /// The part in which the entry of this place stands, if there is one.
+    fn part_of(&self, index: usize) -> Option<&JoinedPart<'a>>
+        ensures first { IfSome result (λ part. part.now.first ≤ index) }
+        ensures entry { slice_get self.now index ≡ entry_in_part (option_copied result) index }
+    {
+        let later = self.parts.partition_point(|part| part.first <= index);
+        self.parts.get(later.checked_sub(1)?)
+    }
+
+    /// The entry in a place, if there is one.
+    pub(crate) fn get(&self, index: usize) -> Option<Entry>
+        ensures { result ≡ slice_get self.now index }
+    {
+        let part = self.part_of(index)?;
+        part.entries.get(index - part.first)
+    }
+
+    /// Whose call the entry in a place is: its client, and the call's number.
+    pub(crate) fn caller(&self, index: usize) -> (u64, u64)
+        requires { index < length self.now }
+        ensures { IsOfCall self.now index result.0 result.1 }
+    {
+        match self.part_of(index) {
+            Some(part) => part.entries.caller(index - part.first),
+            None => unreachable!(),
+        }
+    }
+}

@@ -1,4 +1,4 @@
-//! Sites of 192 subscribers in three extents, and what happens at them.
+//! Sites, mostly of 192 subscribers in three extents, and what happens at them.
 ghost use Rattle.std.specs.Prelude.{◌<◌, ◌^◌, IsTrue, length};
 ghost use Rattle.tatp_settle.specs.Runs.{joined, lists_of};
 
@@ -6,7 +6,8 @@ use super::sites::{begins, ended, lands, opened, spend_parcels, spend_site};
 use std::alloc::{AllocError, Global};
 use tatp_loader::Loaded;
 use tatp_numbers::Key;
-use tatp_partition::{Item, Parcel, Site, close_sites};
+use tatp_partition::{Item, Parcel, Site, close_sites, discard_all};
+use tatp_population::Chapter;
 use tatp_procs::{Ask, Call, Raw, Reply};
 use tatp_settle::Receipt;
 
@@ -29,8 +30,33 @@ pub enum Event {
     Taken(u32),
     /// The extent is taken, and is spent.
     Lost(u32),
+    /// The location of the subscriber is written.
+    Updated(u64),
+    /// The extent hands out a chapter, which stays.
+    Kept(u32),
     /// The extent hands out a chapter, which is spent.
     HandedOut(u32),
+}
+
+/// What is left of a run: its sites, the parcels that are under way, and its chapters.
+pub struct Left<'m> {
+    pub sites: Vec<Site<'m>>,
+    pub parcels: Vec<Parcel>,
+    pub chapters: Vec<Chapter>,
+}
+
+impl Left<'_> {
+    /// Spends it.
+    pub fn discard(self) {
+        let Left {
+            sites,
+            parcels,
+            chapters,
+        } = self;
+        close_sites(sites);
+        spend_parcels(parcels);
+        discard_all(chapters);
+    }
 }
 
 /// A reading of access data that a subscriber lacks: it has one row in Access_Info.
@@ -41,6 +67,14 @@ fn reading(s_id: u64) -> Ask {
 /// The same reading as a call that is no standard transaction.
 fn raw(s_id: u64) -> Ask {
     Ask::Raw(Raw::new(2, &[s_id, 2], Key::Id(s_id)))
+}
+
+/// The writing of a location that no subscriber of a population has.
+fn updating(s_id: u64) -> Ask {
+    Ask::Txn(Call::UpdateLocation {
+        sub_nbr: s_id,
+        vlr_location: 9,
+    })
 }
 
 /// Runs a call, by its client, its number and the stamp that was seen, in at most 256 steps;
@@ -73,19 +107,25 @@ fn keeps(parcels: &mut Vec<Parcel>, parcel: Parcel) -> bool {
     }
 }
 
-/// Whether the extent handed out a chapter.
-fn hands_out(alloc: Global, site: &mut Site<'_>, e: u32) -> bool {
-    match site.checkpoint(alloc, e) {
-        Ok(chapter) => {
-            chapter.discard();
-            true
+/// Keeps a chapter; whether there was memory.
+fn keeps_chapter(chapters: &mut Vec<Chapter>, chapter: Chapter) -> bool {
+    match chapters.push(chapter) {
+        Ok(()) => true,
+        Err(refused) => {
+            refused.value.discard();
+            false
         }
-        Err(_) => false,
     }
 }
 
 /// Whether the event happened.
-fn happens(alloc: Global, site: &mut Site<'_>, parcels: &mut Vec<Parcel>, event: Event) -> bool {
+fn happens(
+    alloc: Global,
+    site: &mut Site<'_>,
+    parcels: &mut Vec<Parcel>,
+    chapters: &mut Vec<Chapter>,
+    event: Event,
+) -> bool {
     match event {
         Event::Call(client, number, s_id) => {
             ends(alloc, site, (client, number, 0), reading(s_id), Some(s_id))
@@ -119,22 +159,28 @@ fn happens(alloc: Global, site: &mut Site<'_>, parcels: &mut Vec<Parcel>, event:
             }
             Err(_) => false,
         },
-        Event::HandedOut(e) => hands_out(alloc, site, e),
+        Event::Updated(s_id) => ends(alloc, site, (0, 0, 0), updating(s_id), Some(s_id)),
+        Event::Kept(e) => match site.checkpoint(alloc, e) {
+            Ok(chapter) => keeps_chapter(chapters, chapter),
+            Err(_) => false,
+        },
+        Event::HandedOut(e) => match site.checkpoint(alloc, e) {
+            Ok(chapter) => {
+                chapter.discard();
+                true
+            }
+            Err(_) => false,
+        },
     }
 }
 
 /// Whether all events happened, one after another, at the last of the sites.
-fn all_happen(
-    alloc: Global,
-    sites: &mut Vec<Site<'_>>,
-    parcels: &mut Vec<Parcel>,
-    events: &[Event],
-) -> bool {
+fn all_happen(alloc: Global, left: &mut Left<'_>, events: &[Event]) -> bool {
     for event in events {
-        match sites.last_mut() {
+        match left.sites.last_mut() {
             None => return false,
             Some(site) => {
-                if !happens(alloc, site, parcels, *event) {
+                if !happens(alloc, site, &mut left.parcels, &mut left.chapters, *event) {
                     return false;
                 }
             }
@@ -143,15 +189,16 @@ fn all_happen(
     true
 }
 
-/// The sites of these partitions, each with all three extents.
+/// The sites of these partitions, each with all extents of so many subscribers.
 fn all_opened<'m>(
     alloc: Global,
     loaded: &'m Loaded,
+    subscribers: u64,
     partitions: &[u8],
 ) -> Result<Vec<Site<'m>>, AllocError> {
     let mut sites = Vec::new(alloc);
     for partition in partitions {
-        match opened(alloc, loaded, 192, *partition) {
+        match opened(alloc, loaded, subscribers, *partition) {
             Err(error) => {
                 close_sites(sites);
                 return Err(error);
@@ -169,23 +216,36 @@ fn all_opened<'m>(
     Ok(sites)
 }
 
-/// The sites of these partitions and the parcels that are under way, once the events have happened
-/// at the last of the sites. None where one did not happen.
+/// What is left of a run at the sites of these partitions, on so many subscribers, once the events
+/// have happened at the last of the sites. None where one did not happen.
+pub fn left_of<'m>(
+    alloc: Global,
+    loaded: &'m Loaded,
+    subscribers: u64,
+    partitions: &[u8],
+    events: &[Event],
+) -> Result<Option<Left<'m>>, AllocError> {
+    let mut left = Left {
+        sites: all_opened(alloc, loaded, subscribers, partitions)?,
+        parcels: Vec::new(alloc),
+        chapters: Vec::new(alloc),
+    };
+    if all_happen(alloc, &mut left, events) {
+        Ok(Some(left))
+    } else {
+        left.discard();
+        Ok(None)
+    }
+}
+
+/// The same on 192 subscribers.
 pub fn left<'m>(
     alloc: Global,
     loaded: &'m Loaded,
     partitions: &[u8],
     events: &[Event],
-) -> Result<Option<(Vec<Site<'m>>, Vec<Parcel>)>, AllocError> {
-    let mut sites = all_opened(alloc, loaded, partitions)?;
-    let mut parcels = Vec::new(alloc);
-    if all_happen(alloc, &mut sites, &mut parcels, events) {
-        Ok(Some((sites, parcels)))
-    } else {
-        close_sites(sites);
-        spend_parcels(parcels);
-        Ok(None)
-    }
+) -> Result<Option<Left<'m>>, AllocError> {
+    left_of(alloc, loaded, 192, partitions, events)
 }
 
 /// What a client got for a call that read nothing.

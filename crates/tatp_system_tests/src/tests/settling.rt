@@ -3,7 +3,7 @@ ghost use Rattle.std.specs.Prelude.{◌<◌, ◌^◌, length};
 ghost use Rattle.tatp_tables.specs.Clean.{IsClean};
 ghost use Rattle.tatp_settle.specs.Runs.{joined, lists_of};
 
-use super::events::{Event, Got, are_few, left, readings, receipts};
+use super::events::{Event, Got, Left, are_few, left, left_of, readings, receipts};
 use super::rows::clean_rows;
 use super::sites::{module, spend_parcels};
 use std::alloc::{AllocError, Global};
@@ -11,17 +11,26 @@ use std::process::Abort;
 use std::test::Fail;
 use std::thread::Threads;
 use tatp_audits::{Verdict, audit};
-use tatp_partition::close_sites;
+use tatp_partition::{close_sites, discard_all};
+use tatp_population::Chapter;
 use tatp_procs::Ask;
 use tatp_settle::{Closed, NotGathered, NotSettled, Receipt, Settled, gather, settle};
 use tatp_tables::Rows;
 
-/// A run at the sites of these partitions, its events at the last of them; and for each client the
-/// subscribers whose data it asked, and what it got.
+/// Another run, on so many subscribers at one site.
+#[derive(Clone, Copy)]
+struct Beside<'a> {
+    subscribers: u64,
+    events: &'a [Event],
+}
+
+/// A run at the sites of these partitions, its events at the last of them, to which the chapters of
+/// another run came; and for each client the subscribers whose data it asked, and what it got.
 #[derive(Clone, Copy)]
 struct Run<'a> {
     partitions: &'a [u8],
     events: &'a [Event],
+    beside: Option<Beside<'a>>,
     calls: &'a [&'a [u64]],
     got: &'a [&'a [Got]],
 }
@@ -47,30 +56,94 @@ fn told<R: Threads + Sync>(
     }
 }
 
-/// What a run at the sites of these partitions leaves, gathered. None where one of its events did
-/// not happen, or an extent is missing.
-fn closed(
+/// The chapters of another run, none without one. None where one of its events did not happen.
+fn chapters_of(
     alloc: Global,
-    partitions: &[u8],
-    events: &[Event],
-) -> Result<Option<Closed>, AllocError> {
+    beside: Option<Beside<'_>>,
+) -> Result<Option<Vec<Chapter>>, AllocError> {
+    let Some(Beside {
+        subscribers,
+        events,
+    }) = beside
+    else {
+        return Ok(Some(Vec::new(alloc)));
+    };
     let loaded = module(alloc)?;
-    match left(alloc, &loaded, partitions, events)? {
+    match left_of(alloc, &loaded, subscribers, &[0], events)? {
         None => Ok(None),
-        Some((sites, parcels)) => match gather(alloc, sites, parcels) {
-            Ok(closed) => Ok(Some(closed)),
-            Err(
-                NotGathered {
-                    error: _,
-                    sites,
-                    parcels,
-                },
-            ) => {
-                close_sites(sites);
-                spend_parcels(parcels);
-                Ok(None)
-            }
-        },
+        Some(Left {
+            sites,
+            parcels,
+            chapters,
+        }) => {
+            close_sites(sites);
+            spend_parcels(parcels);
+            Ok(Some(chapters))
+        }
+    }
+}
+
+/// What is left of a run, gathered with chapters that come first. None where an extent is missing.
+fn gathered(
+    alloc: Global,
+    left: Left<'_>,
+    first: Vec<Chapter>,
+) -> Result<Option<Closed>, AllocError> {
+    let Left {
+        sites,
+        parcels,
+        chapters: mut more,
+    } = left;
+    let mut chapters = first;
+    if chapters.append(&mut more).is_err() {
+        close_sites(sites);
+        spend_parcels(parcels);
+        discard_all(chapters);
+        discard_all(more);
+        return Err(AllocError);
+    }
+    more.destroy_empty();
+    match gather(alloc, sites, parcels, chapters) {
+        Ok(closed) => Ok(Some(closed)),
+        Err(
+            NotGathered {
+                error: _,
+                sites,
+                parcels,
+                chapters,
+            },
+        ) => {
+            close_sites(sites);
+            spend_parcels(parcels);
+            discard_all(chapters);
+            Ok(None)
+        }
+    }
+}
+
+/// What a run leaves, gathered. None where one of its events, or of those beside it, did not happen,
+/// or an extent is missing.
+fn closed(alloc: Global, run: Run<'_>) -> Result<Option<Closed>, AllocError> {
+    let Some(chapters) = chapters_of(alloc, run.beside)? else {
+        return Ok(None);
+    };
+    let loaded = match module(alloc) {
+        Ok(loaded) => loaded,
+        Err(error) => {
+            discard_all(chapters);
+            return Err(error);
+        }
+    };
+    match left(alloc, &loaded, run.partitions, run.events) {
+        Ok(Some(left)) => gathered(alloc, left, chapters),
+        Ok(None) => {
+            discard_all(chapters);
+            Ok(None)
+        }
+        Err(error) => {
+            discard_all(chapters);
+            Err(error)
+        }
     }
 }
 
@@ -87,7 +160,7 @@ fn told_of<R: Threads + Sync>(
     if !are_few(&calls) || !audit(alloc, population)?.is_clean() {
         return Ok(None);
     }
-    match closed(alloc, run.partitions, run.events)? {
+    match closed(alloc, run)? {
         None => Ok(None),
         Some(closed) => Ok(Some(told(rt, alloc, population, closed, &receipts, &calls)?)),
     }
@@ -97,33 +170,17 @@ fn told_of<R: Threads + Sync>(
 type ExtentCase<'a> = (u64, &'a [u64], &'a [u8], &'a [Event], &'a str);
 
 /// In each row later causes hold too, for one that no client's call has a receipt.
-static EXTENTS: [ExtentCase<'static>; 10] = [
-    (128, &[], &[0], &[], "45 Unsettled Opening 3"),
-    (194, &[], &[0], &[], "45 Unsettled Opening 4"),
+static EXTENTS: [ExtentCase<'static>; 11] = [
     (
         192,
         &[129, 65],
         &[0],
-        &[Event::Raw(129), Event::Raw(65), Event::Taken(1)],
-        "45 Unsettled Opening 2",
-    ),
-    (
-        192,
-        &[],
-        &[0],
         &[
-            Event::Raw(129),
-            Event::HandedOut(2),
             Event::HandedOut(1),
+            Event::Raw(129),
+            Event::Raw(65),
             Event::Taken(1),
         ],
-        "45 Unsettled Opening 1",
-    ),
-    (
-        192,
-        &[],
-        &[0],
-        &[Event::Raw(129), Event::Raw(65), Event::Taken(1)],
         "45 Unsettled Mixed 2",
     ),
     (
@@ -140,13 +197,42 @@ static EXTENTS: [ExtentCase<'static>; 10] = [
         &[Event::Taken(3), Event::Taken(2)],
         "45 Unsettled ParcelLeft 2",
     ),
-    (192, &[], &[0, 0], &[], "45 Unsettled Doubled 0"),
+    (
+        192,
+        &[129],
+        &[0, 0],
+        &[Event::HandedOut(1)],
+        "45 Unsettled Doubled 0",
+    ),
     (
         192,
         &[],
         &[0, 1],
         &[Event::Lost(1)],
         "45 Unsettled Doubled 2",
+    ),
+    (
+        192,
+        &[1],
+        &[0],
+        &[Event::HandedOut(3), Event::HandedOut(2)],
+        "45 Unsettled ChapterMissing 2 0",
+    ),
+    (128, &[], &[0], &[], "45 Unsettled ChapterDiffers 3 0"),
+    (194, &[], &[0], &[], "45 Unsettled ChapterDiffers 4 0"),
+    (
+        192,
+        &[129, 65],
+        &[0],
+        &[],
+        "45 Unsettled ChapterDiffers 2 0",
+    ),
+    (
+        192,
+        &[129, 65],
+        &[0],
+        &[Event::Kept(1), Event::Kept(2)],
+        "45 Unsettled ChapterDiffers 2 0",
     ),
     (192, &[], &[0], &[], "45 Unsettled CallMissing 0 0"),
 ];
@@ -162,6 +248,7 @@ fn told_of_extents<R: Threads + Sync>(
     let run = Run {
         partitions,
         events,
+        beside: None,
         calls: &[&[1]],
         got: &[],
     };
@@ -204,6 +291,7 @@ fn told_of_calls<R: Threads + Sync>(
     let run = Run {
         partitions: &[0],
         events,
+        beside: None,
         calls,
         got,
     };
@@ -368,21 +456,161 @@ static STAMPED: [Case<'static>; 4] = [
     ),
 ];
 
-/// Chapters that were handed out, where no other cause holds.
-static HANDED_OUT: [Case<'static>; 2] = [
+/// Events, those of the run beside, and the text of the cause.
+type ChapterCase<'a> = (&'a [Event], Beside<'a>, &'a str);
+
+/// No chapters beside.
+const NONE: Beside<'static> = Beside {
+    subscribers: 192,
+    events: &[],
+};
+
+/// Chapters that did not come, came twice, or don't join. In each row the first client's call has no
+/// receipt either.
+static CHAPTERS: [ChapterCase<'static>; 15] = [
     (
         &[Event::Call(1, 0, 1), Event::HandedOut(1)],
-        &[],
-        &[],
-        "45 Unsettled Opening 1",
+        NONE,
+        "45 Unsettled ChapterMissing 1 0",
     ),
     (
         &[Event::Homeless(1, 0, 193), Event::HandedOut(0)],
+        NONE,
+        "45 Unsettled ChapterMissing 0 0",
+    ),
+    (
+        &[Event::HandedOut(3), Event::Kept(2), Event::HandedOut(2)],
+        NONE,
+        "45 Unsettled ChapterMissing 2 1",
+    ),
+    // One that came twice comes later.
+    (
+        &[Event::Kept(1), Event::HandedOut(2)],
+        Beside {
+            subscribers: 192,
+            events: &[Event::Kept(1)],
+        },
+        "45 Unsettled ChapterMissing 2 0",
+    ),
+    (
+        &[Event::Kept(2), Event::Kept(1)],
+        Beside {
+            subscribers: 192,
+            events: &[Event::Kept(2), Event::Kept(1)],
+        },
+        "45 Unsettled ChapterTwice 1 0",
+    ),
+    (
+        &[Event::Kept(0)],
+        Beside {
+            subscribers: 192,
+            events: &[Event::Kept(0)],
+        },
+        "45 Unsettled ChapterTwice 0 0",
+    ),
+    (
+        &[Event::Kept(3)],
+        Beside {
+            subscribers: 192,
+            events: &[Event::HandedOut(3), Event::HandedOut(3), Event::Kept(3)],
+        },
+        "45 Unsettled ChapterTwice 3 2",
+    ),
+    (
         &[],
-        &[],
-        "45 Unsettled Opening 0",
+        Beside {
+            subscribers: 256,
+            events: &[Event::Kept(4)],
+        },
+        "45 Unsettled ChapterTwice 4 0",
+    ),
+    // A chapter that doesn't join comes later.
+    (
+        &[Event::HandedOut(1), Event::Kept(1)],
+        Beside {
+            subscribers: 256,
+            events: &[Event::Updated(1), Event::Kept(1), Event::Kept(4)],
+        },
+        "45 Unsettled ChapterTwice 4 0",
+    ),
+    (
+        &[Event::HandedOut(2), Event::Kept(2)],
+        Beside {
+            subscribers: 192,
+            events: &[Event::Updated(65), Event::Kept(2)],
+        },
+        "45 Unsettled ChapterDiffers 2 1",
+    ),
+    (
+        &[Event::HandedOut(2), Event::HandedOut(2)],
+        Beside {
+            subscribers: 192,
+            events: &[Event::Kept(2), Event::Updated(65), Event::Kept(2)],
+        },
+        "45 Unsettled ChapterDiffers 2 2",
+    ),
+    // The stamp 1 after the stamp 7, in a chapter, in the log, and in that of calls without a home.
+    (
+        &[Event::HandedOut(2), Event::Call(0, 1, 65), Event::Kept(2)],
+        Beside {
+            subscribers: 192,
+            events: &[Event::Late(0, 0, 65, 6), Event::Kept(2)],
+        },
+        "45 Unsettled ChapterDiffers 2 1",
+    ),
+    (
+        &[Event::HandedOut(2), Event::Call(0, 1, 65)],
+        Beside {
+            subscribers: 192,
+            events: &[Event::Late(0, 0, 65, 6), Event::Kept(2)],
+        },
+        "45 Unsettled ChapterDiffers 2 1",
+    ),
+    (
+        &[Event::HandedOut(0), Event::Homeless(0, 1, 193)],
+        Beside {
+            subscribers: 192,
+            events: &[
+                Event::Homeless(1, 0, 193),
+                Event::Homeless(1, 1, 193),
+                Event::Kept(0),
+            ],
+        },
+        "45 Unsettled ChapterDiffers 0 1",
+    ),
+    // A chapter without entries keeps the stamp before it.
+    (
+        &[
+            Event::HandedOut(2),
+            Event::HandedOut(2),
+            Event::Call(0, 1, 65),
+        ],
+        Beside {
+            subscribers: 192,
+            events: &[Event::Late(0, 0, 65, 6), Event::Kept(2), Event::Kept(2)],
+        },
+        "45 Unsettled ChapterDiffers 2 2",
     ),
 ];
+
+/// What is told of a run at one site and the chapters of the one beside it, in which the first
+/// client asked one subscriber, and got nothing.
+fn told_of_chapters<R: Threads + Sync>(
+    rt: &R,
+    alloc: Global,
+    case: &ChapterCase<'_>,
+) -> Result<Option<Result<Settled, String>>, AllocError> {
+    let (events, beside, _) = *case;
+    let population = clean_rows(alloc, 192, &[])?;
+    let run = Run {
+        partitions: &[0],
+        events,
+        beside: Some(beside),
+        calls: &[&[1]],
+        got: &[],
+    };
+    told_of(rt, alloc, &population, run)
+}
 
 #[test]
 fn calls_that_are_causes(rt: HostRuntime) -> Result<(), Fail> {
@@ -397,33 +625,56 @@ fn calls_that_are_causes(rt: HostRuntime) -> Result<(), Fail> {
 
 #[test]
 fn chapters_that_are_causes(rt: HostRuntime) -> Result<(), Fail> {
-    for (events, calls, got, text) in &HANDED_OUT {
-        let told = told_of_calls(&rt, rt.alloc(), events, calls, got)?;
-        expect_cause(&rt, told, text)?;
+    for case in &CHAPTERS {
+        expect_cause(&rt, told_of_chapters(&rt, rt.alloc(), case)?, case.2)?;
     }
     Ok(())
 }
 
-/// Events, calls and receipts of a run that is settled.
-static SETTLED: (&[Event], &[&[u64]], &[&[Got]]) = (
-    &[
-        Event::Call(0, 0, 1),
-        Event::Moved(1),
-        Event::Moved(3),
-        Event::Moved(3),
-        Event::Homeless(1, 0, 193),
-        Event::Late(1, 2, 65, 1),
-    ],
-    &[&[1], &[193, 7, 65]],
-    &[
-        &[Got::Failed(0, 0, 1, 1, 1)],
+/// Events, calls and receipts of a run that is settled. The second case hands out chapters.
+static SETTLED: [(&[Event], &[&[u64]], &[&[Got]]); 2] = [
+    (
         &[
-            Got::Failed(1, 0, 1, 0, 1),
-            Got::Refused(1, 1),
-            Got::Failed(1, 2, 1, 2, 2),
+            Event::Call(0, 0, 1),
+            Event::Moved(1),
+            Event::Moved(3),
+            Event::Moved(3),
+            Event::Homeless(1, 0, 193),
+            Event::Late(1, 2, 65, 1),
         ],
+        CALLS,
+        GOT,
+    ),
+    (
+        &[
+            Event::Kept(1),
+            Event::Call(0, 0, 1),
+            Event::Kept(1),
+            Event::Moved(1),
+            Event::Kept(0),
+            Event::Moved(3),
+            Event::Kept(3),
+            Event::Moved(3),
+            Event::Homeless(1, 0, 193),
+            Event::Kept(0),
+            Event::Late(1, 2, 65, 1),
+            Event::Kept(1),
+        ],
+        CALLS,
+        GOT,
+    ),
+];
+
+const CALLS: &[&[u64]] = &[&[1], &[193, 7, 65]];
+
+const GOT: &[&[Got]] = &[
+    &[Got::Failed(0, 0, 1, 1, 1)],
+    &[
+        Got::Failed(1, 0, 1, 0, 1),
+        Got::Refused(1, 1),
+        Got::Failed(1, 2, 1, 2, 2),
     ],
-);
+];
 
 /// What a settled run counts: three calls that read nothing and one refused, of one kind, and three
 /// moves.
@@ -443,14 +694,13 @@ fn expect_counts(rt: &impl Abort, settled: &Settled) {
 }
 
 #[test]
-fn a_settled_run(rt: HostRuntime) -> Result<(), Fail> {
-    let (events, calls, got) = &SETTLED;
-    match told_of_calls(&rt, rt.alloc(), events, calls, got)? {
-        None => Err("no run".into()),
-        Some(Err(_)) => Err("not settled".into()),
-        Some(Ok(settled)) => {
-            expect_counts(&rt, &settled);
-            Ok(())
+fn settled_runs(rt: HostRuntime) -> Result<(), Fail> {
+    for (events, calls, got) in &SETTLED {
+        match told_of_calls(&rt, rt.alloc(), events, calls, got)? {
+            None => return Err("no run".into()),
+            Some(Err(_)) => return Err("not settled".into()),
+            Some(Ok(settled)) => expect_counts(&rt, &settled),
         }
     }
+    Ok(())
 }

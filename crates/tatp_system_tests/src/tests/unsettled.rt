@@ -1,6 +1,6 @@
 //! Runs that `bench` doesn't settle, each told with its own cause.
 
-use super::events::{Event, are_few, left, readings};
+use super::events::{Event, Left, are_few, left, readings};
 use super::rows::clean_rows;
 use super::sites::module;
 use std::alloc::{AllocError, Global};
@@ -26,7 +26,11 @@ fn told_of<R: Threads + Sync>(
     let loaded = module(alloc)?;
     match left(alloc, &loaded, &[0], events)? {
         None => Ok(None),
-        Some((sites, parcels)) => {
+        Some(Left {
+            sites,
+            parcels,
+            chapters,
+        }) => {
             let parts = RanParts {
                 sites,
                 parcels,

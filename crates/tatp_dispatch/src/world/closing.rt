@@ -2,6 +2,7 @@
 
 use super::World;
 use tatp_partition::{Landed, close_sites};
+use tatp_population::Chapter;
 
 /// Spends landings.
 fn discard_landings(landings: Vec<Landed>) {
@@ -12,10 +13,19 @@ fn discard_landings(landings: Vec<Landed>) {
     rest.destroy_empty();
 }
 
+/// Spends chapters.
+fn discard_chapters(chapters: Vec<Chapter>) {
+    let mut rest = chapters;
+    while let Some(chapter) = rest.pop() {
+        chapter.discard();
+    }
+    rest.destroy_empty();
+}
+
 impl<'m> World<'m> {
     ghost use Rattle.tatp_dispatch.specs.Serving.{IsWorld};
 
-    /// Spends all extents, the parcels and the landings in hand.
+    /// Spends all extents, the parcels and the landings in hand, and the chapters.
     pub fn close(self)
         ensures world { IsWorld self.entry }
     {
@@ -29,10 +39,12 @@ impl<'m> World<'m> {
             landings,
             clients: _,
             completions: _,
+            chapters,
             ended: _,
         } = self;
         close_sites(sites);
         parcels.discard();
         discard_landings(landings);
+        discard_chapters(chapters);
     }
 }

@@ -15,12 +15,12 @@ use Rattle.tatp_partition.specs.Sound.{IsSite}
 use Rattle.tatp_dispatch.specs.declared.event.Answer.TheVariants.{Chapter}
 use Rattle.tatp_dispatch.specs.declared.event.Refusal.TheVariants.{Site}
 use Rattle.tatp_dispatch.specs.declared.world.World.TheInside.{Inside}
-use Rattle.tatp_dispatch.specs.Checkpointing.{CheckpointsIn}
+use Rattle.tatp_dispatch.specs.Checkpointing.{CheckpointsIn, refusal_told}
 use Rattle.tatp_dispatch.specs.Counts.{one, total}
 use Rattle.tatp_dispatch.specs.Worlds.{WorldState}
 use Rattle.tatp_dispatch.specs.Fields.{world_of, IsSound}
 use Rattle.tatp_dispatch.specs.Obstacles.{checkpoint_obstacle_at}
-use Rattle.tatp_dispatch.specs.Events.{KeepsChapter}
+use Rattle.tatp_dispatch.specs.Events.{KeepsChapter, CheckpointsAt}
 use Rattle.tatp_dispatch.specs.Placed.{IsWhole}
 use Rattle.tatp_dispatch.specs.Routed.{extent_in, moves_of, stands_at}
 use Rattle.tatp_dispatch.specs.Serving.{IsWorld}
@@ -40,22 +40,26 @@ never_clear : (running : Bool) → log_obstacle running None ≡ None → ⊥
 never_clear true h = absurd cc
 never_clear false h = absurd cc
 
-no_log_past : (s : SiteState) (e : ℕ) → 1 ≤ length s.slots → length s.slots ≤ e → log_here s e ≡ None
-no_log_past s zero least past = absurd (omega (arith, least, past))
-no_log_past s (suc e) least past = ap (λ (found : Option (Option ExtentState)). option_map log_of (option_flatten found)) (slice_get_past s.slots (suc e) past)
+no_log_past : (s : SiteState) (e : ℕ) → length s.slots ≤ suc e → log_here s (suc e) ≡ None
+no_log_past s e past = ap (λ (found : Option (Option ExtentState)). option_map log_of (option_flatten found)) (slice_get_past s.slots (suc e) past)
 
 -- where a site has no log, it tells the same of any number
-told_alike : (s s' : SiteState) (k e : ℕ) (handed_out : Result ChapterState SiteRefusal) → log_here s k ≡ None → log_here s e ≡ None → Checkpoints s k handed_out s' → Checkpoints s e handed_out s'
+told_alike : (s s' : SiteState) (k e : ℕ) (handed_out : Result ChapterState SiteRefusal) → log_here s (suc k) ≡ None → log_here s (suc e) ≡ None → Checkpoints s (suc k) handed_out s' → Checkpoints s (suc e) handed_out s'
 told_alike s s' k e (Ok chapter) none also h = absurd (never_clear (is_some s.running) (ap (log_obstacle (is_some s.running)) (sym none) ∙ h.0))
 told_alike s s' k e (Err NoMemory) none also h = absurd (never_clear (is_some s.running) (ap (log_obstacle (is_some s.running)) (sym none) ∙ h.0))
 told_alike s s' k e (Err refusal) none also h = (ap (log_obstacle (is_some s.running)) (also ∙ sym none) ∙ h.0, h.1)
+
+told_past : (s s' : SiteState) (k e : ℕ) (handed_out : Result ChapterState SiteRefusal) → 1 ≤ length s.slots → length s.slots ≤ k → length s.slots ≤ e → Checkpoints s k handed_out s' → Checkpoints s e handed_out s'
+told_past s s' zero e handed_out least past also h = absurd (omega (arith, least, past))
+told_past s s' (suc k) zero handed_out least past also h = absurd (omega (arith, least, also))
+told_past s s' (suc k) (suc e) handed_out least past also h = told_alike s s' k e handed_out (no_log_past s k past) (no_log_past s e also) h
 
 told_of : (s s' : SiteState) (n k e : ℕ) (handed_out : Result ChapterState SiteRefusal) → IsSite s → length s.slots ≡ n → (e < n → k ≡ e) → (n ≤ e → k ≡ n) → Checkpoints s k handed_out s' → Checkpoints s e handed_out s'
 told_of s s' n k e handed_out whole many within past h = elim (cases_lt e n) as (λ _. Checkpoints s e handed_out s') [
   | inl lt ↦ subst (λ (j : ℕ). Checkpoints s j handed_out s') (within lt) h
   | inr le ↦
       let last : k ≡ n = past le in
-      told_alike s s' k e handed_out (no_log_past s k whole.least (omega (arith, many, last))) (no_log_past s e whole.least (omega (arith, many, le))) h
+      told_past s s' k e handed_out whole.least (omega (arith, many, last)) (omega (arith, many, le)) h
 ]
 
 -- the site takes the first number past its extents for every greater one
@@ -71,18 +75,27 @@ any_number w p k e handed_out sites good within past x = record {
 
 -- ---- refused
 same_site : (s s' : SiteState) (e : ℕ) (refusal : SiteRefusal) → Checkpoints s e (Err refusal) s' → s' ≡ s
-same_site s s' e NoMemory h = h.1
-same_site s s' e refusal h = h.1
+same_site s s' zero NoMemory h = absurd h
+same_site s s' (suc e) NoMemory h = h.1
+same_site s s' zero refusal h = h.1
+same_site s s' (suc e) refusal h = h.1
 
-told_first : (s s' : SiteState) (e : ℕ) (refusal : SiteRefusal) → (refusal ≡ NoMemory → ⊥) → Checkpoints s e (Err refusal) s' → checkpoint_obstacle s e ≡ Some refusal
-told_first s s' e NoMemory other h = absurd (other refl)
-told_first s s' e refusal other h = h.0
+-- it is the first obstacle, unless memory ran out
+abbrev IsFirst : SiteState → ℕ → SiteRefusal → Type 0
+IsFirst s e NoMemory = Unit {0}
+IsFirst s e refusal = checkpoint_obstacle s e ≡ Some refusal
+
+is_first : (s s' : SiteState) (e : ℕ) (refusal : SiteRefusal) → Checkpoints s e (Err refusal) s' → IsFirst s e refusal
+is_first s s' e NoMemory h = tt
+is_first s s' zero refusal h = h.0
+is_first s s' (suc e) refusal h = h.0
 
 sites_same : (sites sites' : List SiteState) (p e : ℕ) (refusal : SiteRefusal) → CheckpointsIn sites p e (Err refusal) sites' → sites' ≡ sites
 sites_same sites sites' p e refusal x = x.after ∙ (ap (set sites p) (same_site x.before x.after_it e refusal x.checkpoints) ∙ set_as_it_is sites p x.before x.site)
 
-pub refused_so : (w : WorldState) (p e : ℕ) (refusal : SiteRefusal) (sites : List SiteState) → (refusal ≡ NoMemory → ⊥) → CheckpointsIn w.sites p e (Err refusal) sites → checkpoint_obstacle_at w p e ≡ Some (Site refusal)
-refused_so w p e refusal sites other x = obstacle_is w p x.before (λ s. checkpoint_obstacle s e) (Some refusal) x.site (told_first x.before x.after_it e refusal other x.checkpoints)
+pub refused_so : (w w' : WorldState) (p e : ℕ) (refusal : SiteRefusal) (sites : List SiteState) → p < length w.sites → CheckpointsIn w.sites p e (Err refusal) sites → w' ≡ w → CheckpointsAt w p e (Err (refusal_told refusal)) w'
+refused_so w w' p e NoMemory sites there x same = (there, same)
+refused_so w w' p e refusal sites there x same = (obstacle_is w p x.before (λ s. checkpoint_obstacle s e) (Some refusal) x.site (is_first x.before x.after_it e refusal x.checkpoints), same)
 
 abbrev pub with_chapters : Inside → Vec SiteState Global → Vec ChapterState Global → Inside
 with_chapters a v l = record a { sites = v; chapters = l }

@@ -2,9 +2,12 @@
 use Rattle.std.specs.Prelude.{◌≡◌, ℕ, List, Some, Result, slice_get, slice_set}
 use Rattle.tatp_population.specs.Chapters.{ChapterState}
 use Rattle.tatp_partition.specs.declared.refusal.SiteRefusal.{SiteRefusal}
+use Rattle.tatp_partition.specs.declared.refusal.SiteRefusal.TheVariants as site
 use Rattle.tatp_partition.specs.Checkpointing.{Checkpoints}
 use Rattle.tatp_partition.specs.Sites.{SiteState}
 use Rattle.tatp_partition.specs.Sound.{IsSite}
+use Rattle.tatp_dispatch.specs.declared.event.Refusal.{Refusal}
+use Rattle.tatp_dispatch.specs.declared.event.Refusal.TheVariants.{NoMemory, Site}
 
 -- the site of partition p hands out a chapter of extent e, or refuses, and the other sites stay
 pub record CheckpointsIn (sites : List SiteState) (p e : ℕ)
@@ -15,3 +18,8 @@ pub record CheckpointsIn (sites : List SiteState) (p e : ℕ)
   pub checkpoints : Checkpoints before e handed_out after_it
   pub whole : IsSite after_it
   pub after : sites' ≡ slice_set sites p after_it
+
+-- why it hands out none, as the whole tells it: of memory that ran out as everywhere
+abbrev pub refusal_told : SiteRefusal → Refusal
+refusal_told site.NoMemory = NoMemory
+refusal_told refusal = Site refusal

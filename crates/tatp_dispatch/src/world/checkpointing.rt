@@ -1,6 +1,6 @@
 //! Extents, and the log of calls without a home, hand out chapters, which the whole keeps.
 ghost use Rattle.std.specs.Prelude.{◌≡◌, ◌<◌, ◌≤◌, ◌^◌, length};
-ghost use Rattle.tatp_dispatch.specs.Checkpointing.{CheckpointsIn};
+ghost use Rattle.tatp_dispatch.specs.Checkpointing.{CheckpointsIn, refusal_told};
 
 use super::{World, check_partition};
 use crate::{Answer, Refusal};
@@ -16,6 +16,16 @@ fn number_at_site(e: u64, slots: u64) -> u32
     ensures past { slots ≤ e → result ≡ slots }
 {
     if e < slots { e as u32 } else { slots as u32 }
+}
+
+/// Why a site hands out no chapter, as the whole tells it: of memory that ran out as everywhere.
+fn refusal_told(refusal: SiteRefusal) -> Refusal
+    ensures { result ≡ refusal_told refusal }
+{
+    match refusal {
+        SiteRefusal::NoMemory => Refusal::NoMemory,
+        _ => Refusal::Site(refusal),
+    }
 }
 
 /// An extent hands out a chapter at the site of a partition.
@@ -47,8 +57,7 @@ impl<'m> World<'m> {
         }
         let number = number_at_site(e, self.parcels.len());
         match checkpoint_at(&mut self.sites, alloc, p as usize, number) {
-            Err(SiteRefusal::NoMemory) => return Err(Refusal::NoMemory),
-            Err(refusal) => return Err(Refusal::Site(refusal)),
+            Err(refusal) => return Err(refusal_told(refusal)),
             Ok(chapter) => {
                 let extent = chapter.extent();
                 let index = chapter.index();

@@ -1,23 +1,13 @@
 //! The whole is closed.
 
 use super::World;
-use tatp_partition::{Landed, close_sites};
-use tatp_population::Chapter;
+use tatp_partition::{Landed, close_sites, discard_all};
 
 /// Spends landings.
 fn discard_landings(landings: Vec<Landed>) {
     let mut rest = landings;
     while let Some(landed) = rest.pop() {
         landed.discard();
-    }
-    rest.destroy_empty();
-}
-
-/// Spends chapters.
-fn discard_chapters(chapters: Vec<Chapter>) {
-    let mut rest = chapters;
-    while let Some(chapter) = rest.pop() {
-        chapter.discard();
     }
     rest.destroy_empty();
 }
@@ -45,6 +35,6 @@ impl<'m> World<'m> {
         close_sites(sites);
         parcels.discard();
         discard_landings(landings);
-        discard_chapters(chapters);
+        discard_all(chapters);
     }
 }

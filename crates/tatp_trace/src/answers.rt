@@ -74,7 +74,13 @@ fn push_pieces(text: &mut String, completions: &[Entry], answer: &Answer) -> Res
         }
         Answer::Superseded(extent) => push_number(text, "SUPERSEDED ", u64::from(*extent)),
         Answer::Chapter(extent, index, entries) => {
-            push_three_numbers(text, "CHAPTER ", u64::from(*extent), u64::from(*index), *entries)
+            push_three_numbers(
+                text,
+                "CHAPTER ",
+                u64::from(*extent),
+                u64::from(*index),
+                *entries,
+            )
         }
         Answer::Done => text.push_str("OK"),
     }

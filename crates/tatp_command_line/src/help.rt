@@ -54,6 +54,9 @@ Moves:
   take P E                extent E leaves P, after so many moves                  PARCEL E M
   give P E                it lands at P                                           LANDED E M
   route E M               calls follow its landing             SET E P, SUPERSEDED E
+Checkpoints:
+  checkpoint P E          extent E hands out its log, of K calls, as its chapter I
+                          (E 0: the log of the calls without a subscriber)     CHAPTER E I K
 
 What can't be done is answered REFUSED, a number and a name; it changes nothing.
 

@@ -12,13 +12,13 @@ use Rattle.tatp_partition.specs.Sites.{SiteState, slot}
 use Rattle.tatp_partition.specs.Stopping.{Stops, Resumes, SetsBreak, ClearsBreak}
 use Rattle.tatp_move.specs.declared.route.Route.{Route}
 use Rattle.tatp_dispatch.specs.declared.event.Event.{Event}
-use Rattle.tatp_dispatch.specs.declared.event.Event.TheVariants.{Submit, Begin, Deny, Step, Take, Give, Route as Tell, Stop, Resume, One, Break, Clear}
+use Rattle.tatp_dispatch.specs.declared.event.Event.TheVariants.{Submit, Begin, Deny, Step, Take, Give, Route as Tell, Checkpoint, Stop, Resume, One, Break, Clear}
 use Rattle.tatp_dispatch.specs.declared.event.Answer.{Answer}
-use Rattle.tatp_dispatch.specs.declared.event.Answer.TheVariants.{Queued, Began, Away, Denied, Moved, Ended, Parcel, Landed, Set, Superseded, Done}
+use Rattle.tatp_dispatch.specs.declared.event.Answer.TheVariants.{Queued, Began, Away, Denied, Moved, Ended, Parcel, Landed, Set, Superseded, Chapter, Done}
 use Rattle.tatp_dispatch.specs.declared.event.Refusal.{Refusal}
 use Rattle.tatp_dispatch.specs.declared.event.Refusal.TheVariants.{NoMemory}
 use Rattle.tatp_dispatch.specs.Counts.{one, first_of}
-use Rattle.tatp_dispatch.specs.Events.{Happens, Submits, BeginsAt, DeniesAt, AdvancesAt, TakesExtent, TakesAt, GivesExtent, GivesAt, RoutesExtent, DoesAt}
+use Rattle.tatp_dispatch.specs.Events.{Happens, Submits, BeginsAt, DeniesAt, AdvancesAt, TakesExtent, TakesAt, GivesExtent, GivesAt, RoutesExtent, CheckpointsAt, DoesAt}
 use Rattle.tatp_dispatch.specs.InHand.{HoldsParcel, HoldsLanding, HasLanded, WasTold, NoneInHand, NamesTheHolder}
 use Rattle.tatp_dispatch.specs.Obstacles.{step_obstacle_at, one_obstacle_at, stop_obstacle_at, resume_obstacle_at, break_obstacle_at, clear_obstacle_at}
 use Rattle.tatp_dispatch.specs.Placed.{extent_at}
@@ -60,6 +60,12 @@ advance_leaves obstacle w w' p (Ok Moved) h = ap hand_of h.1.after
 advance_leaves obstacle w w' p (Ok (Ended client reply)) h = ap hand_of h.1.3.after
 advance_leaves obstacle w w' p (Err refusal) h = ap hand_of h.1
 advance_leaves obstacle w w' p (Ok other) h = absurd h
+
+checkpoint_leaves : (w w' : WorldState) (p e : ℕ) (answered : Result Answer Refusal) → CheckpointsAt w p e answered w' → hand_of w' ≡ hand_of w
+checkpoint_leaves w w' p e (Ok (Chapter extent index entries)) h = ap hand_of h.1.after
+checkpoint_leaves w w' p e (Err NoMemory) h = ap hand_of h.1
+checkpoint_leaves w w' p e (Err refusal) h = ap hand_of h.1
+checkpoint_leaves w w' p e (Ok other) h = absurd h
 
 does_leaves : (obstacle : Option Refusal) (w w' : WorldState) (p : ℕ) (Change : SiteState → SiteState → Type 0) (answered : Result Answer Refusal) → DoesAt obstacle w p Change answered w' → hand_of w' ≡ hand_of w
 does_leaves obstacle w w' p Change (Ok Done) h = ap hand_of h.1.4
@@ -114,6 +120,7 @@ parcels_stay w w' (One p) answered e x good h held = inl (parcel_left w w' e x (
 parcels_stay w w' (Take p k) answered e x good h held = inl (take_parcels w w' p k e x answered good h held)
 parcels_stay w w' (Give p k) answered e x good h held = give_parcels w w' p k e x answered h held
 parcels_stay w w' (Tell k moves) answered e x good h held = inl (route_parcels w w' k moves e x answered h held)
+parcels_stay w w' (Checkpoint p k) answered e x good h held = inl (parcel_left w w' e x (checkpoint_leaves w w' p k answered h) held)
 parcels_stay w w' (Stop p) answered e x good h held = inl (parcel_left w w' e x (does_leaves (stop_obstacle_at w p) w w' p (λ s s'. Stops s (Ok tt) s') answered h) held)
 parcels_stay w w' (Resume p) answered e x good h held = inl (parcel_left w w' e x (does_leaves (resume_obstacle_at w p) w w' p (λ s s'. Resumes s (Ok tt) s') answered h) held)
 parcels_stay w w' (Break p procedure pc) answered e x good h held = inl (parcel_left w w' e x (does_leaves (break_obstacle_at w p procedure pc) w w' p (λ s s'. SetsBreak s procedure pc (Ok tt) s') answered h) held)
@@ -180,6 +187,7 @@ landings_stay w w' (One p) answered t h held = inl (landing_left w w' t (advance
 landings_stay w w' (Take p k) answered t h held = inl (take_landings w w' p k t answered h held)
 landings_stay w w' (Give p k) answered t h held = inl (give_landings w w' p k t answered h held)
 landings_stay w w' (Tell k moves) answered t h held = route_landings w w' k moves t answered h held
+landings_stay w w' (Checkpoint p k) answered t h held = inl (landing_left w w' t (checkpoint_leaves w w' p k answered h) held)
 landings_stay w w' (Stop p) answered t h held = inl (landing_left w w' t (does_leaves (stop_obstacle_at w p) w w' p (λ s s'. Stops s (Ok tt) s') answered h) held)
 landings_stay w w' (Resume p) answered t h held = inl (landing_left w w' t (does_leaves (resume_obstacle_at w p) w w' p (λ s s'. Resumes s (Ok tt) s') answered h) held)
 landings_stay w w' (Break p procedure pc) answered t h held = inl (landing_left w w' t (does_leaves (break_obstacle_at w p procedure pc) w w' p (λ s s'. SetsBreak s procedure pc (Ok tt) s') answered h) held)

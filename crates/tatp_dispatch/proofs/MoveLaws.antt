@@ -35,7 +35,7 @@ whole_moved : (n e : ℕ) (x parcel : ExtentState) → moved x ≡ parcel → Is
 whole_moved n e x parcel is w = subst (IsWhole n e) is (record { least = w.least; number = w.number; count = w.count; homes = w.homes })
 
 -- an extent with the same homes stands where the other stood
-homes_same : (k : ℕ) (old new : ℕ → Option ExtentState) (e : ℕ) (x y : ExtentState) → old e ≡ Some x → new e ≡ Some y → home_at y k ≡ home_at x k → ((j : ℕ) → j ≢ e → new j ≡ old j) → option_and_then (λ (z : ExtentState). home_at z k) (new (extent_of k)) ≡ option_and_then (λ (z : ExtentState). home_at z k) (old (extent_of k))
+pub homes_same : (k : ℕ) (old new : ℕ → Option ExtentState) (e : ℕ) (x y : ExtentState) → old e ≡ Some x → new e ≡ Some y → home_at y k ≡ home_at x k → ((j : ℕ) → j ≢ e → new j ≡ old j) → option_and_then (λ (z : ExtentState). home_at z k) (new (extent_of k)) ≡ option_and_then (λ (z : ExtentState). home_at z k) (old (extent_of k))
 homes_same k old new e x y was is same others = elim (same_or_not (extent_of k) e) as (λ _. option_and_then (λ (z : ExtentState). home_at z k) (new (extent_of k)) ≡ option_and_then (λ (z : ExtentState). home_at z k) (old (extent_of k))) [
   | inl near ↦ ap (λ (j : ℕ). option_and_then (λ (z : ExtentState). home_at z k) (new j)) near ∙ (ap (option_and_then (λ (z : ExtentState). home_at z k)) is ∙ (same ∙ (sym (ap (option_and_then (λ (z : ExtentState). home_at z k)) was) ∙ sym (ap (λ (j : ℕ). option_and_then (λ (z : ExtentState). home_at z k) (old j)) near))))
   | inr far ↦ ap (option_and_then (λ (z : ExtentState). home_at z k)) (others (extent_of k) far)

@@ -73,6 +73,7 @@ new_world procedures n partitions client_count directory sites = record {
   landings = [];
   clients = replicate client_count new_client;
   completions = [];
+  chapters = [];
 }
 
 -- ---- lists of one thing
@@ -369,6 +370,7 @@ is_opened procedures rows partitions client_count directory sites h =
       clients = refl;
       parcels = refl;
       landings = refl;
+      chapters = refl;
     }
 
 -- ---- room

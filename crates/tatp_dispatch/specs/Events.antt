@@ -4,12 +4,14 @@ use Rattle.std.specs.Prelude.{◌≡◌, ℕ, ◌<◌, length, Bool, List, [], �
 use Rattle.tatp_numbers.specs.Listing.{answer}
 use Rattle.tatp_procs.specs.declared.ask.Ask.{Ask}
 use Rattle.tatp_population.specs.Extents.{ExtentState}
+use Rattle.tatp_population.specs.Chapters.{ChapterState}
 use Rattle.tatp_partition.specs.declared.item.Item.{Item}
 use Rattle.tatp_partition.specs.declared.item.Completion.{Completion}
 use Rattle.tatp_partition.specs.declared.item.Offer.TheVariants.{Began as Did_begin}
 use Rattle.tatp_partition.specs.declared.item.Stepped.TheVariants.{Moved as Did_move, Ended as Did_end}
 use Rattle.tatp_partition.specs.declared.refusal.SiteRefusal.TheVariants.{NotHere}
 use Rattle.tatp_procs.specs.Asked.{key_asked}
+use Rattle.tatp_partition.specs.Checkpointing.{Checkpoints}
 use Rattle.tatp_partition.specs.Moving.{LandedState, Takes, Gives}
 use Rattle.tatp_partition.specs.Running.{Begins, Advances}
 use Rattle.tatp_partition.specs.Sites.{SiteState, slot}
@@ -19,15 +21,15 @@ use Rattle.tatp_move.specs.declared.route.RouteUpdate.{RouteUpdate}
 use Rattle.tatp_move.specs.declared.route.RouteUpdate.TheVariants.{Set as Is_set, Superseded as Is_superseded}
 use Rattle.tatp_dispatch.specs.declared.client.Client.{Client}
 use Rattle.tatp_dispatch.specs.declared.event.Event.{Event}
-use Rattle.tatp_dispatch.specs.declared.event.Event.TheVariants.{Submit, Begin, Deny, Step, Take, Give, Route, Stop, Resume, One, Break, Clear}
-use Rattle.tatp_dispatch.specs.declared.event.Answer.TheVariants.{Queued, Began, Away, Denied, Moved, Ended, Parcel, Landed, Set, Superseded, Done}
+use Rattle.tatp_dispatch.specs.declared.event.Event.TheVariants.{Submit, Begin, Deny, Step, Take, Give, Route, Checkpoint, Stop, Resume, One, Break, Clear}
+use Rattle.tatp_dispatch.specs.declared.event.Answer.TheVariants.{Queued, Began, Away, Denied, Moved, Ended, Parcel, Landed, Set, Superseded, Chapter, Done}
 use Rattle.tatp_dispatch.specs.declared.event.Refusal.{Refusal}
 use Rattle.tatp_dispatch.specs.declared.event.Refusal.TheVariants.{NotInHand, NoMemory, Site}
 use Rattle.tatp_dispatch.specs.Answers.{Answered}
 use Rattle.tatp_dispatch.specs.Clients.{with_call_accepted, with_call_refused, with_call_ended}
 use Rattle.tatp_dispatch.specs.Worlds.{WorldState}
 use Rattle.tatp_dispatch.specs.Routed.{AreNoLandingsOf}
-use Rattle.tatp_dispatch.specs.Obstacles.{submit_obstacle, begin_obstacle_at, step_obstacle_at, one_obstacle_at, take_obstacle_at, give_obstacle, stop_obstacle_at, resume_obstacle_at, break_obstacle_at, clear_obstacle_at}
+use Rattle.tatp_dispatch.specs.Obstacles.{submit_obstacle, begin_obstacle_at, step_obstacle_at, one_obstacle_at, take_obstacle_at, give_obstacle, checkpoint_obstacle_at, stop_obstacle_at, resume_obstacle_at, break_obstacle_at, clear_obstacle_at}
 
 -- a refused event: the first obstacle is named, and all stays
 abbrev pub IsRefused : Option Refusal → Refusal → WorldState → WorldState → Type 0
@@ -217,6 +219,29 @@ RoutesExtent w e moves (Ok other) w' = ⊥
 RoutesExtent w e moves (Err refusal) w' =
     (refusal ≡ NotInHand) × AreNoLandingsOf w.landings e moves × (w' ≡ w)
 
+-- ---- checkpoints
+-- the chapter that the site hands out is kept, after those before it; extent 0 is the log of the
+-- calls without a home
+pub record KeepsChapter (w : WorldState) (p e extent index entries : ℕ) (w' : WorldState)
+    : Type 0 where
+  pub before : SiteState
+  pub after_it : SiteState
+  pub chapter : ChapterState
+  pub site : slice_get w.sites p ≡ Some before
+  pub checkpoints : Checkpoints before e (Ok chapter) after_it
+  pub of_extent : extent ≡ e
+  pub of_index : index ≡ chapter.index
+  pub of_entries : entries ≡ length chapter.entries
+  pub after : w' ≡ record (with_site w p after_it) { chapters = w.chapters ++ chapter ∷ [] }
+
+-- room for the chapter is taken first, at a site that is there
+abbrev pub CheckpointsAt : WorldState → ℕ → ℕ → Answered → WorldState → Type 0
+CheckpointsAt w p e (Ok (Chapter extent index entries)) w' =
+    (checkpoint_obstacle_at w p e ≡ None) × KeepsChapter w p e extent index entries w'
+CheckpointsAt w p e (Ok other) w' = ⊥
+CheckpointsAt w p e (Err NoMemory) w' = (p < length w.sites) × (w' ≡ w)
+CheckpointsAt w p e (Err refusal) w' = IsRefused (checkpoint_obstacle_at w p e) refusal w w'
+
 -- ---- stops and breakpoints
 -- the site goes from one state to another so
 abbrev pub ChangesSite : WorldState → ℕ → (SiteState → SiteState → Type 0) → WorldState → Type 0
@@ -263,6 +288,7 @@ Happens w (One p) answered w' = AdvancesAt (one_obstacle_at w p) w p answered w'
 Happens w (Take p e) answered w' = TakesExtent w p e answered w'
 Happens w (Give p e) answered w' = GivesExtent w p e answered w'
 Happens w (Route e moves) answered w' = RoutesExtent w e moves answered w'
+Happens w (Checkpoint p e) answered w' = CheckpointsAt w p e answered w'
 Happens w (Stop p) answered w' = StopsAt w p answered w'
 Happens w (Resume p) answered w' = ResumesAt w p answered w'
 Happens w (Break p procedure pc) answered w' = SetsBreakAt w p procedure pc answered w'

@@ -20,6 +20,7 @@ world_of a = record {
   landings = a.landings.items;
   clients = a.clients.items;
   completions = a.completions.items;
+  chapters = a.chapters.items;
 }
 
 -- how many calls run at these sites

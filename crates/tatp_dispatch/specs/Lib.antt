@@ -23,3 +23,4 @@ pub mod Runs
 pub mod Benchmark
 pub mod Offering
 pub mod Carrying
+pub mod Checkpointing

@@ -6,6 +6,7 @@ use Rattle.tatp_procs.specs.declared.ask.Ask.{Ask}
 use Rattle.tatp_partition.specs.declared.item.Item.{Item}
 use Rattle.tatp_partition.specs.declared.refusal.SiteRefusal.{SiteRefusal}
 use Rattle.tatp_procs.specs.Asked.{has_procedure, bad_argument}
+use Rattle.tatp_partition.specs.Checkpointing.{checkpoint_obstacle}
 use Rattle.tatp_partition.specs.Sites.{SiteState, slot}
 use Rattle.tatp_partition.specs.Obstacles.{begin_obstacle, step_obstacle, one_obstacle, take_obstacle, stop_obstacle, resume_obstacle, break_obstacle}
 use Rattle.tatp_dispatch.specs.declared.event.Refusal.{Refusal}
@@ -67,6 +68,9 @@ one_obstacle_at w p = at_site w p one_obstacle
 
 abbrev pub take_obstacle_at : WorldState → ℕ → ℕ → Option Refusal
 take_obstacle_at w p e = at_site w p (λ s. take_obstacle s e)
+
+abbrev pub checkpoint_obstacle_at : WorldState → ℕ → ℕ → Option Refusal
+checkpoint_obstacle_at w p e = at_site w p (λ s. checkpoint_obstacle s e)
 
 abbrev pub stop_obstacle_at : WorldState → ℕ → Option Refusal
 stop_obstacle_at w p = at_site w p stop_obstacle

@@ -39,3 +39,4 @@ pub record IsOpened (procedures : List Procedure) (rows : Rows) (partitions clie
   pub clients : w.clients ≡ replicate client_count new_client
   pub parcels : w.parcels ≡ replicate (extent_count (length rows.subscribers) + 1) None
   pub landings : w.landings ≡ []
+  pub chapters : w.chapters ≡ []

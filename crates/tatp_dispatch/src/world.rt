@@ -5,6 +5,7 @@ ghost use Rattle.tatp_dispatch.specs.declared.event.Refusal.TheVariants.{NoParti
 mod applying;
 mod beginning;
 mod calling;
+mod checkpointing;
 mod closing;
 mod gathering;
 mod getters;
@@ -24,6 +25,7 @@ use tatp_loader::Loaded;
 use tatp_move::Routes;
 use tatp_numbers::Directory;
 use tatp_partition::{CompletionPlace, Landed, Parcel, Site, Slots};
+use tatp_population::Chapter;
 use tatp_procs::Entry;
 
 /// All sites, with what is under way between them. It can be neither copied nor dropped.
@@ -37,6 +39,7 @@ pub struct World<'m> {
     landings: Vec<Landed>,
     clients: Vec<Client>,
     completions: Vec<Entry>,
+    chapters: Vec<Chapter>,
     /// Where a site leaves the completion of a call that ends: empty between events.
     /// [`CompletionPlace`] says why.
     ended: CompletionPlace,

@@ -407,12 +407,14 @@ pub(crate) fn about_logs(number: u64) -> Explanation
 {
     row_of!(number,
         54 "LogEnded" "the extent is mixed"
-            "  In the library: Site::checkpoint of an extent on which a call that is no
-  standard transaction has ended."
+            "  $ printf 'raw 0 4 id 1 2 7\\nbegin 0\\nsteps 0 4\\ncheckpoint 0 1\\n' |
+      tatp trace --gen 1 | tail -n 1
+  REFUSED 54 LogEnded"
             "  Checkpoint an extent before such calls. A log tells transactions alone, and
   ends with the first call that is none."
         55 "ChapterCountFull" "the extent handed out 65,535 chapters"
-            "  In the library: Site::checkpoint of an extent for the 65,536th time."
+            "  $ yes 'checkpoint 0 0' | head -n 65536 | tatp trace --gen 1 | tail -n 1
+  REFUSED 55 ChapterCountFull"
             "  Make fewer checkpoints. The extent goes on without them."
         56 "WrongHome" "the home of a call isn't the subscriber whom its key names"
             "  In the library: Site::begin of an item whose home is 2 and whose key is the

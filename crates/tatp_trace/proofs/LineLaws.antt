@@ -22,7 +22,7 @@ use Rattle.tatp_procs.specs.Asks.{RawCall}
 use Rattle.tatp_procs.specs.Calls.{arguments_of}
 use Rattle.tatp_procs.specs.CallText.{call_of_fields, call_of_line, call_text, is_printable_call}
 use Rattle.tatp_procs.proofs.CallTextLaws.{call_of_line-call_text, call_text_of_read}
-use Rattle.tatp_dispatch.specs.declared.event.Event.TheVariants.{Submit, Begin, Deny, Step, Take, Give, Route, Stop, Resume, One, Break, Clear}
+use Rattle.tatp_dispatch.specs.declared.event.Event.TheVariants.{Submit, Begin, Deny, Step, Take, Give, Route, Checkpoint, Stop, Resume, One, Break, Clear}
 use Rattle.tatp_trace.specs.declared.line.TraceLine.{TraceLine}
 use Rattle.tatp_trace.specs.declared.line.TraceLine.TheVariants.{Event, Steps, Look, Home, Audit}
 use Rattle.tatp_trace.specs.LineFields.{next_number, ended, one_number, two_numbers, three_numbers, numbers_within, submit_of, key_of, raw_call_of, raw_of, steps_of, line_of_fields, line_of}
@@ -223,13 +223,14 @@ fields_read (word ∷ fields) line of h =
     by_word (PrintsAs (word ∷ fields)) _ _ _ line h (λ t e. of_two word (codes "take") fields (λ n. Event (Take n.0 n.1)) line t (λ n. refl) (λ n. tt) e) (λ h.
     by_word (PrintsAs (word ∷ fields)) _ _ _ line h (λ t e. of_two word (codes "give") fields (λ n. Event (Give n.0 n.1)) line t (λ n. refl) (λ n. tt) e) (λ h.
     by_word (PrintsAs (word ∷ fields)) _ _ _ line h (λ t e. of_two word (codes "route") fields (λ n. Event (Route n.0 n.1)) line t (λ n. refl) (λ n. tt) e) (λ h.
+    by_word (PrintsAs (word ∷ fields)) _ _ _ line h (λ t e. of_two word (codes "checkpoint") fields (λ n. Event (Checkpoint n.0 n.1)) line t (λ n. refl) (λ n. tt) e) (λ h.
     by_word (PrintsAs (word ∷ fields)) _ _ _ line h (λ t e. of_one word (codes "stop") fields (λ p. Event (Stop p)) line t (λ n. refl) (λ n. tt) e) (λ h.
     by_word (PrintsAs (word ∷ fields)) _ _ _ line h (λ t e. of_one word (codes "resume") fields (λ p. Event (Resume p)) line t (λ n. refl) (λ n. tt) e) (λ h.
     by_word (PrintsAs (word ∷ fields)) _ _ _ line h (λ t e. of_three word (codes "break") fields (λ n. Event (Break n.0 n.1 n.2)) line t (λ n. refl) (λ n. tt) e) (λ h.
     by_word (PrintsAs (word ∷ fields)) _ _ _ line h (λ t e. of_three word (codes "clear") fields (λ n. Event (Clear n.0 n.1 n.2)) line t (λ n. refl) (λ n. tt) e) (λ h.
     by_word (PrintsAs (word ∷ fields)) _ _ _ line h (λ t e. of_one word (codes "look") fields Look line t (λ n. refl) (λ n. tt) e) (λ h.
     by_word (PrintsAs (word ∷ fields)) _ _ _ line h (λ t e. of_two word (codes "home") fields (λ n. Home n.0 n.1) line t (λ n. refl) (λ n. tt) e) (λ h.
-    by_word (PrintsAs (word ∷ fields)) _ _ _ line h (λ t e. of_audit word fields line t e) (λ h. absurd (none-some line h))))))))))))))))))
+    by_word (PrintsAs (word ∷ fields)) _ _ _ line h (λ t e. of_audit word fields line t e) (λ h. absurd (none-some line h)))))))))))))))))))
 
 line_text-line_of : (text : List ℕ) (line : TraceLine) → line_of text ≡ Some line → (line_text line ≡ text) × HasForm line
 unfolding line_of
@@ -362,6 +363,7 @@ line_of-line_text (Event (Step p)) f h = one_line (codes "step") (λ p. Event (S
 line_of-line_text (Event (Take p e)) f h = two_line (codes "take") (λ n. Event (Take n.0 n.1)) p e refl f refl
 line_of-line_text (Event (Give p e)) f h = two_line (codes "give") (λ n. Event (Give n.0 n.1)) p e refl f refl
 line_of-line_text (Event (Route e m)) f h = two_line (codes "route") (λ n. Event (Route n.0 n.1)) e m refl f refl
+line_of-line_text (Event (Checkpoint p e)) f h = two_line (codes "checkpoint") (λ n. Event (Checkpoint n.0 n.1)) p e refl f refl
 line_of-line_text (Event (Stop p)) f h = one_line (codes "stop") (λ p. Event (Stop p)) p refl f refl
 line_of-line_text (Event (Resume p)) f h = one_line (codes "resume") (λ p. Event (Resume p)) p refl f refl
 line_of-line_text (Event (One p)) f h = one_line (codes "one") (λ p. Event (One p)) p refl f refl

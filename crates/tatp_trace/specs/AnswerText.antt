@@ -7,7 +7,7 @@ use Rattle.tatp_procs.specs.declared.ask.Ask.TheVariants.{Raw}
 use Rattle.tatp_procs.specs.declared.entry.Entry.{Entry}
 use Rattle.tatp_procs.specs.ReplyText.{reply_text}
 use Rattle.tatp_dispatch.specs.declared.event.Answer.{Answer}
-use Rattle.tatp_dispatch.specs.declared.event.Answer.TheVariants.{Queued, Began, Away, Denied, Moved, Ended, Parcel, Landed, Set, Superseded, Done}
+use Rattle.tatp_dispatch.specs.declared.event.Answer.TheVariants.{Queued, Began, Away, Denied, Moved, Ended, Parcel, Landed, Set, Superseded, Chapter, Done}
 use Rattle.tatp_dispatch.specs.declared.event.Refusal.{Refusal}
 use Rattle.tatp_dispatch.specs.Answers.{Answered}
 use Rattle.tatp_dispatch.specs.RefusalText.{refusal_text}
@@ -41,6 +41,8 @@ answer_text completions (Parcel e moves) = codes "PARCEL " ++ (decimal e ++ 32 �
 answer_text completions (Landed e moves) = codes "LANDED " ++ (decimal e ++ 32 ∷ decimal moves)
 answer_text completions (Set e p) = codes "SET " ++ (decimal e ++ 32 ∷ decimal p)
 answer_text completions (Superseded e) = codes "SUPERSEDED " ++ decimal e
+answer_text completions (Chapter e index entries) =
+    codes "CHAPTER " ++ (decimal e ++ 32 ∷ (decimal index ++ 32 ∷ decimal entries))
 answer_text completions Done = codes "OK"
 
 -- of an event that was answered so, these calls being completed

@@ -8,7 +8,7 @@ use Rattle.tatp_numbers.specs.declared.key.Key.TheVariants.{Id, Number}
 use Rattle.tatp_procs.specs.declared.ask.Ask.TheVariants.{Txn, Raw}
 use Rattle.tatp_procs.specs.CallText.{call_of_fields}
 use Rattle.tatp_dispatch.specs.declared.event.Event.{Event as AnEvent}
-use Rattle.tatp_dispatch.specs.declared.event.Event.TheVariants.{Submit, Begin, Deny, Step, Take, Give, Route, Stop, Resume, One, Break, Clear}
+use Rattle.tatp_dispatch.specs.declared.event.Event.TheVariants.{Submit, Begin, Deny, Step, Take, Give, Route, Checkpoint, Stop, Resume, One, Break, Clear}
 use Rattle.tatp_trace.specs.declared.line.TraceLine.{TraceLine}
 use Rattle.tatp_trace.specs.declared.line.TraceLine.TheVariants.{Event, Steps, Look, Home, Audit}
 
@@ -105,6 +105,7 @@ line_of_fields (word ∷ fields) =
     if bytes_eq word (codes "take") then event_of_two Take fields else
     if bytes_eq word (codes "give") then event_of_two Give fields else
     if bytes_eq word (codes "route") then event_of_two Route fields else
+    if bytes_eq word (codes "checkpoint") then event_of_two Checkpoint fields else
     if bytes_eq word (codes "stop") then event_of_one Stop fields else
     if bytes_eq word (codes "resume") then event_of_one Resume fields else
     if bytes_eq word (codes "break") then event_of_three Break fields else

@@ -7,7 +7,7 @@ use Rattle.tatp_procs.specs.declared.ask.Ask.TheVariants.{Txn, Raw}
 use Rattle.tatp_procs.specs.Calls.{arguments_of}
 use Rattle.tatp_procs.specs.CallText.{call_text, is_printable_call}
 use Rattle.tatp_dispatch.specs.declared.event.Event.{Event as AnEvent}
-use Rattle.tatp_dispatch.specs.declared.event.Event.TheVariants.{Submit, Begin, Deny, Step, Take, Give, Route, Stop, Resume, One, Break, Clear}
+use Rattle.tatp_dispatch.specs.declared.event.Event.TheVariants.{Submit, Begin, Deny, Step, Take, Give, Route, Checkpoint, Stop, Resume, One, Break, Clear}
 use Rattle.tatp_trace.specs.declared.line.TraceLine.{TraceLine}
 use Rattle.tatp_trace.specs.declared.line.TraceLine.TheVariants.{Event, Steps, Look, Home, Audit}
 
@@ -42,6 +42,7 @@ event_text (Step p) = with_numbers (codes "step") (p ∷ [])
 event_text (Take p e) = with_numbers (codes "take") (p ∷ e ∷ [])
 event_text (Give p e) = with_numbers (codes "give") (p ∷ e ∷ [])
 event_text (Route e moves) = with_numbers (codes "route") (e ∷ moves ∷ [])
+event_text (Checkpoint p e) = with_numbers (codes "checkpoint") (p ∷ e ∷ [])
 event_text (Stop p) = with_numbers (codes "stop") (p ∷ [])
 event_text (Resume p) = with_numbers (codes "resume") (p ∷ [])
 event_text (One p) = with_numbers (codes "one") (p ∷ [])
@@ -70,6 +71,7 @@ event_numbers (Step p) = p ∷ []
 event_numbers (Take p e) = p ∷ e ∷ []
 event_numbers (Give p e) = p ∷ e ∷ []
 event_numbers (Route e moves) = e ∷ moves ∷ []
+event_numbers (Checkpoint p e) = p ∷ e ∷ []
 event_numbers (Stop p) = p ∷ []
 event_numbers (Resume p) = p ∷ []
 event_numbers (One p) = p ∷ []

@@ -73,6 +73,15 @@ fn push_pieces(text: &mut String, completions: &[Entry], answer: &Answer) -> Res
             push_numbers(text, "SET ", u64::from(*extent), u64::from(*partition))
         }
         Answer::Superseded(extent) => push_number(text, "SUPERSEDED ", u64::from(*extent)),
+        Answer::Chapter(extent, index, entries) => {
+            push_three_numbers(
+                text,
+                "CHAPTER ",
+                u64::from(*extent),
+                u64::from(*index),
+                *entries,
+            )
+        }
         Answer::Done => text.push_str("OK"),
     }
 }
@@ -129,4 +138,24 @@ fn push_numbers(text: &mut String, words: &str, first: u64, second: u64) -> Resu
     push_number(text, words, first)?;
     text.push_str(" ")?;
     push_decimal(text, second)
+}
+
+/// Appends words and three numbers. An error may leave the first of them.
+#[tactic(auto, using(crate::proofs::AppendLaws::words_extend, crate::proofs::AppendLaws::words_and_number))]
+fn push_three_numbers(
+    text: &mut String,
+    words: &str,
+    first: u64,
+    second: u64,
+    third: u64,
+) -> Result<(), AllocError>
+    requires some { 0 < length words.now }
+    requires ascii { slice_index words.now 0 < 128 }
+    ensures ok { OnOk result (string_bytes text.new ≡ string_bytes text.old
+        ++ (words.now ++ (decimal first ++ 32 ∷ (decimal second ++ 32 ∷ decimal third)))) }
+    ensures err { OnErr result (Extends (string_bytes text.old) (string_bytes text.new)) }
+{
+    push_numbers(text, words, first, second)?;
+    text.push_str(" ")?;
+    push_decimal(text, third)
 }

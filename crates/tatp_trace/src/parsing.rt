@@ -46,6 +46,10 @@ fn line_of(text: &str) -> Option<TraceLine>
             let (extent, moves) = two_numbers(&mut fields)?;
             Some(TraceLine::Event(Event::Route(extent, moves)))
         }
+        "checkpoint" => {
+            let (partition, extent) = two_numbers(&mut fields)?;
+            Some(TraceLine::Event(Event::Checkpoint(partition, extent)))
+        }
         "stop" => Some(TraceLine::Event(Event::Stop(one_number(&mut fields)?))),
         "resume" => Some(TraceLine::Event(Event::Resume(one_number(&mut fields)?))),
         "break" => {

@@ -33,6 +33,9 @@ fn event_text(alloc: Global, event: &Event) -> Result<String, AllocError>
         Event::Take(partition, extent) => with_numbers(alloc, "take", &[*partition, *extent]),
         Event::Give(partition, extent) => with_numbers(alloc, "give", &[*partition, *extent]),
         Event::Route(extent, moves) => with_numbers(alloc, "route", &[*extent, *moves]),
+        Event::Checkpoint(partition, extent) => {
+            with_numbers(alloc, "checkpoint", &[*partition, *extent])
+        }
         Event::Stop(partition) => with_numbers(alloc, "stop", &[*partition]),
         Event::Resume(partition) => with_numbers(alloc, "resume", &[*partition]),
         Event::One(partition) => with_numbers(alloc, "one", &[*partition]),

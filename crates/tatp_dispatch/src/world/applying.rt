@@ -25,6 +25,7 @@ impl<'m> World<'m> {
             Event::Take(p, e) => self.take(p, e),
             Event::Give(p, e) => self.give(p, e),
             Event::Route(e, moves) => self.route(e, moves),
+            Event::Checkpoint(p, e) => self.checkpoint(p, e),
             Event::Stop(p) => self.stop(p),
             Event::Resume(p) => self.resume(p),
             Event::One(p) => self.step(p, StepKind::One),

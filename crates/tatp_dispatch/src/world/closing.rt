@@ -1,7 +1,7 @@
 //! The whole is closed.
 
 use super::World;
-use tatp_partition::{Landed, close_sites};
+use tatp_partition::{Landed, close_sites, discard_all};
 
 /// Spends landings.
 fn discard_landings(landings: Vec<Landed>) {
@@ -15,7 +15,7 @@ fn discard_landings(landings: Vec<Landed>) {
 impl<'m> World<'m> {
     ghost use Rattle.tatp_dispatch.specs.Serving.{IsWorld};
 
-    /// Spends all extents, the parcels and the landings in hand.
+    /// Spends all extents, the parcels and the landings in hand, and the chapters.
     pub fn close(self)
         ensures world { IsWorld self.entry }
     {
@@ -29,10 +29,12 @@ impl<'m> World<'m> {
             landings,
             clients: _,
             completions: _,
+            chapters,
             ended: _,
         } = self;
         close_sites(sites);
         parcels.discard();
         discard_landings(landings);
+        discard_all(chapters);
     }
 }

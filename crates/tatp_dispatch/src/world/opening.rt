@@ -147,6 +147,7 @@ impl<'m> World<'m> {
             landings: Vec::new(alloc),
             clients: front.clients,
             completions: Vec::new(alloc),
+            chapters: Vec::new(alloc),
             ended: CompletionPlace::empty(),
         })
     }

@@ -3,7 +3,7 @@ use std::test::Fail;
 use tatp_trace::{read_trace_line, trace_line_text};
 
 /// One of each kind, and those at their bounds.
-static LINES: [&str; 20] = [
+static LINES: [&str; 21] = [
     "submit 3 UPDATE_LOCATION 000000000000129 7",
     "submit 0 GET_ACCESS_DATA 1 5",
     "raw 0 4 id 2 2 7",
@@ -18,6 +18,7 @@ static LINES: [&str; 20] = [
     "take 0 3",
     "give 1 3",
     "route 3 65535",
+    "checkpoint 18446744073709551615 0",
     "stop 0",
     "resume 0",
     "break 0 3 9",

@@ -53,6 +53,7 @@ shown_as c = record {
   landings = c.new.result.items;
   clients = c.in_ok-front.front.clients.items;
   completions = c.new-2.result.items;
+  chapters = c.new-3.result.items;
 }
 
 none_held : (c : goal.After-empty-2) → c.in-Ok.parcels ≡ no_parcels (length c.args.rows.subscribers)
@@ -74,6 +75,7 @@ same c =
       landings = sym c.new.ensures.items i;
       clients = sym c.in_ok-front.ensures.clients i;
       completions = sym c.new-2.ensures.items i;
+      chapters = sym c.new-3.ensures.items i;
     }
 
 world : (c : goal.After-empty-2) → IsWorld (shown_as c)

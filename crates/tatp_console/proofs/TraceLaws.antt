@@ -1,8 +1,8 @@
 -- What is answered to the lines of `trace`.
 use Rattle.std.proofs.Common.{ℕ, List, [], ◌∷◌, ◌++◌, refl, Result}
 use Rattle.tatp_encoding.specs.Modules.{Procedure}
-use Rattle.tatp_dispatch.specs.declared.event.Answer.{Answer}
-use Rattle.tatp_dispatch.specs.declared.event.Refusal.{Refusal}
+use Rattle.tatp_events.specs.declared.event.Answer.{Answer}
+use Rattle.tatp_events.specs.declared.refusal.Refusal.{Refusal}
 use Rattle.tatp_dispatch.specs.Worlds.{WorldState}
 use Rattle.tatp_dispatch.proofs.BenchmarkLaws.{benchmark}
 use Rattle.tatp_trace.specs.Answering.{line_in, AppendsLine, TellsLines, events_in}

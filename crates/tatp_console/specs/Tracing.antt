@@ -5,8 +5,8 @@ use Rattle.tatp_tables.specs.Clean.{IsClean}
 use Rattle.tatp_tables.specs.declared.row.Rows.{Rows}
 use Rattle.tatp_encoding.specs.Modules.{Procedure}
 use Rattle.tatp_population.specs.Opening.{most_subscribers}
-use Rattle.tatp_dispatch.specs.declared.event.Answer.{Answer}
-use Rattle.tatp_dispatch.specs.declared.event.Refusal.{Refusal}
+use Rattle.tatp_events.specs.declared.event.Answer.{Answer}
+use Rattle.tatp_events.specs.declared.refusal.Refusal.{Refusal}
 use Rattle.tatp_dispatch.specs.Benchmark.{IsTheBenchmark}
 use Rattle.tatp_dispatch.specs.Opened.{IsOpened}
 use Rattle.tatp_dispatch.specs.Runs.{Runs}

@@ -8,11 +8,11 @@ use Rattle.tatp_procs.specs.declared.reply.Reply.{Reply}
 use Rattle.tatp_partition.specs.declared.item.Completion.{Completion}
 use Rattle.tatp_partition.specs.Running.{call_begun}
 use Rattle.tatp_partition.specs.Sites.{SiteState, RunningCall}
-use Rattle.tatp_dispatch.specs.declared.event.Event.{Event}
-use Rattle.tatp_dispatch.specs.declared.event.Event.TheVariants.{Step}
-use Rattle.tatp_dispatch.specs.declared.event.Answer.{Answer}
-use Rattle.tatp_dispatch.specs.declared.event.Answer.TheVariants.{Queued, Began, Away, Denied, Moved, Ended}
-use Rattle.tatp_dispatch.specs.declared.event.Refusal.{Refusal}
+use Rattle.tatp_events.specs.declared.event.Event.{Event}
+use Rattle.tatp_events.specs.declared.event.Event.TheVariants.{Step}
+use Rattle.tatp_events.specs.declared.event.Answer.{Answer}
+use Rattle.tatp_events.specs.declared.event.Answer.TheVariants.{Queued, Began, Away, Denied, Moved, Ended}
+use Rattle.tatp_events.specs.declared.refusal.Refusal.{Refusal}
 use Rattle.tatp_dispatch.specs.Advancing.{AdvancesSo}
 use Rattle.tatp_dispatch.specs.Calling.{CallsBriefly, GoesUpTo, BeginsUpTo, StepsUpTo, GoesBriefly, IsLastReply, IsStopped, IsOneCall}
 use Rattle.tatp_dispatch.specs.Events.{Happens, Submits, BeginsAt, BeginsFront, AdvancesAt, EndsAt}

@@ -12,7 +12,7 @@ use Rattle.tatp_partition.specs.Checkpointing.{log_of, log_here, log_obstacle, c
 use Rattle.tatp_partition.specs.Moving.{with_extent}
 use Rattle.tatp_partition.specs.Sites.{SiteState}
 use Rattle.tatp_partition.specs.Sound.{IsSite}
-use Rattle.tatp_dispatch.specs.declared.event.Answer.TheVariants.{Chapter}
+use Rattle.tatp_events.specs.declared.event.Answer.TheVariants.{Chapter}
 use Rattle.tatp_dispatch.specs.declared.world.World.TheInside.{Inside}
 use Rattle.tatp_dispatch.specs.Checkpointing.{CheckpointsIn, refusal_told}
 use Rattle.tatp_dispatch.specs.Counts.{one, total}

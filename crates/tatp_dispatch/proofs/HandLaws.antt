@@ -11,12 +11,12 @@ use Rattle.tatp_partition.specs.Moving.{LandedState}
 use Rattle.tatp_partition.specs.Sites.{SiteState, slot}
 use Rattle.tatp_partition.specs.Stopping.{Stops, Resumes, SetsBreak, ClearsBreak}
 use Rattle.tatp_move.specs.declared.route.Route.{Route}
-use Rattle.tatp_dispatch.specs.declared.event.Event.{Event}
-use Rattle.tatp_dispatch.specs.declared.event.Event.TheVariants.{Submit, Begin, Deny, Step, Take, Give, Route as Tell, Checkpoint, Stop, Resume, One, Break, Clear}
-use Rattle.tatp_dispatch.specs.declared.event.Answer.{Answer}
-use Rattle.tatp_dispatch.specs.declared.event.Answer.TheVariants.{Queued, Began, Away, Denied, Moved, Ended, Parcel, Landed, Set, Superseded, Chapter, Done}
-use Rattle.tatp_dispatch.specs.declared.event.Refusal.{Refusal}
-use Rattle.tatp_dispatch.specs.declared.event.Refusal.TheVariants.{NoMemory}
+use Rattle.tatp_events.specs.declared.event.Event.{Event}
+use Rattle.tatp_events.specs.declared.event.Event.TheVariants.{Submit, Begin, Deny, Step, Take, Give, Route as Tell, Checkpoint, Stop, Resume, One, Break, Clear}
+use Rattle.tatp_events.specs.declared.event.Answer.{Answer}
+use Rattle.tatp_events.specs.declared.event.Answer.TheVariants.{Queued, Began, Away, Denied, Moved, Ended, Parcel, Landed, Set, Superseded, Chapter, Done}
+use Rattle.tatp_events.specs.declared.refusal.Refusal.{Refusal}
+use Rattle.tatp_events.specs.declared.refusal.Refusal.TheVariants.{NoMemory}
 use Rattle.tatp_dispatch.specs.Counts.{one, first_of}
 use Rattle.tatp_dispatch.specs.Events.{Happens, Submits, BeginsAt, DeniesAt, AdvancesAt, TakesExtent, TakesAt, GivesExtent, GivesAt, RoutesExtent, CheckpointsAt, DoesAt}
 use Rattle.tatp_dispatch.specs.InHand.{HoldsParcel, HoldsLanding, HasLanded, WasTold, NoneInHand, NamesTheHolder}

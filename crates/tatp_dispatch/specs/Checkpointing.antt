@@ -6,8 +6,8 @@ use Rattle.tatp_partition.specs.declared.refusal.SiteRefusal.TheVariants as site
 use Rattle.tatp_partition.specs.Checkpointing.{Checkpoints}
 use Rattle.tatp_partition.specs.Sites.{SiteState}
 use Rattle.tatp_partition.specs.Sound.{IsSite}
-use Rattle.tatp_dispatch.specs.declared.event.Refusal.{Refusal}
-use Rattle.tatp_dispatch.specs.declared.event.Refusal.TheVariants.{NoMemory, Site}
+use Rattle.tatp_events.specs.declared.refusal.Refusal.{Refusal}
+use Rattle.tatp_events.specs.declared.refusal.Refusal.TheVariants.{NoMemory, Site}
 
 -- the site of partition p hands out a chapter of extent e, or refuses, and the other sites stay
 pub record CheckpointsIn (sites : List SiteState) (p e : ℕ)

@@ -20,12 +20,12 @@ use Rattle.tatp_move.specs.Routing.{RoutesState, route_of, UpdatesRoute}
 use Rattle.tatp_move.specs.declared.route.RouteUpdate.{RouteUpdate}
 use Rattle.tatp_move.specs.declared.route.RouteUpdate.TheVariants.{Set as Is_set, Superseded as Is_superseded}
 use Rattle.tatp_dispatch.specs.declared.client.Client.{Client}
-use Rattle.tatp_dispatch.specs.declared.event.Event.{Event}
-use Rattle.tatp_dispatch.specs.declared.event.Event.TheVariants.{Submit, Begin, Deny, Step, Take, Give, Route, Checkpoint, Stop, Resume, One, Break, Clear}
-use Rattle.tatp_dispatch.specs.declared.event.Answer.TheVariants.{Queued, Began, Away, Denied, Moved, Ended, Parcel, Landed, Set, Superseded, Chapter, Done}
-use Rattle.tatp_dispatch.specs.declared.event.Refusal.{Refusal}
-use Rattle.tatp_dispatch.specs.declared.event.Refusal.TheVariants.{NotInHand, NoMemory, Site}
-use Rattle.tatp_dispatch.specs.Answers.{Answered}
+use Rattle.tatp_events.specs.declared.event.Event.{Event}
+use Rattle.tatp_events.specs.declared.event.Event.TheVariants.{Submit, Begin, Deny, Step, Take, Give, Route, Checkpoint, Stop, Resume, One, Break, Clear}
+use Rattle.tatp_events.specs.declared.event.Answer.TheVariants.{Queued, Began, Away, Denied, Moved, Ended, Parcel, Landed, Set, Superseded, Chapter, Done}
+use Rattle.tatp_events.specs.declared.refusal.Refusal.{Refusal}
+use Rattle.tatp_events.specs.declared.refusal.Refusal.TheVariants.{NotInHand, NoMemory, Site}
+use Rattle.tatp_events.specs.Answers.{Answered}
 use Rattle.tatp_dispatch.specs.Clients.{with_call_accepted, with_call_refused, with_call_ended}
 use Rattle.tatp_dispatch.specs.Worlds.{WorldState}
 use Rattle.tatp_dispatch.specs.Routed.{AreNoLandingsOf}

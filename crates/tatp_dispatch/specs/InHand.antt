@@ -4,10 +4,10 @@ use Rattle.tatp_population.specs.Extents.{ExtentState}
 use Rattle.tatp_partition.specs.Moving.{LandedState}
 use Rattle.tatp_partition.specs.Sites.{SiteState, slot}
 use Rattle.tatp_move.specs.declared.route.Route.{Route}
-use Rattle.tatp_dispatch.specs.declared.event.Event.{Event}
-use Rattle.tatp_dispatch.specs.declared.event.Event.TheVariants.{Give, Route as Tell}
-use Rattle.tatp_dispatch.specs.declared.event.Answer.TheVariants.{Landed, Set, Superseded}
-use Rattle.tatp_dispatch.specs.Answers.{Answered}
+use Rattle.tatp_events.specs.declared.event.Event.{Event}
+use Rattle.tatp_events.specs.declared.event.Event.TheVariants.{Give, Route as Tell}
+use Rattle.tatp_events.specs.declared.event.Answer.TheVariants.{Landed, Set, Superseded}
+use Rattle.tatp_events.specs.Answers.{Answered}
 use Rattle.tatp_dispatch.specs.Worlds.{WorldState}
 
 -- this parcel of extent e is in hand, and this landing is

@@ -1,5 +1,3 @@
-pub mod RefusalText
-pub mod Answers
 pub mod Counts
 pub mod Clients
 pub mod Queues

@@ -9,8 +9,8 @@ use Rattle.tatp_procs.specs.Asked.{has_procedure, bad_argument}
 use Rattle.tatp_partition.specs.Checkpointing.{checkpoint_obstacle}
 use Rattle.tatp_partition.specs.Sites.{SiteState, slot}
 use Rattle.tatp_partition.specs.Obstacles.{begin_obstacle, step_obstacle, one_obstacle, take_obstacle, stop_obstacle, resume_obstacle, break_obstacle}
-use Rattle.tatp_dispatch.specs.declared.event.Refusal.{Refusal}
-use Rattle.tatp_dispatch.specs.declared.event.Refusal.TheVariants.{NoPartition, NoClient, ClientBusy, NothingQueued, NotInHand, NoProcedure, NumbersFull, BadArgument, Site}
+use Rattle.tatp_events.specs.declared.refusal.Refusal.{Refusal}
+use Rattle.tatp_events.specs.declared.refusal.Refusal.TheVariants.{NoPartition, NoClient, ClientBusy, NothingQueued, NotInHand, NoProcedure, NumbersFull, BadArgument, Site}
 use Rattle.tatp_dispatch.specs.Worlds.{WorldState}
 use Rattle.tatp_dispatch.specs.Counts.{or_else}
 use Rattle.tatp_dispatch.specs.Queues.{front_in}

@@ -1,6 +1,6 @@
 //! The whole: all sites, what is under way between them, and the clients.
 ghost use Rattle.std.specs.Prelude.{◌≡◌, ◌<◌, ◌≤◌, IfErr, IfOk, length};
-ghost use Rattle.tatp_dispatch.specs.declared.event.Refusal.TheVariants.{NoPartition};
+ghost use Rattle.tatp_events.specs.declared.refusal.Refusal.TheVariants.{NoPartition};
 
 mod applying;
 mod beginning;

@@ -1,17 +1,17 @@
 -- Lemmas on what is told of events and lines, one after another.
 use Rattle.std.proofs.Common.{◌≡◌, ℕ, ◌+◌, ◌∙◌, sym, ap, subst, List, [], ◌∷◌, ◌++◌, refl, replicate, append_assoc, Result, Option, Some, None, codes}
 use Rattle.std.proofs.lemmas.List.{append-nil, replicate-append-replicate}
-use Rattle.tatp_dispatch.specs.declared.event.Event.{Event as AnEvent}
-use Rattle.tatp_dispatch.specs.declared.event.Event.TheVariants.{Step}
-use Rattle.tatp_dispatch.specs.declared.event.Answer.{Answer}
-use Rattle.tatp_dispatch.specs.declared.event.Refusal.{Refusal}
+use Rattle.tatp_events.specs.declared.event.Event.{Event as AnEvent}
+use Rattle.tatp_events.specs.declared.event.Event.TheVariants.{Step}
+use Rattle.tatp_events.specs.declared.event.Answer.{Answer}
+use Rattle.tatp_events.specs.declared.refusal.Refusal.{Refusal}
 use Rattle.tatp_dispatch.specs.Worlds.{WorldState}
 use Rattle.tatp_dispatch.specs.Events.{Happens}
 use Rattle.tatp_dispatch.specs.Serving.{Tells}
 use Rattle.tatp_procs.specs.declared.entry.Entry.{Entry}
-use Rattle.tatp_trace.specs.declared.line.TraceLine.{TraceLine}
-use Rattle.tatp_trace.specs.declared.line.TraceLine.TheVariants.{Event, Steps, Look, Home, Audit}
-use Rattle.tatp_trace.specs.AnswerText.{answered_text}
+use Rattle.tatp_trace_lines.specs.declared.line.TraceLine.{TraceLine}
+use Rattle.tatp_trace_lines.specs.declared.line.TraceLine.TheVariants.{Event, Steps, Look, Home, Audit}
+use Rattle.tatp_trace_lines.specs.AnswerText.{answered_text}
 use Rattle.tatp_trace.specs.Looking.{told_line, TellsLook, home_told}
 use Rattle.tatp_trace.specs.Answering.{TellsEvent, TellsEvents, TellsVerdict, AppendsEvent, AppendsSteps, AppendsLine}
 

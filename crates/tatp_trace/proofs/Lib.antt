@@ -1,8 +1,3 @@
-pub mod NumberLaws
-pub mod LineLaws
-pub mod PushLaws
-pub mod AppendLaws
-pub mod HomeTextLaws
 pub mod BytesLaws
 pub mod AnsweringLaws
 pub mod LinesLaws

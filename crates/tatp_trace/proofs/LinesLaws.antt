@@ -1,16 +1,16 @@
 -- What is told of lines, one after another, and the run that their events are.
 use Rattle.std.proofs.Common.{◌≡◌, ℕ, ◌∙◌, sym, ap, subst, List, [], ◌∷◌, ◌++◌, refl, replicate, append_assoc, Result, Option, Some, None}
 use Rattle.std.proofs.lemmas.List.{append-nil}
-use Rattle.tatp_dispatch.specs.declared.event.Event.{Event as AnEvent}
-use Rattle.tatp_dispatch.specs.declared.event.Event.TheVariants.{Step}
-use Rattle.tatp_dispatch.specs.declared.event.Answer.{Answer}
-use Rattle.tatp_dispatch.specs.declared.event.Refusal.{Refusal}
+use Rattle.tatp_events.specs.declared.event.Event.{Event as AnEvent}
+use Rattle.tatp_events.specs.declared.event.Event.TheVariants.{Step}
+use Rattle.tatp_events.specs.declared.event.Answer.{Answer}
+use Rattle.tatp_events.specs.declared.refusal.Refusal.{Refusal}
 use Rattle.tatp_dispatch.specs.Runs.{Runs}
 use Rattle.tatp_dispatch.specs.Serving.{IsWorld}
 use Rattle.tatp_dispatch.specs.Worlds.{WorldState}
 use Rattle.tatp_dispatch.proofs.RunningLaws.{runs_nothing, runs_more}
-use Rattle.tatp_trace.specs.declared.line.TraceLine.{TraceLine}
-use Rattle.tatp_trace.specs.declared.line.TraceLine.TheVariants.{Event, Steps, Look, Home, Audit}
+use Rattle.tatp_trace_lines.specs.declared.line.TraceLine.{TraceLine}
+use Rattle.tatp_trace_lines.specs.declared.line.TraceLine.TheVariants.{Event, Steps, Look, Home, Audit}
 use Rattle.tatp_trace.specs.Answering.{line_in, TellsEvents, TellsLine, TellsLines, events_of, events_in}
 
 -- ---- one line more

@@ -5,17 +5,17 @@ use Rattle.std.specs.Str.{is_utf8}
 use Rattle.tatp_audits.specs.declared.verdict.Verdict.{Verdict}
 use Rattle.tatp_audits.specs.Audits.{IsVerdict}
 use Rattle.tatp_audits.specs.Printing.{verdict_text}
-use Rattle.tatp_dispatch.specs.declared.event.Event.{Event as AnEvent}
-use Rattle.tatp_dispatch.specs.declared.event.Event.TheVariants.{Step}
-use Rattle.tatp_dispatch.specs.Answers.{Answered}
+use Rattle.tatp_events.specs.declared.event.Event.{Event as AnEvent}
+use Rattle.tatp_events.specs.declared.event.Event.TheVariants.{Step}
+use Rattle.tatp_events.specs.Answers.{Answered}
 use Rattle.tatp_dispatch.specs.Events.{Happens}
 use Rattle.tatp_dispatch.specs.Gathered.{gathered_rows}
 use Rattle.tatp_dispatch.specs.Serving.{Tells}
 use Rattle.tatp_dispatch.specs.Worlds.{WorldState}
-use Rattle.tatp_trace.specs.declared.line.TraceLine.{TraceLine}
-use Rattle.tatp_trace.specs.declared.line.TraceLine.TheVariants.{Event, Steps, Look, Home, Audit}
-use Rattle.tatp_trace.specs.AnswerText.{answered_text, bad_line_text}
-use Rattle.tatp_trace.specs.LineFields.{line_of}
+use Rattle.tatp_trace_lines.specs.declared.line.TraceLine.{TraceLine}
+use Rattle.tatp_trace_lines.specs.declared.line.TraceLine.TheVariants.{Event, Steps, Look, Home, Audit}
+use Rattle.tatp_trace_lines.specs.AnswerText.{answered_text, bad_line_text}
+use Rattle.tatp_trace_lines.specs.LineFields.{line_of}
 use Rattle.tatp_trace.specs.Looking.{told_line, TellsLook, home_told}
 
 -- the line that bytes are, which have to be text

@@ -8,10 +8,10 @@ use Rattle.tatp_partition.specs.Sites.{SiteState, home_here}
 use Rattle.tatp_debug.specs.declared.snapshot.Snapshot.{Snapshot}
 use Rattle.tatp_debug.specs.Printing.{snapshot_text}
 use Rattle.tatp_debug.specs.Snapshots.{Looks}
-use Rattle.tatp_dispatch.specs.declared.event.Refusal.TheVariants.{NoPartition, Site}
+use Rattle.tatp_events.specs.declared.refusal.Refusal.TheVariants.{NoPartition, Site}
 use Rattle.tatp_dispatch.specs.Worlds.{WorldState}
-use Rattle.tatp_trace.specs.AnswerText.{refused_text}
-use Rattle.tatp_trace.specs.HomeText.{home_text}
+use Rattle.tatp_trace_lines.specs.AnswerText.{refused_text}
+use Rattle.tatp_trace_lines.specs.HomeText.{home_text}
 
 -- one line
 abbrev pub told_line : List ℕ → List ℕ

@@ -3,10 +3,12 @@ ghost use Rattle.std.specs.Prelude.{◌≡◌, ◌++◌, Some, IfOk, OnOk};
 ghost use Rattle.std.specs.String.{string_bytes};
 ghost use Rattle.tatp_trace.specs.Answering.{line_in, AppendsEvent, AppendsLine, AppendsSteps, TellsVerdict};
 
-use crate::{TraceLine, home_lines, look_text, push_answer, read_trace_line};
+use crate::looking::{home_lines, look_text};
 use std::alloc::{AllocError, Global};
 use tatp_audits::audit;
-use tatp_dispatch::{Event, World};
+use tatp_dispatch::World;
+use tatp_events::Event;
+use tatp_trace_lines::{TraceLine, push_answer, read_trace_line};
 
 /// The line that bytes are, which have to be text.
 #[tactic(auto, using(crate::proofs::BytesLaws::line_in_text, crate::proofs::BytesLaws::line_in_no_text))]

@@ -3,14 +3,14 @@ ghost use Rattle.std.specs.Prelude.{◌≡◌, IfOk};
 ghost use Rattle.std.specs.String.{string_bytes};
 ghost use Rattle.tatp_trace.specs.Looking.{TellsLook, TellsSeen, found_text, home_told, told_line};
 ghost use Rattle.tatp_partition.specs.Sites.{home_here};
-ghost use Rattle.tatp_trace.specs.AnswerText.{refused_text};
+ghost use Rattle.tatp_trace_lines.specs.AnswerText.{refused_text};
 
-use crate::answers::refused_text;
-use crate::homes::home_text;
 use std::alloc::{AllocError, Global};
 use tatp_debug::{home_rows, look};
-use tatp_dispatch::{Refusal, World};
+use tatp_dispatch::World;
+use tatp_events::Refusal;
 use tatp_partition::Site;
+use tatp_trace_lines::{home_text, refused_text};
 
 /// The running call of a partition's site, in four lines; or why there is none to be seen.
 pub fn look_text(alloc: Global, world: &World<'_>, partition: u64) -> Result<String, AllocError>

@@ -1,19 +1,10 @@
-//! Laws of the definitions, for the crates above. Nothing runs here: a clause is the law.
-ghost use Rattle.std.specs.Prelude.{◌≡◌, ℕ, ◌<◌, ◌^◌, ◌++◌, ◌∷◌, [], List, Some, All};
-ghost use Rattle.tatp_dispatch.specs.Answers.{Answered};
+//! A law of the definitions, for the crates above. Nothing runs here: each clause is the law.
+ghost use Rattle.std.specs.Prelude.{ℕ, ◌++◌, ◌∷◌, [], List};
+ghost use Rattle.tatp_events.specs.Answers.{Answered};
 ghost use Rattle.tatp_dispatch.specs.Runs.{Runs};
 ghost use Rattle.tatp_dispatch.specs.Serving.{IsWorld};
 ghost use Rattle.tatp_dispatch.specs.Worlds.{WorldState};
 ghost use Rattle.tatp_trace.specs.Answering.{line_in, events_in, TellsLine, TellsLines};
-ghost use Rattle.tatp_trace.specs.declared.line.TraceLine.{TraceLine};
-ghost use Rattle.tatp_trace.specs.LineFields.{line_of};
-ghost use Rattle.tatp_trace.specs.LineText.{line_numbers, line_text, HasForm};
-
-/// The text of a line is read as that line. So no text is that of two lines.
-pub fn lines_are_read_as_printed()
-    ensures { (line : TraceLine) → All (λ n. n < 2 ^ 64) (line_numbers line) → HasForm line
-        → line_of (line_text line) ≡ Some line }
-{}
 
 /// What is told of lines goes on by what is told of each line after them, and the answers that are
 /// told are those of a run of the lines' events.

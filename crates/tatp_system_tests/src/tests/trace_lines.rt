@@ -1,6 +1,6 @@
 //! Lines of `trace`, read and printed.
 use std::test::Fail;
-use tatp_trace::{read_trace_line, trace_line_text};
+use tatp_trace_lines::{read_trace_line, trace_line_text};
 
 /// One of each kind, and those at their bounds.
 static LINES: [&str; 21] = [

@@ -1,6 +1,6 @@
 use Rattle.std.proofs.Common.{◌≡◌, ◌++◌, ◌∷◌, [], ◌∙◌, Ok, Err, length, sym, ap, subst, arith}
-use Rattle.tatp_dispatch.specs.declared.event.Answer.TheVariants.{Chapter}
-use Rattle.tatp_dispatch.specs.declared.event.Refusal.{Refusal}
+use Rattle.tatp_events.specs.declared.event.Answer.TheVariants.{Chapter}
+use Rattle.tatp_events.specs.declared.refusal.Refusal.{Refusal}
 use Rattle.tatp_dispatch.specs.Checkpointing.{CheckpointsIn, refusal_told}
 use Rattle.tatp_dispatch.specs.Events.{CheckpointsAt}
 use Rattle.tatp_dispatch.specs.Fields.{world_of}

@@ -9,8 +9,8 @@ use Rattle.tatp_partition.specs.declared.refusal.SiteRefusal.{SiteRefusal}
 use Rattle.tatp_partition.specs.Running.{AdvancesUnless, obstacle_to, told_in}
 use Rattle.tatp_partition.specs.Sites.{SiteState}
 use Rattle.tatp_partition.specs.Sound.{IsSite}
-use Rattle.tatp_dispatch.specs.declared.event.Answer.TheVariants.{Ended as Is_ended}
-use Rattle.tatp_dispatch.specs.declared.event.Refusal.TheVariants.{NoPartition, Site}
+use Rattle.tatp_events.specs.declared.event.Answer.TheVariants.{Ended as Is_ended}
+use Rattle.tatp_events.specs.declared.refusal.Refusal.TheVariants.{NoPartition, Site}
 use Rattle.tatp_dispatch.specs.Fields.{world_of}
 use Rattle.tatp_dispatch.specs.Serving.{Tells}
 use Rattle.tatp_dispatch.specs.Worlds.{WorldState}

@@ -1,8 +1,0 @@
--- What is answered to an event.
-use Rattle.std.specs.Prelude.{Result}
-use Rattle.tatp_dispatch.specs.declared.event.Answer.{Answer}
-use Rattle.tatp_dispatch.specs.declared.event.Refusal.{Refusal}
-
--- an answer, or why the event is refused
-abbrev pub Answered : Type 0
-Answered = Result Answer Refusal

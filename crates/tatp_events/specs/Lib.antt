@@ -1,0 +1,2 @@
+pub mod RefusalText
+pub mod Answers

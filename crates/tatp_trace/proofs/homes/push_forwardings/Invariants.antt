@@ -1,9 +1,0 @@
-use Rattle.std.proofs.Common.{◌++◌}
-use Rattle.std.specs.String.{string_bytes}
-use Rattle.tatp_tables.specs.declared.row.Row.TheVariants.{C}
-use Rattle.tatp_trace.specs.HomeText.{rows_text}
-use Rattle.tatp_trace.proofs.HomeTextLaws.{AreRowsUpTo}
-use Rattle.tatp_trace.proofs.homes.push_forwardings.Given as goal
-
-abbrev pub invariant-loop-columns : goal.invariant-loop-columns
-invariant-loop-columns l = AreRowsUpTo C l.rows (string_bytes l.fn.text ++ rows_text C l.rows) l.columns-index (string_bytes l.text)

@@ -1,5 +1,0 @@
-use Rattle.tatp_trace.proofs.LineLaws.{line_of-line_text}
-use Rattle.tatp_trace.proofs.theorems.lines_are_read_as_printed.Goals as goal
-
-pub returns : goal.returns
-returns c = line_of-line_text

@@ -1,0 +1,5 @@
+pub mod NumberLaws
+pub mod LineLaws
+pub mod PushLaws
+pub mod AppendLaws
+pub mod HomeTextLaws

@@ -1,0 +1,4 @@
+pub mod LineFields
+pub mod LineText
+pub mod AnswerText
+pub mod HomeText

@@ -1,11 +1,8 @@
 -- Where no extent and no chapter is a cause, the population stands once: each extent's chapters lead end to end to its log, and stamps rise through them all.
-use Rattle.std.proofs.Common.{◌≡◌, ℕ, zero, suc, ◌+◌, ◌-◌, ◌<◌, ◌≤◌, nat_lt, Bool, true, false, if◌then◌else◌, List, [], ◌∷◌, ◌++◌, length, All, Contains, Option, Some, None, is_some, slice_get, zero-add, refl, sym, ◌∙◌, ap, subst, arith, ◌⊎◌, inl, inr}
+use Rattle.std.proofs.Common.{◌≡◌, ℕ, zero, suc, ◌+◌, ◌-◌, ◌<◌, ◌≤◌, nat_lt, Bool, true, false, if◌then◌else◌, List, [], ◌∷◌, ◌++◌, Contains, Option, Some, None, is_some, zero-add, refl, sym, ◌∙◌, ap, subst, arith, inl, inr}
 use Rattle.std.specs.Coded.{coded_list, coded_option}
 use Rattle.std.specs.Option.{option_map, option_map_or, option_to_list}
-use Rattle.std.proofs.lemmas.Bool.{cases_lt}
-use Rattle.std.proofs.lemmas.Bool.Decides.{nat_tests}
-use Rattle.std.proofs.lemmas.Option.{slice_get_within, get_or_from_slice_get}
-use Rattle.std.proofs.lemmas.List.Elements.{All-nil, All-cons, All-weaker, All-contains}
+use Rattle.std.proofs.lemmas.Bool.{lt-ltb, le-ltb, ltb-true, cases_lt}
 use Rattle.tatp_tables.specs.Home.{SubscriberRows, subscriber_rows_code}
 use Rattle.tatp_tables.specs.declared.row.Rows.{Rows}
 use Rattle.tatp_procs.specs.declared.entry.Entry.{Entry}
@@ -22,39 +19,7 @@ use Rattle.tatp_settle.specs.CauseOrder.{NoneOfFirst}
 use Rattle.tatp_settle.specs.Settlements.{IsPopulationOnce}
 use Rattle.tatp_settle.proofs.StableLaws.{at_most, equal_unless}
 use Rattle.tatp_settle.proofs.FoundLaws.{first_counted, log_rises, chapter_found, chapter_rises}
-
--- ---- tests
-below : (m n : ℕ) → m < n → nat_lt m n ≡ true
-below m n l = grind (arith, nat_tests, l)
-
-not_below : (m n : ℕ) → n ≤ m → nat_lt m n ≡ false
-not_below m n l = grind (arith, nat_tests, l)
-
-is_below : (m n : ℕ) → nat_lt m n ≡ true → m < n
-is_below m n h = grind (arith, nat_tests, h)
-
--- ---- stamps
-placed : (log : List Entry) (k : ℕ) (x : Entry) → slice_get log k ≡ Some x → Contains log x
-placed log k x is = (k, slice_get_within log k x is, get_or_from_slice_get log k x x is)
-
--- the last stamp of a log is the one before it, or that of one of its entries
-last_is : (least : ℕ) (log : List Entry) → (last_stamp_from least log ≡ least) ⊎ ((x : Entry) × Contains log x × (last_stamp_from least log ≡ x.stamp))
-last_is least log = by (slice_get log (length log - 1)) refl
-  where
-    by : (v : Option Entry) → slice_get log (length log - 1) ≡ v → (last_stamp_from least log ≡ least) ⊎ ((x : Entry) × Contains log x × (last_stamp_from least log ≡ x.stamp))
-    by None is = inl (ap (λ (v : Option Entry). option_map_or (λ (e : Entry). e.stamp) v least) is)
-    by (Some x) is = inr (x, placed log (length log - 1) x is, ap (λ (v : Option Entry). option_map_or (λ (e : Entry). e.stamp) v least) is)
-
--- stamps that rise do so from this one too, which is below them
-rise_above : (least : ℕ) (log : List Entry) → StampsRise 0 log → ((x : Entry) → Contains log x → least < x.stamp) → StampsRise least log
-rise_above least [] h above = tt
-rise_above least (x ∷ more) h above = (above x (0, omega arith, refl), h.1)
-
-all_above : (least : ℕ) (log : List Entry) → StampsRise least log → All (λ (x : Entry). least < x.stamp) log
-all_above least [] h = All-nil (λ (x : Entry). least < x.stamp)
-all_above least (x ∷ more) h =
-    All-cons (λ (y : Entry). least < y.stamp) x more h.0
-    (All-weaker (λ (y : Entry). x.stamp < y.stamp) (λ (y : Entry). least < y.stamp) (λ y l. omega (arith, l, h.0)) more (all_above x.stamp more h.1))
+use Rattle.tatp_settle.proofs.RisingLaws.{rise_above, above_least, last_is, part_rises}
 
 -- ---- parts
 -- what stands before a part, by whether it is a chapter
@@ -69,22 +34,22 @@ after_of chapter = option_map (λ (x : ChapterState). x.after) chapter
 
 module _ (c : ClosedState) (e : ℕ) where
   before_chapter : (i : ℕ) (d : ChapterState) → i < chapter_count c e → chapter_numbered c e i ≡ Some d → homes_before c e i ≡ Some d.before
-  before_chapter i d l is = λ k. before_which (below i (chapter_count c e) l k) (is k) (log_numbered c e)
+  before_chapter i d l is = λ k. before_which (lt-ltb i (chapter_count c e) l k) (is k) (log_numbered c e)
 
   before_log : (log : ExtentLog) → log_numbered c e ≡ Some log → homes_before c e (chapter_count c e) ≡ Some log.opening
-  before_log log is = λ k. before_which (not_below (chapter_count c e) (chapter_count c e) (omega arith) k) (chapter_numbered c e (chapter_count c e)) (is k)
+  before_log log is = λ k. before_which (le-ltb (chapter_count c e) (chapter_count c e) (omega arith) k) (chapter_numbered c e (chapter_count c e)) (is k)
 
   of_chapter : (i : ℕ) (d : ChapterState) → i < chapter_count c e → chapter_numbered c e i ≡ Some d → entries_of_part c e i ≡ d.entries
-  of_chapter i d l is = λ k. entries_of_which (below i (chapter_count c e) l k) (is k) (entries_since c e)
+  of_chapter i d l is = λ k. entries_of_which (lt-ltb i (chapter_count c e) l k) (is k) (entries_since c e)
 
   of_log : entries_of_part c e (chapter_count c e) ≡ entries_since c e
-  of_log = ap (λ b. entries_of_which b (chapter_numbered c e (chapter_count c e)) (entries_since c e)) (not_below (chapter_count c e) (chapter_count c e) (omega arith))
+  of_log = ap (λ b. entries_of_which b (chapter_numbered c e (chapter_count c e)) (entries_since c e)) (le-ltb (chapter_count c e) (chapter_count c e) (omega arith))
 
   due_from : (population : Rows) (homes : List SubscriberRows) → homes_at_first population e ≡ Some homes → (i : ℕ) → homes_due population c e i ≡ homes_due_from (chapter_numbered c e) 0 homes i
   due_from population homes is zero = is
   due_from population homes is (suc i) =
       let back : suc i - 1 ≡ i = omega arith in
-      ap (λ (k : ℕ). after_of (chapter_numbered c e k)) (sym back) ∙ sym (ap (λ b. if b then after_of (chapter_numbered c e (suc i - 1)) else Some homes) (below 0 (suc i) (omega arith)))
+      ap (λ (k : ℕ). after_of (chapter_numbered c e k)) (sym back) ∙ sym (ap (λ b. if b then after_of (chapter_numbered c e (suc i - 1)) else Some homes) (lt-ltb 0 (suc i) (omega arith)))
 
   -- this stamp is below those of the part of this number, and of all later ones
   abbrev IsBelowFrom : ℕ → ℕ → Type 0
@@ -115,10 +80,10 @@ module _ (population : Rows) (c : ClosedState) (closed : IsClosed c) (unmixed : 
       by : (v : Option ExtentLog) → log_numbered c e ≡ v → is_some (homes_before c e 0) ≡ is_some v
       by None is =
           let none : chapter_count c e ≡ 0 = ap (λ (v : Option ExtentLog). option_map_or (λ (log : ExtentLog). log.chapters) v 0) is in
-          let past : nat_lt 0 (chapter_count c e) ≡ false = not_below 0 (chapter_count c e) (omega (arith, none)) in
+          let past : nat_lt 0 (chapter_count c e) ≡ false = le-ltb 0 (chapter_count c e) (omega (arith, none)) in
           λ k. is_some (before_which (past k) (chapter_numbered c e 0) (is k))
       by (Some log) is = elim (nat_lt 0 (chapter_count c e)) as (λ b. nat_lt 0 (chapter_count c e) ≡ b → is_some (before_which b (chapter_numbered c e 0) (log_numbered c e)) ≡ true) [
-        | true ↦ λ some. let d = chapter_here e 0 (is_below 0 (chapter_count c e) some) in ap (λ (v : Option ChapterState). is_some (option_map (λ (x : ChapterState). x.before) v)) d.1
+        | true ↦ λ some. let d = chapter_here e 0 (ltb-true 0 (chapter_count c e) some) in ap (λ (v : Option ChapterState). is_some (option_map (λ (x : ChapterState). x.before) v)) d.1
         | false ↦ λ none. ap (λ (v : Option ExtentLog). is_some (option_map (λ (l : ExtentLog). l.opening) v)) is
       ] refl
 
@@ -143,16 +108,6 @@ module _ (population : Rows) (c : ClosedState) (closed : IsClosed c) (unmixed : 
     | inr most ↦ absurd (unjoined e j (record { within = k; differs = inr (record { earlier = i; first = x; second = y; before = l; in_earlier = in_one; in_part = in_other; falls = most }) }))
   ]
 
-  part_rises : (e i : ℕ) → i ≤ chapter_count c e → StampsRise 0 (entries_of_part c e i)
-  part_rises e i l = elim (cases_lt i (chapter_count c e)) [
-    | inl less ↦
-        let d = chapter_here e i less in
-        subst (StampsRise 0) (sym (of_chapter c e i d.0 less d.1)) (chapter_rises e d.0 (chapter_found c e i d.0 closed d.1))
-    | inr most ↦
-        let same : chapter_count c e ≡ i = omega (arith, l, most) in
-        subst (λ (k : ℕ). StampsRise 0 (entries_of_part c e k)) same (subst (StampsRise 0) (sym (of_log c e)) (log_rises c e closed (unmixed e)))
-  ]
-
   -- one part more in front of those that rise from any stamp below them
   one_part : (e first count least : ℕ) (v : Option ChapterState) → chapter_numbered c e first ≡ v → first < chapter_count c e → IsBelowFrom c e first least
       → ((next : ℕ) → IsBelowFrom c e (first + 1) next → EachRises next (chapters_listed (chapter_numbered c e) (first + 1) count) (entries_since c e))
@@ -163,7 +118,7 @@ module _ (population : Rows) (c : ClosedState) (closed : IsClosed c) (unmixed : 
         rise_above least d.entries (chapter_rises e d (chapter_found c e first d closed is)) (λ x inside. under first x (omega arith) (omega (arith, l)) (subst (λ (log : List Entry). Contains log x) entries inside)),
         rest (last_stamp_from least d.entries) (λ i x from to inside. elim (last_is least d.entries) [
           | inl same ↦ subst (λ (n : ℕ). n < x.stamp) (sym same) (under i x (omega (arith, from)) to inside)
-          | inr last ↦ subst (λ (n : ℕ). n < x.stamp) (sym last.2) (apart e first i last.0 x (omega (arith, from)) to (subst (λ (log : List Entry). Contains log last.0) entries last.1) inside)
+          | inr last ↦ subst (λ (n : ℕ). n < x.stamp) last.is (apart e first i last.entry x (omega (arith, from)) to (subst (λ (log : List Entry). Contains log last.entry) entries last.stands) inside)
         ]),
       )
 
@@ -176,7 +131,7 @@ module _ (population : Rows) (c : ClosedState) (closed : IsClosed c) (unmixed : 
   rise : (e : ℕ) → StampsRise 0 (entries_numbered c e)
   rise e =
       joined_rise 0 (chapters_numbered c e) (entries_since c e)
-      (each_rises e 0 (chapter_count c e) 0 (zero-add (chapter_count c e)) (λ i x from to inside. All-contains (λ (y : Entry). 0 < y.stamp) (entries_of_part c e i) x (all_above 0 (entries_of_part c e i) (part_rises e i to)) inside))
+      (each_rises e 0 (chapter_count c e) 0 (zero-add (chapter_count c e)) (λ i x from to inside. above_least 0 (entries_of_part c e i) inside.0 x (part_rises c e i closed (unmixed e)) inside.1 inside.2))
 
 -- no cause of the first six kinds holds: each extent stands once, at a site and unmixed, and its chapters join
 pub population_once : (run : Run) → IsClosed run.closed → NoneOfFirst 6 run → IsPopulationOnce run

@@ -12,6 +12,7 @@ pub mod LogTestLaws
 pub mod TurnLaws
 pub mod PartLaws
 pub mod FoundLaws
+pub mod RisingLaws
 pub mod RunLaws
 pub mod PopulatedLaws
 pub mod BeyondLaws

@@ -1,21 +1,23 @@
 -- Moves counted number by number are those of all extents.
-use Rattle.std.proofs.Common.{◌≡◌, ℕ, zero, suc, ◌+◌, ◌<◌, ◌≤◌, ◌==◌, ◌&&◌, nat_le, Bool, true, false, cond, if◌then◌else◌, List, [], ◌∷◌, ◌++◌, map, length, filter, find, count_by, sum_by, All, Option, Some, None, is_some, slice_index_or, zero-add, add-zero, refl, sym, ◌∙◌, ap, arith, inl, inr}
+use Rattle.std.proofs.Common.{◌≡◌, ℕ, zero, suc, ◌+◌, ◌<◌, ◌≤◌, ◌==◌, ◌&&◌, nat_le, Bool, true, false, cond, if◌then◌else◌, List, [], ◌∷◌, ◌++◌, map, length, filter, find, count_by, sum_by, All, Some, None, is_some, slice_index_or, zero-add, add-zero, refl, sym, ◌∙◌, ap, arith, inl, inr}
 use Rattle.std.specs.List.{range_with_len}
 use Rattle.std.specs.Option.{option_map, option_map_or}
 use Rattle.std.proofs.lemmas.Bool.{cases_eq, ne_eqb, eq-eqb, false≢true}
 use Rattle.std.proofs.lemmas.Bool.Decides.{nat_tests}
-use Rattle.std.proofs.lemmas.List.Elements.{All-head, All-tail}
+use Rattle.std.proofs.lemmas.List.Elements.{All-head, All-tail, Contains-get_or}
 use Rattle.std.proofs.lemmas.List.Sums.{sum_by-cons}
 use Rattle.tatp_tables.specs.declared.row.Rows.{Rows}
 use Rattle.tatp_population.specs.Extents.{ExtentState, IsExtent}
 use Rattle.tatp_population.specs.Opening.{homes_of_extent}
 use Rattle.tatp_tables.specs.Database.{database_of}
-use Rattle.tatp_settle.specs.Closings.{ClosedSiteState, ClosedState, extents_of, log_of_homeless, log_of_extent, log_numbered, extent_numbered, extents_numbered, moves_numbered, IsClosed}
+use Rattle.tatp_settle.specs.Closings.{ClosedSiteState, ClosedState, extents_of, log_of_homeless, log_of_extent, log_numbered, extents_numbered, moves_numbered, IsClosed}
 use Rattle.tatp_settle.specs.Runs.{Run, extents_populated, homes_at_first, moves_left}
 use Rattle.tatp_settle.specs.Settlements.{IsPopulationOnce, moves_made}
-use Rattle.tatp_settle.proofs.StandingLaws.{has_number, count_cons}
-use Rattle.tatp_settle.proofs.LogLaws.{log_has, log_of_number}
-use Rattle.tatp_settle.proofs.FoundLaws.{are_extents}
+use Rattle.tatp_settle.proofs.StandingLaws.{has_number, count_cons, any_counted}
+use Rattle.tatp_settle.proofs.TestLaws.{decides_passes}
+use Rattle.tatp_settle.proofs.LogLaws.{log_has}
+use Rattle.tatp_settle.proofs.NumberedLaws.{extent_log_numbered}
+use Rattle.tatp_settle.proofs.FoundLaws.{first_counted, are_extents}
 
 -- ---- sums over a range
 sum_same : (f g : ℕ → ℕ) (es : List ℕ) → ((e : ℕ) → f e ≡ g e) → sum_by f es ≡ sum_by g es
@@ -105,20 +107,6 @@ counted e (s ∷ sites) extents =
     omega (arith, more, rest)
 
 -- ---- where the extents stand
-later_found : {A : Type 0} (b : Bool) (x : A) (v : Option A) → is_some v ≡ true → is_some (cond b (Some x) v) ≡ true
-later_found true x v h = refl
-later_found false x v h = h
-
--- where one that passes is listed, one is found
-some_found : {A : Type 0} (p : A → Bool) (xs : List A) (k : ℕ) (d : A) → k < length xs → p (slice_index_or xs k d) ≡ true → is_some (find p xs) ≡ true
-some_found p [] k d l h = absurd (omega (arith, l))
-some_found p (x ∷ xs) zero d l h = ap (λ b. is_some (cond b (Some x) (find p xs))) h
-some_found p (x ∷ xs) (suc k) d l h = later_found (p x) x (find p xs) (some_found p xs k d (omega (arith, l)) h)
-
-some_log : (v : Option ExtentState) → is_some (option_map log_of_extent v) ≡ is_some v
-some_log None = refl
-some_log (Some x) = refl
-
 if_some : {A : Type 0} (b : Bool) (x : A) → is_some (if b then Some x else None) ≡ true → b ≡ true
 if_some true x h = refl
 if_some false x h = absurd (false≢true h)
@@ -138,10 +126,10 @@ are_within run closed once k d l =
     let x : ExtentState = slice_index_or (extents_of c) k d in
     let extent : IsExtent x = are_extents c closed k d l in
     let least : 1 ≤ x.number = extent.of_extent.numbered in
-    let here : is_some (extent_numbered c x.number) ≡ true = some_found (has_number x.number) (extents_of c) k d l (eq-eqb x.number x.number refl) in
-    let log : log_numbered c x.number ≡ option_map log_of_extent (extent_numbered c x.number) =
-    log_of_number (filter (λ (s : ClosedSiteState). s.partition == 0) c.sites) (extents_of c) x.number (λ z. omega (arith, least, z)) in
-    within_populated run.population x.number least (sym (once.stands x.number) ∙ (ap is_some log ∙ (some_log (extent_numbered c x.number) ∙ here)))
+    let counted = (any_counted (has_number x.number) (extents_of c)).0 ((decides_passes (has_number x.number) (extents_of c)).1 (x, Contains-get_or (extents_of c) k d l, eq-eqb x.number x.number refl)) in
+    let here = first_counted (has_number x.number) (extents_of c) counted in
+    let log : log_numbered c x.number ≡ Some (log_of_extent here.0) = extent_log_numbered c x.number (λ z. omega (arith, least, z)) ∙ ap (option_map log_of_extent) here.1 in
+    within_populated run.population x.number least (sym (once.stands x.number) ∙ ap is_some log)
 
 -- each extent stands once: its moves are counted by its number
 pub moves_by_number : (run : Run) → IsClosed run.closed → IsPopulationOnce run → moves_left run ≡ moves_made run

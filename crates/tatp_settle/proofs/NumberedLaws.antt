@@ -29,7 +29,7 @@ homeless_numbered c h =
     ∙ or_nothing (option_map log_of_homeless (find has_homeless c.sites)))
 
 -- that of any other number is the extent's
-extent_log_numbered : (c : ClosedState) (e : ℕ) → e ≢ 0 → log_numbered c e ≡ option_map log_of_extent (extent_numbered c e)
+pub extent_log_numbered : (c : ClosedState) (e : ℕ) → e ≢ 0 → log_numbered c e ≡ option_map log_of_extent (extent_numbered c e)
 extent_log_numbered c e h = log_of_number (filter has_homeless c.sites) (extents_of c) e h
 
 -- what a site, or an extent, that was found says of it

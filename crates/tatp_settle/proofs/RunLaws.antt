@@ -1,8 +1,7 @@
 -- The logs that a run left are those of separate extents of its population, merged into one history of it.
-use Rattle.std.proofs.Common.{◌≡◌, ℕ, zero, suc, ◌+◌, ◌≤◌, ◌==◌, ◌&&◌, nat_le, Bool, true, false, if◌then◌else◌, List, [], ◌∷◌, ◌++◌, map, length, filter, find, All, Contains, Option, Some, None, IsSome, is_some, slice_get, zero-add, refl, sym, ◌∙◌, ap, subst, arith}
+use Rattle.std.proofs.Common.{◌≡◌, ℕ, zero, suc, ◌+◌, ◌≤◌, ◌==◌, Bool, true, false, List, [], ◌∷◌, ◌++◌, map, length, filter, find, All, Contains, Option, Some, None, IsSome, is_some, slice_get, zero-add, refl, sym, ◌∙◌, ap, subst, arith}
 use Rattle.std.specs.List.{range_with_len}
 use Rattle.std.specs.Option.{option_map, option_map_or}
-use Rattle.std.proofs.lemmas.Bool.Decides.{nat_tests}
 use Rattle.std.proofs.lemmas.Bool.{eqb-true, false≢true, false_from_ne_true}
 use Rattle.std.proofs.lemmas.Option.{slice_get-map}
 use Rattle.std.proofs.lemmas.List.Elements.{All-nil, All-head, All-tail, All-filter, All-contains}
@@ -44,7 +43,9 @@ use Rattle.tatp_settle.specs.Causes.{StampFalls, NamesHome}
 use Rattle.tatp_settle.specs.Settlements.{IsPopulationOnce, IsReceived}
 use Rattle.tatp_settle.specs.Separate.{Parts, AllFindNone, LogAt, LeadsToLast}
 use Rattle.tatp_settle.proofs.StandingLaws.{has_number as is_numbered}
-use Rattle.tatp_settle.proofs.LogLaws.{log_has, log_found, log_of_number, none_zero}
+use Rattle.tatp_settle.proofs.LogLaws.{log_has, log_found, none_zero}
+use Rattle.tatp_settle.proofs.NumberedLaws.{extent_log_numbered}
+use Rattle.tatp_settle.proofs.PopulatedLaws.{populated}
 use Rattle.tatp_settle.proofs.FoundLaws.{found, are_extents, chapter_found, all_listed}
 use Rattle.tatp_settle.specs.Interleaving.{IsOneHistoryInAnyOrder}
 use Rattle.tatp_settle.proofs.MergeLaws.{map_get, every_interleaving_is_one_history, merges_interleave}
@@ -73,12 +74,6 @@ homeless_log (s ∷ sites) extents closed are unmixed =
 abbrev homes_first : Run → ℕ → List SubscriberRows
 homes_first run e = homes_of_extent (database_of run.population) (length run.population.subscribers) e
 
-both_tests : (e n : ℕ) → 1 ≤ e → e ≤ n → (nat_le 1 e && nat_le e n) ≡ true
-both_tests e n l m = grind (arith, nat_tests, l, m)
-
-populated : (run : Run) (e : ℕ) → suc e ≤ extents_populated run.population → homes_at_first run.population (suc e) ≡ Some (homes_first run (suc e))
-populated run e l = ap (λ b. if b then Some (homes_first run (suc e)) else None) (both_tests (suc e) (extents_populated run.population) (omega arith) l)
-
 -- an extent that stands in what the run left, where its log leads
 record Stood (run : Run) (e : ℕ) : Type 0 where
   pub extent : ExtentState
@@ -93,7 +88,7 @@ stood : (run : Run) (e : ℕ) → IsClosed run.closed → IsPopulationOnce run �
 stood run e closed once l there = by (extent_numbered run.closed e) refl
   where
     of_extent : log_numbered run.closed e ≡ option_map log_of_extent (extent_numbered run.closed e)
-    of_extent = log_of_number (filter of_partition_0 run.closed.sites) (extents_of run.closed) e (λ z. omega (arith, l, z))
+    of_extent = extent_log_numbered run.closed e (λ z. omega (arith, l, z))
 
     by : (v : Option ExtentState) → extent_numbered run.closed e ≡ v → Stood run e
     by None is = absurd (false≢true (sym (ap is_some (of_extent ∙ ap (option_map log_of_extent) is)) ∙ there))
@@ -112,7 +107,7 @@ chapters_lead c e closed =
 whole_log_leads : (run : Run) (e : ℕ) → IsClosed run.closed → IsPopulationOnce run → suc e ≤ extents_populated run.population → Leads (homes_first run (suc e)) (entries_numbered run.closed (suc e)) (homes_numbered run.closed (suc e))
 whole_log_leads run e closed once l =
     let c : ClosedState = run.closed in
-    let first : homes_at_first run.population (suc e) ≡ Some (homes_first run (suc e)) = populated run e l in
+    let first : homes_at_first run.population (suc e) ≡ Some (homes_first run (suc e)) = populated run.population (suc e) (omega arith) l in
     let s : Stood run (suc e) = stood run (suc e) closed once (omega arith) (once.stands (suc e) ∙ ap is_some first) in
     let x : ExtentState = s.extent in
     let joined : Joins (homes_first run (suc e)) (chapters_numbered c (suc e)) x.opening = once.joined (suc e) (log_of_extent x) (homes_first run (suc e)) s.log first in

@@ -1,6 +1,6 @@
 -- The first part of a whole log that isn't joined to the parts before it, by homes and by stamps.
-use Rattle.std.proofs.Common.{◌≡◌, ◌≢◌, ℕ, zero, suc, ◌+◌, ◌<◌, ◌≤◌, ◌⊎◌, inl, inr, nat_lt, Bool, true, false, if◌then◌else◌, List, [], ◌∷◌, length, Contains, Option, Some, None, slice_index_or, Decides, refl, sym, ◌∙◌, ap, subst, arith, add-one}
-use Rattle.std.specs.Option.{option_map, option_map_or}
+use Rattle.std.proofs.Common.{◌≡◌, ◌≢◌, ℕ, zero, suc, ◌+◌, ◌<◌, ◌≤◌, ◌⊎◌, inl, inr, Bool, true, false, if◌then◌else◌, List, [], ◌∷◌, length, Contains, Option, Some, None, slice_index_or, Decides, refl, sym, ◌∙◌, ap, subst, arith, add-one}
+use Rattle.std.specs.Option.{option_map}
 use Rattle.std.proofs.lemmas.Bool.{le-ltb, ltb-true, ltb-false, cases_Bool}
 use Rattle.std.proofs.lemmas.Bool.Decides.{Decides-like}
 use Rattle.tatp_tables.specs.Home.{SubscriberRows}
@@ -10,13 +10,13 @@ use Rattle.tatp_population.specs.Histories.{StampsRise}
 use Rattle.tatp_population.specs.Extents.{last_stamp_from}
 use Rattle.tatp_population.specs.Chapters.{ChapterState}
 use Rattle.tatp_population.proofs.HistoryLaws.{last_of_more}
-use Rattle.tatp_settle.specs.Closings.{ClosedState, ExtentLog, log_numbered, chapter_count, entries_since, chapter_numbered, IsClosed}
+use Rattle.tatp_settle.specs.Closings.{ClosedState, ExtentLog, log_numbered, chapter_count, chapter_numbered}
 use Rattle.tatp_settle.specs.Runs.{homes_at_first}
-use Rattle.tatp_settle.specs.Causes.{IsMixed, IsUnjoined, PartStampFalls, homes_before, homes_due, entries_of_part}
+use Rattle.tatp_settle.specs.Causes.{IsUnjoined, PartStampFalls, homes_before, homes_due, entries_of_part}
 use Rattle.tatp_settle.specs.CallPlaces.{IsFirstNumber}
 use Rattle.tatp_settle.specs.ChapterTables.{chapter_handed_out}
 use Rattle.tatp_settle.specs.Stamping.{first_is_above}
-use Rattle.tatp_settle.proofs.FoundLaws.{log_rises, chapter_found, chapter_rises}
+use Rattle.tatp_settle.proofs.RisingLaws.{above_least, IsStampIn, last_is}
 use Rattle.tatp_settle.proofs.ChapterTableLaws.{no_chapters, handed_out}
 use Rattle.tatp_settle.proofs.SearchLaws.{Clear, clear_step, clear_all, lt_or}
 
@@ -24,11 +24,6 @@ use Rattle.tatp_settle.proofs.SearchLaws.{Clear, clear_step, clear_all, lt_or}
 rises_above : (last : ℕ) (log : List Entry) → StampsRise 0 log → first_is_above last log ≡ true → StampsRise last log
 rises_above last [] rise above = tt
 rises_above last (x ∷ more) rise above = (ltb-true last x.stamp above, rise.1)
-
-above_least : (least : ℕ) (log : List Entry) (k : ℕ) (x : Entry) → StampsRise least log → k < length log → slice_index_or log k x ≡ x → least < x.stamp
-above_least least [] k x rise l is = absurd (omega (arith, l))
-above_least least (y ∷ more) zero x rise l is = subst (λ (z : Entry). least < z.stamp) is rise.0
-above_least least (y ∷ more) (suc k) x rise l is = let later = above_least y.stamp more k x rise.1 (omega (arith, l)) is in omega (arith, later, rise.0)
 
 no_less : (least : ℕ) (log : List Entry) → StampsRise least log → least ≤ last_stamp_from least log
 no_less least [] rise = omega arith
@@ -50,44 +45,10 @@ below_last least (y ∷ more) (suc k) x rise l is =
     let same = last_of_more least y more in
     omega (arith, later, same)
 
--- an entry of the part has this stamp
-pub record IsStampIn (log : List Entry) (stamp : ℕ) : Type 0 where
-  pub entry : Entry
-  pub stands : Contains log entry
-  pub is : entry.stamp ≡ stamp
-
-later_stamp : (x : Entry) (more : List Entry) (stamp : ℕ) → IsStampIn more stamp → IsStampIn (x ∷ more) stamp
-later_stamp x more stamp h = record { entry = h.entry; stands = (suc h.stands.0, (let l = h.stands.1 in omega (arith, l)), h.stands.2); is = h.is }
-
--- the last stamp is an entry's, or the one before it
-last_is : (least : ℕ) (log : List Entry) → (last_stamp_from least log ≡ least) ⊎ IsStampIn log (last_stamp_from least log)
-last_is least [] = inl refl
-last_is least (x ∷ more) = by (last_is x.stamp more)
-  where
-    same : last_stamp_from least (x ∷ more) ≡ last_stamp_from x.stamp more
-    same = last_of_more least x more
-
-    by : (last_stamp_from x.stamp more ≡ x.stamp) ⊎ IsStampIn more (last_stamp_from x.stamp more) → (last_stamp_from least (x ∷ more) ≡ least) ⊎ IsStampIn (x ∷ more) (last_stamp_from least (x ∷ more))
-    by (inl own) = inr (record { entry = x; stands = (0, omega arith, refl); is = sym own ∙ sym same })
-    by (inr later) = inr (subst (λ (n : ℕ). IsStampIn (x ∷ more) n) (sym same) (later_stamp x more (last_stamp_from x.stamp more) later))
-
 -- where the first stamp isn't above, it is at most this
 first_falls : (last : ℕ) (log : List Entry) → first_is_above last log ≡ false → (x : Entry) × Contains log x × (x.stamp ≤ last)
 first_falls last [] h = absurd (let k : true ≡ false = h in cc)
 first_falls last (x ∷ more) h = (x, (0, omega arith, refl), ltb-false last x.stamp h)
-
--- ---- where an extent isn't mixed, the stamps of each part rise
-module _ (c : ClosedState) (e i : ℕ) (closed : IsClosed c) (unmixed : IsMixed c e → ⊥) where
-  of_chapter : (v : Option ChapterState) → chapter_numbered c e i ≡ v → StampsRise 0 (option_map_or (λ (x : ChapterState). x.entries) v [])
-  of_chapter None is = tt
-  of_chapter (Some x) is = chapter_rises e x (chapter_found c e i x closed is)
-
-  pub part_rises : StampsRise 0 (entries_of_part c e i)
-  part_rises = by (nat_lt i (chapter_count c e))
-    where
-      by : (b : Bool) → StampsRise 0 (if b then option_map_or (λ (x : ChapterState). x.entries) (chapter_numbered c e i) [] else entries_since c e)
-      by true = of_chapter (chapter_numbered c e i) refl
-      by false = log_rises c e closed unmixed
 
 -- ---- the parts before this one
 -- one of them has an entry with this stamp

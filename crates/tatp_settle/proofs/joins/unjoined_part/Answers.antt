@@ -5,7 +5,8 @@ use Rattle.tatp_population.specs.Extents.{last_stamp_from}
 use Rattle.tatp_settle.specs.declared.log_parts.LogPart.{LogPart}
 use Rattle.tatp_settle.specs.Closings.{IsClosed}
 use Rattle.tatp_settle.specs.ChapterTables.{entries_of_some}
-use Rattle.tatp_settle.proofs.UnjoinedLaws.{AreJoinedTo, goes_on_is, part_rises, unjoined_here, joined_next, joined_all}
+use Rattle.tatp_settle.proofs.RisingLaws.{part_rises}
+use Rattle.tatp_settle.proofs.UnjoinedLaws.{AreJoinedTo, goes_on_is, unjoined_here, joined_next, joined_all}
 use Rattle.tatp_settle.proofs.joins.unjoined_part.Goals as goal
 
 pub returns-then-not-is_joined : goal.returns-then-not-is_joined

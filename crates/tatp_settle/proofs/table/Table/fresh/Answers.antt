@@ -1,4 +1,4 @@
-use Rattle.std.proofs.Common.{List, None, Option, length, sym, ◌∙◌, ◌++◌, ◌∷◌, [], ap, subst, replicate, take, arith}
+use Rattle.std.proofs.Common.{None, length, sym, ◌∙◌, ◌++◌, ◌∷◌, [], ap, subst, replicate, take, arith}
 use Rattle.std.proofs.lemmas.List.{take_all, length-map}
 use Rattle.tatp_settle.specs.Runs.{lists_of, at_call}
 use Rattle.tatp_settle.specs.Placing.{IsFresh, cells_of}

@@ -12,7 +12,9 @@ returns-clause-asked c = (
     seed = c.in_ok-number-3.ensures.asked.0;
     moves = c.in_ok-number-4.ensures.asked.0;
     stops = c.in_ok-number-5.ensures.asked.0;
+    chapter = c.in_ok-number-6.ensures.asked.0;
   },
   same_plan _ _ c.in_ok-number.ensures.asked.1 (search rules) (search rules) c.in_ok-number-2.ensures.asked.1
-      c.in_ok-number-3.ensures.asked.1 (search rules) c.in_ok-number-4.ensures.asked.1 c.in_ok-number-5.ensures.asked.1,
+      c.in_ok-number-3.ensures.asked.1 (search rules) c.in_ok-number-4.ensures.asked.1 c.in_ok-number-5.ensures.asked.1
+      c.in_ok-number-6.ensures.asked.1,
 )

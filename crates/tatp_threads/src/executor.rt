@@ -6,10 +6,13 @@ use crate::reserved::ExecutorSeat;
 use crate::shared::Shared;
 use std::sync::Wait;
 use tatp_partition::{CompletionPlace, Item, SiteRefusal};
-use tatp_workers::{Answering, Delivery, Executing, Gate, Message, Offered, take_calls};
+use tatp_population::Chapter;
+use tatp_workers::{
+    Answering, Checkpointed, Delivery, Executing, Gate, Message, Offered, take_calls,
+};
 
-/// An executor's partition, the reader of its inbox and its ends at all inboxes, with what the
-/// threads share.
+/// An executor's partition, the reader of its inbox, its ends at all inboxes and the chapters that
+/// it keeps, with what the threads share.
 #[derive(Drop)]
 struct ExecutorEnds<'c, 'f, 'a, 'm, R, G, A: Arities> {
     rt: &'c R,
@@ -17,6 +20,7 @@ struct ExecutorEnds<'c, 'f, 'a, 'm, R, G, A: Arities> {
     partition: &'c Partition<'m>,
     reader: &'f mut Reader<A>,
     ports: &'f mut [Port<A>],
+    chapters: &'f mut Vec<Chapter>,
 }
 
 impl<R: Wait, G: Gate, A: Arities> Answering for ExecutorEnds<'_, '_, '_, '_, R, G, A> {
@@ -38,9 +42,23 @@ impl<R: Wait, G: Gate, A: Arities> Executing for ExecutorEnds<'_, '_, '_, '_, R,
         self.partition.offer(self.rt, self.shared.alloc, item)
     }
 
-    fn slice(&mut self, client: u64, ended: &mut CompletionPlace) -> Result<(), SiteRefusal> {
+    fn slice(&mut self, client: u64, ended: &mut CompletionPlace) -> Result<u64, SiteRefusal> {
         self.partition
             .slice(self.rt, self.shared.gate, client, ended)
+    }
+
+    /// Room for the chapter is taken before the lock.
+    fn checkpoint(&mut self, extent: u32, chapter: u64) -> Checkpointed {
+        if self.chapters.reserve(1).is_err() {
+            return Checkpointed::Refused(SiteRefusal::NoMemory);
+        }
+        self.partition.checkpoint(
+            self.rt,
+            self.shared.alloc,
+            extent,
+            chapter,
+            self.chapters,
+        )
     }
 
     fn send(&mut self, item: Item) -> bool {
@@ -48,12 +66,13 @@ impl<R: Wait, G: Gate, A: Arities> Executing for ExecutorEnds<'_, '_, '_, '_, R,
     }
 }
 
-/// Runs the calls of one partition until Quit.
+/// Runs the calls of one partition until Quit, and adds the chapters that its site hands out.
 pub(crate) fn execute<'t, 'm, R: Wait, G: Gate, A: Arities>(
     rt: &'t R,
     shared: &'t Shared<'_, 'm, G, A>,
     partition: &'t Partition<'m>,
     seat: ExecutorSeat<A>,
+    chapters: &mut Vec<Chapter>,
 ) {
     let ExecutorSeat {
         mut reader,
@@ -65,6 +84,7 @@ pub(crate) fn execute<'t, 'm, R: Wait, G: Gate, A: Arities>(
         partition,
         reader: &mut reader,
         ports: ports.as_mut_slice(),
+        chapters,
     };
-    take_calls(rt, &mut executing, partition.number);
+    take_calls(rt, &mut executing, partition.number, shared.chapter);
 }

@@ -1,14 +1,15 @@
 //! What is done at the site of one partition under its lock. What the site was before isn't known;
 //! so contracts say that the answer is that of some site.
-ghost use Rattle.std.specs.Prelude.{◌≡◌, List, None, IfOk, IfErr};
+ghost use Rattle.std.specs.Prelude.{◌≡◌, ◌<◌, List, None, IfOk, IfErr, vec_len, vec_capacity};
 ghost use Rattle.tatp_partition.specs.Moving.{LandedState, Takes, Gives};
 ghost use Rattle.tatp_partition.specs.declared.refusal.NotGiven.{NotGiven};
 ghost use Rattle.tatp_partition.specs.Obstacles.{one_obstacle};
-ghost use Rattle.tatp_partition.specs.Running.{AdvancesUnless, told_in};
+ghost use Rattle.tatp_partition.specs.Running.{AdvancesUnless};
 ghost use Rattle.tatp_partition.specs.Stopping.{Stops, Resumes};
 ghost use Rattle.tatp_debug.specs.Snapshots.{Looks};
+ghost use Rattle.tatp_workers.specs.FullLogs.{ChecksLog};
 ghost use Rattle.tatp_workers.specs.Offering.{Offers};
-ghost use Rattle.tatp_workers.specs.Slices.{IsSlice};
+ghost use Rattle.tatp_workers.specs.Slices.{IsSlice, logged_at, told_of};
 ghost use Rattle.tatp_workers.specs.declared.observer.StepAhead.{StepAhead};
 ghost use Rattle.tatp_threads.specs.Locked.{OfSomeSite};
 
@@ -18,7 +19,10 @@ use std::sync::{Mutex, Wait};
 use std::thread;
 use tatp_debug::{Snapshot, look};
 use tatp_partition::{CompletionPlace, Item, Landed, NotGiven, Parcel, Site, SiteRefusal, Stepped};
-use tatp_workers::{Gate, Gated, Offered, is_wanted, offer, slice};
+use tatp_population::Chapter;
+use tatp_workers::{
+    Checkpointed, Gate, Gated, Offered, checkpoint_full, is_wanted, offer, slice,
+};
 
 /// One partition: its site under its lock, and how many other threads want that lock.
 pub(crate) struct Partition<'m> {
@@ -55,17 +59,18 @@ impl<'m> Partition<'m> {
     }
 
     /// Makes steps of a client's call, the gate before each. Where the call ends, its completion is
-    /// left in its place.
+    /// left in its place, and the answer is how many entries the log of its extent has then.
     pub(crate) fn slice<R: Wait, G: Gate>(
         &self,
         rt: &R,
         gate: &G,
         client: u64,
         ended: &mut CompletionPlace,
-    ) -> Result<(), SiteRefusal>
+    ) -> Result<u64, SiteRefusal>
         requires { ended.old ≡ None }
         ensures { OfSomeSite (λ s s'. (steps : List StepAhead)
-            × IsSlice client s (told_in result ended.new) s' steps) }
+            × IsSlice client s (told_of result ended.new) s' steps
+            × IfOk result (λ logged. logged ≡ logged_at s' ended.new)) }
     {
         let mut observer = Gated { gate };
         let made = slice(
@@ -80,10 +85,33 @@ impl<'m> Partition<'m> {
     }
 
     /// Lets other threads go on, where the call goes on and one of them wants the lock.
-    fn give_way(&self, made: &Result<(), SiteRefusal>, ended: &CompletionPlace) {
+    fn give_way(&self, made: &Result<u64, SiteRefusal>, ended: &CompletionPlace) {
         if made.is_ok() && !ended.is_some() && is_wanted(&self.wanted) {
             thread::yield_now();
         }
+    }
+
+    /// Hands out the log of an extent, where it has as many entries as a chapter has to have, or
+    /// more, and keeps the chapter behind the others.
+    pub(crate) fn checkpoint<R: Wait>(
+        &self,
+        rt: &R,
+        alloc: Global,
+        extent: u32,
+        chapter: u64,
+        chapters: &mut Vec<Chapter>,
+    ) -> Checkpointed
+        requires { vec_len chapters.old < vec_capacity chapters.old }
+        ensures { OfSomeSite (λ s s'.
+            ChecksLog s extent chapter chapters.old.items result s' chapters.new.items) }
+    {
+        checkpoint_full(
+            &mut *self.site.lock(rt),
+            alloc,
+            extent,
+            chapter,
+            chapters,
+        )
     }
 
     /// The extent leaves.

@@ -1,5 +1,5 @@
 //! What can be neither copied nor dropped comes to nothing.
-use tatp_population::Extent;
+use tatp_population::{Chapter, Extent};
 
 /// A value that can be neither copied nor dropped, but spent.
 pub trait Discard {
@@ -10,6 +10,12 @@ pub trait Discard {
 impl Discard for Extent {
     fn discard(self) {
         let _ = self.close();
+    }
+}
+
+impl Discard for Chapter {
+    fn discard(self) {
+        self.discard();
     }
 }
 

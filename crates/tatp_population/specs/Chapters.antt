@@ -123,8 +123,7 @@ CheckpointsHomeless h (Ok chapter) h' =
 CheckpointsHomeless h (Err LogEnded) h' = (h.mixed ≡ true) × (h' ≡ h)
 CheckpointsHomeless h (Err ChapterCountFull) h' =
     (h.mixed ≡ false) × (h.chapters ≡ most_chapters) × (h' ≡ h)
-CheckpointsHomeless h (Err NoMemory) h' =
-    (h.mixed ≡ false) × (h.chapters < most_chapters) × (h' ≡ h)
+CheckpointsHomeless h (Err NoMemory) h' = ⊥
 
 -- ---- chapters joined end to end
 -- from these homes to those: each chapter's homes before are the homes after of the one before it

@@ -1,16 +1,15 @@
 -- What an executor has done so far, and at the end.
-use Rattle.std.proofs.Common.{◌≡◌, ℕ, suc, ◌<◌, ◌≤◌, Bool, true, false, List, [], ◌∷◌, ◌++◌, All, Option, Some, None, Result, refl, inl, inr}
+use Rattle.std.proofs.Common.{◌≡◌, ℕ, suc, Bool, true, false, List, [], ◌∷◌, ◌++◌, All, Option, Some, Result, refl}
 use Rattle.std.proofs.lemmas.List.Elements.{All-nil, All-push}
 use Rattle.tatp_partition.specs.declared.item.Item.{Item}
 use Rattle.tatp_partition.specs.declared.item.Completion.{Completion}
 use Rattle.tatp_partition.specs.declared.item.Stepped.{Stepped}
 use Rattle.tatp_partition.specs.declared.refusal.SiteRefusal.{SiteRefusal}
-use Rattle.tatp_workers.specs.declared.checkpoints.Checkpointed.{Checkpointed}
 use Rattle.tatp_workers.specs.declared.message.Message.{Message}
 use Rattle.tatp_workers.specs.declared.message.Message.TheVariants.{Call}
 use Rattle.tatp_workers.specs.declared.offers.Offered.{Offered}
 use Rattle.tatp_workers.specs.declared.effects.Effect.{Effect}
-use Rattle.tatp_workers.specs.declared.effects.Effect.TheVariants.{Receives, Offers, Slices, Checkpoints}
+use Rattle.tatp_workers.specs.declared.effects.Effect.TheVariants.{Receives, Offers, Slices}
 use Rattle.tatp_workers.specs.Effects.{Grows, Does, Follows, concluding}
 use Rattle.tatp_workers.specs.Offering.{is_again, has_begun}
 use Rattle.tatp_workers.specs.Executing.{IsOfferedAgain, IsOffered, is_to_go_on, GoesOnAfter, ChecksFull, Completes, Finishes, RunsToItsEnd, RunsWhereItBegan, ExecutesCall, Executes, is_last, ExecutesUntilQuit}
@@ -90,16 +89,7 @@ last_sliced partition chapter client answer logged known mid sliced_known known'
       grown_twice known mid known' before.0 these before.2 (grown_twice mid sliced_known known' (Slices client answer logged ∷ []) finished.0 grows finished.2),
     )
 
--- ---- the log of a call that ended
-pub not_full : (extent chapter logged : ℕ) (known : Option (List Effect)) → logged < chapter → Does (ChecksFull extent chapter logged) known known
-not_full extent chapter logged known short = ([], inl (short, refl), not_grown known)
-
-pub full : (extent chapter logged : ℕ) (done : Checkpointed) (known known' : Option (List Effect))
-    → chapter ≤ logged
-    → Grows known known' (Checkpoints extent chapter done ∷ [])
-    → Does (ChecksFull extent chapter logged) known known'
-full extent chapter logged done known known' enough grows = (Checkpoints extent chapter done ∷ [], inr (done, enough, refl), grows)
-
+-- ---- a call that ended
 pub completed : (partition chapter : ℕ) (completion : Completion) (logged : ℕ) (known concluded known' : Option (List Effect))
     → Grows known concluded (concluding partition completion)
     → Does (ChecksFull completion.extent chapter logged) concluded known'

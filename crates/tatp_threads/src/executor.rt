@@ -52,13 +52,8 @@ impl<R: Wait, G: Gate, A: Arities> Executing for ExecutorEnds<'_, '_, '_, '_, R,
         if self.chapters.reserve(1).is_err() {
             return Checkpointed::Refused(SiteRefusal::NoMemory);
         }
-        self.partition.checkpoint(
-            self.rt,
-            self.shared.alloc,
-            extent,
-            chapter,
-            self.chapters,
-        )
+        self.partition
+            .checkpoint(self.rt, self.shared.alloc, extent, chapter, self.chapters)
     }
 
     fn send(&mut self, item: Item) -> bool {
@@ -66,25 +61,26 @@ impl<R: Wait, G: Gate, A: Arities> Executing for ExecutorEnds<'_, '_, '_, '_, R,
     }
 }
 
-/// Runs the calls of one partition until Quit, and adds the chapters that its site hands out.
+/// Runs the calls of one partition until Quit, and leaves the chapters that its site handed out.
 pub(crate) fn execute<'t, 'm, R: Wait, G: Gate, A: Arities>(
     rt: &'t R,
     shared: &'t Shared<'_, 'm, G, A>,
     partition: &'t Partition<'m>,
     seat: ExecutorSeat<A>,
-    chapters: &mut Vec<Chapter>,
 ) {
     let ExecutorSeat {
         mut reader,
         mut ports,
     } = seat;
+    let mut chapters = Vec::new(shared.alloc);
     let mut executing = ExecutorEnds {
         rt,
         shared,
         partition,
         reader: &mut reader,
         ports: ports.as_mut_slice(),
-        chapters,
+        chapters: &mut chapters,
     };
     take_calls(rt, &mut executing, partition.number, shared.chapter);
+    partition.leave(rt, chapters);
 }

@@ -16,39 +16,49 @@ ghost use Rattle.tatp_threads.specs.Locked.{OfSomeSite};
 use std::alloc::Global;
 use std::sync::atomic::{AtomicU64, Ordering};
 use std::sync::{Mutex, Wait};
-use std::thread;
+use std::{mem, thread};
 use tatp_debug::{Snapshot, look};
-use tatp_partition::{CompletionPlace, Item, Landed, NotGiven, Parcel, Site, SiteRefusal, Stepped};
-use tatp_population::Chapter;
-use tatp_workers::{
-    Checkpointed, Gate, Gated, Offered, checkpoint_full, is_wanted, offer, slice,
+use tatp_partition::{
+    CompletionPlace, Item, Landed, NotGiven, Parcel, Site, SiteRefusal, Stepped, discard_all,
 };
+use tatp_population::Chapter;
+use tatp_workers::{Checkpointed, Gate, Gated, Offered, checkpoint_full, is_wanted, offer, slice};
 
-/// One partition: its site under its lock, and how many other threads want that lock.
+/// One partition: its site under its lock, how many other threads want that lock, and where its
+/// executor leaves its chapters at the end.
 pub(crate) struct Partition<'m> {
     pub(crate) number: u8,
     site: Mutex<Site<'m>>,
     wanted: AtomicU64,
+    chapters: Mutex<Vec<Chapter>>,
 }
 
 impl<'m> Partition<'m> {
     /// The partition of this site, whose lock nobody wants.
-    pub(crate) fn new(site: Site<'m>) -> Partition<'m> {
+    pub(crate) fn new(alloc: Global, site: Site<'m>) -> Partition<'m> {
         Partition {
             number: site.partition(),
             site: Mutex::new(site),
             wanted: AtomicU64::new(0),
+            chapters: Mutex::new(Vec::new(alloc)),
         }
     }
 
-    /// Its site.
-    pub(crate) fn into_site(self) -> Site<'m> {
+    /// Its site, and the chapters that were left.
+    pub(crate) fn into_parts(self) -> (Site<'m>, Vec<Chapter>) {
         let Partition {
             number: _,
             site,
             wanted: _,
+            chapters,
         } = self;
-        site.into_inner()
+        (site.into_inner(), chapters.into_inner())
+    }
+
+    /// Leaves chapters, in place of those that were left before.
+    pub(crate) fn leave<R: Wait>(&self, rt: &R, chapters: Vec<Chapter>) {
+        let others = mem::replace(&mut *self.chapters.lock(rt), chapters);
+        discard_all(others);
     }
 
     /// Offers a call.
@@ -105,13 +115,7 @@ impl<'m> Partition<'m> {
         ensures { OfSomeSite (λ s s'.
             ChecksLog s extent chapter chapters.old.items result s' chapters.new.items) }
     {
-        checkpoint_full(
-            &mut *self.site.lock(rt),
-            alloc,
-            extent,
-            chapter,
-            chapters,
-        )
+        checkpoint_full(&mut *self.site.lock(rt), alloc, extent, chapter, chapters)
     }
 
     /// The extent leaves.

@@ -35,31 +35,42 @@ fn refusal_of(error: OpenError) -> RunRefusal
 }
 
 /// Each site under a lock of its own.
-fn lock_all<'m>(sites: Vec<Site<'m>>, room: Vec<Partition<'m>>) -> Vec<Partition<'m>>
+fn lock_all<'m>(alloc: Global, sites: Vec<Site<'m>>, room: Vec<Partition<'m>>) -> Vec<Partition<'m>>
     requires { vec_len room + vec_len sites ≤ vec_capacity room }
     ensures { vec_len result ≡ vec_len room.entry + vec_len sites.entry }
 {
     let mut partitions = room;
     let mut rest = sites.into_iter();
     while let Some(site) = rest.next() {
-        partitions.push_reserved(Partition::new(site));
+        partitions.push_reserved(Partition::new(alloc, site));
     }
     rest.destroy_empty();
     partitions
 }
 
-/// The sites out of their locks.
-fn unlock_all<'m>(partitions: Vec<Partition<'m>>, room: Vec<Site<'m>>) -> Vec<Site<'m>>
-    requires { vec_len room + vec_len partitions ≤ vec_capacity room }
-    ensures { vec_len result ≡ vec_len room.entry + vec_len partitions.entry }
+/// The sites out of their locks, and the chapters of each.
+fn unlock_all<'m>(
+    partitions: Vec<Partition<'m>>,
+    room: Vec<Site<'m>>,
+    room_for_chapters: Vec<Vec<Chapter>>,
+) -> (Vec<Site<'m>>, Vec<Vec<Chapter>>)
+    requires sites { vec_len room + vec_len partitions ≤ vec_capacity room }
+    requires chapters { vec_len room_for_chapters + vec_len partitions
+        ≤ vec_capacity room_for_chapters }
+    ensures sites { vec_len result.0 ≡ vec_len room.entry + vec_len partitions.entry }
+    ensures chapters { vec_len result.1
+        ≡ vec_len room_for_chapters + vec_len partitions.entry }
 {
     let mut sites = room;
+    let mut chapters = room_for_chapters;
     let mut rest = partitions.into_iter();
     while let Some(partition) = rest.next() {
-        sites.push_reserved(partition.into_site());
+        let (site, handed_out) = partition.into_parts();
+        sites.push_reserved(site);
+        chapters.push_reserved(handed_out);
     }
     rest.destroy_empty();
-    sites
+    (sites, chapters)
 }
 
 /// The receipts of all clients.
@@ -75,19 +86,6 @@ fn receipts_of<A: Arities>(
         receipts.push_reserved(client.receipts);
     }
     receipts
-}
-
-/// A list for each of so many executors, without chapters.
-fn lists_of_chapters(alloc: Global, count: usize, room: Vec<Vec<Chapter>>) -> Vec<Vec<Chapter>>
-    requires empty { vec_len room ≡ 0 }
-    requires room { count ≤ vec_capacity room }
-    ensures { vec_len result ≡ count }
-{
-    let mut lists = room;
-    for _ in 0..count {
-        lists.push_reserved(Vec::new(alloc));
-    }
-    lists
 }
 
 /// What a run is set up with: its module, where calls go, its sites, what the clients ask, what the
@@ -147,8 +145,7 @@ fn run_ruled<'m, R: Threads + Wait + Sync, G: Gate + Sync, A: Arities + Send + S
         }
     };
     let routes = Mutex::new(routes);
-    let mut chapters = lists_of_chapters(alloc, sites.len(), chapters.into_vec());
-    let partitions = lock_all(sites, partitions.into_vec());
+    let partitions = lock_all(alloc, sites, partitions.into_vec());
     let mut hand = hand.into_vec();
     let shared = Shared {
         alloc,
@@ -166,15 +163,8 @@ fn run_ruled<'m, R: Threads + Wait + Sync, G: Gate + Sync, A: Arities + Send + S
         executors,
         lists,
     };
-    let started = run_threads(
-        rt,
-        &shared,
-        crew,
-        clients.as_mut_slice(),
-        &mut hand,
-        chapters.as_mut_slice(),
-    );
-    let sites = unlock_all(partitions, unlocked.into_vec());
+    let started = run_threads(rt, &shared, crew, clients.as_mut_slice(), &mut hand);
+    let (sites, chapters) = unlock_all(partitions, unlocked.into_vec(), chapters.into_vec());
     if !started {
         close_sites(sites);
         discard_parcels(hand);

@@ -14,7 +14,6 @@ use std::sync::Wait;
 use std::thread;
 use std::thread::Threads;
 use tatp_partition::Parcel;
-use tatp_population::Chapter;
 use tatp_procs::Ask;
 use tatp_workers::{Gate, Message};
 
@@ -36,10 +35,8 @@ pub(crate) fn run_threads<R: Threads + Wait + Sync, G: Gate + Sync, A: Arities +
     crew: Crew<'_, A>,
     clients: &mut [ClientSeat<A>],
     hand: &mut Vec<Parcel>,
-    chapters: &mut [Vec<Chapter>],
 ) -> bool
     requires partitions { vec_len crew.quit ≡ length shared.now.partitions.now }
-    requires chapters { length chapters.old ≡ length shared.now.partitions.now }
     requires executors { AreExecutors crew.quit.items crew.executors.items }
     requires clients { AreClients (length crew.lists.now) crew.quit.items clients.old }
     requires mailboxes { length shared.now.mailboxes.now ≡ length crew.lists.now }
@@ -57,15 +54,10 @@ pub(crate) fn run_threads<R: Threads + Wait + Sync, G: Gate + Sync, A: Arities +
             requires { IsSend A.row }
         {
             let mut started = true;
-            for ((partition, seat), kept) in shared
-                .partitions
-                .iter()
-                .zip(executors)
-                .zip(chapters.iter_mut())
-            {
+            for (partition, seat) in shared.partitions.iter().zip(executors) {
                 if started
                     && outer
-                        .spawn(move || execute(rt, shared, partition, seat, kept))
+                        .spawn(move || execute(rt, shared, partition, seat))
                         .is_err()
                 {
                     started = false;

@@ -1,4 +1,5 @@
 pub mod DrawingLaws
 pub mod CallLaws
+pub mod ChapterLaws
 pub mod PlanLaws
 pub mod SettlingLaws

@@ -1,4 +1,5 @@
--- A run whose sites, parcels and receipts are at hand: how it is settled, and why it isn't.
+-- A run whose sites, parcels, chapters and receipts are at hand: how it is settled, and why it
+-- isn't.
 use Rattle.std.specs.Prelude.{ℕ, List, All, Vec}
 use Rattle.std.specs.declared.alloc.Global.{Global}
 use Rattle.tatp_tables.specs.declared.row.Rows.{Rows}
@@ -11,7 +12,7 @@ use Rattle.tatp_settle.specs.declared.refusals.SettleError.{SettleError}
 use Rattle.tatp_settle.specs.declared.refusals.SettleError.TheVariants.{Because, NoMemory as NoMemoryToSettle}
 use Rattle.tatp_settle.specs.Causes.{IsFirstCause}
 use Rattle.tatp_settle.specs.Closings.{closed_of, IsClosedSite, IsClosed}
-use Rattle.tatp_settle.specs.Runs.{Run, lists_of}
+use Rattle.tatp_settle.specs.Runs.{Run, joined, lists_of}
 use Rattle.tatp_settle.specs.Settlements.{IsSettled, IsLeastMissing}
 use Rattle.tatp_threads.specs.declared.outcome.RanParts.{RanParts}
 use Rattle.tatp_bench.specs.declared.fault.BenchFault.{BenchFault}
@@ -21,7 +22,8 @@ use Rattle.tatp_bench.specs.declared.fault.BenchFault.TheVariants.{ExtentMissing
 abbrev pub run_left : Rows → RanParts → List (Vec Ask Global) → Run
 run_left population parts calls = record {
   population = population;
-  closed = closed_of parts.sites.items parts.parcels.items;
+  closed = closed_of parts.sites.items parts.parcels.items
+      (joined (lists_of parts.chapters.items));
   receipts = lists_of parts.receipts.items;
   calls = lists_of calls;
 }

@@ -54,6 +54,7 @@ pub fn run_drawn<R: Threads + Wait + Sync, G: Gate + Sync>(
         lists,
         &moves,
         gate,
+        plan.chapter,
     ) {
         Err(refusal) => Err(fault_of(refusal)),
         Ok(ran) => settle_run(rt, alloc, &population, ran.parts(), lists),

@@ -5,9 +5,10 @@ ghost use Rattle.tatp_settle.specs.Runs.{joined, lists_of};
 ghost use Rattle.tatp_bench.specs.SettledRuns.{run_left, SettlesRun, RefusesToSettleRun};
 
 use crate::BenchFault;
+use crate::chapters::join_chapters;
 use std::alloc::Global;
 use std::thread::Threads;
-use tatp_partition::{close_sites, discard_parcels};
+use tatp_partition::{close_sites, discard_all, discard_parcels};
 use tatp_procs::Ask;
 use tatp_settle::{NotGathered, NotSettled, Settled, gather, settle};
 use tatp_tables::Rows;
@@ -33,20 +34,31 @@ pub fn settle_run<R: Threads + Sync>(
         sites,
         parcels,
         landings,
+        chapters,
         receipts,
     } = parts;
     landings.destroy_empty();
-    let closed = match gather(alloc, sites, parcels) {
+    let chapters = match join_chapters(alloc, chapters) {
+        Ok(chapters) => chapters,
+        Err(error) => {
+            close_sites(sites);
+            discard_parcels(parcels);
+            return Err(BenchFault::from(error));
+        }
+    };
+    let closed = match gather(alloc, sites, parcels, chapters) {
         Ok(closed) => closed,
         Err(
             NotGathered {
                 error,
                 sites,
                 parcels,
+                chapters,
             },
         ) => {
             close_sites(sites);
             discard_parcels(parcels);
+            discard_all(chapters);
             return Err(BenchFault::from(error));
         }
     };

@@ -4,6 +4,7 @@
 
 mod bench;
 mod calls;
+mod chapters;
 mod closing;
 mod drawing;
 mod fault;

@@ -5,9 +5,9 @@ use Rattle.tatp_tasks.specs.declared.setup.Setup.{Setup}
 
 pub same_plan : (a b : BenchPlan)
     → a.subscribers ≡ b.subscribers → a.partitions ≡ b.partitions → a.clients ≡ b.clients → a.calls ≡ b.calls
-    → a.seed ≡ b.seed → a.distribution ≡ b.distribution → a.moves ≡ b.moves → a.stops ≡ b.stops → a ≡ b
-same_plan a b subscribers partitions clients calls seed distribution moves stops =
-    rw (subscribers, partitions, clients, calls, seed, distribution, moves, stops) refl
+    → a.seed ≡ b.seed → a.distribution ≡ b.distribution → a.moves ≡ b.moves → a.stops ≡ b.stops → a.chapter ≡ b.chapter → a ≡ b
+same_plan a b subscribers partitions clients calls seed distribution moves stops chapter =
+    rw (subscribers, partitions, clients, calls, seed, distribution, moves, stops, chapter) refl
 
 pub same_setup : (a b : Setup) → a.procedures ≡ b.procedures → a.population ≡ b.population → a.partitions ≡ b.partitions → a.clients ≡ b.clients → a ≡ b
 same_setup a b procedures population partitions clients = rw (procedures, population, partitions, clients) refl

@@ -42,6 +42,14 @@ moves = record { name = codes "moves"; least = 0; most = 100000; default = Some 
 abbrev pub stops : Ranged
 stops = record { name = codes "stops"; least = 0; most = 100000; default = Some (codes "0") }
 
+abbrev pub chapter : Ranged
+chapter = record {
+  name = codes "chapter";
+  least = 1;
+  most = 1000000;
+  default = Some (codes "1000");
+}
+
 -- ---- the switches
 -- the switch of this name is given
 abbrev pub is_given : List ℕ → Found → Bool
@@ -92,6 +100,7 @@ pub record HasPlan (found : Found) : Type 0 where
   pub seed : HasNumber seed found
   pub moves : HasNumber moves found
   pub stops : HasNumber stops found
+  pub chapter : HasNumber chapter found
 
 abbrev pub plan_asked : Found → BenchPlan
 plan_asked found = record {
@@ -103,6 +112,7 @@ plan_asked found = record {
   distribution = distribution_asked found;
   moves = number_asked moves found;
   stops = number_asked stops found;
+  chapter = number_asked chapter found;
 }
 
 -- ---- the number that is to be explained, where one is given

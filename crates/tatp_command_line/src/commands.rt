@@ -1,6 +1,8 @@
 //! The commands of the command line, with their options.
 use crate::help::{ASM, AUDIT, BENCH, CALL, CHECK, DIS, EXPLAIN, PROGRAM, TRACE};
-use crate::options::{CALLS, CLIENTS, GEN, MOVES, NUMBER, PARTITIONS, SEED, STOPS, SUBSCRIBERS};
+use crate::options::{
+    CALLS, CHAPTER, CLIENTS, GEN, MOVES, NUMBER, PARTITIONS, SEED, STOPS, SUBSCRIBERS,
+};
 use clap::{Arg, ArgAction, Command};
 use std::alloc::{AllocError, Global};
 
@@ -66,6 +68,7 @@ fn bench_with_moves<'a>(alloc: Global) -> Result<Command<'a>, AllocError> {
         ))?
         .arg(MOVES.arg(alloc))?
         .arg(STOPS.arg(alloc))?
+        .arg(CHAPTER.arg(alloc))?
         .arg(switch(
             alloc,
             "progress",

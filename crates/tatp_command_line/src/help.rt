@@ -106,6 +106,12 @@ that clients received and the rows are settled. Prints three lines: SETTLED, how
 completed and how many were refused memory; MIX and how many calls there were of each of the seven
 kinds; the verdict on the rows. A run that isn't one history of transactions is the fault 45.
 
+Where a call has ended and the log of its extent, 64 subscribers, has K calls or more, the log is
+handed out as a chapter, which is settled with the logs. Beside its calls a chapter keeps the rows
+before and after them, up to 168 KB. So a small K costs much memory in a long run: of 6,400,000
+calls, chapters of 1000 calls take 1 GB, and chapters of 10 take 107 GB. A chapter for which memory
+is refused isn't handed out, and the run goes on.
+
 The first two lines depend on the clients, their calls, the subscribers, --uniform and the seed
 alone. With moves and stops, in 2 partitions and in 8:
   tatp bench --subscribers 1000 --calls 5000 --moves 100 --stops 100

@@ -86,6 +86,11 @@ pub(crate) const STOPS: NumberOption = number_option!(
     "Stop, step and resume partitions T times meanwhile"
 );
 
+pub(crate) const CHAPTER: NumberOption = number_option!(
+    "chapter" "K" in 1 to 1000000, Some("1000"), false,
+    "Checkpoint an extent when a call on it has ended and its log has K calls or more"
+);
+
 /// The number that is to be explained.
 pub(crate) const NUMBER: NumberOption = NumberOption {
     name: "number",

@@ -9,7 +9,7 @@ ghost use Rattle.tatp_command_line.specs.Options.{partitions, clients, HasPopula
 
 use crate::commands::command;
 use crate::options::{
-    BadNumber, CALLS, CLIENTS, GEN, MOVES, NUMBER, PARTITIONS, SEED, STOPS, SUBSCRIBERS,
+    BadNumber, CALLS, CHAPTER, CLIENTS, GEN, MOVES, NUMBER, PARTITIONS, SEED, STOPS, SUBSCRIBERS,
 };
 use clap::error::ErrorKind;
 use clap::{ArgMatches, Error};
@@ -102,6 +102,7 @@ fn plan_of<'a>(options: &ArgMatches<'a>) -> Result<BenchPlan, BadNumber<'a>>
         distribution: distribution_of(options),
         moves: MOVES.number(options)?,
         stops: STOPS.number(options)?,
+        chapter: CHAPTER.number(options)?,
     })
 }
 

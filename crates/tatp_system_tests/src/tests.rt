@@ -1,5 +1,6 @@
 //! Tests, and what they share: rows, sites, and events at a site.
 mod calls;
+mod chapters;
 mod checkpoints;
 mod events;
 mod gates;

@@ -13,3 +13,4 @@ pub record IsPlan (plan : BenchPlan) : Type 0 where
   pub calls : IsWithin 1 100000 plan.calls
   pub moves : plan.moves ≤ 100000
   pub stops : plan.stops ≤ 100000
+  pub chapter : IsWithin 1 1000000 plan.chapter

@@ -2,7 +2,7 @@
 use tatp_driver::Distribution;
 
 /// A run of the benchmark: over which database, by how many clients, with how many calls, moves and
-/// stops.
+/// stops, and how long logs grow.
 #[derive(Clone, Copy, Debug, PartialEq, Eq)]
 pub struct BenchPlan {
     /// How many subscribers the database has, 1 to 1,000,000.
@@ -21,4 +21,6 @@ pub struct BenchPlan {
     pub moves: u64,
     /// How often a partition is to be stopped while the calls run, 0 to 100,000.
     pub stops: u64,
+    /// How many entries a log has when a chapter of it is handed out, 1 to 1,000,000.
+    pub chapter: u64,
 }

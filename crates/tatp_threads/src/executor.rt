@@ -6,10 +6,13 @@ use crate::reserved::ExecutorSeat;
 use crate::shared::Shared;
 use std::sync::Wait;
 use tatp_partition::{CompletionPlace, Item, SiteRefusal};
-use tatp_workers::{Answering, Delivery, Executing, Gate, Message, Offered, take_calls};
+use tatp_population::Chapter;
+use tatp_workers::{
+    Answering, Checkpointed, Delivery, Executing, Gate, Message, Offered, take_calls,
+};
 
-/// An executor's partition, the reader of its inbox and its ends at all inboxes, with what the
-/// threads share.
+/// An executor's partition, the reader of its inbox, its ends at all inboxes and the chapters that
+/// it keeps, with what the threads share.
 #[derive(Drop)]
 struct ExecutorEnds<'c, 'f, 'a, 'm, R, G, A: Arities> {
     rt: &'c R,
@@ -17,6 +20,7 @@ struct ExecutorEnds<'c, 'f, 'a, 'm, R, G, A: Arities> {
     partition: &'c Partition<'m>,
     reader: &'f mut Reader<A>,
     ports: &'f mut [Port<A>],
+    chapters: &'f mut Vec<Chapter>,
 }
 
 impl<R: Wait, G: Gate, A: Arities> Answering for ExecutorEnds<'_, '_, '_, '_, R, G, A> {
@@ -38,9 +42,18 @@ impl<R: Wait, G: Gate, A: Arities> Executing for ExecutorEnds<'_, '_, '_, '_, R,
         self.partition.offer(self.rt, self.shared.alloc, item)
     }
 
-    fn slice(&mut self, client: u64, ended: &mut CompletionPlace) -> Result<(), SiteRefusal> {
+    fn slice(&mut self, client: u64, ended: &mut CompletionPlace) -> Result<u64, SiteRefusal> {
         self.partition
             .slice(self.rt, self.shared.gate, client, ended)
+    }
+
+    /// Room for the chapter is taken before the lock.
+    fn checkpoint(&mut self, extent: u32, chapter: u64) -> Checkpointed {
+        if self.chapters.reserve(1).is_err() {
+            return Checkpointed::Refused(SiteRefusal::NoMemory);
+        }
+        self.partition
+            .checkpoint(self.rt, self.shared.alloc, extent, chapter, self.chapters)
     }
 
     fn send(&mut self, item: Item) -> bool {
@@ -48,7 +61,7 @@ impl<R: Wait, G: Gate, A: Arities> Executing for ExecutorEnds<'_, '_, '_, '_, R,
     }
 }
 
-/// Runs the calls of one partition until Quit.
+/// Runs the calls of one partition until Quit, and leaves the chapters that its site handed out.
 pub(crate) fn execute<'t, 'm, R: Wait, G: Gate, A: Arities>(
     rt: &'t R,
     shared: &'t Shared<'_, 'm, G, A>,
@@ -59,12 +72,15 @@ pub(crate) fn execute<'t, 'm, R: Wait, G: Gate, A: Arities>(
         mut reader,
         mut ports,
     } = seat;
+    let mut chapters = Vec::new(shared.alloc);
     let mut executing = ExecutorEnds {
         rt,
         shared,
         partition,
         reader: &mut reader,
         ports: ports.as_mut_slice(),
+        chapters: &mut chapters,
     };
-    take_calls(rt, &mut executing, partition.number);
+    take_calls(rt, &mut executing, partition.number, shared.chapter);
+    partition.leave(rt, chapters);
 }

@@ -18,7 +18,7 @@ mod shared;
 mod starting;
 
 pub use history::copy_extent;
-pub use outcome::{Ran, RanParts};
+pub use outcome::{Ran, RanParts, discard_chapters};
 pub use refusal::RunRefusal;
 pub use run::run_calls;
 pub use tatp_workers::{Gate, Moves, NoGate};

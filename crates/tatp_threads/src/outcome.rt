@@ -1,7 +1,8 @@
 //! What a run leaves.
 ghost use Rattle.std.specs.Prelude.{◌≡◌};
 
-use tatp_partition::{Landed, Parcel, Receipt, Site};
+use tatp_partition::{Landed, Parcel, Receipt, Site, discard_all};
+use tatp_population::Chapter;
 
 /// What a run leaves. It can be neither copied nor dropped: [`Ran::parts`] spends it.
 pub struct Ran<'m> {
@@ -16,6 +17,8 @@ pub struct RanParts<'m> {
     pub parcels: Vec<Parcel>,
     /// The landings that the routes weren't told.
     pub landings: Vec<Landed>,
+    /// The chapters that each executor's site handed out, one after another.
+    pub chapters: Vec<Vec<Chapter>>,
     /// The receipts of each client, in the order in which it got them.
     pub receipts: Vec<Vec<Receipt>>,
 }
@@ -35,4 +38,13 @@ impl<'m> Ran<'m> {
         let Ran { parts } = self;
         parts
     }
+}
+
+/// Spends lists of chapters.
+pub fn discard_chapters(lists: Vec<Vec<Chapter>>) {
+    let mut rest = lists;
+    while let Some(chapters) = rest.pop() {
+        discard_all(chapters);
+    }
+    rest.destroy_empty();
 }

@@ -1,50 +1,64 @@
 //! What is done at the site of one partition under its lock. What the site was before isn't known;
 //! so contracts say that the answer is that of some site.
-ghost use Rattle.std.specs.Prelude.{◌≡◌, List, None, IfOk, IfErr};
+ghost use Rattle.std.specs.Prelude.{◌≡◌, ◌<◌, List, None, IfOk, IfErr, vec_len, vec_capacity};
 ghost use Rattle.tatp_partition.specs.Moving.{LandedState, Takes, Gives};
 ghost use Rattle.tatp_partition.specs.declared.refusal.NotGiven.{NotGiven};
 ghost use Rattle.tatp_partition.specs.Obstacles.{one_obstacle};
-ghost use Rattle.tatp_partition.specs.Running.{AdvancesUnless, told_in};
+ghost use Rattle.tatp_partition.specs.Running.{AdvancesUnless};
 ghost use Rattle.tatp_partition.specs.Stopping.{Stops, Resumes};
 ghost use Rattle.tatp_debug.specs.Snapshots.{Looks};
+ghost use Rattle.tatp_workers.specs.FullLogs.{ChecksLog};
 ghost use Rattle.tatp_workers.specs.Offering.{Offers};
-ghost use Rattle.tatp_workers.specs.Slices.{IsSlice};
+ghost use Rattle.tatp_workers.specs.Slices.{IsSlice, logged_at, told_of};
 ghost use Rattle.tatp_workers.specs.declared.observer.StepAhead.{StepAhead};
 ghost use Rattle.tatp_threads.specs.Locked.{OfSomeSite};
 
 use std::alloc::Global;
 use std::sync::atomic::{AtomicU64, Ordering};
 use std::sync::{Mutex, Wait};
-use std::thread;
+use std::{mem, thread};
 use tatp_debug::{Snapshot, look};
-use tatp_partition::{CompletionPlace, Item, Landed, NotGiven, Parcel, Site, SiteRefusal, Stepped};
-use tatp_workers::{Gate, Gated, Offered, is_wanted, offer, slice};
+use tatp_partition::{
+    CompletionPlace, Item, Landed, NotGiven, Parcel, Site, SiteRefusal, Stepped, discard_all,
+};
+use tatp_population::Chapter;
+use tatp_workers::{Checkpointed, Gate, Gated, Offered, checkpoint_full, is_wanted, offer, slice};
 
-/// One partition: its site under its lock, and how many other threads want that lock.
+/// One partition: its site under its lock, how many other threads want that lock, and where its
+/// executor leaves its chapters at the end.
 pub(crate) struct Partition<'m> {
     pub(crate) number: u8,
     site: Mutex<Site<'m>>,
     wanted: AtomicU64,
+    chapters: Mutex<Vec<Chapter>>,
 }
 
 impl<'m> Partition<'m> {
     /// The partition of this site, whose lock nobody wants.
-    pub(crate) fn new(site: Site<'m>) -> Partition<'m> {
+    pub(crate) fn new(alloc: Global, site: Site<'m>) -> Partition<'m> {
         Partition {
             number: site.partition(),
             site: Mutex::new(site),
             wanted: AtomicU64::new(0),
+            chapters: Mutex::new(Vec::new(alloc)),
         }
     }
 
-    /// Its site.
-    pub(crate) fn into_site(self) -> Site<'m> {
+    /// Its site, and the chapters that were left.
+    pub(crate) fn into_parts(self) -> (Site<'m>, Vec<Chapter>) {
         let Partition {
             number: _,
             site,
             wanted: _,
+            chapters,
         } = self;
-        site.into_inner()
+        (site.into_inner(), chapters.into_inner())
+    }
+
+    /// Leaves chapters, in place of those that were left before.
+    pub(crate) fn leave<R: Wait>(&self, rt: &R, chapters: Vec<Chapter>) {
+        let others = mem::replace(&mut *self.chapters.lock(rt), chapters);
+        discard_all(others);
     }
 
     /// Offers a call.
@@ -55,17 +69,18 @@ impl<'m> Partition<'m> {
     }
 
     /// Makes steps of a client's call, the gate before each. Where the call ends, its completion is
-    /// left in its place.
+    /// left in its place, and the answer is how many entries the log of its extent has then.
     pub(crate) fn slice<R: Wait, G: Gate>(
         &self,
         rt: &R,
         gate: &G,
         client: u64,
         ended: &mut CompletionPlace,
-    ) -> Result<(), SiteRefusal>
+    ) -> Result<u64, SiteRefusal>
         requires { ended.old ≡ None }
         ensures { OfSomeSite (λ s s'. (steps : List StepAhead)
-            × IsSlice client s (told_in result ended.new) s' steps) }
+            × IsSlice client s (told_of result ended.new) s' steps
+            × IfOk result (λ logged. logged ≡ logged_at s' ended.new)) }
     {
         let mut observer = Gated { gate };
         let made = slice(
@@ -80,10 +95,27 @@ impl<'m> Partition<'m> {
     }
 
     /// Lets other threads go on, where the call goes on and one of them wants the lock.
-    fn give_way(&self, made: &Result<(), SiteRefusal>, ended: &CompletionPlace) {
+    fn give_way(&self, made: &Result<u64, SiteRefusal>, ended: &CompletionPlace) {
         if made.is_ok() && !ended.is_some() && is_wanted(&self.wanted) {
             thread::yield_now();
         }
+    }
+
+    /// Hands out the log of an extent, where it has as many entries as a chapter has to have, or
+    /// more, and keeps the chapter behind the others.
+    pub(crate) fn checkpoint<R: Wait>(
+        &self,
+        rt: &R,
+        alloc: Global,
+        extent: u32,
+        chapter: u64,
+        chapters: &mut Vec<Chapter>,
+    ) -> Checkpointed
+        requires { vec_len chapters.old < vec_capacity chapters.old }
+        ensures { OfSomeSite (λ s s'.
+            ChecksLog s extent chapter chapters.old.items result s' chapters.new.items) }
+    {
+        checkpoint_full(&mut *self.site.lock(rt), alloc, extent, chapter, chapters)
     }
 
     /// The extent leaves.

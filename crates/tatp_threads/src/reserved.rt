@@ -11,6 +11,7 @@ use std::alloc::{AllocError, Global};
 use tatp_inboxes::{Mailbox, ends_of, open_inboxes};
 use tatp_loader::Loaded;
 use tatp_partition::{Parcel, Receipt, Site};
+use tatp_population::Chapter;
 use tatp_procs::Ask;
 use tatp_workers::Delivery;
 
@@ -126,6 +127,8 @@ pub(crate) struct Reserved<'m, A: Arities> {
     pub(crate) partitions: Spare<Partition<'m>>,
     pub(crate) sites: Spare<Site<'m>>,
     pub(crate) hand: Spare<Parcel>,
+    /// Room for each executor's list of chapters.
+    pub(crate) chapters: Spare<Vec<Chapter>>,
 }
 
 impl<'m, A: Arities> Reserved<'m, A> {
@@ -151,6 +154,7 @@ impl<'m, A: Arities> Reserved<'m, A> {
         ensures receipts { IfOk result (λ room. length lists.now ≤ vec_capacity room.receipts) }
         ensures partitions { IfOk result (λ room. partitions ≤ vec_capacity room.partitions.items) }
         ensures sites { IfOk result (λ room. partitions ≤ vec_capacity room.sites.items) }
+        ensures chapters { IfOk result (λ room. partitions ≤ vec_capacity room.chapters.items) }
     {
         let admission = Admission::new(arities_of(alloc, loaded)?);
         let (mut quit, readers) = open_inboxes(alloc, partitions, lists.len() + 1)?;
@@ -166,6 +170,7 @@ impl<'m, A: Arities> Reserved<'m, A> {
             partitions: Spare::new(alloc, partitions)?,
             sites: Spare::new(alloc, partitions)?,
             hand: Spare::new(alloc, 1)?,
+            chapters: Spare::new(alloc, partitions)?,
         })
     }
 }

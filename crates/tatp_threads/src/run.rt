@@ -9,7 +9,7 @@ use crate::partition::Partition;
 use crate::reserved::{ClientSeat, Reserved};
 use crate::shared::Shared;
 use crate::starting::{Crew, run_threads};
-use crate::{Ran, RanParts, RunRefusal};
+use crate::{Ran, RanParts, RunRefusal, discard_chapters};
 use std::alloc::{AllocError, Global};
 use std::marker::Brand;
 use std::sync::{Mutex, Wait};
@@ -18,7 +18,7 @@ use tatp_loader::Loaded;
 use tatp_move::Routes;
 use tatp_numbers::Directory;
 use tatp_partition::{Receipt, Site, close_sites, discard_parcels, open_sites};
-use tatp_population::{OpenError, discard, open};
+use tatp_population::{Chapter, OpenError, discard, open};
 use tatp_procs::Ask;
 use tatp_tables::Rows;
 use tatp_workers::{Gate, Moves};
@@ -35,31 +35,42 @@ fn refusal_of(error: OpenError) -> RunRefusal
 }
 
 /// Each site under a lock of its own.
-fn lock_all<'m>(sites: Vec<Site<'m>>, room: Vec<Partition<'m>>) -> Vec<Partition<'m>>
+fn lock_all<'m>(alloc: Global, sites: Vec<Site<'m>>, room: Vec<Partition<'m>>) -> Vec<Partition<'m>>
     requires { vec_len room + vec_len sites ≤ vec_capacity room }
     ensures { vec_len result ≡ vec_len room.entry + vec_len sites.entry }
 {
     let mut partitions = room;
     let mut rest = sites.into_iter();
     while let Some(site) = rest.next() {
-        partitions.push_reserved(Partition::new(site));
+        partitions.push_reserved(Partition::new(alloc, site));
     }
     rest.destroy_empty();
     partitions
 }
 
-/// The sites out of their locks.
-fn unlock_all<'m>(partitions: Vec<Partition<'m>>, room: Vec<Site<'m>>) -> Vec<Site<'m>>
-    requires { vec_len room + vec_len partitions ≤ vec_capacity room }
-    ensures { vec_len result ≡ vec_len room.entry + vec_len partitions.entry }
+/// The sites out of their locks, and the chapters of each.
+fn unlock_all<'m>(
+    partitions: Vec<Partition<'m>>,
+    room: Vec<Site<'m>>,
+    room_for_chapters: Vec<Vec<Chapter>>,
+) -> (Vec<Site<'m>>, Vec<Vec<Chapter>>)
+    requires sites { vec_len room + vec_len partitions ≤ vec_capacity room }
+    requires chapters { vec_len room_for_chapters + vec_len partitions
+        ≤ vec_capacity room_for_chapters }
+    ensures sites { vec_len result.0 ≡ vec_len room.entry + vec_len partitions.entry }
+    ensures chapters { vec_len result.1
+        ≡ vec_len room_for_chapters + vec_len partitions.entry }
 {
     let mut sites = room;
+    let mut chapters = room_for_chapters;
     let mut rest = partitions.into_iter();
     while let Some(partition) = rest.next() {
-        sites.push_reserved(partition.into_site());
+        let (site, handed_out) = partition.into_parts();
+        sites.push_reserved(site);
+        chapters.push_reserved(handed_out);
     }
     rest.destroy_empty();
-    sites
+    (sites, chapters)
 }
 
 /// The receipts of all clients.
@@ -77,8 +88,8 @@ fn receipts_of<A: Arities>(
     receipts
 }
 
-/// What a run is set up with: its module, where calls go, its sites, what the clients ask, and what
-/// the mover and the debugger do.
+/// What a run is set up with: its module, where calls go, its sites, what the clients ask, what the
+/// mover and the debugger do, and how many entries a log has when it is handed out.
 struct Setup<'m, 'w> {
     loaded: &'m Loaded,
     directory: Directory,
@@ -86,6 +97,7 @@ struct Setup<'m, 'w> {
     sites: Vec<Site<'m>>,
     lists: &'w [Vec<Ask>],
     moves: &'w Moves,
+    chapter: u64,
 }
 
 /// Runs the calls of clients, which can all be run, over sites, and gives back what they leave.
@@ -101,6 +113,7 @@ fn run_ruled<'m, R: Threads + Wait + Sync, G: Gate + Sync, A: Arities + Send + S
     ensures receipts { IfOk result
         (λ ran. vec_len ran.parts.receipts ≡ length setup.entry.lists.now) }
     ensures landings { IfOk result (λ ran. vec_len ran.parts.landings ≡ 0) }
+    ensures chapters { IfOk result (λ ran. vec_len ran.parts.chapters ≡ vec_len setup.entry.sites) }
     ensures refusal { IfErr result
         (λ refusal. (refusal ≡ RunRefusal.NoMemory) ⊎ (refusal ≡ RunRefusal.NoThread)) }
 {
@@ -111,6 +124,7 @@ fn run_ruled<'m, R: Threads + Wait + Sync, G: Gate + Sync, A: Arities + Send + S
         sites,
         lists,
         moves,
+        chapter,
     } = setup;
     let Reserved {
         admission,
@@ -122,6 +136,7 @@ fn run_ruled<'m, R: Threads + Wait + Sync, G: Gate + Sync, A: Arities + Send + S
         partitions,
         sites: unlocked,
         hand,
+        chapters,
     } = match Reserved::<A>::make(alloc, loaded, sites.len(), lists) {
         Ok(reserved) => reserved,
         Err(_) => {
@@ -130,7 +145,7 @@ fn run_ruled<'m, R: Threads + Wait + Sync, G: Gate + Sync, A: Arities + Send + S
         }
     };
     let routes = Mutex::new(routes);
-    let partitions = lock_all(sites, partitions.into_vec());
+    let partitions = lock_all(alloc, sites, partitions.into_vec());
     let mut hand = hand.into_vec();
     let shared = Shared {
         alloc,
@@ -140,6 +155,7 @@ fn run_ruled<'m, R: Threads + Wait + Sync, G: Gate + Sync, A: Arities + Send + S
         admission: &admission,
         mailboxes: mailboxes.as_slice(),
         moves,
+        chapter,
         gate,
     };
     let crew = Crew {
@@ -148,23 +164,27 @@ fn run_ruled<'m, R: Threads + Wait + Sync, G: Gate + Sync, A: Arities + Send + S
         lists,
     };
     let started = run_threads(rt, &shared, crew, clients.as_mut_slice(), &mut hand);
-    let sites = unlock_all(partitions, unlocked.into_vec());
+    let (sites, chapters) = unlock_all(partitions, unlocked.into_vec(), chapters.into_vec());
     if !started {
         close_sites(sites);
         discard_parcels(hand);
+        discard_chapters(chapters);
         return Err(RunRefusal::NoThread);
     }
     Ok(Ran::new(RanParts {
         sites,
         parcels: hand,
         landings: Vec::new(alloc),
+        chapters,
         receipts: receipts_of(clients, receipts),
     }))
 }
 
 /// Runs the clients' lists of calls on these rows, by an executor for each of so many partitions, a
-/// thread for each client, a mover and a debugger, and gives back what they leave. The rows are
-/// consumed, on a refusal too.
+/// thread for each client, a mover and a debugger, and gives back what they leave. After the end of
+/// a call the executor hands out the log of its extent, where it has as many entries as a chapter
+/// has to have, or more; where memory for the chapter is refused, or the site refuses, the run goes
+/// on without it. The rows are consumed, on a refusal too.
 pub fn run_calls<'m, R: Threads + Wait + Sync, G: Gate + Sync>(
     rt: &R,
     alloc: Global,
@@ -174,6 +194,7 @@ pub fn run_calls<'m, R: Threads + Wait + Sync, G: Gate + Sync>(
     lists: &[Vec<Ask>],
     moves: &Moves,
     gate: &G,
+    chapter: u64,
 ) -> Result<Ran<'m>, RunRefusal>
     requires some_partitions { 1 ≤ partitions }
     requires few_partitions { partitions ≤ 16 }
@@ -182,6 +203,7 @@ pub fn run_calls<'m, R: Threads + Wait + Sync, G: Gate + Sync>(
     ensures sites { IfOk result (λ ran. vec_len ran.parts.sites ≡ partitions) }
     ensures receipts { IfOk result (λ ran. vec_len ran.parts.receipts ≡ length lists.now) }
     ensures landings { IfOk result (λ ran. vec_len ran.parts.landings ≡ 0) }
+    ensures chapters { IfOk result (λ ran. vec_len ran.parts.chapters ≡ partitions) }
     ensures rows { OnOk result (AreOpened rows) }
     ensures calls { OnOk result (obstacle_among loaded.now lists.now ≡ None) }
     ensures refusal { IfErr result (RefusesRun loaded.now rows lists.now) }
@@ -210,6 +232,7 @@ pub fn run_calls<'m, R: Threads + Wait + Sync, G: Gate + Sync>(
         sites,
         lists,
         moves,
+        chapter,
     };
     run_ruled::<R, G, Brand>(rt, alloc, setup, gate)
 }

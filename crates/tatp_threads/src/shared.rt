@@ -23,6 +23,8 @@ pub(crate) struct Shared<'a, 'm, G, A: Arities> {
     /// Where each client waits, client 0 first.
     pub(crate) mailboxes: &'a [Mailbox<Delivery>],
     pub(crate) moves: &'a Moves,
+    /// How many entries a log has when it is handed out.
+    pub(crate) chapter: u64,
     pub(crate) gate: &'a G,
 }
 

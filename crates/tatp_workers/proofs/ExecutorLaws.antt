@@ -1,8 +1,8 @@
 -- What an executor has done so far, and at the end.
-use Rattle.std.proofs.Common.{◌≡◌, ℕ, suc, Bool, true, false, List, [], ◌∷◌, ◌++◌, All, Option, Some, None, Result, refl, sym, ap, ◌∙◌, subst, append_assoc}
-use Rattle.std.proofs.lemmas.List.{append-nil}
+use Rattle.std.proofs.Common.{◌≡◌, ℕ, suc, Bool, true, false, List, [], ◌∷◌, ◌++◌, All, Option, Some, Result, refl}
 use Rattle.std.proofs.lemmas.List.Elements.{All-nil, All-push}
 use Rattle.tatp_partition.specs.declared.item.Item.{Item}
+use Rattle.tatp_partition.specs.declared.item.Completion.{Completion}
 use Rattle.tatp_partition.specs.declared.item.Stepped.{Stepped}
 use Rattle.tatp_partition.specs.declared.refusal.SiteRefusal.{SiteRefusal}
 use Rattle.tatp_workers.specs.declared.message.Message.{Message}
@@ -10,9 +10,9 @@ use Rattle.tatp_workers.specs.declared.message.Message.TheVariants.{Call}
 use Rattle.tatp_workers.specs.declared.offers.Offered.{Offered}
 use Rattle.tatp_workers.specs.declared.effects.Effect.{Effect}
 use Rattle.tatp_workers.specs.declared.effects.Effect.TheVariants.{Receives, Offers, Slices}
-use Rattle.tatp_workers.specs.Effects.{Grows, Does, Follows, effects_of_step}
+use Rattle.tatp_workers.specs.Effects.{Grows, Does, Follows, concluding}
 use Rattle.tatp_workers.specs.Offering.{is_again, has_begun}
-use Rattle.tatp_workers.specs.Executing.{IsOfferedAgain, IsOffered, is_to_go_on, GoesOnAfter, RunsToItsEnd, RunsWhereItBegan, ExecutesCall, Executes, is_last, ExecutesUntilQuit}
+use Rattle.tatp_workers.specs.Executing.{IsOfferedAgain, IsOffered, is_to_go_on, GoesOnAfter, ChecksFull, Completes, Finishes, RunsToItsEnd, RunsWhereItBegan, ExecutesCall, Executes, is_last, ExecutesUntilQuit}
 use Rattle.tatp_workers.proofs.EffectLaws.{not_grown, grown_twice}
 
 -- ---- a call is offered
@@ -56,66 +56,86 @@ last_offered item offered began known mid offered_known known' before other answ
 pub none_sliced : (client : ℕ) (known : Option (List Effect)) → Does (All (GoesOnAfter client)) known known
 none_sliced client known = ([], All-nil (GoesOnAfter client), not_grown known)
 
-pub one_more_sliced : (client : ℕ) (answer : Result Stepped SiteRefusal) (known mid known' : Option (List Effect))
+pub one_more_sliced : (client : ℕ) (answer : Result Stepped SiteRefusal) (logged : ℕ) (known mid known' : Option (List Effect))
     → Does (All (GoesOnAfter client)) known mid
     → is_to_go_on answer ≡ true
-    → Grows mid known' (Slices client answer ∷ [])
+    → Grows mid known' (Slices client answer logged ∷ [])
     → Does (All (GoesOnAfter client)) known known'
-one_more_sliced client answer known mid known' before goes grows = (
-  before.0 ++ Slices client answer ∷ [],
-  All-push (GoesOnAfter client) before.0 (Slices client answer) before.1 (answer, goes, refl),
-  grown_twice known mid known' before.0 (Slices client answer ∷ []) before.2 grows,
+one_more_sliced client answer logged known mid known' before goes grows = (
+  before.0 ++ Slices client answer logged ∷ [],
+  All-push (GoesOnAfter client) before.0 (Slices client answer logged) before.1 (answer, logged, goes, refl),
+  grown_twice known mid known' before.0 (Slices client answer logged ∷ []) before.2 grows,
 )
 
-pub last_sliced : (partition client : ℕ) (answer : Result Stepped SiteRefusal) (known mid sliced_known known' : Option (List Effect))
+pub last_sliced : (partition chapter client : ℕ) (answer : Result Stepped SiteRefusal) (logged : ℕ) (known mid sliced_known known' : Option (List Effect))
     → Does (All (GoesOnAfter client)) known mid
     → is_to_go_on answer ≡ false
-    → Grows mid sliced_known (Slices client answer ∷ [])
-    → Grows sliced_known known' (effects_of_step partition answer)
-    → Does (RunsToItsEnd partition client) known known'
-last_sliced partition client answer known mid sliced_known known' before ended grows completed =
-    let following = effects_of_step partition answer in (
-      before.0 ++ Slices client answer ∷ following,
-      record { before = before.0; last = answer; going_on = before.1; ended = ended; all = refl },
-      grown_twice known mid known' before.0 (Slices client answer ∷ following) before.2 (grown_twice mid sliced_known known' (Slices client answer ∷ []) following grows completed),
+    → Grows mid sliced_known (Slices client answer logged ∷ [])
+    → Does (Finishes partition chapter answer logged) sliced_known known'
+    → Does (RunsToItsEnd partition chapter client) known known'
+last_sliced partition chapter client answer logged known mid sliced_known known' before ended grows finished =
+    let these = Slices client answer logged ∷ finished.0 in (
+      before.0 ++ these,
+      record {
+        before = before.0;
+        last = answer;
+        logged = logged;
+        following = finished.0;
+        going_on = before.1;
+        ended = ended;
+        finished = finished.1;
+        all = refl;
+      },
+      grown_twice known mid known' before.0 these before.2 (grown_twice mid sliced_known known' (Slices client answer logged ∷ []) finished.0 grows finished.2),
     )
 
+-- ---- a call that ended
+pub completed : (partition chapter : ℕ) (completion : Completion) (logged : ℕ) (known concluded known' : Option (List Effect))
+    → Grows known concluded (concluding partition completion)
+    → Does (ChecksFull completion.extent chapter logged) concluded known'
+    → Does (Completes partition chapter completion logged) known known'
+completed partition chapter completion logged known concluded known' concludes checks = (
+  concluding partition completion ++ checks.0,
+  (checks.0, checks.1, refl),
+  grown_twice known concluded known' (concluding partition completion) checks.0 concludes checks.2,
+)
+
 -- ---- one call after another
-pub executed : (partition : ℕ) (item : Item) (began : Bool) (known mid known' : Option (List Effect))
+pub executed : (partition chapter : ℕ) (item : Item) (began : Bool) (known mid known' : Option (List Effect))
     → Does (IsOffered item began) known mid
-    → Does (RunsWhereItBegan began partition item.client) mid known'
-    → Does (ExecutesCall partition item) known known'
-executed partition item began known mid known' offered runs = (
+    → Does (RunsWhereItBegan began partition chapter item.client) mid known'
+    → Does (ExecutesCall partition chapter item) known known'
+executed partition chapter item began known mid known' offered runs = (
   offered.0 ++ runs.0,
   record { began = began; offering = offered.0; running = runs.0; offered = offered.1; runs = runs.1; all = refl },
   grown_twice known mid known' offered.0 runs.0 offered.2 runs.2,
 )
 
 -- some calls were executed one after another
-abbrev pub ExecutesSome : ℕ → List Effect → Type 0
-ExecutesSome partition effects = (calls : ℕ) × Executes partition calls effects
+abbrev pub ExecutesSome : ℕ → ℕ → List Effect → Type 0
+ExecutesSome partition chapter effects = (calls : ℕ) × Executes partition chapter calls effects
 
-pub none_executed : (partition : ℕ) (known : Option (List Effect)) → Does (ExecutesSome partition) known known
-none_executed partition known = ([], (0, refl), not_grown known)
+pub none_executed : (partition chapter : ℕ) (known : Option (List Effect)) → Does (ExecutesSome partition chapter) known known
+none_executed partition chapter known = ([], (0, refl), not_grown known)
 
-pub one_more_executed : (partition : ℕ) (item : Item) (known mid received_known known' : Option (List Effect))
-    → Does (ExecutesSome partition) known mid
+pub one_more_executed : (partition chapter : ℕ) (item : Item) (known mid received_known known' : Option (List Effect))
+    → Does (ExecutesSome partition chapter) known mid
     → Grows mid received_known (Receives (Some (Call item)) ∷ [])
-    → Does (ExecutesCall partition item) received_known known'
-    → Does (ExecutesSome partition) known known'
-one_more_executed partition item known mid received_known known' before received call =
+    → Does (ExecutesCall partition chapter item) received_known known'
+    → Does (ExecutesSome partition chapter) known known'
+one_more_executed partition chapter item known mid received_known known' before received call =
     let these = Receives (Some (Call item)) ∷ call.0 in (
       before.0 ++ these,
       (suc before.1.0, (before.0, item, call.0, before.1.1, call.1, refl)),
       grown_twice known mid known' before.0 these before.2 (grown_twice mid received_known known' (Receives (Some (Call item)) ∷ []) call.0 received call.2),
     )
 
-pub last_received : (partition : ℕ) (message : Option Message) (known mid known' : Option (List Effect))
-    → Does (ExecutesSome partition) known mid
+pub last_received : (partition chapter : ℕ) (message : Option Message) (known mid known' : Option (List Effect))
+    → Does (ExecutesSome partition chapter) known mid
     → is_last message ≡ true
     → Grows mid known' (Receives message ∷ [])
-    → Does (ExecutesUntilQuit partition) known known'
-last_received partition message known mid known' before quit grows = (
+    → Does (ExecutesUntilQuit partition chapter) known known'
+last_received partition chapter message known mid known' before quit grows = (
   before.0 ++ Receives message ∷ [],
   record { calls = before.1.0; before = before.0; last = message; executed = before.1.1; quit = quit; all = refl },
   grown_twice known mid known' before.0 (Receives message ∷ []) before.2 grows,

@@ -7,7 +7,7 @@ use Rattle.tatp_move.specs.declared.plan.Plan.{Plan}
 use Rattle.tatp_workers.specs.declared.mover.MoveEffect.{MoveEffect}
 use Rattle.tatp_workers.specs.declared.mover.MoveEffect.TheVariants.{Plans, Takes}
 use Rattle.tatp_workers.specs.Effects.{Grows, Does}
-use Rattle.tatp_workers.specs.Carrying.{Delivers, MakesMove, IsMade, MakesMoves, MovesAll}
+use Rattle.tatp_workers.specs.Carrying.{Delivers, MakesMove, IsMade, MovesAll}
 use Rattle.tatp_workers.proofs.EffectLaws.{grown_twice, Dealt}
 
 -- ---- one move

@@ -1,9 +1,8 @@
 -- One more call of a client, and its last.
-use Rattle.std.proofs.Common.{◌≡◌, ℕ, zero, suc, ◌+◌, List, [], ◌∷◌, ◌++◌, length, Option, Some, None, slice_get, refl, sym, ap, ◌∙◌, subst, append_assoc, arith, inl, inr}
+use Rattle.std.proofs.Common.{◌≡◌, ℕ, suc, ◌+◌, List, [], ◌∷◌, ◌++◌, length, Option, Some, None, slice_get, refl, sym, ap, ◌∙◌, subst, append_assoc, arith, inl, inr}
 use Rattle.std.proofs.lemmas.List.{append-nil}
 use Rattle.tatp_procs.specs.declared.ask.Ask.{Ask}
 use Rattle.tatp_numbers.specs.Listing.{Listing}
-use Rattle.tatp_partition.specs.declared.item.Item.{Item}
 use Rattle.tatp_partition.specs.declared.receipt.Receipt.{Receipt}
 use Rattle.tatp_workers.specs.declared.client.Exchange.{Exchange}
 use Rattle.tatp_workers.specs.Effects.{Grows}

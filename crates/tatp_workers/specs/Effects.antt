@@ -1,6 +1,5 @@
 -- What workers put and get, where that is known.
 use Rattle.std.specs.Prelude.{◌≡◌, ℕ, zero, suc, List, [], ◌∷◌, ◌++◌, Bool, true, false, Option, Some, None, Result, Ok, Err, slice_get}
-use Rattle.tatp_procs.specs.declared.ask.Ask.{Ask}
 use Rattle.tatp_partition.specs.declared.item.Item.{Item}
 use Rattle.tatp_partition.specs.declared.item.Completion.{Completion}
 use Rattle.tatp_partition.specs.declared.item.Stepped.{Stepped}
@@ -8,7 +7,6 @@ use Rattle.tatp_partition.specs.declared.item.Stepped.TheVariants.{Moved, Ended}
 use Rattle.tatp_partition.specs.declared.refusal.SiteRefusal.{SiteRefusal}
 use Rattle.tatp_partition.specs.declared.receipt.Receipt.{Receipt}
 use Rattle.tatp_partition.specs.declared.receipt.Receipt.TheVariants.{Done, Refused}
-use Rattle.tatp_workers.specs.declared.delivery.Delivery.{Delivery}
 use Rattle.tatp_workers.specs.declared.delivery.Delivery.TheVariants.{Got, Dropped}
 use Rattle.tatp_workers.specs.declared.effects.Effect.{Effect}
 use Rattle.tatp_workers.specs.declared.effects.Effect.TheVariants.{Sends, Answers, Tells}

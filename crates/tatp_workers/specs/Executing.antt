@@ -1,17 +1,19 @@
 -- What an executor does, one thing after another.
-use Rattle.std.specs.Prelude.{◌≡◌, ℕ, zero, suc, List, [], ◌∷◌, ◌++◌, All, Bool, true, false, not, Option, Some, None, Result, Ok, Err}
+use Rattle.std.specs.Prelude.{◌≡◌, ◌⊎◌, ℕ, zero, suc, ◌<◌, ◌≤◌, List, [], ◌∷◌, ◌++◌, All, Bool, true, false, not, Option, Some, None, Result, Ok, Err}
 use Rattle.tatp_partition.specs.declared.item.Item.{Item}
+use Rattle.tatp_partition.specs.declared.item.Completion.{Completion}
 use Rattle.tatp_partition.specs.declared.item.Stepped.{Stepped}
 use Rattle.tatp_partition.specs.declared.item.Stepped.TheVariants.{Moved, Ended}
 use Rattle.tatp_partition.specs.declared.refusal.SiteRefusal.{SiteRefusal}
 use Rattle.tatp_partition.specs.declared.refusal.SiteRefusal.TheVariants.{NotRunning}
+use Rattle.tatp_workers.specs.declared.checkpoints.Checkpointed.{Checkpointed}
 use Rattle.tatp_workers.specs.declared.message.Message.{Message}
 use Rattle.tatp_workers.specs.declared.message.Message.TheVariants.{Quit, Call}
 use Rattle.tatp_workers.specs.declared.offers.Offered.{Offered}
 use Rattle.tatp_workers.specs.Offering.{is_again, has_begun}
 use Rattle.tatp_workers.specs.declared.effects.Effect.{Effect}
-use Rattle.tatp_workers.specs.declared.effects.Effect.TheVariants.{Receives, Offers, Slices}
-use Rattle.tatp_workers.specs.Effects.{Follows, effects_of_step}
+use Rattle.tatp_workers.specs.declared.effects.Effect.TheVariants.{Receives, Offers, Slices, Checkpoints}
+use Rattle.tatp_workers.specs.Effects.{Follows, concluding}
 
 -- ---- a call is offered
 -- the call was offered, and is to be offered again
@@ -46,41 +48,69 @@ is_to_go_on (Err refusal) = not (is_not_running refusal)
 -- steps of the client's call were made, and more are to be
 abbrev pub GoesOnAfter : ℕ → Effect → Type 0
 GoesOnAfter client effect =
-    (answer : Result Stepped SiteRefusal)
+    (answer : Result Stepped SiteRefusal) × (logged : ℕ)
     × (is_to_go_on answer ≡ true)
-    × (effect ≡ Slices client answer)
+    × (effect ≡ Slices client answer logged)
+
+-- of a log with so many entries nothing more is done, where a chapter has to have more; otherwise
+-- it is to be handed out
+abbrev pub ChecksFull : ℕ → ℕ → ℕ → List Effect → Type 0
+ChecksFull extent chapter logged effects =
+    ((logged < chapter) × (effects ≡ []))
+    ⊎ ((done : Checkpointed) × (chapter ≤ logged)
+    × (effects ≡ Checkpoints extent chapter done ∷ []))
+
+-- a call is completed that ended when the log of its extent had so many entries: its client is
+-- answered, the gate is told, and then comes the log
+abbrev pub Completes : ℕ → ℕ → Completion → ℕ → List Effect → Type 0
+Completes partition chapter completion logged effects =
+    (checking : List Effect)
+    × ChecksFull completion.extent chapter logged checking
+    × (effects ≡ concluding partition completion ++ checking)
+
+-- what follows on the last steps of a call: it is completed where they ended it
+abbrev pub Finishes : ℕ → ℕ → Result Stepped SiteRefusal → ℕ → List Effect → Type 0
+Finishes partition chapter (Ok Moved) logged effects = effects ≡ []
+Finishes partition chapter (Ok (Ended completion)) logged effects =
+    Completes partition chapter completion logged effects
+Finishes partition chapter (Err refusal) logged effects = effects ≡ []
 
 -- steps are made until the call has ended, or doesn't run any more since the debugger ended it;
 -- where it ended here it is completed
-pub record RunsToItsEnd (partition client : ℕ) (effects : List Effect) : Type 0 where
+pub record RunsToItsEnd (partition chapter client : ℕ) (effects : List Effect) : Type 0 where
   pub before : List Effect
   pub last : Result Stepped SiteRefusal
+  pub logged : ℕ
+  pub following : List Effect
   pub going_on : All (GoesOnAfter client) before
   pub ended : is_to_go_on last ≡ false
-  pub all : effects ≡ before ++ Slices client last ∷ effects_of_step partition last
+  pub finished : Finishes partition chapter last logged following
+  pub all : effects ≡ before ++ Slices client last logged ∷ following
 
-abbrev pub RunsWhereItBegan : Bool → ℕ → ℕ → List Effect → Type 0
-RunsWhereItBegan true partition client effects = RunsToItsEnd partition client effects
-RunsWhereItBegan false partition client effects = effects ≡ []
+abbrev pub RunsWhereItBegan : Bool → ℕ → ℕ → ℕ → List Effect → Type 0
+RunsWhereItBegan true partition chapter client effects =
+    RunsToItsEnd partition chapter client effects
+RunsWhereItBegan false partition chapter client effects = effects ≡ []
 
 -- ---- one call after another
 -- a call is offered, and runs to its end where it began
-pub record ExecutesCall (partition : ℕ) (item : Item) (effects : List Effect) : Type 0 where
+pub record ExecutesCall (partition chapter : ℕ) (item : Item) (effects : List Effect)
+    : Type 0 where
   pub began : Bool
   pub offering : List Effect
   pub running : List Effect
   pub offered : IsOffered item began offering
-  pub runs : RunsWhereItBegan began partition item.client running
+  pub runs : RunsWhereItBegan began partition chapter item.client running
   pub all : effects ≡ offering ++ running
 
 -- so many calls were taken out of the inbox one after another, and each was executed before the
 -- next
-abbrev pub Executes : ℕ → ℕ → List Effect → Type 0
-Executes partition zero effects = effects ≡ []
-Executes partition (suc calls) effects =
+abbrev pub Executes : ℕ → ℕ → ℕ → List Effect → Type 0
+Executes partition chapter zero effects = effects ≡ []
+Executes partition chapter (suc calls) effects =
     (before : List Effect) × (item : Item) × (these : List Effect)
-    × Executes partition calls before
-    × ExecutesCall partition item these
+    × Executes partition chapter calls before
+    × ExecutesCall partition chapter item these
     × (effects ≡ before ++ Receives (Some (Call item)) ∷ these)
 
 -- Quit, or that no message will come
@@ -90,10 +120,10 @@ is_last (Some Quit) = true
 is_last (Some (Call item)) = false
 
 -- calls are executed until Quit comes
-pub record ExecutesUntilQuit (partition : ℕ) (effects : List Effect) : Type 0 where
+pub record ExecutesUntilQuit (partition chapter : ℕ) (effects : List Effect) : Type 0 where
   pub calls : ℕ
   pub before : List Effect
   pub last : Option Message
-  pub executed : Executes partition calls before
+  pub executed : Executes partition chapter calls before
   pub quit : is_last last ≡ true
   pub all : effects ≡ before ++ Receives last ∷ []

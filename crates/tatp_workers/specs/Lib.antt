@@ -1,5 +1,6 @@
 pub mod Effects
 pub mod Offering
+pub mod FullLogs
 pub mod Slices
 pub mod Asking
 pub mod Executing

@@ -1,12 +1,14 @@
 -- Steps of a call under one hold of its site's lock.
-use Rattle.std.specs.Prelude.{◌≡◌, ℕ, zero, suc, ◌<◌, List, [], ◌∷◌, ◌++◌, Option, Some, None, Result}
+use Rattle.std.specs.Prelude.{◌≡◌, ℕ, zero, suc, ◌<◌, List, [], ◌∷◌, ◌++◌, Option, Some, None, Result, Ok, Err}
 use Rattle.std.specs.Option.{option_map_or}
+use Rattle.tatp_partition.specs.declared.item.Completion.{Completion}
 use Rattle.tatp_partition.specs.declared.item.Stepped.{Stepped}
 use Rattle.tatp_partition.specs.declared.refusal.SiteRefusal.{SiteRefusal}
 use Rattle.tatp_partition.specs.Obstacles.{step_obstacle}
-use Rattle.tatp_partition.specs.Running.{GoesOn, AdvancesUnless}
+use Rattle.tatp_partition.specs.Running.{GoesOn, AdvancesUnless, stepped_of}
 use Rattle.tatp_partition.specs.Sites.{SiteState, RunningCall}
 use Rattle.tatp_workers.specs.declared.observer.StepAhead.{StepAhead}
+use Rattle.tatp_workers.specs.FullLogs.{log_length}
 
 -- the running call's next step, alone
 abbrev pub next_step : ℕ → ℕ → RunningCall → List StepAhead
@@ -48,3 +50,19 @@ pub record IsSlice (client : ℕ) (s : SiteState) (answer : Result Stepped SiteR
   pub went_on : GoesOnObserved client count s mid before
   pub last : AdvancesUnless (step_obstacle mid) mid answer s'
   pub seen : steps ≡ before ++ steps_ahead mid client
+
+-- ---- the log of the call's extent
+-- how many entries it has where the call ended; 0 where it goes on
+abbrev pub logged_at : SiteState → Option Completion → ℕ
+logged_at s None = 0
+logged_at s (Some completion) = log_length s completion.extent
+
+-- the answer of the last step, by whether it was refused and which completion was left in a place
+abbrev pub told_of : Result ℕ SiteRefusal → Option Completion → Result Stepped SiteRefusal
+told_of (Ok logged) ended = Ok (stepped_of ended)
+told_of (Err refusal) ended = Err refusal
+
+-- how many entries the log has, by an answer that tells it; 0 where a step was refused
+abbrev pub logged_by : Result ℕ SiteRefusal → ℕ
+logged_by (Ok logged) = logged
+logged_by (Err refusal) = 0

@@ -1,11 +1,11 @@
 //! What executors and the debugger do, one thing after another.
 ghost use Rattle.std.specs.Prelude.{◌≡◌, List, Option, None, [], ◌∷◌};
-ghost use Rattle.tatp_partition.specs.Running.{told_in};
 ghost use Rattle.tatp_workers.specs.Effects.{Grows, Does, Follows, receipt_of, concluding, effects_of_step};
+ghost use Rattle.tatp_workers.specs.Slices.{told_of, logged_by};
 ghost use Rattle.tatp_workers.specs.declared.effects.Effect.{Effect};
-ghost use Rattle.tatp_workers.specs.declared.effects.Effect.TheVariants.{Sends, Answers, Tells, Receives, Offers, Slices};
+ghost use Rattle.tatp_workers.specs.declared.effects.Effect.TheVariants.{Sends, Answers, Tells, Receives, Offers, Slices, Checkpoints};
 
-use crate::{Delivery, Message, Offered};
+use crate::{Checkpointed, Delivery, Message, Offered};
 use tatp_partition::{Completion, CompletionPlace, Item, Receipt, SiteRefusal, Stepped};
 
 /// What an executor or the debugger did.
@@ -21,8 +21,12 @@ pub enum Effect {
     Receives(Option<Message>),
     /// A call was offered to the site.
     Offers(Item, Offered),
-    /// Steps of a client's call were made, and what the last of them answered.
-    Slices(u64, Result<Stepped, SiteRefusal>),
+    /// Steps of a client's call were made, what the last of them answered, and how many entries the
+    /// log of the call's extent has where that ended it.
+    Slices(u64, Result<Stepped, SiteRefusal>, u64),
+    /// The log of an extent was to be handed out where it has as many entries as a chapter has to
+    /// have, or more, and what became of it.
+    Checkpoints(u32, u64, Checkpointed),
     /// The site of a partition was to be stopped, and whether it was.
     Stops(u8, bool),
     /// A stopped site was looked at.
@@ -47,7 +51,7 @@ pub trait Answering {
         ensures { Grows (effects self.old) (effects self.new) (Tells partition client ∷ []) };
 }
 
-/// Takes calls out of an inbox, has a site run them, and sends them on.
+/// Takes calls out of an inbox, has a site run them and hand out full logs, and sends them on.
 pub trait Executing: Answering {
     /// The next message of the inbox. None where no end that puts is left.
     fn receive(&mut self) -> Option<Message>
@@ -59,11 +63,17 @@ pub trait Executing: Answering {
             (Offers item.now result ∷ []) };
 
     /// Makes steps of a client's call at the site. Where the call ends, its completion is left in
-    /// its place.
-    fn slice(&mut self, client: u64, ended: &mut CompletionPlace) -> Result<(), SiteRefusal>
+    /// its place, and the answer is how many entries the log of its extent has then.
+    fn slice(&mut self, client: u64, ended: &mut CompletionPlace) -> Result<u64, SiteRefusal>
         requires { ended.old ≡ None }
         ensures { Grows (Self.effects self.old) (Self.effects self.new)
-            (Slices client (told_in result ended.new) ∷ []) };
+            (Slices client (told_of result ended.new) (logged_by result) ∷ []) };
+
+    /// Hands out the log of an extent at the site, where it has as many entries as a chapter has to
+    /// have, or more, and keeps the chapter.
+    fn checkpoint(&mut self, extent: u32, chapter: u64) -> Checkpointed
+        ensures { Grows (Self.effects self.old) (Self.effects self.new)
+            (Checkpoints extent chapter result ∷ []) };
 
     /// Puts a call into the inbox that its route names. Whether it was put there.
     fn send(&mut self, item: Item) -> bool

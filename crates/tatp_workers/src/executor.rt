@@ -1,19 +1,20 @@
 //! What the executor of one partition does.
 ghost use Rattle.std.specs.Prelude.{◌≡◌};
-ghost use Rattle.tatp_partition.specs.Running.{told_in};
-ghost use Rattle.tatp_workers.specs.Effects.{Grows, Does, effects_of_step};
-ghost use Rattle.tatp_workers.specs.Executing.{IsOffered, RunsToItsEnd, ExecutesCall, ExecutesUntilQuit, is_not_running, is_to_go_on};
+ghost use Rattle.tatp_workers.specs.Effects.{Does};
+ghost use Rattle.tatp_workers.specs.Executing.{IsOffered, ChecksFull, Completes, Finishes, RunsToItsEnd, ExecutesCall, ExecutesUntilQuit, is_not_running, is_to_go_on};
+ghost use Rattle.tatp_workers.specs.Slices.{told_of, logged_by};
 
 use crate::effects::{conclude, follow};
-use crate::{Answering, Executing, Message};
+use crate::{Executing, Message};
 use std::sync::Wait;
 use std::thread;
-use tatp_partition::{CompletionPlace, Item, SiteRefusal};
+use tatp_partition::{Completion, CompletionPlace, Item, SiteRefusal};
 
-/// Takes one call after another out of an inbox and runs it, until Quit. A completion is left in a
-/// place that stays from call to call.
-pub fn take_calls<R: Wait, E: Executing>(rt: &R, executing: &mut E, partition: u8)
-    ensures { Does (ExecutesUntilQuit partition) (E.effects executing.old)
+/// Takes one call after another out of an inbox and runs it, until Quit. After the end of a call a
+/// checkpoint of its extent is made, where the log has as many entries as a chapter has to have, or
+/// more. A completion is left in a place that stays from call to call.
+pub fn take_calls<R: Wait, E: Executing>(rt: &R, executing: &mut E, partition: u8, chapter: u64)
+    ensures { Does (ExecutesUntilQuit partition chapter) (E.effects executing.old)
         (E.effects executing.new) }
 {
     let mut ended = CompletionPlace::empty();
@@ -21,7 +22,9 @@ pub fn take_calls<R: Wait, E: Executing>(rt: &R, executing: &mut E, partition: u
         match executing.receive() {
             None => return,
             Some(Message::Quit) => return,
-            Some(Message::Call(item)) => execute_call(rt, executing, partition, &item, &mut ended),
+            Some(Message::Call(item)) => {
+                execute_call(rt, executing, partition, chapter, &item, &mut ended)
+            }
         }
     }
     unreachable!()
@@ -32,14 +35,15 @@ fn execute_call<R: Wait, E: Executing>(
     rt: &R,
     executing: &mut E,
     partition: u8,
+    chapter: u64,
     item: &Item,
     ended: &mut CompletionPlace,
 )
-    ensures { Does (ExecutesCall partition item.now) (E.effects executing.old)
+    ensures { Does (ExecutesCall partition chapter item.now) (E.effects executing.old)
         (E.effects executing.new) }
 {
     if begin(rt, executing, item) {
-        run(rt, executing, partition, item.client, ended);
+        run(rt, executing, partition, chapter, item.client, ended);
     }
 }
 
@@ -67,28 +71,55 @@ fn is_not_running(refusal: &SiteRefusal) -> bool
 }
 
 /// Whether more steps are to be made after some, which left this completion, or none.
-fn is_to_go_on(made: &Result<(), SiteRefusal>, ended: &CompletionPlace) -> bool
-    ensures { result ≡ is_to_go_on (told_in made.now ended.now) }
+fn is_to_go_on(made: &Result<u64, SiteRefusal>, ended: &CompletionPlace) -> bool
+    ensures { result ≡ is_to_go_on (told_of made.now ended.now) }
 {
     match made {
-        Ok(()) => !ended.is_some(),
+        Ok(_) => !ended.is_some(),
         Err(refusal) => !is_not_running(refusal),
     }
 }
 
-/// Concludes the call where the steps that were made have ended it.
-fn finish<A: Answering>(
-    answering: &mut A,
+/// Has the log of an extent handed out, which has so many entries, where they are as many as those
+/// of a chapter, or more.
+fn check_log<E: Executing>(executing: &mut E, extent: u32, chapter: u64, logged: u64)
+    ensures { Does (ChecksFull extent chapter logged) (E.effects executing.old)
+        (E.effects executing.new) }
+{
+    if logged >= chapter {
+        let _done = executing.checkpoint(extent, chapter);
+    }
+}
+
+/// Concludes a call that ended, and then looks to the log of its extent.
+fn complete<E: Executing>(
+    executing: &mut E,
     partition: u8,
-    made: &Result<(), SiteRefusal>,
+    chapter: u64,
+    completion: &Completion,
+    logged: u64,
+)
+    ensures { Does (Completes partition chapter completion.now logged) (E.effects executing.old)
+        (E.effects executing.new) }
+{
+    conclude(executing, partition, completion);
+    check_log(executing, completion.extent, chapter, logged);
+}
+
+/// Completes the call where the steps that were made have ended it.
+fn finish<E: Executing>(
+    executing: &mut E,
+    partition: u8,
+    chapter: u64,
+    made: &Result<u64, SiteRefusal>,
     ended: &CompletionPlace,
 )
-    ensures { Grows (A.effects answering.old) (A.effects answering.new)
-        (effects_of_step partition (told_in made.now ended.now)) }
+    ensures { Does (Finishes partition chapter (told_of made.now ended.now) (logged_by made.now))
+        (E.effects executing.old) (E.effects executing.new) }
 {
-    if made.is_ok() {
+    if let Ok(logged) = made {
         if let Some(completion) = ended.get() {
-            conclude(answering, partition, completion);
+            complete(executing, partition, chapter, completion, *logged);
         }
     }
 }
@@ -98,10 +129,11 @@ fn run<R: Wait, E: Executing>(
     rt: &R,
     executing: &mut E,
     partition: u8,
+    chapter: u64,
     client: u64,
     ended: &mut CompletionPlace,
 )
-    ensures { Does (RunsToItsEnd partition client) (E.effects executing.old)
+    ensures { Does (RunsToItsEnd partition chapter client) (E.effects executing.old)
         (E.effects executing.new) }
 {
     for _round in rt.forever() {
@@ -112,7 +144,7 @@ fn run<R: Wait, E: Executing>(
                 thread::yield_now();
             }
         } else {
-            finish(executing, partition, &made, ended);
+            finish(executing, partition, chapter, &made, ended);
             return;
         }
     }

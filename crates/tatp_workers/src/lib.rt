@@ -2,6 +2,7 @@
 //! a trait, by which it takes and hands on, and its contract says what it does there, in order.
 #![tactic(auto)]
 
+mod checkpoints;
 mod client;
 mod debugger;
 mod delivery;
@@ -16,6 +17,7 @@ mod offers;
 mod recorded;
 mod slices;
 
+pub use checkpoints::{Checkpointed, checkpoint_full};
 pub use client::{Exchange, Requester, ask_all};
 pub use debugger::{Debugging, debug_run};
 pub use delivery::Delivery;

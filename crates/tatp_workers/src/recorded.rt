@@ -3,18 +3,17 @@
 //! workers say something, and are shown to be met.
 ghost use Rattle.std.specs.Prelude.{◌≡◌, [], ◌∷◌, List, None, false, length, vec_len, vec_capacity, ◌<◌, ◌≤◌, ◌+◌, ◌++◌};
 ghost use Rattle.tatp_population.specs.Extents.{ExtentState};
-ghost use Rattle.tatp_partition.specs.Running.{told_in};
 ghost use Rattle.tatp_workers.specs.Effects.{Grows, InTurn, known_unless};
 ghost use Rattle.tatp_workers.specs.Asking.{Talk, Converses};
 ghost use Rattle.tatp_workers.specs.Carrying.{MakesMoves};
 ghost use Rattle.tatp_workers.specs.Debugging.{IsDebugged};
 ghost use Rattle.tatp_workers.specs.Executing.{ExecutesUntilQuit};
-ghost use Rattle.tatp_workers.specs.Slices.{IsSlice};
+ghost use Rattle.tatp_workers.specs.Slices.{IsSlice, told_of};
 
 use crate::{
-    Answering, Carrying, Debugging, Delivery, Effect, Exchange, Executing, Message, MoveEffect,
-    Moves, Observer, Offered, Requester, StepAhead, ask_all, debug_run, move_run, slice,
-    take_calls,
+    Answering, Carrying, Checkpointed, Debugging, Delivery, Effect, Exchange, Executing, Message,
+    MoveEffect, Moves, Observer, Offered, Requester, StepAhead, ask_all, debug_run, move_run,
+    slice, take_calls,
 };
 use std::alloc::Global;
 use std::sync::Wait;
@@ -144,7 +143,7 @@ impl Debugging for Record<Effect> {
     }
 }
 
-/// No call comes, and a site would drop each.
+/// No call comes, a site would drop each, and each log is short.
 impl Executing for Record<Effect> {
     fn receive(&mut self) -> Option<Message> {
         self.keep(Effect::Receives(None));
@@ -156,9 +155,14 @@ impl Executing for Record<Effect> {
         Offered::Dropped(*item)
     }
 
-    fn slice(&mut self, client: u64, _ended: &mut CompletionPlace) -> Result<(), SiteRefusal> {
-        self.keep(Effect::Slices(client, Err(SiteRefusal::NotRunning)));
+    fn slice(&mut self, client: u64, _ended: &mut CompletionPlace) -> Result<u64, SiteRefusal> {
+        self.keep(Effect::Slices(client, Err(SiteRefusal::NotRunning), 0));
         Err(SiteRefusal::NotRunning)
+    }
+
+    fn checkpoint(&mut self, extent: u32, chapter: u64) -> Checkpointed {
+        self.keep(Effect::Checkpoints(extent, chapter, Checkpointed::Short));
+        Checkpointed::Short
     }
 
     fn send(&mut self, item: Item) -> bool {
@@ -170,10 +174,10 @@ impl Executing for Record<Effect> {
 /// An executor runs calls.
 #[tactic(auto, using(crate::proofs::EffectLaws::all_recorded))]
 fn execute_each<R: Wait>(rt: &R, alloc: Global) -> Record<Effect>
-    ensures { result.is_lost ≡ false → ExecutesUntilQuit 0 result.kept.items }
+    ensures { result.is_lost ≡ false → ExecutesUntilQuit 0 1 result.kept.items }
 {
     let mut executing = Record::new(alloc);
-    take_calls(rt, &mut executing, 0);
+    take_calls(rt, &mut executing, 0, 1);
     executing
 }
 
@@ -227,10 +231,10 @@ fn slice_once(
     client: u64,
     wanted: &AtomicU64,
     ended: &mut CompletionPlace,
-) -> (Record<StepAhead>, Result<(), SiteRefusal>)
+) -> (Record<StepAhead>, Result<u64, SiteRefusal>)
     requires { ended.old ≡ None }
     ensures { result.0.is_lost ≡ false
-        → IsSlice client site.old (told_in result.1 ended.new) site.new result.0.kept.items }
+        → IsSlice client site.old (told_of result.1 ended.new) site.new result.0.kept.items }
 {
     let mut observer = Record::new(alloc);
     let made = slice(site, &mut observer, client, wanted, ended);

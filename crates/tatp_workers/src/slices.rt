@@ -1,9 +1,9 @@
 //! Steps of a call under one hold of its site's lock.
-ghost use Rattle.std.specs.Prelude.{◌≡◌, None, OnErr};
+ghost use Rattle.std.specs.Prelude.{◌≡◌, None, IfOk, OnErr};
 ghost use Rattle.tatp_partition.specs.Obstacles.{step_obstacle};
 ghost use Rattle.tatp_partition.specs.Running.{AdvancesUnless, told_in};
 ghost use Rattle.tatp_workers.specs.Effects.{Grows, Does};
-ghost use Rattle.tatp_workers.specs.Slices.{IsSlice, steps_ahead};
+ghost use Rattle.tatp_workers.specs.Slices.{IsSlice, steps_ahead, logged_at, told_of};
 
 use crate::{Observer, StepAhead};
 use std::sync::atomic::{AtomicU64, Ordering};
@@ -47,10 +47,9 @@ fn observed_step<O: Observer>(
     site.step_into(StepKind::Step, ended)
 }
 
-/// Makes steps of a client's call at a site whose lock is held: up to the first that doesn't go on,
-/// and no more where another thread wants the lock. Where the call ends, its completion is left in
-/// its place.
-pub fn slice<O: Observer>(
+/// Makes steps of a client's call: up to the first that doesn't go on, and no more where another
+/// thread wants the lock. Where the call ends, its completion is left in its place.
+fn make_steps<O: Observer>(
     site: &mut Site<'_>,
     observer: &mut O,
     client: u64,
@@ -72,4 +71,35 @@ pub fn slice<O: Observer>(
         }
     }
     observed_step(site, observer, client, ended)
+}
+
+/// How many entries the log of the extent has on which a call ended; 0 where it goes on.
+fn logged_at(site: &Site<'_>, ended: &CompletionPlace) -> u64
+    ensures { result ≡ logged_at site.now ended.now }
+{
+    match ended.get() {
+        None => 0,
+        Some(completion) => site.log_len(completion.extent),
+    }
+}
+
+/// Makes steps of a client's call at a site whose lock is held: up to the first that doesn't go on,
+/// and no more where another thread wants the lock. Where the call ends, its completion is left in
+/// its place, and the answer is how many entries the log of its extent has then.
+pub fn slice<O: Observer>(
+    site: &mut Site<'_>,
+    observer: &mut O,
+    client: u64,
+    wanted: &AtomicU64,
+    ended: &mut CompletionPlace,
+) -> Result<u64, SiteRefusal>
+    requires { ended.old ≡ None }
+    ensures steps { Does (IsSlice client site.old (told_of result ended.new) site.new)
+        (O.observed observer.old) (O.observed observer.new) }
+    ensures logged { IfOk result (λ logged. logged ≡ logged_at site.new ended.new) }
+{
+    match make_steps(site, observer, client, wanted, ended) {
+        Ok(()) => Ok(logged_at(site, ended)),
+        Err(refusal) => Err(refusal),
+    }
 }

@@ -68,6 +68,7 @@ fn a_partition_goes_on_while_the_first_step_is_held(rt: HostRuntime) -> Result<(
         distribution: Distribution::Uniform,
         moves: 0,
         stops: 0,
+        chapter: 1000,
     };
     let gate = HoldFirst {
         clock: &rt,

@@ -205,7 +205,8 @@ fn left_of(alloc: Global, ran: Ran<'_>) -> Result<Option<Left>, AllocError>
     }
 }
 
-/// What a run by a seed leaves: over three partitions, with moves and stops.
+/// What a run by a seed leaves: over three partitions, with moves and stops, and with chapters of
+/// few calls.
 fn left_by<R: Threads + Wait + Sync>(
     rt: &R,
     alloc: Global,
@@ -219,7 +220,10 @@ fn left_by<R: Threads + Wait + Sync>(
     let loaded = module(alloc)?;
     let rows = clean_rows(alloc, SUBSCRIBERS, &[])?;
     let moves = moves_by(alloc, seed)?;
-    match run_calls(rt, alloc, &loaded, rows, 3, lists, &moves, clock) {
+    let chapter = 1 + seed % 8;
+    match run_calls(
+        rt, alloc, &loaded, rows, 3, lists, &moves, clock, chapter,
+    ) {
         Err(_) => Err("no run".into()),
         Ok(ran) => match left_of(alloc, ran)? {
             None => Err("a parcel is left".into()),

@@ -51,6 +51,7 @@ fn each_call_begins_and_ends_under_the_gate(rt: HostRuntime) -> Result<(), Fail>
         distribution: Distribution::Skewed,
         moves: 50,
         stops: 0,
+        chapter: 10,
     };
     let gate = Count {
         firsts: AtomicU64::new(0),
@@ -79,6 +80,7 @@ fn extents_move_while_calls_run(rt: HostRuntime) -> Result<(), Fail> {
         distribution: Distribution::Skewed,
         moves: 50,
         stops: 0,
+        chapter: 1000,
     };
     match run_bench(&rt, rt.alloc(), &plan, &NoGate) {
         Err(_) => Err("not settled".into()),

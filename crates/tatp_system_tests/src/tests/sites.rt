@@ -10,7 +10,7 @@ use tatp_partition::{
 };
 use tatp_population::{discard, open};
 use tatp_procs::standard;
-use tatp_threads::{Ran, RanParts};
+use tatp_threads::{Ran, RanParts, discard_chapters};
 
 /// The standard module, of which no test here has to know more.
 pub fn module(alloc: Global) -> Result<Loaded, AllocError> {
@@ -63,7 +63,8 @@ pub fn spend_parcels(parcels: Vec<Parcel>) {
     rest.destroy_empty();
 }
 
-/// What a run of threads leaves: its sites, how many parcels, which are spent, and its receipts.
+/// What a run of threads leaves: its sites, how many parcels, which are spent with its chapters, and
+/// its receipts.
 pub fn unpack<'m>(ran: Ran<'m>) -> (Vec<Site<'m>>, usize, Vec<Vec<Receipt>>)
     requires { vec_len ran.parts.landings ≡ 0 }
 {
@@ -71,9 +72,11 @@ pub fn unpack<'m>(ran: Ran<'m>) -> (Vec<Site<'m>>, usize, Vec<Vec<Receipt>>)
         sites,
         parcels,
         landings,
+        chapters,
         receipts,
     } = ran.parts();
     landings.destroy_empty();
+    discard_chapters(chapters);
     let parcels_left = parcels.len();
     spend_parcels(parcels);
     (sites, parcels_left, receipts)

@@ -115,7 +115,7 @@ fn left_by_run<R: Threads + Wait + Sync, G: Gate + Sync>(
 {
     let loaded = module(alloc)?;
     let rows = clean_rows(alloc, 130, &[])?;
-    match run_calls(rt, alloc, &loaded, rows, 2, lists, moves, gate) {
+    match run_calls(rt, alloc, &loaded, rows, 2, lists, moves, gate, 1000) {
         Err(_) => Err("no run".into()),
         Ok(ran) => Ok(left_by(rt, alloc, ran)),
     }

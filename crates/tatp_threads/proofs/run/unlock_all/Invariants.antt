@@ -6,6 +6,8 @@ abbrev pub invariant-loop-partition : goal.invariant-loop-partition
 invariant-loop-partition l = record {
   count : vec_len l.sites + into_iter_len l.rest ≡ vec_len l.fn.room + vec_len l.fn.partitions;
   room : vec_len l.sites + into_iter_len l.rest ≤ vec_capacity l.sites;
+  chapters : vec_len l.chapters + into_iter_len l.rest ≡ vec_len l.fn.room_for_chapters + vec_len l.fn.partitions;
+  room_for_chapters : vec_len l.chapters + into_iter_len l.rest ≤ vec_capacity l.chapters;
 }
 
 abbrev pub decreases-loop-partition : goal.decreases-loop-partition

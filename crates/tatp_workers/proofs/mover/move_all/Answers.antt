@@ -1,4 +1,4 @@
-use Rattle.std.proofs.Common.{◌≡◌, ℕ, Some, None, length, get_or, slice_get, refl, sym, ap, ◌∙◌, ◌++◌, ◌∷◌, [], List, arith}
+use Rattle.std.proofs.Common.{◌≡◌, Some, get_or, slice_get, refl, ap, ◌∙◌, ◌++◌, ◌∷◌, [], List, arith}
 use Rattle.std.proofs.lemmas.Option.{slice_get-get_or}
 use Rattle.tatp_population.specs.Extents.{ExtentState}
 use Rattle.tatp_workers.specs.Carrying.{IsMade}

@@ -7,13 +7,13 @@ use Rattle.tatp_threads.proofs.reserved.Reserved.make.Given as given
 use Rattle.tatp_threads.proofs.reserved.Reserved.make.Goals as goal
 
 -- the ends by which inboxes get Quit are as they were opened once the executors have seats
-after_executors : (g : given.Over) (c : goal.In_ok-new-3 g) → c.as_mut_slice-2.result.now ≡ c.in_ok-quit.quit.items
+after_executors : (g : given.Over) (c : goal.In_ok-new-4 g) → c.as_mut_slice-2.result.now ≡ c.in_ok-quit.quit.items
 after_executors g c =
     c.as_mut_slice-2.ensures.value
     ∙ written_back c.in_ok-quit.quit.len c.in_ok-quit.quit.items c.seat_executors.new.ports c.in_ok-quit.quit.ok.0 (c.seat_executors.ensures.same ∙ c.as_mut_slice.ensures.value)
 
 -- and once the clients have seats
-after_clients : (g : given.Over) (c : goal.In_ok-new-3 g) (items : List (End Message)) → c.as_mut_slice-2.result.now ≡ items
+after_clients : (g : given.Over) (c : goal.In_ok-new-4 g) (items : List (End Message)) → c.as_mut_slice-2.result.now ≡ items
     → take c.in_ok-quit.quit.len (c.seat_clients.new.ports ++ drop (length c.seat_clients.new.ports) items) ≡ c.in_ok-quit.quit.items
 after_clients g c items is =
     let same : items ≡ c.in_ok-quit.quit.items = sym is ∙ after_executors g c in

@@ -1,9 +1,9 @@
-use Rattle.std.proofs.Common.{◌≡◌, Option, None, Result, Ok, is_some, false, sym, ◌∙◌, subst, arith, rules}
+use Rattle.std.proofs.Common.{◌≡◌, Option, None, Ok, sym, ◌∙◌, subst, arith}
 use Rattle.tatp_partition.specs.declared.item.Completion.{Completion}
 use Rattle.tatp_partition.specs.Obstacles.{step_obstacle}
 use Rattle.tatp_partition.specs.Running.{AdvancesUnless, stepped_of, told_in}
-use Rattle.tatp_workers.proofs.SliceLaws.{none_there, none_made, one_more, last_made}
-use Rattle.tatp_workers.proofs.slices.slice.Goals as goal
+use Rattle.tatp_workers.proofs.SliceLaws.{none_there, one_more, last_made}
+use Rattle.tatp_workers.proofs.slices.make_steps.Goals as goal
 
 pub returns-then-is_some : goal.returns-then-is_some
 returns-then-is_some g c =

@@ -1,9 +1,6 @@
-use Rattle.std.proofs.Common.{◌≡◌, None, List}
-use Rattle.tatp_workers.specs.Effects.{Grows}
-use Rattle.tatp_workers.specs.Slices.{GoesOnObserved}
-use Rattle.tatp_workers.specs.declared.observer.StepAhead.{StepAhead}
+use Rattle.std.proofs.Common.{◌≡◌, None}
 use Rattle.tatp_workers.proofs.SliceLaws.{WentOn}
-use Rattle.tatp_workers.proofs.slices.slice.Given as goal
+use Rattle.tatp_workers.proofs.slices.make_steps.Given as goal
 
 abbrev pub invariant-loop-made : goal.invariant-loop-made
 invariant-loop-made g l = record {

@@ -24,7 +24,7 @@ missing_none c None first = first
 missing_none c (Some e) first = tt
 
 -- what is missing of sites and parcels is so whatever chapters came
-pub missing_with : (sites : List SiteState) (parcels : List ExtentState) (chapters : List ChapterState) (e : ℕ) → IsMissing (closed_of sites parcels []) e → IsMissing (closed_of sites parcels chapters) e
+missing_with : (sites : List SiteState) (parcels : List ExtentState) (chapters : List ChapterState) (e : ℕ) → IsMissing (closed_of sites parcels []) e → IsMissing (closed_of sites parcels chapters) e
 missing_with sites parcels chapters e missing = record { within = missing.within; nowhere = missing.nowhere }
 
 pub missing_without : (sites : List SiteState) (parcels : List ExtentState) (chapters : List ChapterState) (e : ℕ) → IsMissing (closed_of sites parcels chapters) e → IsMissing (closed_of sites parcels []) e

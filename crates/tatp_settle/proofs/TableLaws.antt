@@ -1,10 +1,10 @@
 -- Tables: their cells, and how they are filled.
-use Rattle.std.proofs.Common.{◌≡◌, ℕ, zero, suc, ◌+◌, ◌<◌, inl, inr, true, List, [], ◌∷◌, ◌++◌, length, map, take, replicate, Option, Some, None, Result, Ok, Err, OnOk, is_ok, if◌then◌else◌, Vec, Global, vec_len, slice_get, slice_set, slice_index_or, Bor, refl, sym, ◌∙◌, ap, subst, arith}
-use Rattle.std.specs.Option.{option_and_then, option_copied, option_map, option_map_or}
+use Rattle.std.proofs.Common.{◌≡◌, ℕ, zero, suc, ◌+◌, ◌<◌, inl, inr, true, List, [], ◌∷◌, ◌++◌, length, map, take, replicate, Option, Some, None, Result, Ok, Err, OnOk, is_ok, if◌then◌else◌, Vec, Global, slice_get, slice_set, slice_index_or, Bor, refl, sym, ◌∙◌, ap, subst, arith}
+use Rattle.std.specs.Option.{option_and_then, option_copied}
 use Rattle.std.specs.Slice.{IsItemAt}
 use Rattle.std.proofs.lemmas.Bool.{cases_eq}
 use Rattle.std.proofs.lemmas.List.{map_push, map-append, length-map, length-set}
-use Rattle.std.proofs.lemmas.Option.{slice_get_past, slice_get_read, slice_get-map}
+use Rattle.std.proofs.lemmas.Option.{slice_get_past, slice_get_read}
 use Rattle.tatp_settle.specs.Placing.{IsFresh, IsFreshCell, Puts}
 use Rattle.tatp_settle.specs.Runs.{at_call, lists_of}
 
@@ -32,7 +32,7 @@ lent_at xs i None h = sym (slice_get_past xs i h.3)
 lent_at xs i (Some x) h = sym (slice_get_read xs (length xs) i x.now refl h.3.0 h.1)
 
 module _ {A : Type 0} where
-  pub at_row : (rows : List (Vec A Global)) (r : ℕ) (row : Vec A Global) (n : ℕ) → slice_get rows r ≡ Some row → at_call (lists_of rows) r n ≡ slice_get row.items n
+  at_row : (rows : List (Vec A Global)) (r : ℕ) (row : Vec A Global) (n : ℕ) → slice_get rows r ≡ Some row → at_call (lists_of rows) r n ≡ slice_get row.items n
   at_row [] r row n here = absurd cc
   at_row (v ∷ rows) zero row n here = ap (λ (o : Option (Vec A Global)). option_and_then (λ (v : Vec A Global). slice_get v.items n) o) here
   at_row (v ∷ rows) (suc r) row n here = at_row rows r row n here
@@ -41,35 +41,6 @@ module _ {A : Type 0} where
   row_is [] r n x d h e = absurd cc
   row_is (v ∷ rows) zero n x d h e = ap (λ (v : Vec A Global). Some v) (sym e)
   row_is (v ∷ rows) (suc r) n x d h e = row_is rows r n x d h e
-
-  pub row_within : (rows : List (Vec A Global)) (r n : ℕ) (x : A) → at_call (lists_of rows) r n ≡ Some x → r < length rows
-  row_within [] r n x h = absurd cc
-  row_within (v ∷ rows) zero n x h = omega arith
-  row_within (v ∷ rows) (suc r) n x h = let rest = row_within rows r n x h in omega (arith, rest)
-
-  pub row_got : (rows : List (Vec A Global)) (r : ℕ) → slice_get (lists_of rows) r ≡ option_map (λ (v : Vec A Global). v.items) (slice_get rows r)
-  row_got rows r = slice_get-map (λ (v : Vec A Global). v.items) rows r
-
-  -- the cell of a table, by its row; there is none without the row
-  pub cell_here : (rows : List (Vec A Global)) (table : List (List A)) (r n : ℕ) (row : Vec A Global) → lists_of rows ≡ table → slice_get rows r ≡ Some row → slice_get row.items n ≡ at_call table r n
-  cell_here rows table r n row is here = sym (at_row rows r row n here) ∙ ap (λ (t : List (List A)). at_call t r n) is
-
-  pub cell_nowhere : (rows : List (Vec A Global)) (table : List (List A)) (r n : ℕ) → lists_of rows ≡ table → slice_get rows r ≡ None → None ≡ at_call table r n
-  cell_nowhere rows table r n is none =
-      sym (ap (λ (o : Option (List A)). option_and_then (λ (list : List A). slice_get list n) o) (row_got rows r ∙ ap (λ (o : Option (Vec A Global)). option_map (λ (v : Vec A Global). v.items) o) none))
-      ∙ ap (λ (t : List (List A)). at_call t r n) is
-
-  -- how long a row is
-  pub len_here : (rows : List (Vec A Global)) (table : List (List A)) (r : ℕ) (row : Vec A Global) → lists_of rows ≡ table → slice_get rows r ≡ Some row → vec_len row ≡ option_map_or length (slice_get table r) 0
-  len_here rows table r row is here =
-      row.ok.0
-      ∙ (sym (ap (λ (o : Option (List A)). option_map_or length o 0) (row_got rows r ∙ ap (λ (o : Option (Vec A Global)). option_map (λ (v : Vec A Global). v.items) o) here))
-      ∙ ap (λ (t : List (List A)). option_map_or length (slice_get t r) 0) is)
-
-  pub len_nowhere : (rows : List (Vec A Global)) (table : List (List A)) (r : ℕ) → lists_of rows ≡ table → slice_get rows r ≡ None → 0 ≡ option_map_or length (slice_get table r) 0
-  len_nowhere rows table r is none =
-      sym (ap (λ (o : Option (List A)). option_map_or length o 0) (row_got rows r ∙ ap (λ (o : Option (Vec A Global)). option_map (λ (v : Vec A Global). v.items) o) none))
-      ∙ ap (λ (t : List (List A)). option_map_or length (slice_get t r) 0) is
 
   -- how many rows there are
   pub rows_counted : (rows : List (Vec A Global)) (table : List (List A)) → lists_of rows ≡ table → length rows ≡ length table
@@ -141,9 +112,6 @@ fresh_more P lists table i list here before =
   where
     next : suc i ≡ i + 1
     next = omega arith
-
-pub got_within : {A : Type 0} (xs : List A) (i : ℕ) (x : A) → i < length xs → x ≡ slice_index_or xs i x → slice_get xs i ≡ Some x
-got_within xs i x l e = slice_get_read xs (length xs) i x refl l e
 
 -- the rows of a table behind those of another
 pub appended : {A T E : Type 0} (r : Result T E) (now low high : List (Vec A Global)) (front back : List (List A)) → lists_of low ≡ front → lists_of high ≡ back → now ≡ (if is_ok r then low ++ high else low) → OnOk r (lists_of now ≡ front ++ back)

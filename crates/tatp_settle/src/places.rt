@@ -54,20 +54,20 @@ pub(crate) fn lesser(least: Option<CallPlace>, other: CallPlace) -> Option<CallP
 /// The lesser of two chapters.
 pub(crate) fn lesser_chapter(
     least: Option<ChapterPlace>,
-    other: ChapterPlace,
+    chapter: ChapterPlace,
 ) -> Option<ChapterPlace>
     ensures keeps { (extent index : ℕ)
         → IsChapterAtMost least extent index → IsChapterAtMost result extent index }
-    ensures at { IsChapterAtMost result other.extent other.index }
-    ensures is { (result ≡ least) ⊎ (result ≡ Some other) }
+    ensures at { IsChapterAtMost result chapter.extent chapter.index }
+    ensures is { (result ≡ least) ⊎ (result ≡ Some chapter) }
 {
     match least {
-        None => Some(other),
+        None => Some(chapter),
         Some(place) => {
-            if other.extent < place.extent
-                || other.extent == place.extent && other.index < place.index
+            if chapter.extent < place.extent
+                || chapter.extent == place.extent && chapter.index < place.index
             {
-                Some(other)
+                Some(chapter)
             } else {
                 Some(place)
             }

@@ -1,8 +1,9 @@
-use Rattle.std.proofs.Common.{None, length, sym, ◌∙◌, ◌++◌, ◌∷◌, [], ap, subst, replicate, take, arith}
+use Rattle.std.proofs.Common.{None, length, refl, sym, ◌∙◌, ◌++◌, ◌∷◌, [], ap, subst, replicate, take, arith}
 use Rattle.std.proofs.lemmas.List.{take_all, length-map}
+use Rattle.std.proofs.lemmas.Option.{slice_get_read}
 use Rattle.tatp_settle.specs.Runs.{lists_of, at_call}
 use Rattle.tatp_settle.specs.Placing.{IsFresh, cells_of}
-use Rattle.tatp_settle.proofs.TableLaws.{fresh_more, fresh_are_fresh, fresh_rows, fresh_row, got_within}
+use Rattle.tatp_settle.proofs.TableLaws.{fresh_more, fresh_are_fresh, fresh_rows, fresh_row}
 use Rattle.tatp_settle.proofs.table.Table.fresh.Goals as goal
 
 pub lists-preserved : goal.lists-preserved
@@ -10,7 +11,7 @@ lists-preserved g c =
     c.in_ok-add_row.ensures
     ∙ (ap (λ n. c.lists.table ++ replicate n None ∷ []) (c.len.ensures ∙ c.list-item.result.ok.0)
     ∙ fresh_more _ c.args.lists.now c.lists.table c.lists.list-index c.list-item.result
-    (got_within c.args.lists.now c.lists.list-index c.list-item.result c.lists-test.true c.list-item.is)
+    (slice_get_read c.args.lists.now (length c.args.lists.now) c.lists.list-index c.list-item.result refl c.lists-test.true c.list-item.is)
     c.lists.invariant)
 
 pub returns-clause-fresh : goal.returns-clause-fresh

@@ -13,9 +13,9 @@ use std::thread::Threads;
 use tatp_procs::Ask;
 use tatp_tables::Rows;
 
-/// Whether the run is one history: from the population, whose rows are clean, through the logs in
-/// the order of stamp and extent, to the rows that are left; each client's receipts are its calls
-/// in that history; and no chapter is out. Refused, what was gathered comes back.
+/// Whether the run is one history: from the population, whose rows are clean, through all chapters
+/// and the logs since in the order of stamp and extent, to the rows that are left; and each
+/// client's receipts are its calls in that history. Refused, what was gathered comes back.
 pub fn settle<R: Threads + Sync>(
     rt: &R,
     alloc: Global,

@@ -2,12 +2,13 @@
 
 use super::events::{Event, Left, are_few, left, readings};
 use super::rows::clean_rows;
-use super::sites::module;
+use super::sites::{module, spend_parcels};
 use std::alloc::{AllocError, Global};
 use std::test::*;
 use std::thread::Threads;
 use tatp_audits::audit;
 use tatp_bench::{BenchFault, settle_run};
+use tatp_partition::{close_sites, discard_all};
 use tatp_settle::Settled;
 use tatp_threads::RanParts;
 
@@ -31,11 +32,20 @@ fn told_of<R: Threads + Sync>(
             parcels,
             chapters,
         }) => {
+            let mut lists = Vec::new(alloc);
+            if let Err(refused) = lists.push(chapters) {
+                discard_all(refused.value);
+                lists.destroy_empty();
+                close_sites(sites);
+                spend_parcels(parcels);
+                return Err(AllocError);
+            }
             let parts = RanParts {
                 sites,
                 parcels,
                 landings: Vec::new(alloc),
                 receipts: Vec::new(alloc),
+                chapters: lists,
             };
             Ok(Some(settle_run(rt, alloc, &population, parts, &calls)))
         }
@@ -43,8 +53,10 @@ fn told_of<R: Threads + Sync>(
 }
 
 /// Events, and the text of the fault.
-static UNSETTLED: [(&[Event], &str); 3] = [
-    (&[Event::Lost(2)], "44 ExtentMissing 2"),
+static UNSETTLED: [(&[Event], &str); 5] = [
+    (&[Event::Kept(2), Event::Lost(2)], "44 ExtentMissing 2"),
+    (&[Event::HandedOut(2)], "45 Unsettled ChapterMissing 2 0"),
+    (&[Event::Kept(2)], "45 Unsettled CallMissing 0 0"),
     (&[Event::Taken(2)], "45 Unsettled ParcelLeft 2"),
     (&[], "45 Unsettled CallMissing 0 0"),
 ];

@@ -239,7 +239,7 @@ pub fn left_of<'m>(
 }
 
 /// The same on 192 subscribers.
-pub fn left<'m>(
+pub fn left_at<'m>(
     alloc: Global,
     loaded: &'m Loaded,
     partitions: &[u8],

@@ -1,6 +1,6 @@
 //! What isn't gathered, and what comes back.
 
-use super::events::{Event, Left, left};
+use super::events::{Event, Left, left_at};
 use super::sites::{module, spend_parcels};
 use std::alloc::{AllocError, Global};
 use std::test::Fail;
@@ -46,7 +46,7 @@ fn refused_of(
     events: &[Event],
 ) -> Result<Option<(String, Back)>, AllocError> {
     let loaded = module(alloc)?;
-    match left(alloc, &loaded, partitions, events)? {
+    match left_at(alloc, &loaded, partitions, events)? {
         None => Ok(None),
         Some(Left {
             sites,

@@ -3,7 +3,7 @@ ghost use Rattle.std.specs.Prelude.{◌<◌, ◌^◌, length};
 ghost use Rattle.tatp_tables.specs.Clean.{IsClean};
 ghost use Rattle.tatp_settle.specs.Runs.{joined, lists_of};
 
-use super::events::{Event, Got, Left, are_few, left, left_of, readings, receipts};
+use super::events::{Event, Got, Left, are_few, left_at, left_of, readings, receipts};
 use super::rows::clean_rows;
 use super::sites::{module, spend_parcels};
 use std::alloc::{AllocError, Global};
@@ -134,7 +134,7 @@ fn closed(alloc: Global, run: Run<'_>) -> Result<Option<Closed>, AllocError> {
             return Err(error);
         }
     };
-    match left(alloc, &loaded, run.partitions, run.events) {
+    match left_at(alloc, &loaded, run.partitions, run.events) {
         Ok(Some(left)) => gathered(alloc, left, chapters),
         Ok(None) => {
             discard_all(chapters);

@@ -1,6 +1,6 @@
 //! Runs that `bench` doesn't settle, each told with its own cause.
 
-use super::events::{Event, Left, are_few, left, readings};
+use super::events::{Event, Left, are_few, left_at, readings};
 use super::rows::clean_rows;
 use super::sites::{module, spend_parcels};
 use std::alloc::{AllocError, Global};
@@ -25,7 +25,7 @@ fn told_of<R: Threads + Sync>(
         return Ok(None);
     }
     let loaded = module(alloc)?;
-    match left(alloc, &loaded, &[0], events)? {
+    match left_at(alloc, &loaded, &[0], events)? {
         None => Ok(None),
         Some(Left {
             sites,

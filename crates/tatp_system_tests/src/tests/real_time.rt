@@ -221,9 +221,7 @@ fn left_by<R: Threads + Wait + Sync>(
     let rows = clean_rows(alloc, SUBSCRIBERS, &[])?;
     let moves = moves_by(alloc, seed)?;
     let chapter = 1 + seed % 8;
-    match run_calls(
-        rt, alloc, &loaded, rows, 3, lists, &moves, clock, chapter,
-    ) {
+    match run_calls(rt, alloc, &loaded, rows, 3, lists, &moves, clock, chapter) {
         Err(_) => Err("no run".into()),
         Ok(ran) => match left_of(alloc, ran)? {
             None => Err("a parcel is left".into()),

@@ -48,11 +48,13 @@ fn refused_of(
     let loaded = module(alloc)?;
     match left_at(alloc, &loaded, partitions, events)? {
         None => Ok(None),
-        Some(Left {
-            sites,
-            parcels,
-            chapters,
-        }) => refused(alloc, gather(alloc, sites, parcels, chapters)),
+        Some(
+            Left {
+                sites,
+                parcels,
+                chapters,
+            },
+        ) => refused(alloc, gather(alloc, sites, parcels, chapters)),
     }
 }
 
@@ -63,7 +65,12 @@ type Case<'a> = (&'a [u8], &'a [Event], &'a str, Back);
 static MISSING: [Case<'static>; 5] = [
     (&[], &[], "44 ExtentMissing 0", (0, 0, 0, None)),
     (&[1], &[], "44 ExtentMissing 0", (1, 0, 0, None)),
-    (&[0], &[Event::Lost(3)], "44 ExtentMissing 3", (1, 0, 0, None)),
+    (
+        &[0],
+        &[Event::Lost(3)],
+        "44 ExtentMissing 3",
+        (1, 0, 0, None),
+    ),
     (
         &[0],
         &[Event::Kept(3), Event::Lost(3), Event::Taken(1)],

@@ -61,21 +61,25 @@ fn chapters_of(
     alloc: Global,
     beside: Option<Beside<'_>>,
 ) -> Result<Option<Vec<Chapter>>, AllocError> {
-    let Some(Beside {
-        subscribers,
-        events,
-    }) = beside
+    let Some(
+        Beside {
+            subscribers,
+            events,
+        },
+    ) = beside
     else {
         return Ok(Some(Vec::new(alloc)));
     };
     let loaded = module(alloc)?;
     match left_of(alloc, &loaded, subscribers, &[0], events)? {
         None => Ok(None),
-        Some(Left {
-            sites,
-            parcels,
-            chapters,
-        }) => {
+        Some(
+            Left {
+                sites,
+                parcels,
+                chapters,
+            },
+        ) => {
             close_sites(sites);
             spend_parcels(parcels);
             Ok(Some(chapters))
@@ -121,8 +125,8 @@ fn gathered(
     }
 }
 
-/// What a run leaves, gathered. None where one of its events, or of those beside it, did not happen,
-/// or an extent is missing.
+/// What a run leaves, gathered. None where one of its events, or of those beside it, did not
+/// happen, or an extent is missing.
 fn closed(alloc: Global, run: Run<'_>) -> Result<Option<Closed>, AllocError> {
     let Some(chapters) = chapters_of(alloc, run.beside)? else {
         return Ok(None);
@@ -465,8 +469,8 @@ const NONE: Beside<'static> = Beside {
     events: &[],
 };
 
-/// Chapters that did not come, came twice, or don't join. In each row the first client's call has no
-/// receipt either.
+/// Chapters that did not come, came twice, or don't join. In each row the first client's call has
+/// no receipt either.
 static CHAPTERS: [ChapterCase<'static>; 15] = [
     (
         &[Event::Call(1, 0, 1), Event::HandedOut(1)],

@@ -63,8 +63,8 @@ pub fn spend_parcels(parcels: Vec<Parcel>) {
     rest.destroy_empty();
 }
 
-/// What a run of threads leaves: its sites, how many parcels, which are spent with its chapters, and
-/// its receipts.
+/// What a run of threads leaves: its sites, how many parcels, which are spent with its chapters,
+/// and its receipts.
 pub fn unpack<'m>(ran: Ran<'m>) -> (Vec<Site<'m>>, usize, Vec<Vec<Receipt>>)
     requires { vec_len ran.parts.landings ≡ 0 }
 {

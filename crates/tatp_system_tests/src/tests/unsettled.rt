@@ -27,11 +27,13 @@ fn told_of<R: Threads + Sync>(
     let loaded = module(alloc)?;
     match left_at(alloc, &loaded, &[0], events)? {
         None => Ok(None),
-        Some(Left {
-            sites,
-            parcels,
-            chapters,
-        }) => {
+        Some(
+            Left {
+                sites,
+                parcels,
+                chapters,
+            },
+        ) => {
             let mut lists = Vec::new(alloc);
             if let Err(refused) = lists.push(chapters) {
                 discard_all(refused.value);

@@ -77,7 +77,7 @@ fn handed_out<R: Threads + Wait + Sync>(
 }
 
 /// How many calls a chapter has to have, and the chapters of the run.
-static FULL: [(u64, Counts); 6] = [
+const FULL: [(u64, Counts); 6] = [
     (0, [(1, 1), (5, 5), (3, 3), (1, 1)]),
     (1, [(1, 1), (5, 5), (3, 3), (1, 1)]),
     (2, [(0, 0), (2, 4), (1, 2), (0, 0)]),
@@ -89,7 +89,8 @@ static FULL: [(u64, Counts); 6] = [
 // Each end is followed by a checkpoint where the log is full, and no other is made.
 #[test]
 fn full_logs_are_handed_out(rt: HostRuntime) -> Result<(), Fail> {
-    for (chapter, counts) in &FULL {
+    let full = FULL;
+    for (chapter, counts) in &full {
         let told = handed_out(&rt, rt.alloc(), *chapter)?;
         assert_eq!(rt; told, (*counts, 10));
     }

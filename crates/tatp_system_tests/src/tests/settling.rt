@@ -284,12 +284,12 @@ fn extents_that_are_causes(rt: HostRuntime) -> Result<(), Fail> {
 }
 
 /// What is told of a run at one site, on the rows of 192 subscribers.
-fn told_of_calls<R: Threads + Sync>(
+fn told_of_calls<'a, R: Threads + Sync>(
     rt: &R,
     alloc: Global,
-    events: &[Event],
-    calls: &[&[u64]],
-    got: &[&[Got]],
+    events: &'a [Event],
+    calls: &'a [&'a [u64]],
+    got: &'a [&'a [Got]],
 ) -> Result<Option<Result<Settled, String>>, AllocError> {
     let population = clean_rows(alloc, 192, &[])?;
     let run = Run {

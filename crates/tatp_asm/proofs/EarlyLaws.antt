@@ -3,18 +3,20 @@ use Rattle.std.proofs.Common.{◌≡◌, ◌≢◌, ℕ, zero, suc, ◌+◌, ◌
 use Rattle.std.specs.Prelude.{slice_get}
 use Rattle.std.proofs.lemmas.Bool.{eqb-true}
 use Rattle.tatp_instr.specs.declared.instr.Instr.{Instr}
-use Rattle.tatp_encoding.specs.Modules.{Procedure}
+use Rattle.tatp_encoding.specs.Modules.{Procedure, ModuleState}
 use Rattle.tatp_lines.specs.Lines.{lines_of}
 use Rattle.tatp_asm.specs.declared.fault.AsmFault.{AsmFault}
 use Rattle.tatp_asm.specs.declared.fault.AsmFaultKind.TheVariants.{Syntax, NoSuchLabel, LabelTwice, TooLong}
 use Rattle.tatp_asm.specs.Instrs.{has_target}
 use Rattle.tatp_asm.specs.Lines.{Line, Opens, Names, Does, Closes}
-use Rattle.tatp_asm.specs.Words.{line_of_bytes}
+use Rattle.tatp_instr.specs.declared.version.Version.{Version}
+use Rattle.tatp_asm.specs.Heads.{head_of}
 use Rattle.tatp_asm.specs.declared.fault.AsmError.{AsmError}
 use Rattle.tatp_asm.specs.declared.fault.AsmError.TheVariants as errors
-use Rattle.tatp_asm.specs.Reading.{IsErrorOf, ◌>>=◌, Pending, Open, State, position_of, resolved, resolve, step, step_of, finish, reads, start}
+use Rattle.tatp_asm.specs.Reading.{IsErrorOf, ◌>>=◌, Pending, Open, State, position_of, resolved, resolve, step, step_of, finish, line_in, reads, start, procedures_after, assembled}
 use Rattle.tatp_asm.specs.BeforeCode.{is_code, HasNoCodeUpTo, IsBare}
 use Rattle.tatp_asm.proofs.Grammar.{guard_yes, opened, labelled, longer}
+use Rattle.tatp_asm.proofs.HeadLaws.{head_placed}
 
 -- ---- the line of a fault is none before
 -- instructions of the line n or later ones
@@ -87,15 +89,15 @@ finish_from n (p ∷ ps) None f e = absurd cc
 finish_from n [] (Some o) f e = sym (ap (λ (g : AsmFault). g.line) (fault_is (record { kind = Syntax; line = n }) f e))
 finish_from n (p ∷ ps) (Some o) f e = sym (ap (λ (g : AsmFault). g.line) (fault_is (record { kind = Syntax; line = n }) f e))
 
-goes_from : (m n : ℕ) (texts : List (List ℕ)) (f : AsmFault) (r : Result State AsmFault) → GoesOnFrom m r → ((t : State) → IsOpenFrom m t.current → reads (n + 1) t texts ≡ Err f → m ≤ f.line) → (r >>= λ t. reads (n + 1) t texts) ≡ Err f → m ≤ f.line
-goes_from m n texts f (Ok t) g again e = again t g e
-goes_from m n texts f (Err d) g again e = subst (λ (x : AsmFault). m ≤ x.line) (fault_is d f e) g
+goes_from : (v : Version) (m n : ℕ) (texts : List (List ℕ)) (f : AsmFault) (r : Result State AsmFault) → GoesOnFrom m r → ((t : State) → IsOpenFrom m t.current → reads v (n + 1) t texts ≡ Err f → m ≤ f.line) → (r >>= λ t. reads v (n + 1) t texts) ≡ Err f → m ≤ f.line
+goes_from v m n texts f (Ok t) g again e = again t g e
+goes_from v m n texts f (Err d) g again e = subst (λ (x : AsmFault). m ≤ x.line) (fault_is d f e) g
 
-reads_from : (m n : ℕ) (s : State) (texts : List (List ℕ)) (f : AsmFault) → m ≤ n → IsOpenFrom m s.current → reads n s texts ≡ Err f → m ≤ f.line
-reads_from m n s [] f h w e = let q = finish_from n s.closed s.current f e in omega (arith, q, h)
-reads_from m n s ([] ∷ texts) f h w e = reads_from m (n + 1) s texts f (omega (arith, h)) w e
-reads_from m n s ((b ∷ bs) ∷ texts) f h w e =
-    goes_from m n texts f (step_of s n (line_of_bytes (b ∷ bs))) (step_of_from m n s (line_of_bytes (b ∷ bs)) h w) (λ t g k. reads_from m (n + 1) t texts f (omega (arith, h)) g k) e
+reads_from : (v : Version) (m n : ℕ) (s : State) (texts : List (List ℕ)) (f : AsmFault) → m ≤ n → IsOpenFrom m s.current → reads v n s texts ≡ Err f → m ≤ f.line
+reads_from v m n s [] f h w e = let q = finish_from n s.closed s.current f e in omega (arith, q, h)
+reads_from v m n s ([] ∷ texts) f h w e = reads_from v m (n + 1) s texts f (omega (arith, h)) w e
+reads_from v m n s ((b ∷ bs) ∷ texts) f h w e =
+    goes_from v m n texts f (step_of s n (line_in v (b ∷ bs))) (step_of_from m n s (line_in v (b ∷ bs)) h w) (λ t g k. reads_from v m (n + 1) t texts f (omega (arith, h)) g k) e
 
 -- ---- nothing is kept yet
 bare_from : (n : ℕ) (current : Option Open) → IsBare current → IsOpenFrom n current
@@ -124,15 +126,21 @@ step_bare closed (Some o) n Closes t h c e =
     absurd (closes_not (eqb (length o.code) 0) (record { kind = Syntax; line = n }) (resolve o.labels o.code >>= λ code. Ok (record { closed = closed ++ (record { name = o.name; arity = o.arity; code = code } ∷ []); current = None })) t (ap (λ k. eqb k 0) h) e)
 
 -- ---- reading up to a line
+abbrev pub version_of : List ℕ → Version
+version_of text = (head_of text).version
+
+abbrev pub procedures_of : List ℕ → Result (List Procedure) AsmFault
+procedures_of text = procedures_after (head_of text)
+
 -- the lines before the line n were read, and led to this state; these are left
 pub record IsOnTheWay (text : List ℕ) (n : ℕ) (s : State) (texts : List (List ℕ)) : Type 0 where
   pub first : 1 ≤ n
   pub left : drop (n - 1) (lines_of text) ≡ texts
-  pub reading : reads n s texts ≡ reads 1 start (lines_of text)
-  pub bare : (f : AsmFault) → reads 1 start (lines_of text) ≡ Err f → HasNoCodeUpTo text f.line → IsBare s.current
+  pub reading : reads (version_of text) n s texts ≡ procedures_of text
+  pub bare : (f : AsmFault) → procedures_of text ≡ Err f → HasNoCodeUpTo text f.line → IsBare s.current
 
-pub starts : (text : List ℕ) → IsOnTheWay text 1 start (lines_of text)
-starts text = record { first = omega arith; left = refl; reading = refl; bare = λ f e h. tt }
+pub starts : (text : List ℕ) → IsOnTheWay text (head_of text).line start (head_of text).left
+starts text = let p = head_placed text in record { first = p.later; left = p.left; reading = refl; bare = λ f e h. tt }
 
 drop_next : {A : Type 0} (xs : List A) (k : ℕ) (x : A) (more : List A) → drop k xs ≡ x ∷ more → (slice_get xs k ≡ Some x) × (drop (suc k) xs ≡ more)
 drop_next [] zero x more e = absurd cc
@@ -149,12 +157,12 @@ pub passes_empty : (text : List ℕ) (n : ℕ) (s : State) (texts : List (List �
 passes_empty text n s texts w = record { first = omega arith; left = left_next text n [] texts w.first w.left; reading = w.reading; bare = w.bare }
 
 -- the line n, which lies before the fault, is neither label nor instruction
-pub no_code_here : (text : List ℕ) (n : ℕ) (s : State) (line : List ℕ) (texts : List (List ℕ)) (f : AsmFault) → IsOnTheWay text n s (line ∷ texts) → reads 1 start (lines_of text) ≡ Err f → HasNoCodeUpTo text f.line → is_code (line_of_bytes line) ≡ false
+pub no_code_here : (text : List ℕ) (n : ℕ) (s : State) (line : List ℕ) (texts : List (List ℕ)) (f : AsmFault) → IsOnTheWay text n s (line ∷ texts) → procedures_of text ≡ Err f → HasNoCodeUpTo text f.line → is_code (line_in (version_of text) line) ≡ false
 no_code_here text n s line texts f w e h =
-    let late : n ≤ f.line = reads_from n n s (line ∷ texts) f (omega arith) (bare_from n s.current (w.bare f e h)) (w.reading ∙ e) in
+    let late : n ≤ f.line = reads_from (version_of text) n n s (line ∷ texts) f (omega arith) (bare_from n s.current (w.bare f e h)) (w.reading ∙ e) in
     h (n - 1) line (omega (arith, late, w.first)) (drop_next (lines_of text) (n - 1) line texts w.left).0
 
-pub passes_line : (text : List ℕ) (n : ℕ) (s t : State) (b : ℕ) (bs : List ℕ) (texts : List (List ℕ)) (line : Line) → IsOnTheWay text n s ((b ∷ bs) ∷ texts) → line_of_bytes (b ∷ bs) ≡ Some line → step s.closed s.current n line ≡ Ok t
+pub passes_line : (text : List ℕ) (n : ℕ) (s t : State) (b : ℕ) (bs : List ℕ) (texts : List (List ℕ)) (line : Line) → IsOnTheWay text n s ((b ∷ bs) ∷ texts) → line_in (version_of text) (b ∷ bs) ≡ Some line → step s.closed s.current n line ≡ Ok t
     → IsOnTheWay text (n + 1) t texts
 passes_line text n s t b bs texts line w is goes = record {
   first = omega arith;
@@ -165,11 +173,11 @@ passes_line text n s t b bs texts line w is goes = record {
 
 -- so no memory was asked for: an error is the fault
 pub error_is : (text : List ℕ) (n : ℕ) (s : State) (b : ℕ) (bs : List ℕ) (texts : List (List ℕ)) (line : Line) (e : AsmError) (f : AsmFault)
-    → IsOnTheWay text n s ((b ∷ bs) ∷ texts) → line_of_bytes (b ∷ bs) ≡ Some line → IsErrorOf e (step s.closed s.current n line) → (IsBare s.current → is_code (Some line) ≡ false → e ≢ errors.NoMemory)
-    → reads 1 start (lines_of text) ≡ Err f → HasNoCodeUpTo text f.line → e ≡ errors.Fault f
+    → IsOnTheWay text n s ((b ∷ bs) ∷ texts) → line_in (version_of text) (b ∷ bs) ≡ Some line → IsErrorOf e (step s.closed s.current n line) → (IsBare s.current → is_code (Some line) ≡ false → e ≢ errors.NoMemory)
+    → procedures_of text ≡ Err f → HasNoCodeUpTo text f.line → e ≡ errors.Fault f
 error_is text n s b bs texts line errors.NoMemory f w is gives early found h = absurd (early (w.bare f found h) (ap is_code (sym is) ∙ no_code_here text n s (b ∷ bs) texts f w found h) refl)
 error_is text n s b bs texts line (errors.Fault g) f w is gives early found h =
-    let read : reads n s ((b ∷ bs) ∷ texts) ≡ Err g = rw (is, gives) refl in
+    let read : reads (version_of text) n s ((b ∷ bs) ∷ texts) ≡ Err g = rw (is, gives) refl in
     ap errors.Fault (fault_is g f (sym read ∙ w.reading ∙ found))
 
 -- ---- the same of a line as the program has it
@@ -177,13 +185,25 @@ pub passes_none : (text : List ℕ) (n : ℕ) (s : State) (bytes : List ℕ) (te
 passes_none text n s [] texts z w = passes_empty text n s texts w
 passes_none text n s (b ∷ bs) texts z w = absurd (omega (arith, eqb-true (length (b ∷ bs)) 0 z))
 
-pub passes_some : (text : List ℕ) (n : ℕ) (s t : State) (bytes : List ℕ) (texts : List (List ℕ)) (line : Line) → eqb (length bytes) 0 ≡ false → IsOnTheWay text n s (bytes ∷ texts) → line_of_bytes bytes ≡ Some line → step s.closed s.current n line ≡ Ok t
+pub passes_some : (text : List ℕ) (n : ℕ) (s t : State) (bytes : List ℕ) (texts : List (List ℕ)) (line : Line) → eqb (length bytes) 0 ≡ false → IsOnTheWay text n s (bytes ∷ texts) → line_in (version_of text) bytes ≡ Some line → step s.closed s.current n line ≡ Ok t
     → IsOnTheWay text (n + 1) t texts
 passes_some text n s t [] texts line z w is goes = absurd cc
 passes_some text n s t (b ∷ bs) texts line z w is goes = passes_line text n s t b bs texts line w is goes
 
 pub fails_some : (text : List ℕ) (n : ℕ) (s : State) (bytes : List ℕ) (texts : List (List ℕ)) (line : Line) (e : AsmError) (f : AsmFault) → eqb (length bytes) 0 ≡ false
-    → IsOnTheWay text n s (bytes ∷ texts) → line_of_bytes bytes ≡ Some line → IsErrorOf e (step s.closed s.current n line) → (IsBare s.current → is_code (Some line) ≡ false → e ≢ errors.NoMemory)
-    → reads 1 start (lines_of text) ≡ Err f → HasNoCodeUpTo text f.line → e ≡ errors.Fault f
+    → IsOnTheWay text n s (bytes ∷ texts) → line_in (version_of text) bytes ≡ Some line → IsErrorOf e (step s.closed s.current n line) → (IsBare s.current → is_code (Some line) ≡ false → e ≢ errors.NoMemory)
+    → procedures_of text ≡ Err f → HasNoCodeUpTo text f.line → e ≡ errors.Fault f
 fails_some text n s [] texts line e f z w is gives early found h = absurd cc
 fails_some text n s (b ∷ bs) texts line e f z w is gives early found h = error_is text n s b bs texts line e f w is gives early found h
+
+-- ---- the module, where the procedures are read
+pub assembled_fault : (text : List ℕ) (f : AsmFault) → assembled text ≡ Err f → procedures_of text ≡ Err f
+unfolding assembled
+assembled_fault text f e = by (procedures_of text) e
+  where
+    module_of : List Procedure → Result ModuleState AsmFault
+    module_of ps = Ok (record { version = version_of text; procedures = ps })
+
+    by : (r : Result (List Procedure) AsmFault) → (r >>= module_of) ≡ Err f → r ≡ Err f
+    by (Ok ps) k = absurd cc
+    by (Err g) k = cc

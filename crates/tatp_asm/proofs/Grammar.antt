@@ -1,7 +1,8 @@
 -- What is read is in the grammar, and what is in the grammar is read.
 use Rattle.std.proofs.Common.{◌≡◌, ℕ, suc, ◌+◌, ◌<◌, ◌∙◌, sym, ap, subst, Bool, true, false, cond, eqb, ltb, List, [], ◌∷◌, ◌++◌, length, refl, arith, Option, Some, None, Result, Ok, Err, append_assoc, inl, inr, is_some, length-append, add-one}
+use Rattle.std.specs.Prelude.{codes}
 use Rattle.std.specs.Str.{bytes_eq}
-use Rattle.std.specs.List.{All}
+use Rattle.std.specs.List.{All, list_all}
 use Rattle.std.proofs.lemmas.Bool.{lt-ltb, ne_eqb}
 use Rattle.std.proofs.lemmas.Slice.Eq.{bytes_eq-Decides}
 use Rattle.std.proofs.lemmas.List.{append-nil}
@@ -10,14 +11,18 @@ use Rattle.tatp_asm.specs.declared.fault.AsmFaultKind.TheVariants.{Syntax, Label
 use Rattle.tatp_asm.specs.declared.fault.AsmFault.{AsmFault}
 use Rattle.tatp_asm.specs.Instrs.{has_target}
 use Rattle.tatp_lines.specs.Lines.{lines_of}
-use Rattle.tatp_asm.specs.Lines.{Line, Opens, Names, Does, Closes}
+use Rattle.tatp_asm.specs.Lines.{Line, Opens, Names, Does, Closes, line_text}
 use Rattle.tatp_asm.specs.Words.{line_of_bytes}
-use Rattle.tatp_encoding.specs.Modules.{Procedure}
-use Rattle.tatp_asm.specs.Texts.{Stands, NoneTwice, IsCode, AreProcedureLines, AreTexts, IsTextOf}
-use Rattle.tatp_asm.specs.Reading.{◌>>=◌, Pending, Open, State, position_of, resolved, resolve, step, step_of, finish, reads, start, assembled}
+use Rattle.tatp_instr.specs.declared.version.Version.{Version}
+use Rattle.tatp_instr.specs.declared.version.Version.TheVariants.{One, Two}
+use Rattle.tatp_encoding.specs.Modules.{Procedure, ModuleState, has_version}
+use Rattle.tatp_asm.specs.Texts.{Stands, NoneTwice, IsCode, AreProcedureLines, AreTexts, AreModuleTexts, IsTextOf}
+use Rattle.tatp_asm.specs.Heads.{head_from, head_of}
+use Rattle.tatp_asm.specs.Reading.{◌>>=◌, Pending, Open, State, position_of, resolved, resolve, step, step_of, finish, of_version, line_in, reads, start, assembled_after, assembled}
 use Rattle.tatp_asm.proofs.Bodies.{labels_from, code_of, aimed_at, ◌>>>◌, targets, IsInner, code_from, code_to, stands_later, stands_first, stands_none, bind_some}
-use Rattle.tatp_asm.proofs.Tools.{same_bytes}
+use Rattle.tatp_asm.proofs.Tools.{same_bytes, word_is}
 use Rattle.tatp_asm.proofs.LineLaws.{line_takes, line_again}
+use Rattle.tatp_asm.proofs.VersionLaws.{AreLinesOf, version_takes, version_again, procedures_of_lines, lines_of_procedures}
 
 -- ---- labels that are added
 
@@ -308,17 +313,18 @@ finish_found [] (Some o) n all e = absurd cc
 finish_found (p ∷ ps) (Some o) n all e = absurd cc
 
 -- what is read is in the grammar
-pub reads_found : (n : ℕ) (s : State) (texts : List (List ℕ)) (all : List Procedure) → reads n s texts ≡ Ok all
-    → (ps : List Procedure) × (all ≡ s.closed ++ ps) × (lines : List Line) × AreTexts texts lines × Tail s.current lines ps
-reads_found n s [] all e = let r = finish_found s.closed s.current n all e in ([], r.0 ∙ sym (append-nil s.closed), [], refl, r.1)
-reads_found n s ([] ∷ texts) all e = reads_found (n + 1) s texts all e
-reads_found n s ((b ∷ bs) ∷ texts) all e =
-    let a = bind_ok (step_of s n (line_of_bytes (b ∷ bs))) (λ t. reads (n + 1) t texts) all e in
-    let l = step_some s n (line_of_bytes (b ∷ bs)) a.0 a.1 in
-    let r = reads_found (n + 1) a.0 texts all a.2 in
+pub reads_found : (v : Version) (n : ℕ) (s : State) (texts : List (List ℕ)) (all : List Procedure) → reads v n s texts ≡ Ok all
+    → (ps : List Procedure) × (all ≡ s.closed ++ ps) × (lines : List Line) × AreTexts texts lines × Tail s.current lines ps × AreLinesOf v lines
+reads_found v n s [] all e = let r = finish_found s.closed s.current n all e in ([], r.0 ∙ sym (append-nil s.closed), [], refl, r.1, tt)
+reads_found v n s ([] ∷ texts) all e = reads_found v (n + 1) s texts all e
+reads_found v n s ((b ∷ bs) ∷ texts) all e =
+    let a = bind_ok (step_of s n (line_in v (b ∷ bs))) (λ t. reads v (n + 1) t texts) all e in
+    let l = step_some s n (line_in v (b ∷ bs)) a.0 a.1 in
+    let r = reads_found v (n + 1) a.0 texts all a.2 in
     let f = step_found s.closed s.current n l.0 a.0 all r.0 r.2 l.2 r.1 r.4 in
-    let t = line_takes (b ∷ bs) l.0 l.1 in
-    (f.0, f.1, l.0 ∷ r.2, (t.0, t.1, r.3), f.2)
+    let w = version_takes v (line_of_bytes (b ∷ bs)) l.0 l.1 in
+    let t = line_takes (b ∷ bs) l.0 w.0 in
+    (f.0, f.1, l.0 ∷ r.2, (t.0, t.1, r.3), f.2, (w.1, r.5))
 
 -- ---- and back
 
@@ -380,26 +386,90 @@ finish_only [] None n [] h b = absurd (omega (arith, b.some))
 finish_only (q ∷ qs) None n [] h b = rw (append-nil qs) refl
 
 -- what is in the grammar is read
-pub reads_only : (n : ℕ) (s : State) (texts : List (List ℕ)) (lines : List Line) (ps : List Procedure) → AreTexts texts lines → Tail s.current lines ps → Bounded s.closed ps
-    → reads n s texts ≡ Ok (s.closed ++ ps)
-reads_only n s [] lines ps e h b = finish_only s.closed s.current n ps (subst (λ (ls : List Line). Tail s.current ls ps) e h) b
-reads_only n s ([] ∷ texts) lines ps e h b = reads_only (n + 1) s texts lines ps e h b
-reads_only n s ((x ∷ xs) ∷ texts) [] ps e h b = absurd e
-reads_only n s ((x ∷ xs) ∷ texts) (line ∷ lines) ps (e, f, g) h b =
+pub reads_only : (v : Version) (n : ℕ) (s : State) (texts : List (List ℕ)) (lines : List Line) (ps : List Procedure) → AreTexts texts lines → AreLinesOf v lines → Tail s.current lines ps → Bounded s.closed ps
+    → reads v n s texts ≡ Ok (s.closed ++ ps)
+reads_only v n s [] lines ps e w h b = finish_only s.closed s.current n ps (subst (λ (ls : List Line). Tail s.current ls ps) e h) b
+reads_only v n s ([] ∷ texts) lines ps e w h b = reads_only v (n + 1) s texts lines ps e w h b
+reads_only v n s ((x ∷ xs) ∷ texts) [] ps e w h b = absurd e
+reads_only v n s ((x ∷ xs) ∷ texts) (line ∷ lines) ps (e, f, g) (k, w) h b =
     let t = step_only s.closed s.current n line lines ps h b in
-    let r = reads_only (n + 1) t.0 texts lines t.2 g t.4 t.5 in
+    let r = reads_only v (n + 1) t.0 texts lines t.2 g w t.4 t.5 in
     let l : line_of_bytes (x ∷ xs) ≡ Some line = ap line_of_bytes e ∙ line_again line f in
-    rw (l, t.1) (r ∙ ap Ok t.3)
+    let m : line_in v (x ∷ xs) ≡ Some line = ap (of_version v) l ∙ version_again v line k in
+    rw (m, t.1) (r ∙ ap Ok t.3)
+
+-- ---- the lines after the front of a text
+
+-- a module of these procedures
+abbrev of_them : Version → List Procedure → ModuleState
+of_them v ps = record { version = v; procedures = ps }
+
+abbrev AreOf : Version → List (List ℕ) → ModuleState → Type 0
+AreOf v texts m = (m.version ≡ v) × (lines : List Line) × AreTexts texts lines × AreProcedureLines lines m.procedures × AreLinesOf v lines
+
+after_found : (v : Version) (n : ℕ) (texts : List (List ℕ)) (m : ModuleState) → assembled_after (record { version = v; line = n; left = texts }) ≡ Ok m → AreOf v texts m
+after_found v n texts m e =
+    let b = bind_ok (reads v n start texts) (λ ps. done (of_them v ps)) m e in
+    let r = reads_found v n start texts b.0 b.1 in
+    let q : b.0 ≡ r.0 = r.1 in
+    subst (AreOf v texts) (ok_is (of_them v b.0) m b.2) (refl, r.2, r.3, subst (λ (x : List Procedure). AreProcedureLines r.2 x) (sym q) r.4, r.5)
+
+after_only : (v : Version) (n : ℕ) (texts : List (List ℕ)) (lines : List Line) (ps : List Procedure) → AreTexts texts lines → AreLinesOf v lines → AreProcedureLines lines ps → Bounded [] ps
+    → assembled_after (record { version = v; line = n; left = texts }) ≡ Ok (of_them v ps)
+after_only v n texts lines ps e w h b = rw (reads_only v n start texts lines ps e w h b) refl
+
+-- ---- the front
+
+abbrev AreOfModule : List (List ℕ) → ModuleState → Type 0
+AreOfModule texts m = (lines : List Line) × AreModuleTexts m.version texts lines × AreProcedureLines lines m.procedures × AreLinesOf m.version lines
+
+empty_front : (v : Version) (texts : List (List ℕ)) (lines : List Line) → AreModuleTexts v texts lines → AreModuleTexts v ([] ∷ texts) lines
+empty_front One texts lines h = h
+empty_front Two texts lines h = h
+
+told : (texts : List (List ℕ)) (m : ModuleState) (v : Version) (lines : List Line) → m.version ≡ v → AreModuleTexts v texts lines → AreProcedureLines lines m.procedures → AreLinesOf v lines → AreOfModule texts m
+told texts m v lines e t p w = (lines, subst (λ (x : Version). AreModuleTexts x texts lines) (sym e) t, p, subst (λ (x : Version). AreLinesOf x lines) (sym e) w)
+
+head_found : (n : ℕ) (texts : List (List ℕ)) (m : ModuleState) → assembled_after (head_from n texts) ≡ Ok m → AreOfModule texts m
+head_found n [] m e = absurd cc
+head_found n ([] ∷ texts) m e = let r = head_found (n + 1) texts m e in (r.0, empty_front m.version texts r.0 r.1, r.2, r.3)
+head_found n ((b ∷ bs) ∷ texts) m e = by (bytes_eq (b ∷ bs) (codes "version 2")) refl e
+  where
+    by : (t : Bool) → bytes_eq (b ∷ bs) (codes "version 2") ≡ t → assembled_after (cond t (record { version = Two; line = n + 1; left = texts }) (record { version = One; line = n; left = (b ∷ bs) ∷ texts })) ≡ Ok m → AreOfModule ((b ∷ bs) ∷ texts) m
+    by true d k = let r = after_found Two (n + 1) texts m k in told ((b ∷ bs) ∷ texts) m Two r.1 r.0 (word_is (b ∷ bs) (codes "version 2") d, r.2) r.3 r.4
+    by false d k = let r = after_found One n ((b ∷ bs) ∷ texts) m k in told ((b ∷ bs) ∷ texts) m One r.1 r.0 r.2 r.3 r.4
+
+-- a line that begins a procedure doesn't tell version 2
+opens_first : (line : Line) (lines : List Line) (ps : List Procedure) → AreProcedureLines (line ∷ lines) ps → bytes_eq (line_text line) (codes "version 2") ≡ false
+opens_first (Opens name arity) lines ps h = refl
+opens_first line lines [] h = absurd cc
+opens_first (Names l) lines (p ∷ ps) (body, rest, e, u, c, r) = absurd cc
+opens_first (Does i l) lines (p ∷ ps) (body, rest, e, u, c, r) = absurd cc
+opens_first Closes lines (p ∷ ps) (body, rest, e, u, c, r) = absurd cc
+
+head_only : (v : Version) (n : ℕ) (texts : List (List ℕ)) (lines : List Line) (ps : List Procedure) → AreModuleTexts v texts lines → AreLinesOf v lines → AreProcedureLines lines ps → Bounded [] ps
+    → assembled_after (head_from n texts) ≡ Ok (of_them v ps)
+head_only One n [] lines ps e w h b = after_only One n [] lines ps e w h b
+head_only One n ([] ∷ texts) lines ps e w h b = head_only One (n + 1) texts lines ps e w h b
+head_only One n ((x ∷ xs) ∷ texts) [] ps e w h b = absurd e
+head_only One n ((x ∷ xs) ∷ texts) (line ∷ lines) ps e w h b =
+    let d : bytes_eq (x ∷ xs) (codes "version 2") ≡ false = ap (λ (bs : List ℕ). bytes_eq bs (codes "version 2")) e.0 ∙ opens_first line lines ps h in
+    rw d (after_only One n ((x ∷ xs) ∷ texts) (line ∷ lines) ps e w h b)
+head_only Two n [] lines ps e w h b = absurd e
+head_only Two n ([] ∷ texts) lines ps e w h b = head_only Two (n + 1) texts lines ps e w h b
+head_only Two n ((x ∷ xs) ∷ texts) lines ps (e, f) w h b =
+    let d : bytes_eq (x ∷ xs) (codes "version 2") ≡ true = ap (λ (bs : List ℕ). bytes_eq bs (codes "version 2")) e ∙ same_bytes (codes "version 2") in
+    rw d (after_only Two (n + 1) texts lines ps f w h b)
 
 -- ---- whole texts
 
-pub assembled_found : (text : List ℕ) (ps : List Procedure) → assembled text ≡ Ok ps → IsTextOf text ps
-unfolding assembled
-assembled_found text ps e =
-    let r = reads_found 1 start (lines_of text) ps e in
-    let q : ps ≡ r.0 = r.1 in
-    record { lines = r.2; texts = r.3; procedures = subst (λ (x : List Procedure). AreProcedureLines r.2 x) (sym q) r.4 }
+pub assembled_found : (text : List ℕ) (m : ModuleState) → assembled text ≡ Ok m → IsTextOf text m × (list_all (has_version m.version) m.procedures ≡ true)
+unfolding assembled head_of
+assembled_found text m e =
+    let r = head_found 1 (lines_of text) m e in
+    (record { lines = r.0; texts = r.1; procedures = r.2 }, procedures_of_lines m.version r.0 m.procedures r.2 r.3)
 
-pub assembled_only : (text : List ℕ) (ps : List Procedure) → Bounded [] ps → IsTextOf text ps → assembled text ≡ Ok ps
-unfolding assembled
-assembled_only text ps m t = reads_only 1 start (lines_of text) t.lines ps t.texts t.procedures m
+pub assembled_only : (text : List ℕ) (m : ModuleState) → Bounded [] m.procedures → list_all (has_version m.version) m.procedures ≡ true → IsTextOf text m → assembled text ≡ Ok m
+unfolding assembled head_of
+assembled_only text m b w t =
+    head_only m.version 1 (lines_of text) t.lines m.procedures t.texts (lines_of_procedures m.version t.lines m.procedures t.procedures w) t.procedures b

@@ -5,7 +5,7 @@ use Rattle.std.specs.Str.{bytes_eq}
 use Rattle.std.specs.List.{list_all}
 use Rattle.std.proofs.lemmas.Bool.{lt-leb, leb-false}
 use Rattle.tatp_instr.specs.declared.instr.Instr.{Instr}
-use Rattle.tatp_instr.specs.declared.instr.Instr.TheVariants.{Ldi, Mov, Arg, Add, Sub, Eq, Lt, Jmp, Jz, Fsub, Fnum, Facc, Ffac, Fcfw, Get, Put, Ins, Del, Out, Done, Fail}
+use Rattle.tatp_instr.specs.declared.instr.Instr.TheVariants.{Ldi, Mov, Arg, Add, Sub, Eq, Lt, Jmp, Jz, Fsub, Fnum, Facc, Ffac, Fcfw, Get, Put, Ins, Del, Out, Done, Fail, Loop}
 use Rattle.tatp_asm.specs.Lines.{Line, Opens, Names, Does, Closes, instruction_text, line_text, IsLine}
 use Rattle.tatp_instr.specs.Instrs.{parts_with}
 use Rattle.tatp_instr.specs.Shapes.{Row, rows, named, row_named}
@@ -38,6 +38,7 @@ mnemonic Del = codes "DEL"
 mnemonic (Out a) = codes "OUT"
 mnemonic Done = codes "DONE"
 mnemonic (Fail n) = codes "FAIL"
+mnemonic (Loop a t) = codes "LOOP"
 
 abbrev pub operands : Instr → List ℕ → List Operand
 operands (Ldi d n) label = Register d ∷ Number n ∷ []
@@ -61,6 +62,7 @@ operands Del label = []
 operands (Out a) label = Register a ∷ []
 operands Done label = []
 operands (Fail n) label = Number n ∷ []
+operands (Loop a t) label = Register a ∷ Target label ∷ []
 
 -- a mnemonic, and operands after a space
 abbrev pub with_operands : List ℕ → List Operand → List ℕ
@@ -101,6 +103,7 @@ text_is Del label = refl
 text_is (Out a) label = refl
 text_is Done label = refl
 text_is (Fail n) label = refl
+text_is (Loop a t) label = ap (λ (x : List ℕ). codes "LOOP r" ++ x) (two_marks (decimal a) label 64)
 
 -- ---- what is read
 -- the line is the instruction of this mnemonic and these operands
@@ -161,6 +164,7 @@ each_makes_its_own =
     ⨾ (λ d a b g i h l e. made _ _ _ (Out d) i g.label e refl refl (λ t. (h.0, refl, l)))
     ⨾ (λ d a b g i h l e. made _ _ false Done i g.label e refl refl (λ t. (tt, refl, l)))
     ⨾ (λ d a b g i h l e. made _ _ false (Fail g.number) i g.label e refl refl (λ t. (h.0, refl, l)))
+    ⨾ (λ d a b g i h l e. made _ _ _ (Loop d g.number) i g.label e refl refl (λ t. ((h.0, omega arith), ap (Loop d) (sym l), h.1.0)))
     ⨾ tt
 
 pub with_takes : (word : List ℕ) (os : List Operand) (line : Line) → AreOperands os → instruction_with word os ≡ Some line → IsMade word os line
@@ -204,6 +208,7 @@ operands_are Del label h = tt
 operands_are (Out a) label (h, t, l) = (h, tt)
 operands_are Done label h = tt
 operands_are (Fail n) label (h, t, l) = (h, tt)
+operands_are (Loop a x) label (h, t, l) = (h.0, (l, tt))
 
 pub mnemonic_plain : (i : Instr) → list_all plain (mnemonic i) ≡ true
 mnemonic_plain (Ldi d n) = refl
@@ -227,6 +232,7 @@ mnemonic_plain Del = refl
 mnemonic_plain (Out a) = refl
 mnemonic_plain Done = refl
 mnemonic_plain (Fail n) = refl
+mnemonic_plain (Loop a t) = refl
 
 -- no mnemonic is `end`, and none has a colon
 pub mnemonic_not_end : (i : Instr) → bytes_eq (mnemonic i) (codes "end") ≡ false
@@ -274,3 +280,4 @@ with_again Del label (h, t, l) = ap Some (bare_line Del label l)
 with_again (Out a) label (h, t, l) = rw (low a h) (ap Some (bare_line (Out a) label l))
 with_again Done label (h, t, l) = ap Some (bare_line Done label l)
 with_again (Fail n) label (h, t, l) = ap Some (bare_line (Fail n) label l)
+with_again (Loop a x) label (h, t, l) = rw (low a h.0) (ap (λ (i : Instr). Some (Does i label)) t)

@@ -8,6 +8,8 @@ pub mod InstructionLaws
 pub mod LineLaws
 pub mod LabelLaws
 pub mod Bodies
+pub mod VersionLaws
+pub mod HeadLaws
 pub mod Grammar
 pub mod Resolving
 pub mod EarlyLaws

@@ -7,17 +7,19 @@ use Rattle.std.proofs.lemmas.Bool.{le-leb, leb-true, ltb-true}
 use Rattle.std.proofs.lemmas.List.Folds.{list_all-append}
 use Rattle.tatp_lines.specs.Numbers.{is_between}
 use Rattle.tatp_instr.specs.declared.instr.Instr.{Instr}
-use Rattle.tatp_instr.specs.declared.instr.Instr.TheVariants.{Jmp, Jz}
-use Rattle.tatp_encoding.specs.Modules.{Procedure, is_name, is_procedure, jumps_within, jumps_stay, is_module}
+use Rattle.tatp_instr.specs.declared.instr.Instr.TheVariants.{Jmp, Jz, Loop}
+use Rattle.tatp_instr.specs.declared.version.Version.{Version}
+use Rattle.tatp_encoding.specs.Modules.{Procedure, ModuleState, is_name, is_procedure, jumps_within, jumps_stay, has_version, is_module}
 use Rattle.tatp_asm.specs.declared.fault.AsmFaultKind.TheVariants.{Syntax, LabelTwice, TooLong}
 use Rattle.tatp_asm.specs.Instrs.{has_target, aimed}
 use Rattle.tatp_asm.specs.Lines.{Line, Opens, Names, Does, Closes, IsLine}
 use Rattle.tatp_asm.specs.Words.{line_of_bytes}
-use Rattle.tatp_lines.specs.Lines.{lines_of}
-use Rattle.tatp_asm.specs.Reading.{◌>>=◌, Pending, Open, State, position_of, resolved, resolve, step, step_of, finish, reads, start}
+use Rattle.tatp_asm.specs.Heads.{head_of}
+use Rattle.tatp_asm.specs.Reading.{◌>>=◌, Pending, Open, State, position_of, resolved, resolve, step, step_of, finish, line_in, reads, start, assembled}
 use Rattle.tatp_asm.proofs.Tools.{both}
 use Rattle.tatp_asm.proofs.LineLaws.{line_takes}
-use Rattle.tatp_asm.proofs.Grammar.{Bounded, bind_ok, guard_yes, guard_no, done, ok_is, step_some}
+use Rattle.tatp_asm.proofs.VersionLaws.{version_takes}
+use Rattle.tatp_asm.proofs.Grammar.{Bounded, bind_ok, guard_yes, guard_no, done, ok_is, step_some, assembled_found}
 
 -- ---- labels and jumps
 abbrev LabelsWithin : ℕ → List (List ℕ × ℕ) → Type 0
@@ -43,11 +45,13 @@ position_within n (l ∷ labels) label k (p, w) e = by (bytes_eq label l.0) (pos
 aimed_within : (i : Instr) (k n : ℕ) → k ≤ n → jumps_within n (aimed i k) ≡ true
 aimed_within (Jmp t) k n h = le-leb k n h
 aimed_within (Jz a t) k n h = le-leb k n h
+aimed_within (Loop a t) k n h = le-leb k n h
 aimed_within _ k n h = refl
 
 bare_within : (i : Instr) (n : ℕ) → has_target i ≡ false → jumps_within n i ≡ true
 bare_within (Jmp t) n e = absurd cc
 bare_within (Jz a t) n e = absurd cc
+bare_within (Loop a t) n e = absurd cc
 bare_within _ n e = refl
 
 resolved_within : (n : ℕ) (p : Pending) (b : Bool) (o : Option ℕ) (j : Instr) → has_target p.instr ≡ b → ((k : ℕ) → o ≡ Some k → k ≤ n) → resolved b o p ≡ Ok j → jumps_within n j ≡ true
@@ -142,20 +146,46 @@ finish_fits (p ∷ ps) None n all f e = subst AreFitProcedures (ok_is (p ∷ ps)
 finish_fits [] (Some o) n all f e = absurd cc
 finish_fits (p ∷ ps) (Some o) n all f e = absurd cc
 
-reads_fits : (n : ℕ) (s : State) (texts : List (List ℕ)) (all : List Procedure) → IsFit s → reads n s texts ≡ Ok all → AreFitProcedures all
-reads_fits n s [] all f e = finish_fits s.closed s.current n all f e
-reads_fits n s ([] ∷ texts) all f e = reads_fits (n + 1) s texts all f e
-reads_fits n s ((b ∷ bs) ∷ texts) all f e =
-    let a = bind_ok (step_of s n (line_of_bytes (b ∷ bs))) (λ t. reads (n + 1) t texts) all e in
-    let l = step_some s n (line_of_bytes (b ∷ bs)) a.0 a.1 in
-    let t = line_takes (b ∷ bs) l.0 l.1 in
-    reads_fits (n + 1) a.0 texts all (step_fits s.closed s.current n l.0 a.0 f t.1 l.2) a.2
+reads_fits : (v : Version) (n : ℕ) (s : State) (texts : List (List ℕ)) (all : List Procedure) → IsFit s → reads v n s texts ≡ Ok all → AreFitProcedures all
+reads_fits v n s [] all f e = finish_fits s.closed s.current n all f e
+reads_fits v n s ([] ∷ texts) all f e = reads_fits v (n + 1) s texts all f e
+reads_fits v n s ((b ∷ bs) ∷ texts) all f e =
+    let a = bind_ok (step_of s n (line_in v (b ∷ bs))) (λ t. reads v (n + 1) t texts) all e in
+    let l = step_some s n (line_in v (b ∷ bs)) a.0 a.1 in
+    let w = version_takes v (line_of_bytes (b ∷ bs)) l.0 l.1 in
+    let t = line_takes (b ∷ bs) l.0 w.0 in
+    reads_fits v (n + 1) a.0 texts all (step_fits s.closed s.current n l.0 a.0 f t.1 l.2) a.2
 
 -- ---- whole texts
-pub module_of_text : (text : List ℕ) (ps : List Procedure) → reads 1 start (lines_of text) ≡ Ok ps → is_module ps ≡ true
-module_of_text text ps e =
-    let m = reads_fits 1 start (lines_of text) ps ((refl, refl), omega arith) e in
-    rw (le-leb 1 (length ps) m.1, le-leb (length ps) 16 m.2, m.0.0, m.0.1) refl
+assembled_fits : (text : List ℕ) (m : ModuleState) → assembled text ≡ Ok m → AreFitProcedures m.procedures
+unfolding assembled
+assembled_fits text m e =
+    let h = head_of text in
+    let b = bind_ok (reads h.version h.line start h.left) (λ ps. done (record { version = h.version; procedures = ps })) m e in
+    subst (λ (x : ModuleState). AreFitProcedures x.procedures) (ok_is (record { version = h.version; procedures = b.0 }) m b.2) (reads_fits h.version h.line start h.left b.0 ((refl, refl), omega arith) b.1)
+
+pub module_of_text : (text : List ℕ) (m : ModuleState) → assembled text ≡ Ok m → is_module m ≡ true
+module_of_text text m e =
+    let ps = m.procedures in
+    let f = assembled_fits text m e in
+    let w = (assembled_found text m e).1 in
+    rw (le-leb 1 (length ps) f.1, le-leb (length ps) 16 f.2, f.0.0, f.0.1, w) refl
+
+-- ---- the tests of a module
+pub record IsTested (m : ModuleState) : Type 0 where
+  pub count : is_between 1 16 (length m.procedures) ≡ true
+  pub procedures : list_all is_procedure m.procedures ≡ true
+  pub jumps : list_all jumps_stay m.procedures ≡ true
+  pub version : list_all (has_version m.version) m.procedures ≡ true
+
+pub tested : (m : ModuleState) → is_module m ≡ true → IsTested m
+tested m h =
+    let ps = m.procedures in
+    let versions = list_all (has_version m.version) ps in
+    let a = both (is_between 1 16 (length ps)) (list_all is_procedure ps && (list_all jumps_stay ps && versions)) h in
+    let b = both (list_all is_procedure ps) (list_all jumps_stay ps && versions) a.1 in
+    let c = both (list_all jumps_stay ps) versions b.1 in
+    record { count = a.0; procedures = b.0; jumps = c.0; version = c.1 }
 
 codes_of : (ps : List Procedure) → list_all is_procedure ps ≡ true → All (λ p. (0 < length p.code) × (length p.code < 257)) ps
 codes_of [] h i d l = absurd (omega arith)
@@ -169,11 +199,10 @@ codes_of (p ∷ ps) h zero d l =
     (omega arith, omega arith)
 codes_of (p ∷ ps) h (suc i) d l = codes_of ps (both (is_procedure p) (list_all is_procedure ps) h).1 i d (omega arith)
 
-pub bounded : (ps : List Procedure) → is_module ps ≡ true → Bounded [] ps
-bounded ps h =
-    let a = both (is_between 1 16 (length ps)) (list_all is_procedure ps && list_all jumps_stay ps) h in
-    let b = both (list_all is_procedure ps) (list_all jumps_stay ps) a.1 in
-    let x = both (nat_le 1 (length ps)) (nat_le (length ps) 16) a.0 in
+pub bounded : (m : ModuleState) → IsTested m → Bounded [] m.procedures
+bounded m t =
+    let ps = m.procedures in
+    let x = both (nat_le 1 (length ps)) (nat_le (length ps) 16) t.count in
     let least = leb-true 1 (length ps) x.0 in
     let most = leb-true (length ps) 16 x.1 in
-    record { some = omega arith; few = omega arith; codes = codes_of ps b.0 }
+    record { some = omega arith; few = omega arith; codes = codes_of ps t.procedures }

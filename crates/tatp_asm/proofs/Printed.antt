@@ -8,7 +8,7 @@ use Rattle.std.proofs.lemmas.Bool.{eqb-true, eq-eqb, leb-true}
 use Rattle.std.proofs.lemmas.Slice.Eq.{bytes_eq-Decides}
 use Rattle.std.proofs.lemmas.Fmt.{digits_value-decimal}
 use Rattle.tatp_instr.specs.declared.instr.Instr.{Instr}
-use Rattle.tatp_instr.specs.declared.instr.Instr.TheVariants.{Jmp, Jz}
+use Rattle.tatp_instr.specs.declared.instr.Instr.TheVariants.{Jmp, Jz, Loop}
 use Rattle.tatp_encoding.specs.Modules.{Procedure, jumps_within, jumps_stay}
 use Rattle.tatp_asm.specs.Instrs.{target_of, has_target, aimed}
 use Rattle.tatp_asm.specs.Lines.{Line}
@@ -110,6 +110,7 @@ code_body all k (i ∷ code) = code_before (is_named all k) k (instruction_line 
 back : (labels : List (List ℕ × ℕ)) (i : Instr) → IfSome (target_of i) (λ t. position_of labels (label_at t) ≡ Some t) → aimed_at (has_target (aimed i 0)) (position_of labels (label_of (target_of i))) (aimed i 0) ≡ Some i
 back labels (Jmp t) h = rw h refl
 back labels (Jz r t) h = rw h refl
+back labels (Loop r t) h = rw h refl
 back labels _ h = refl
 
 or_left : (a b : Bool) → a ≡ true → (a || b) ≡ true
@@ -123,6 +124,7 @@ or_right false b e = e
 first_named : (i : Instr) (code : List Instr) → IfSome (target_of i) (λ t. is_named (i ∷ code) t ≡ true)
 first_named (Jmp t) code = or_left (eqb t t) (is_named code t) (eq-eqb t t refl)
 first_named (Jz r t) code = or_left (eqb t t) (is_named code t) (eq-eqb t t refl)
+first_named (Loop r t) code = or_left (eqb t t) (is_named code t) (eq-eqb t t refl)
 first_named _ code = tt
 
 at_some : (o : Option ℕ) (P Q : ℕ → Type 0) → ((t : ℕ) → P t → Q t) → IfSome o P → IfSome o Q
@@ -141,6 +143,7 @@ all_back labels (i ∷ code) h =
 jump_within : (i : Instr) (n t : ℕ) → jumps_within n i ≡ true → is_target (target_of i) t ≡ true → t ≤ n
 jump_within (Jmp x) n t h e = let q = eqb-true x t e in let l = leb-true x n h in omega arith
 jump_within (Jz a x) n t h e = let q = eqb-true x t e in let l = leb-true x n h in omega arith
+jump_within (Loop a x) n t h e = let q = eqb-true x t e in let l = leb-true x n h in omega arith
 jump_within _ n t h e = absurd cc
 
 named_within : (code : List Instr) (n t : ℕ) → list_all (jumps_within n) code ≡ true → is_named code t ≡ true → t ≤ n

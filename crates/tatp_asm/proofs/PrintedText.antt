@@ -1,6 +1,6 @@
 -- The text that is printed of a module is a text of it.
 use Rattle.std.proofs.Common.{◌≡◌, ℕ, suc, ◌+◌, ◌<◌, ◌≤◌, ◌^◌, ◌∙◌, sym, subst, Bool, true, false, ◌&&◌, eqb, List, [], ◌∷◌, ◌++◌, length, refl, arith, decimal}
-use Rattle.std.specs.Prelude.{nat_le}
+use Rattle.std.specs.Prelude.{nat_le, codes}
 use Rattle.std.specs.Str.{all_ascii_digits}
 use Rattle.std.specs.List.{All, list_all}
 use Rattle.std.specs.Char.{is_ascii_digit}
@@ -9,17 +9,20 @@ use Rattle.std.proofs.lemmas.Bool.Decides.{nat_tests}
 use Rattle.std.proofs.lemmas.Fmt.{digits_decimal, length-decimal-le}
 use Rattle.tatp_lines.specs.Numbers.{is_between}
 use Rattle.tatp_instr.specs.declared.instr.Instr.{Instr}
-use Rattle.tatp_instr.specs.declared.instr.Instr.TheVariants.{Jmp, Jz}
-use Rattle.tatp_encoding.specs.Modules.{Procedure, is_name, is_procedure, jumps_stay, is_module}
+use Rattle.tatp_instr.specs.declared.instr.Instr.TheVariants.{Jmp, Jz, Loop}
+use Rattle.tatp_instr.specs.declared.version.Version.{Version}
+use Rattle.tatp_instr.specs.declared.version.Version.TheVariants.{One, Two}
+use Rattle.tatp_encoding.specs.Modules.{Procedure, ModuleState, is_name, is_procedure, is_module}
 use Rattle.tatp_encoding.specs.Spelling.{IsInstr}
 use Rattle.tatp_lines.specs.Lines.{lines_of}
 use Rattle.tatp_asm.specs.Lines.{Line, Opens, Names, Does, Closes, line_text, IsLine, is_label, is_label_byte}
-use Rattle.tatp_asm.specs.Texts.{AreTexts, IsTextOf}
-use Rattle.tatp_asm.specs.Printing.{label_at, is_named, with_label, instruction_line, body_lines, module_lines, lines_text, disassembled}
+use Rattle.tatp_asm.specs.Texts.{AreTexts, AreModuleTexts, IsTextOf}
+use Rattle.tatp_asm.specs.Printing.{label_at, is_named, with_label, instruction_line, body_lines, module_lines, lines_text, version_text, disassembled}
 use Rattle.tatp_lines.proofs.LineLaws.{lines_of-cons, lines_of-nil}
 use Rattle.tatp_asm.proofs.Tools.{both, not_true, free, plain_no_feed, own}
 use Rattle.tatp_asm.proofs.LineLaws.{line_all}
 use Rattle.tatp_asm.proofs.Printed.{AreShort, printed_are}
+use Rattle.tatp_asm.proofs.ModuleLaws.{tested}
 
 -- ---- the lines of a text that is printed
 not_empty : (line : Line) → [] ≡ line_text line → ⊥
@@ -29,6 +32,7 @@ not_empty (Names (b ∷ l)) e = absurd cc
 not_empty Closes e = absurd cc
 not_empty (Does (Jmp t) l) e = absurd cc
 not_empty (Does (Jz a t) l) e = absurd cc
+not_empty (Does (Loop a t) l) e = absurd cc
 not_empty (Does _ l) e = absurd cc
 
 lines_next : (s rest : List ℕ) → list_all (free 10) s ≡ true → lines_of (s ++ (10 ∷ rest)) ≡ s ∷ lines_of rest
@@ -67,6 +71,7 @@ label_at_is k h =
 instruction_is : (i : Instr) → IsInstr i → IsLine (instruction_line i)
 instruction_is (Jmp t) h = (omega arith, refl, label_at_is t h)
 instruction_is (Jz a t) (h, k) = ((h, omega arith), refl, label_at_is t k)
+instruction_is (Loop a t) (h, k) = ((h, omega arith), refl, label_at_is t k)
 instruction_is _ h = (h, refl, refl)
 
 before_are : (b : Bool) (k : ℕ) (lines : List Line) → k < 2 ^ 32 → AreLines lines → AreLines (with_label b k lines)
@@ -106,9 +111,15 @@ short : (ps : List Procedure) → list_all is_procedure ps ≡ true → AreShort
 short [] h = tt
 short (p ∷ ps) h = let a = both (is_procedure p) (list_all is_procedure ps) h in let f = fits p a.0 in (omega (arith, f.most), short ps a.1)
 
-pub disassembled_is : (ps : List Procedure) → is_module ps ≡ true → All (λ p. All IsInstr p.code) ps → IsTextOf (disassembled ps) ps
+module_texts : (v : Version) (lines : List Line) → AreLines lines → AreModuleTexts v (lines_of (version_text v ++ lines_text lines)) lines
+module_texts One lines h = texts_of_lines lines h
+module_texts Two lines h =
+    let e : lines_of (codes "version 2" ++ (10 ∷ lines_text lines)) ≡ codes "version 2" ∷ lines_of (lines_text lines) = lines_next (codes "version 2") (lines_text lines) refl in
+    subst (λ (ts : List (List ℕ)). AreModuleTexts Two ts lines) (sym e) (refl, texts_of_lines lines h)
+
+pub disassembled_is : (m : ModuleState) → is_module m ≡ true → All (λ p. All IsInstr p.code) m.procedures → IsTextOf (disassembled m) m
 unfolding disassembled
-disassembled_is ps h w =
-    let a = both (is_between 1 16 (length ps)) (list_all is_procedure ps && list_all jumps_stay ps) h in
-    let b = both (list_all is_procedure ps) (list_all jumps_stay ps) a.1 in
-    record { lines = module_lines ps; texts = texts_of_lines (module_lines ps) (module_are ps b.0 w); procedures = printed_are ps (short ps b.0) b.1 }
+disassembled_is m h w =
+    let ps = m.procedures in
+    let t = tested m h in
+    record { lines = module_lines ps; texts = module_texts m.version (module_lines ps) (module_are ps t.procedures w); procedures = printed_are ps (short ps t.procedures) t.jumps }

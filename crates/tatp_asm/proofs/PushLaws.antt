@@ -4,7 +4,7 @@ use Rattle.std.specs.Prelude.{codes}
 use Rattle.std.proofs.lemmas.Bool.{eqb-true, eq-eqb, ne_eqb}
 use Rattle.std.proofs.lemmas.List.{append-nil, drop_all, get_or-set_same, get_or-set_other}
 use Rattle.tatp_instr.specs.declared.instr.Instr.{Instr}
-use Rattle.tatp_instr.specs.declared.instr.Instr.TheVariants.{Jmp, Jz}
+use Rattle.tatp_instr.specs.declared.instr.Instr.TheVariants.{Jmp, Jz, Loop}
 use Rattle.tatp_instr.specs.Instrs.{text_of}
 use Rattle.tatp_encoding.specs.Modules.{Procedure}
 use Rattle.tatp_asm.specs.Instrs.{target_of}
@@ -19,6 +19,7 @@ pub text_of_line : (i : Instr) → text_of i ≡ line_text (instruction_line i)
 unfolding label_at
 text_of_line (Jmp t) = refl
 text_of_line (Jz a t) = ap (λ (x : List ℕ). codes "JZ r" ++ x) (target_text (decimal a) (decimal t))
+text_of_line (Loop a t) = ap (λ (x : List ℕ). codes "LOOP r" ++ x) (target_text (decimal a) (decimal t))
 text_of_line _ = refl
 
 pub instruction_pushed : (out text : List ℕ) (i : Instr) → text ≡ text_of i → (out ++ text) ++ (10 ∷ []) ≡ out ++ lines_text (instruction_line i ∷ [])

@@ -2,11 +2,11 @@
 use Rattle.std.specs.Prelude.{◌≡◌, ℕ, ◌<◌, Bool, true, false, List, length, Option, Some, None, Result, Err, IfSome, slice_get}
 use Rattle.tatp_lines.specs.Lines.{lines_of}
 use Rattle.tatp_asm.specs.Lines.{Line, Names, Does}
-use Rattle.tatp_asm.specs.Words.{line_of_bytes}
+use Rattle.tatp_asm.specs.Heads.{head_of}
 use Rattle.tatp_asm.specs.declared.fault.AsmFault.{AsmFault}
 use Rattle.tatp_asm.specs.declared.fault.AsmError.{AsmError}
 use Rattle.tatp_asm.specs.declared.fault.AsmError.TheVariants as errors
-use Rattle.tatp_asm.specs.Reading.{Open}
+use Rattle.tatp_asm.specs.Reading.{Open, line_in}
 
 -- a label or an instruction
 abbrev pub is_code : Option Line → Bool
@@ -18,7 +18,7 @@ is_code (Some line) = false
 -- none of the first n lines of the text is one
 abbrev pub HasNoCodeUpTo : List ℕ → ℕ → Type 0
 HasNoCodeUpTo text n = (k : ℕ) (line : List ℕ) → k < n → slice_get (lines_of text) k ≡ Some line
-    → is_code (line_of_bytes line) ≡ false
+    → is_code (line_in (head_of text).version line) ≡ false
 
 -- a fault that is met before the first label or instruction is the result, even where memory runs
 -- out

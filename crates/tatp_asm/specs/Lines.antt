@@ -3,7 +3,7 @@ use Rattle.std.specs.Prelude.{◌≡◌, ℕ, ◌≤◌, nat_lt, ◌==◌, ◌&&
 use Rattle.std.specs.List.{list_all}
 use Rattle.tatp_lines.specs.Numbers.{is_between}
 use Rattle.tatp_instr.specs.declared.instr.Instr.{Instr}
-use Rattle.tatp_instr.specs.declared.instr.Instr.TheVariants.{Jmp, Jz}
+use Rattle.tatp_instr.specs.declared.instr.Instr.TheVariants.{Jmp, Jz, Loop}
 use Rattle.tatp_instr.specs.Instrs.{text_of, register_text}
 use Rattle.tatp_encoding.specs.Modules.{is_name}
 use Rattle.tatp_encoding.specs.declared.module.TheConstants.{MAX_NAME_BYTES, MAX_ARGUMENTS}
@@ -22,6 +22,7 @@ pub data Line : Type 0 where
 abbrev pub instruction_text : Instr → List ℕ → List ℕ
 instruction_text (Jmp t) label = codes "JMP @" ++ label
 instruction_text (Jz a t) label = codes "JZ " ++ register_text a ++ codes ",@" ++ label
+instruction_text (Loop a t) label = codes "LOOP " ++ register_text a ++ codes ",@" ++ label
 instruction_text instr label = text_of instr
 
 abbrev pub line_text : Line → List ℕ

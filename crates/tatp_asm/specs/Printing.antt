@@ -1,7 +1,9 @@
 -- The text that is printed of a module: docs/FORMATS.md, "Assembly text".
 use Rattle.std.specs.Prelude.{ℕ, suc, Bool, false, ◌||◌, ◌==◌, if◌then◌else◌, List, [], ◌∷◌, ◌++◌, codes, decimal, Option, Some, None}
 use Rattle.tatp_instr.specs.declared.instr.Instr.{Instr}
-use Rattle.tatp_encoding.specs.Modules.{Procedure}
+use Rattle.tatp_instr.specs.declared.version.Version.{Version}
+use Rattle.tatp_instr.specs.declared.version.Version.TheVariants.{One, Two}
+use Rattle.tatp_encoding.specs.Modules.{Procedure, ModuleState}
 use Rattle.tatp_asm.specs.Instrs.{target_of, aimed}
 use Rattle.tatp_asm.specs.Lines.{Line, Opens, Names, Does, Closes, line_text}
 
@@ -52,5 +54,10 @@ lines_text (line ∷ lines) = line_text line ++ (10 ∷ lines_text lines)
 abbrev pub procedure_lines : Procedure → List Line
 procedure_lines p = Opens p.name p.arity ∷ (body_lines p.code 0 p.code ++ (Closes ∷ []))
 
-unfoldable pub disassembled : List Procedure → List ℕ
-disassembled m = lines_text (module_lines m)
+-- the line that tells version 2, before all others
+abbrev pub version_text : Version → List ℕ
+version_text One = []
+version_text Two = codes "version 2\n"
+
+unfoldable pub disassembled : ModuleState → List ℕ
+disassembled m = version_text m.version ++ lines_text (module_lines m.procedures)

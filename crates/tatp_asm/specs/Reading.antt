@@ -2,7 +2,9 @@
 -- "Assembly text".
 use Rattle.std.specs.Prelude.{◌≡◌, ℕ, ◌+◌, ◌==◌, nat_lt, Bool, true, false, if◌then◌else◌, List, [], ◌∷◌, ◌++◌, length, bytes_eq, Option, Some, None, is_some, Result, Ok, Err}
 use Rattle.tatp_instr.specs.declared.instr.Instr.{Instr}
-use Rattle.tatp_encoding.specs.Modules.{Procedure}
+use Rattle.tatp_instr.specs.declared.version.Version.{Version}
+use Rattle.tatp_instr.specs.Versions.{is_in}
+use Rattle.tatp_encoding.specs.Modules.{Procedure, ModuleState}
 use Rattle.tatp_encoding.specs.declared.module.TheConstants.{MAX_PROCEDURES, MAX_INSTRUCTIONS}
 use Rattle.tatp_asm.specs.declared.fault.AsmFaultKind.{AsmFaultKind}
 use Rattle.tatp_asm.specs.declared.fault.AsmFaultKind.TheVariants.{Syntax, NoSuchLabel, LabelTwice, TooLong}
@@ -10,9 +12,9 @@ use Rattle.tatp_asm.specs.declared.fault.AsmFault.{AsmFault}
 use Rattle.tatp_asm.specs.declared.fault.AsmError.{AsmError}
 use Rattle.tatp_asm.specs.declared.fault.AsmError.TheVariants as errors
 use Rattle.tatp_asm.specs.Instrs.{has_target, aimed}
-use Rattle.tatp_lines.specs.Lines.{lines_of}
 use Rattle.tatp_asm.specs.Lines.{Line, Opens, Names, Does, Closes}
 use Rattle.tatp_asm.specs.Words.{line_of_bytes}
+use Rattle.tatp_asm.specs.Heads.{Head, head_of}
 
 -- a fault of this line
 abbrev pub fault : {A : Type 0} → AsmFaultKind → ℕ → Result A AsmFault
@@ -121,16 +123,37 @@ finish [] None n = fault Syntax n
 finish (p ∷ more) None n = Ok (p ∷ more)
 finish closed (Some o) n = fault Syntax n
 
+-- a line of the version: an instruction that it lacks makes none
+abbrev pub of_version : Version → Option Line → Option Line
+of_version version None = None
+of_version version (Some (Does instr label)) =
+    if is_in version instr then Some (Does instr label) else None
+of_version version (Some line) = Some line
+
+-- the line that bytes are in a text of the version
+abbrev pub line_in : Version → List ℕ → Option Line
+line_in version bytes = of_version version (line_of_bytes bytes)
+
 -- the lines from the line n on
-abbrev pub reads : ℕ → State → List (List ℕ) → Result (List Procedure) AsmFault
-reads n s [] = finish s.closed s.current n
-reads n s ([] ∷ texts) = reads (n + 1) s texts
-reads n s ((byte ∷ bytes) ∷ texts) =
-    step_of s n (line_of_bytes (byte ∷ bytes)) >>= λ t. reads (n + 1) t texts
+abbrev pub reads : Version → ℕ → State → List (List ℕ) → Result (List Procedure) AsmFault
+reads version n s [] = finish s.closed s.current n
+reads version n s ([] ∷ texts) = reads version (n + 1) s texts
+reads version n s ((byte ∷ bytes) ∷ texts) =
+    step_of s n (line_in version (byte ∷ bytes)) >>= λ t. reads version (n + 1) t texts
 
 abbrev pub start : State
 start = record { closed = []; current = None }
 
--- the procedures of a text, or its first fault
-unfoldable pub assembled : List ℕ → Result (List Procedure) AsmFault
-assembled text = reads 1 start (lines_of text)
+-- the procedures of a text that begins so
+abbrev pub procedures_after : Head → Result (List Procedure) AsmFault
+procedures_after head = reads head.version head.line start head.left
+
+abbrev pub assembled_after : Head → Result ModuleState AsmFault
+assembled_after head = procedures_after head >>= λ procedures. Ok (record {
+  version = head.version;
+  procedures = procedures;
+})
+
+-- the module of a text, or the text's first fault
+unfoldable pub assembled : List ℕ → Result ModuleState AsmFault
+assembled text = assembled_after (head_of text)

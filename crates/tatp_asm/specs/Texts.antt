@@ -1,7 +1,9 @@
 -- Assembly text, and the module that it is a text of: docs/FORMATS.md, "Assembly text".
-use Rattle.std.specs.Prelude.{◌≡◌, ℕ, suc, Bool, true, false, List, [], ◌∷◌, ◌++◌}
+use Rattle.std.specs.Prelude.{◌≡◌, ℕ, suc, Bool, true, false, List, [], ◌∷◌, ◌++◌, codes}
 use Rattle.tatp_instr.specs.declared.instr.Instr.{Instr}
-use Rattle.tatp_encoding.specs.Modules.{Procedure}
+use Rattle.tatp_instr.specs.declared.version.Version.{Version}
+use Rattle.tatp_instr.specs.declared.version.Version.TheVariants.{One, Two}
+use Rattle.tatp_encoding.specs.Modules.{Procedure, ModuleState}
 use Rattle.tatp_asm.specs.Instrs.{has_target, aimed}
 use Rattle.tatp_lines.specs.Lines.{lines_of}
 use Rattle.tatp_asm.specs.Lines.{Line, Opens, Names, Does, Closes, line_text, IsLine}
@@ -56,8 +58,16 @@ AreTexts ((byte ∷ bytes) ∷ texts) [] = ⊥
 AreTexts ((byte ∷ bytes) ∷ texts) (line ∷ lines) =
     (byte ∷ bytes ≡ line_text line) × IsLine line × AreTexts texts lines
 
--- the text is a text of these procedures
-pub record IsTextOf (text : List ℕ) (m : List Procedure) : Type 0 where
+-- the texts of a module's lines: in version 2 the first that isn't empty says so
+abbrev pub AreModuleTexts : Version → List (List ℕ) → List Line → Type 0
+AreModuleTexts One texts lines = AreTexts texts lines
+AreModuleTexts Two [] lines = ⊥
+AreModuleTexts Two ([] ∷ texts) lines = AreModuleTexts Two texts lines
+AreModuleTexts Two ((byte ∷ bytes) ∷ texts) lines =
+    (byte ∷ bytes ≡ codes "version 2") × AreTexts texts lines
+
+-- the text is a text of this module
+pub record IsTextOf (text : List ℕ) (m : ModuleState) : Type 0 where
   pub lines : List Line
-  pub texts : AreTexts (lines_of text) lines
-  pub procedures : AreProcedureLines lines m
+  pub texts : AreModuleTexts m.version (lines_of text) lines
+  pub procedures : AreProcedureLines lines m.procedures

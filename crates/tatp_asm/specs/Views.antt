@@ -1,6 +1,7 @@
 -- What the definitions see of the program's values.
 use Rattle.std.specs.Prelude.{◌≡◌, ℕ, ◌≤◌, true, List, [], ◌∷◌, length, map, Option, Some, option_map, IfSome, String}
 use Rattle.std.specs.String.{string_bytes}
+use Rattle.tatp_lines.specs.Lines.{lines_of}
 use Rattle.tatp_encoding.specs.Modules.{Procedure, is_name}
 use Rattle.tatp_encoding.specs.declared.module.TheConstants.{MAX_ARGUMENTS, MAX_INSTRUCTIONS}
 use Rattle.tatp_asm.specs.declared.fields.Split.{Split}
@@ -8,6 +9,7 @@ use Rattle.tatp_asm.specs.declared.fields.Split.TheVariants.{One, Two, Three, Mo
 use Rattle.tatp_asm.specs.declared.operands.Operand.{Operand}
 use Rattle.tatp_asm.specs.declared.operands.Operand.TheVariants as operand
 use Rattle.tatp_asm.specs.declared.operands.Given.{Given}
+use Rattle.tatp_asm.specs.declared.head.Head.{Head}
 use Rattle.tatp_asm.specs.declared.line.Line.{Line}
 use Rattle.tatp_asm.specs.declared.line.Line.TheVariants.{Opening, Label, Instruction, Ending}
 use Rattle.tatp_asm.specs.declared.draft.Draft.{Draft}
@@ -16,6 +18,7 @@ use Rattle.tatp_asm.specs.Lines.{Opens, Names, Does, Closes}
 use Rattle.tatp_asm.specs.Lines as lines
 use Rattle.tatp_asm.specs.Words.{Register, Number, Target}
 use Rattle.tatp_asm.specs.Words as words
+use Rattle.tatp_asm.specs.Heads as heads
 use Rattle.tatp_asm.specs.Reading.{Pending, Open, State}
 
 -- ---- lines
@@ -43,6 +46,13 @@ line_view (Opening name arity) = Opens name.bytes arity
 line_view (Label label) = Names label.bytes
 line_view (Instruction instr label) = Does instr label.bytes
 line_view Ending = Closes
+
+abbrev pub head_view : Head → heads.Head
+head_view head = record {
+  version = head.version;
+  line = head.line;
+  left = lines_of head.left.now;
+}
 
 -- ---- a procedure under way
 abbrev pub pending : Unresolved → Pending

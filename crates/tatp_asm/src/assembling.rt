@@ -1,19 +1,20 @@
 //! The module of an assembly text, read once from front to back.
 ghost use Rattle.std.specs.Prelude.{◌≡◌, ◌≢◌, List, Ok, Err, Some, true, false, IfOk, IfErr, OnOk};
 ghost use Rattle.std.specs.Result.{result_map_both};
-ghost use Rattle.tatp_encoding.specs.Modules.{Procedure, is_module};
-ghost use Rattle.tatp_lines.specs.Lines.{lines_of};
+ghost use Rattle.tatp_encoding.specs.Modules.{ModuleState, is_module};
 ghost use Rattle.tatp_asm.specs.Lines.{IsLine};
 ghost use Rattle.tatp_asm.specs.Texts.{IsTextOf};
 ghost use Rattle.tatp_asm.specs.BeforeCode.{IsToldEarly, IsBare, is_code};
-ghost use Rattle.tatp_asm.specs.Reading.{Gives, step, finish, reads, start, assembled};
+ghost use Rattle.tatp_asm.specs.Reading.{Gives, step, finish, assembled};
 ghost use Rattle.tatp_asm.specs.Views.{FitsAny, line_view, drafts, state_of};
 
 use crate::draft::{Draft, add_instruction, add_label, close_draft, fault, open_draft};
 use crate::fault::{AsmError, AsmFault, AsmFaultKind};
+use crate::head::read_head;
 use crate::line::{Line, parse_line};
 use std::alloc::Global;
 use tatp_encoding::{Module, Proc};
+use tatp_instr::Version;
 use tatp_lines::next_line;
 
 /// One line more, after the procedures that have ended and the one that has not.
@@ -69,21 +70,26 @@ fn finish(closed: Vec<Proc>, draft: Option<Draft>, number: u64) -> Result<Vec<Pr
     Ok(closed)
 }
 
-/// The procedures of a text.
-fn procedures(alloc: Global, text: &[u8]) -> Result<Vec<Proc>, AsmError>
-    ensures gives { Gives (λ procs. procs.items) result (reads 1 start (lines_of text.now)) }
-    ensures early { IsToldEarly text.now (reads 1 start (lines_of text.now)) result }
+/// The version and the procedures of a text.
+#[tactic(auto, unfolding(crate::specs::Reading::assembled))]
+fn procedures(alloc: Global, text: &[u8]) -> Result<(Version, Vec<Proc>), AsmError>
+    ensures gives { Gives (λ found. record {
+      version = found.0;
+      procedures = found.1.items;
+    }) result (assembled text.now) }
+    ensures early { IsToldEarly text.now (assembled text.now) result }
 {
+    let head = read_head(text);
     let mut closed = Vec::new(alloc);
     let mut draft = None;
-    let mut rest = text;
-    let mut number = 1;
+    let mut rest = head.left;
+    let mut number = head.line;
     'lines: loop {
         match next_line(rest) {
-            None => return Ok(finish(closed, draft, number)?),
+            None => return Ok((head.version, finish(closed, draft, number)?)),
             Some((line, after)) => {
                 if !line.is_empty() {
-                    match parse_line(line) {
+                    match parse_line(head.version, line) {
                         None => return fault(AsmFaultKind::Syntax, number),
                         Some(line) => add_line(alloc, &mut closed, &mut draft, line, number)?,
                     }
@@ -95,13 +101,12 @@ fn procedures(alloc: Global, text: &[u8]) -> Result<Vec<Proc>, AsmError>
     }
 }
 
-#[tactic(auto, unfolding(crate::specs::Reading::assembled))]
 fn read_module(alloc: Global, text: &[u8]) -> Result<Module, AsmError>
     ensures gives { Gives (λ m. m) result (assembled text.now) }
     ensures early { IsToldEarly text.now (assembled text.now) result }
 {
-    let procs = procedures(alloc, text)?;
-    Ok(Module::new(procs))
+    let (version, procs) = procedures(alloc, text)?;
+    Ok(Module::new(version, procs))
 }
 
 /// The module of a text, which may be bytes that are no text: such a line has the fault 9 Syntax.
@@ -110,7 +115,7 @@ fn read_module(alloc: Global, text: &[u8]) -> Result<Module, AsmError>
 pub fn assemble_bytes(alloc: Global, text: &[u8]) -> Result<Module, AsmError>
     // What is assembled has this text, and what has this text is assembled, unless memory runs out.
     ensures found { IfOk result (λ m. IsTextOf text.now m) }
-    ensures only { (m : List Procedure) → is_module m ≡ true → IsTextOf text.now m
+    ensures only { (m : ModuleState) → is_module m ≡ true → IsTextOf text.now m
         → Gives (λ found. found) result (Ok m) }
 
     // Which fault it is. Before the first label or instruction no memory is asked for.
@@ -124,7 +129,7 @@ pub fn assemble_bytes(alloc: Global, text: &[u8]) -> Result<Module, AsmError>
 pub fn assemble(alloc: Global, text: &str) -> Result<Module, AsmError>
     // What is assembled has this text, and what has this text is assembled, unless memory runs out.
     ensures found { IfOk result (λ m. IsTextOf text.now m) }
-    ensures only { (m : List Procedure) → is_module m ≡ true → IsTextOf text.now m
+    ensures only { (m : ModuleState) → is_module m ≡ true → IsTextOf text.now m
         → Gives (λ found. found) result (Ok m) }
 
     // Which fault it is. Before the first label or instruction no memory is asked for.

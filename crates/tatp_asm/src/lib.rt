@@ -5,6 +5,7 @@ mod assembling;
 mod draft;
 mod fault;
 mod fields;
+mod head;
 mod labels;
 mod line;
 mod name;

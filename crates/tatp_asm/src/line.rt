@@ -2,13 +2,14 @@
 ghost use Rattle.std.specs.Prelude.{◌≡◌, option_map, IfSome};
 ghost use Rattle.tatp_asm.specs.Lines.{IsLine};
 ghost use Rattle.tatp_asm.specs.Words.{label_line, word_of, opening_of, line_of, line_of_bytes};
+ghost use Rattle.tatp_asm.specs.Reading.{line_in};
 ghost use Rattle.tatp_asm.specs.Views.{line_view};
 
 use crate::fields::{Split, below, is_label, split_fields};
 use crate::name::{Name, name_of};
 use crate::operands::{instruction, instruction_with};
 use tatp_encoding::{MAX_ARGUMENTS, is_name};
-use tatp_instr::Instr;
+use tatp_instr::{Instr, Version};
 
 /// A line that isn't empty.
 #[derive(Clone, Copy, Debug)]
@@ -76,6 +77,7 @@ fn text_line(text: &str) -> Option<Line>
     }
 }
 
+/// The line that bytes are, which may be no text.
 #[tactic(auto, unfolding(crate::specs::Words::line_of_bytes))]
 fn bytes_line(line: &[u8]) -> Option<Line>
     ensures { option_map line_view result ≡ line_of_bytes line.now }
@@ -86,10 +88,14 @@ fn bytes_line(line: &[u8]) -> Option<Line>
     }
 }
 
-/// The line that bytes are, which may be no text.
-pub(crate) fn parse_line(line: &[u8]) -> Option<Line>
-    ensures value { option_map line_view result ≡ line_of_bytes line.now }
+/// The line that bytes are in a text of the version.
+pub(crate) fn parse_line(version: Version, line: &[u8]) -> Option<Line>
+    ensures value { option_map line_view result ≡ line_in version line.now }
     ensures within { IfSome result (λ l. IsLine (line_view l)) }
 {
-    bytes_line(line)
+    let line = bytes_line(line)?;
+    match line {
+        Line::Instruction(instr, _) if !instr.is_in(version) => None,
+        _ => Some(line),
+    }
 }

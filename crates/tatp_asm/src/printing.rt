@@ -1,15 +1,15 @@
 //! The assembly text of a module.
-ghost use Rattle.std.specs.Prelude.{◌≡◌, ◌≤◌, ◌++◌, ◌∷◌, [], ◌||◌, ℕ, List, true, false, All, slice_index_or, length, IfOk, OnOk};
+ghost use Rattle.std.specs.Prelude.{◌≡◌, ◌≤◌, ◌++◌, ◌∷◌, [], ◌||◌, ℕ, true, false, All, slice_index_or, length, IfOk, OnOk};
 ghost use Rattle.std.specs.String.{string_bytes};
-ghost use Rattle.tatp_encoding.specs.Modules.{Procedure, is_module};
+ghost use Rattle.tatp_encoding.specs.Modules.{ModuleState, is_module};
 ghost use Rattle.tatp_encoding.specs.Spelling.{IsInstr};
 ghost use Rattle.tatp_asm.specs.Texts.{IsTextOf};
-ghost use Rattle.tatp_asm.specs.Printing.{is_target, is_named, instruction_line, body_lines, with_label, procedure_lines, lines_text, disassembled};
+ghost use Rattle.tatp_asm.specs.Printing.{is_target, is_named, instruction_line, body_lines, with_label, procedure_lines, lines_text, version_text, disassembled};
 
 use crate::target::target_of;
 use std::alloc::{AllocError, Global};
 use tatp_encoding::{MAX_INSTRUCTIONS, Module, Proc};
-use tatp_instr::{Instr, text};
+use tatp_instr::{Instr, Version, text};
 use tatp_lines::push_decimal;
 
 /// How many positions a label can have: before each instruction, and after the last.
@@ -97,15 +97,26 @@ fn push_procedure(out: &mut String, procedure: &Proc) -> Result<(), AllocError>
     Ok(())
 }
 
+/// Appends the line that tells the version.
+fn push_version(out: &mut String, version: Version) -> Result<(), AllocError>
+    ensures { OnOk result (string_bytes out.new ≡ string_bytes out.old ++ version_text version) }
+{
+    match version {
+        Version::One => Ok(()),
+        Version::Two => out.push_str("version 2\n"),
+    }
+}
+
 /// The lines of a module.
 #[tactic(auto, unfolding(crate::specs::Printing::disassembled))]
 fn module_text(alloc: Global, m: &Module) -> Result<String, AllocError>
     ensures text { IfOk result (λ text. string_bytes text ≡ disassembled m.now) }
-    ensures instrs { OnOk result (All (λ p. All IsInstr p.code) m.now) }
+    ensures instrs { OnOk result (All (λ p. All IsInstr p.code) m.now.procedures) }
     ensures module { is_module m.now ≡ true }
 {
     let procs = m.procs();
     let mut out = String::new(alloc);
+    push_version(&mut out, m.version())?;
     for procedure in procs {
         push_procedure(&mut out, procedure)?;
     }
@@ -117,7 +128,7 @@ fn module_text(alloc: Global, m: &Module) -> Result<String, AllocError>
 pub fn disassemble(alloc: Global, m: &Module) -> Result<String, AllocError>
     // The text is this module's, and no other's.
     ensures found { IfOk result (λ text. IsTextOf (string_bytes text) m.now) }
-    ensures only { (other : List Procedure) → is_module other ≡ true
+    ensures only { (other : ModuleState) → is_module other ≡ true
         → IfOk result (λ text. IsTextOf (string_bytes text) other → other ≡ m.now) }
 
     // Which text it is.

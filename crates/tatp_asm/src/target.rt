@@ -25,6 +25,7 @@ pub(crate) fn aimed(instr: Instr, position: u32) -> Instr
     match instr {
         Instr::Jmp(_) => Instr::Jmp(position),
         Instr::Jz(a, _) => Instr::Jz(a, position),
+        Instr::Loop(a, _) => Instr::Loop(a, position),
         other => other,
     }
 }

@@ -1,5 +1,5 @@
 //! That the text which is printed of a module is assembled to it. The program runs nothing of this.
-ghost use Rattle.std.specs.Prelude.{Ok};
+ghost use Rattle.std.specs.Prelude.{◌≡◌, Ok};
 ghost use Rattle.tatp_asm.specs.Reading.{Gives};
 
 use crate::assembling::assemble;

@@ -1,7 +1,7 @@
 -- What the commands `asm`, `dis` and `check` write, and what each fault leaves.
 use Rattle.std.specs.Prelude.{◌≡◌, ℕ, List, [], ◌++◌, length, sum_by, codes, decimal, Option, Some, Err}
 use Rattle.std.specs.Io.KnownBytes.{Appends}
-use Rattle.tatp_encoding.specs.Modules.{Procedure}
+use Rattle.tatp_encoding.specs.Modules.{Procedure, ModuleState}
 use Rattle.tatp_loader.specs.declared.fault.LoadError.{LoadError}
 use Rattle.tatp_loader.specs.declared.fault.LoadError.TheVariants.{NoMemory as NoMemoryToLoad, Fault as InBytes}
 use Rattle.tatp_loader.specs.Lawful.{IsLawful}
@@ -20,7 +20,7 @@ use Rattle.tatp_assembly.specs.declared.fault.AssemblyFault.TheVariants.{Text, M
 -- ---- what is written
 -- the bytes are those of a module that keeps the rules, and the text is its text
 pub record IsModuleOfText (text : List ℕ) (bytes : List ℕ) : Type 0 where
-  pub m : List Procedure
+  pub m : ModuleState
   pub text_of : IsTextOf text m
   pub lawful : IsLawful m
   pub bytes_of : IsModuleOf bytes m
@@ -31,17 +31,17 @@ IsTextOfModule bytes text = IsModuleOfText text bytes
 
 -- how many instructions the procedures have together
 abbrev pub instruction_count : List Procedure → ℕ
-instruction_count m = sum_by (λ p. length p.code) m
+instruction_count procedures = sum_by (λ p. length p.code) procedures
 
 -- what is said of a module: how many procedures and instructions it has
-abbrev pub approval : List Procedure → List ℕ
+abbrev pub approval : ModuleState → List ℕ
 approval m =
-    codes "OK " ++ (decimal (length m)
-    ++ (codes " " ++ (decimal (instruction_count m) ++ codes "\n")))
+    codes "OK " ++ (decimal (length m.procedures)
+    ++ (codes " " ++ (decimal (instruction_count m.procedures) ++ codes "\n")))
 
 -- the bytes are those of a module that keeps the rules, and the text says so
 pub record IsApprovalOf (bytes : List ℕ) (text : List ℕ) : Type 0 where
-  pub m : List Procedure
+  pub m : ModuleState
   pub bytes_of : IsModuleOf bytes m
   pub lawful : IsLawful m
   pub said : text ≡ approval m
@@ -59,7 +59,7 @@ loading_fault (InBytes fault) = Module fault
 abbrev pub RefusesText : List ℕ → AssemblyFault → Type 0
 RefusesText text (Text fault) = assembled text ≡ Err fault
 RefusesText text (Module fault) =
-    (m : List Procedure) × IsTextOf text m × (first_fault m ≡ Some fault)
+    (m : ModuleState) × IsTextOf text m × (first_fault m ≡ Some fault)
 RefusesText text (Stream NoMemory) = Unit {0}
 RefusesText text (Stream fault) = ⊥
 

@@ -7,7 +7,7 @@ use Rattle.std.specs.Option.{option_map}
 use Rattle.std.specs.Result.{result_err}
 use Rattle.std.proofs.lemmas.List.{map-append}
 use Rattle.rand_core.specs.Stream.{Stream}
-use Rattle.tatp_encoding.specs.Modules.{Procedure}
+use Rattle.tatp_encoding.specs.Modules.{ModuleState}
 use Rattle.tatp_procs.specs.declared.ask.Ask.{Ask}
 use Rattle.tatp_procs.specs.declared.ask.Ask.TheVariants.{Txn}
 use Rattle.tatp_procs.specs.declared.call.Call.{Call}
@@ -71,30 +71,30 @@ none_of_both [] ys h k = k
 none_of_both (None ∷ xs) ys h k = none_of_both xs ys h k
 none_of_both (Some refusal ∷ xs) ys h k = h
 
-module _ (procedures : List Procedure) (has : (call : Call) → has_procedure procedures (Txn call) ≡ true) where
-  no_obstacle : (call : Call) → arguments_accepted call ≡ Ok tt → obstacle_to procedures (Txn call) ≡ None
+module _ (modul : ModuleState) (has : (call : Call) → has_procedure modul (Txn call) ≡ true) where
+  no_obstacle : (call : Call) → arguments_accepted call ≡ Ok tt → obstacle_to modul (Txn call) ≡ None
   no_obstacle call fits = (λ i. cond (has call i) (option_map BadArgument (bad_argument (Txn call))) (Some NoProcedure)) ∙ ap (λ (r : Result (Unit {0}) Bad). option_map BadArgument (result_err r)) fits
 
   pub calls_run : (distribution : Distribution) (subscribers : ℕ) → 1 ≤ subscribers → subscribers ≤ 1000000 → (n : ℕ) (stream : Stream)
-      → obstacle_in procedures (map Txn (next_calls distribution subscribers n stream).0) ≡ None
+      → obstacle_in modul (map Txn (next_calls distribution subscribers n stream).0) ≡ None
   unfolding next_calls
   calls_run distribution subscribers some few zero stream = refl
   calls_run distribution subscribers some few (suc n) stream =
       let before = next_calls distribution subscribers n stream in
       let call = drawn_call distribution subscribers (next_words 7 before.1).0 in
-      let spread = ap (map (obstacle_to procedures)) (map-append Txn before.0 (call ∷ [])) ∙ map-append (obstacle_to procedures) (map Txn before.0) (Txn call ∷ []) in
-      ap first_of spread ∙ none_of_both (map (obstacle_to procedures) (map Txn before.0)) (obstacle_to procedures (Txn call) ∷ [])
+      let spread = ap (map (obstacle_to modul)) (map-append Txn before.0 (call ∷ [])) ∙ map-append (obstacle_to modul) (map Txn before.0) (Txn call ∷ []) in
+      ap first_of spread ∙ none_of_both (map (obstacle_to modul) (map Txn before.0)) (obstacle_to modul (Txn call) ∷ [])
       (calls_run distribution subscribers some few n stream)
       (ap (λ (o : Option RunRefusal). first_of (o ∷ [])) (no_obstacle call (accepted distribution subscribers (next_words 7 before.1).0 some few)))
 
-  listed : (lists : List (Vec Ask Global)) → map (λ (list : Vec Ask Global). obstacle_in procedures list.items) lists ≡ map (obstacle_in procedures) (lists_of lists)
+  listed : (lists : List (Vec Ask Global)) → map (λ (list : Vec Ask Global). obstacle_in modul list.items) lists ≡ map (obstacle_in modul) (lists_of lists)
   listed [] = refl
-  listed (list ∷ lists) = ap (λ rest. obstacle_in procedures list.items ∷ rest) (listed lists)
+  listed (list ∷ lists) = ap (λ rest. obstacle_in modul list.items ∷ rest) (listed lists)
 
-  none_ranged : (list_of : ℕ → List Ask) (a n : ℕ) → ((client : ℕ) → obstacle_in procedures (list_of client) ≡ None) → first_of (map (obstacle_in procedures) (map list_of (range_with_len a n))) ≡ None
+  none_ranged : (list_of : ℕ → List Ask) (a n : ℕ) → ((client : ℕ) → obstacle_in modul (list_of client) ≡ None) → first_of (map (obstacle_in modul) (map list_of (range_with_len a n))) ≡ None
   none_ranged list_of a zero none = refl
-  none_ranged list_of a (suc n) none = ap (λ (o : Option RunRefusal). first_of (o ∷ map (obstacle_in procedures) (map list_of (range_with_len (a + 1) n)))) (none a) ∙ none_ranged list_of (a + 1) n none
+  none_ranged list_of a (suc n) none = ap (λ (o : Option RunRefusal). first_of (o ∷ map (obstacle_in modul) (map list_of (range_with_len (a + 1) n)))) (none a) ∙ none_ranged list_of (a + 1) n none
 
-  pub lists_run : (list_of : ℕ → List Ask) (clients : ℕ) (lists : List (Vec Ask Global)) → ((client : ℕ) → obstacle_in procedures (list_of client) ≡ None)
-      → lists_of lists ≡ map list_of (range_with_len 0 clients) → obstacle_among procedures lists ≡ None
-  lists_run list_of clients lists none same = ap first_of (listed lists ∙ ap (map (obstacle_in procedures)) same) ∙ none_ranged list_of 0 clients none
+  pub lists_run : (list_of : ℕ → List Ask) (clients : ℕ) (lists : List (Vec Ask Global)) → ((client : ℕ) → obstacle_in modul (list_of client) ≡ None)
+      → lists_of lists ≡ map list_of (range_with_len 0 clients) → obstacle_among modul lists ≡ None
+  lists_run list_of clients lists none same = ap first_of (listed lists ∙ ap (map (obstacle_in modul)) same) ∙ none_ranged list_of 0 clients none

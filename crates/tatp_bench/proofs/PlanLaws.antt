@@ -5,7 +5,7 @@ use Rattle.std.specs.declared.alloc.Global.{Global}
 use Rattle.std.proofs.lemmas.List.{length-map}
 use Rattle.std.proofs.lemmas.List.FromFn.{length-map-range_with_len}
 use Rattle.rand_core.specs.Stream.{next_u64}
-use Rattle.tatp_encoding.specs.Modules.{Procedure}
+use Rattle.tatp_encoding.specs.Modules.{ModuleState}
 use Rattle.tatp_tables.specs.Clean.{IsClean}
 use Rattle.tatp_tables.specs.declared.row.Rows.{Rows}
 use Rattle.tatp_procs.specs.declared.ask.Ask.{Ask}
@@ -51,11 +51,11 @@ rows_are_opened plan rows is clean same =
     subst AreOpened (sym same) (omega (arith, size, is.subscribers.1), clean)
 
 -- ---- why a run is refused whose rows are opened and whose calls can be run
-pub run_refused : (procedures : List Procedure) (rows : Rows) (lists : List (Vec Ask Global)) (refusal : RunRefusal) → AreOpened rows → obstacle_among procedures lists ≡ None
-    → RefusesRun procedures rows lists refusal → (refusal ≡ NoMemory) ⊎ (refusal ≡ NoThread)
-run_refused procedures rows lists TooMany opened none h = absurd (omega (arith, h, opened.0))
-run_refused procedures rows lists (NotClean verdict) opened none h = absurd (h.2 opened.1)
-run_refused procedures rows lists NoProcedure opened none h = absurd (let e : None ≡ Some NoProcedure = sym none ∙ h.1 in cc)
-run_refused procedures rows lists (BadArgument bad) opened none h = absurd (let e : None ≡ Some (BadArgument bad) = sym none ∙ h.1 in cc)
-run_refused procedures rows lists NoMemory opened none h = inl refl
-run_refused procedures rows lists NoThread opened none h = inr refl
+pub run_refused : (modul : ModuleState) (rows : Rows) (lists : List (Vec Ask Global)) (refusal : RunRefusal) → AreOpened rows → obstacle_among modul lists ≡ None
+    → RefusesRun modul rows lists refusal → (refusal ≡ NoMemory) ⊎ (refusal ≡ NoThread)
+run_refused modul rows lists TooMany opened none h = absurd (omega (arith, h, opened.0))
+run_refused modul rows lists (NotClean verdict) opened none h = absurd (h.2 opened.1)
+run_refused modul rows lists NoProcedure opened none h = absurd (let e : None ≡ Some NoProcedure = sym none ∙ h.1 in cc)
+run_refused modul rows lists (BadArgument bad) opened none h = absurd (let e : None ≡ Some (BadArgument bad) = sym none ∙ h.1 in cc)
+run_refused modul rows lists NoMemory opened none h = inl refl
+run_refused modul rows lists NoThread opened none h = inr refl

@@ -42,7 +42,7 @@ Calls:
   deny P                  memory for it is refused                                  DENIED C
 Steps:
   step P                  one instruction of P's call                 MOVED, ENDED C REPLY
-  steps P K               K times step, 1 to 256
+  steps P K               K times step, 1 to 4,096
   one P                   one instruction, stopped or not, at a breakpoint or not
 Debugging:
   stop P, resume P        P's machine                                                     OK

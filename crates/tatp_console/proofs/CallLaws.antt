@@ -1,7 +1,7 @@
 -- What is answered to the lines of `call`.
 use Rattle.std.proofs.Common.{◌≡◌, ℕ, ◌∙◌, sym, ap, Bool, List, [], ◌∷◌, ◌++◌, refl, append_assoc}
 use Rattle.std.proofs.lemmas.List.{append-nil}
-use Rattle.tatp_encoding.specs.Modules.{Procedure}
+use Rattle.tatp_encoding.specs.Modules.{ModuleState}
 use Rattle.tatp_dispatch.specs.Shown.{set_back}
 use Rattle.tatp_dispatch.specs.Worlds.{WorldState}
 use Rattle.tatp_tasks.specs.declared.setup.Setup.{Setup}
@@ -47,7 +47,7 @@ lines_replied w w' [] text t = no_line w w' text t.0 t.1
 lines_replied w w' (line ∷ lines) text t = line_before w t.0 w' line lines text t.1 t.2 t.3 t.4 (lines_replied t.0 w' lines t.2 t.5)
 
 -- ---- the lines of an input
-pub all_served : (setup : Setup) (m : List Procedure) (work : Work) (text : List ℕ) → AnswersWork answers_call setup m work text → Served work text
+pub all_served : (setup : Setup) (m : ModuleState) (work : Work) (text : List ℕ) → AnswersWork answers_call setup m work text → Served work text
 unfolding replies
 all_served setup m work text a =
     let h = lines_replied a.opened a.after work.lines text a.answered in (
@@ -61,7 +61,7 @@ all_served setup m work text a =
       },
     )
 
-pub front_served : (setup : Setup) (m : List Procedure) (work : Work) (front : List ℕ) → AnswersFront answers_call setup m work front → ServedFront work front
+pub front_served : (setup : Setup) (m : ModuleState) (work : Work) (front : List ℕ) → AnswersFront answers_call setup m work front → ServedFront work front
 front_served setup m work front f =
     let a = f.answered in
     let h = lines_replied a.opened a.after f.lines (front ++ f.rest) a.answered in

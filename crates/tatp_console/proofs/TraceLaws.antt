@@ -1,6 +1,6 @@
 -- What is answered to the lines of `trace`.
 use Rattle.std.proofs.Common.{ℕ, List, [], ◌∷◌, ◌++◌, refl, Result}
-use Rattle.tatp_encoding.specs.Modules.{Procedure}
+use Rattle.tatp_encoding.specs.Modules.{ModuleState}
 use Rattle.tatp_events.specs.declared.event.Answer.{Answer}
 use Rattle.tatp_events.specs.declared.refusal.Refusal.{Refusal}
 use Rattle.tatp_dispatch.specs.Worlds.{WorldState}
@@ -27,7 +27,7 @@ lines_told w w' (line ∷ lines) text t =
     (t.3.0 ++ later.0, (t.0, t.3.0, later.0, t.1, t.2, t.3.1, refl, t.4, later.1))
 
 -- ---- the lines of an input
-pub work_told : (setup : Setup) (m : List Procedure) (work : Work) (text : List ℕ) → AnswersWork answers_events setup m work text → TellsWork setup m work text
+pub work_told : (setup : Setup) (m : ModuleState) (work : Work) (text : List ℕ) → AnswersWork answers_events setup m work text → TellsWork setup m work text
 work_told setup m work text a =
     let told = lines_told a.opened a.after work.lines text a.answered in
     let runs = lines_run a.opened a.after work.lines told.0 text a.world told.1 in
@@ -45,7 +45,7 @@ work_told setup m work text a =
       };
     }
 
-pub front_told : (setup : Setup) (m : List Procedure) (work : Work) (front : List ℕ) → AnswersFront answers_events setup m work front → TellsFront setup m work front
+pub front_told : (setup : Setup) (m : ModuleState) (work : Work) (front : List ℕ) → AnswersFront answers_events setup m work front → TellsFront setup m work front
 front_told setup m work front f = record {
   lines = f.lines;
   later = f.later;

@@ -6,7 +6,7 @@ use Rattle.std.proofs.lemmas.Option.{IfSome_then}
 use Rattle.tatp_lines.specs.Lines.{lines_of}
 use Rattle.tatp_tables.specs.Clean.{IsClean}
 use Rattle.tatp_tables.specs.declared.row.Rows.{Rows}
-use Rattle.tatp_encoding.specs.Modules.{Procedure}
+use Rattle.tatp_encoding.specs.Modules.{ModuleState}
 use Rattle.tatp_population.specs.declared.open_error.OpenError.{OpenError}
 use Rattle.tatp_population.specs.Opening.{most_subscribers, RefusesRows}
 use Rattle.tatp_dispatch.specs.Opened.{IsOpened}
@@ -29,10 +29,10 @@ use Rattle.tatp_console.specs.Brought.{OfInput, RefusesInput, Brings}
 use Rattle.tatp_console.specs.Works.{WritesOfWork, WritesFrontOfWork, Leaves}
 
 abbrev IsText : Type 1
-IsText = List Procedure → Work → List ℕ → Type 0
+IsText = ModuleState → Work → List ℕ → Type 0
 
 -- ---- what the input brings, and the whole that was opened with it
-pub record OpensRows (setup : Setup) (m : List Procedure) (rows : Rows) (opened : WorldState) : Type 0 where
+pub record OpensRows (setup : Setup) (m : ModuleState) (rows : Rows) (opened : WorldState) : Type 0 where
   pub few : length rows.subscribers ≤ most_subscribers
   pub clean : IsClean rows
   pub is_opened : IsOpened m rows setup.partitions setup.clients opened
@@ -44,7 +44,7 @@ WritesOfLines Holds setup old new all =
     (text : List ℕ) × OfInput setup.procedures setup.population all.lines (λ m work. Holds m work text) × Appends old new text
 
 -- all lines are answered
-answers_work : (answers : Answering) (setup : Setup) (old new : Option (List ℕ)) (m : List Procedure) (rows : Rows) (opened : WorldState) (all left : LinesLeft)
+answers_work : (answers : Answering) (setup : Setup) (old new : Option (List ℕ)) (m : ModuleState) (rows : Rows) (opened : WorldState) (all left : LinesLeft)
     → OpensRows setup m rows opened → Brings setup m rows all left → AnswersAll answers opened left.lines old new → WritesOfLines (AnswersWork answers setup) setup old new all
 answers_work answers setup old new m rows opened all left o b a = (
   a.text,
@@ -59,7 +59,7 @@ answers_work answers setup old new m rows opened all left o b a = (
 )
 
 -- a front of the lines are
-answers_front : (answers : Answering) (setup : Setup) (old new : Option (List ℕ)) (m : List Procedure) (rows : Rows) (opened : WorldState) (all left : LinesLeft)
+answers_front : (answers : Answering) (setup : Setup) (old new : Option (List ℕ)) (m : ModuleState) (rows : Rows) (opened : WorldState) (all left : LinesLeft)
     → OpensRows setup m rows opened → Brings setup m rows all left → AnswersUpTo answers opened left.lines old new → WritesOfLines (AnswersFront answers setup) setup old new all
 answers_front answers setup old new m rows opened all left o b a = (
   a.front,
@@ -80,7 +80,7 @@ answers_front answers setup old new m rows opened all left o b a = (
 )
 
 -- ---- a run, where the input is known
-pub all_written : (answers : Answering) (setup : Setup) (start : LineReaderState) (known : Option (List ℕ)) (left : Option LinesLeft) (old new : Option (List ℕ)) (m : List Procedure) (rows : Rows) (opened : WorldState)
+pub all_written : (answers : Answering) (setup : Setup) (start : LineReaderState) (known : Option (List ℕ)) (left : Option LinesLeft) (old new : Option (List ℕ)) (m : ModuleState) (rows : Rows) (opened : WorldState)
     → start ≡ nothing_taken → Relates (lines_left start known) left (Brings setup m rows) → OpensRows setup m rows opened → IfSome left (λ l. AnswersAll answers opened l.lines old new)
     → IfSome known (λ input. WritesOfWork (AnswersWork answers setup) setup.procedures setup.population input old new)
 all_written answers setup start known left old new m rows opened e b o a =
@@ -88,7 +88,7 @@ all_written answers setup start known left old new m rows opened e b o a =
     (relates_known (lines_left nothing_taken known) left (Brings setup m rows) (λ l. AnswersAll answers opened l.lines old new) (WritesOfLines (AnswersWork answers setup) setup old new) (rw e at b) a
     (λ all l brings answered. answers_work answers setup old new m rows opened all l o brings answered))
 
-pub cut_short : (answers : Answering) (setup : Setup) (start : LineReaderState) (known : Option (List ℕ)) (left : Option LinesLeft) (old new : Option (List ℕ)) (m : List Procedure) (rows : Rows) (opened : WorldState) (fault : StreamFault)
+pub cut_short : (answers : Answering) (setup : Setup) (start : LineReaderState) (known : Option (List ℕ)) (left : Option LinesLeft) (old new : Option (List ℕ)) (m : ModuleState) (rows : Rows) (opened : WorldState) (fault : StreamFault)
     → start ≡ nothing_taken → Relates (lines_left start known) left (Brings setup m rows) → OpensRows setup m rows opened → IfSome left (λ l. AnswersUpTo answers opened l.lines old new)
     → IfSome known (λ input. Leaves (AnswersFront answers setup) setup.procedures setup.population input old new (Input (Stream fault)))
 cut_short answers setup start known left old new m rows opened fault e b o a =
@@ -98,7 +98,7 @@ cut_short answers setup start known left old new m rows opened fault e b o a =
     (λ all l brings answered. answers_front answers setup old new m rows opened all l o brings answered)))
     (λ input written. inr written)
 
-pub input_within : (setup : Setup) (start : LineReaderState) (known : Option (List ℕ)) (left : Option LinesLeft) (m : List Procedure) (rows : Rows)
+pub input_within : (setup : Setup) (start : LineReaderState) (known : Option (List ℕ)) (left : Option LinesLeft) (m : ModuleState) (rows : Rows)
     → start ≡ nothing_taken → Relates (lines_left start known) left (Brings setup m rows) → IfSome left (λ l. l.input_length ≤ most_bytes) → IfSome known (λ input. length input ≤ most_bytes)
 input_within setup start known left m rows e b h =
     of_input known (λ all. all.input_length ≤ most_bytes)
@@ -122,7 +122,7 @@ input_refused IsFront procedures population start known old fault e h =
     IfSome_then known (of_input known (λ all. RefusesInput procedures population all.lines fault) (rw e at h)) (λ input refused. unread IsFront procedures population input old fault refused)
 
 -- its rows are
-pub rows_refused : (IsFront : IsText) (setup : Setup) (start : LineReaderState) (known : Option (List ℕ)) (left : Option LinesLeft) (old : Option (List ℕ)) (m : List Procedure) (rows : Rows) (error : OpenError)
+pub rows_refused : (IsFront : IsText) (setup : Setup) (start : LineReaderState) (known : Option (List ℕ)) (left : Option LinesLeft) (old : Option (List ℕ)) (m : ModuleState) (rows : Rows) (error : OpenError)
     → start ≡ nothing_taken → Relates (lines_left start known) left (Brings setup m rows) → RefusesRows rows error
     → IfSome known (λ input. Leaves IsFront setup.procedures setup.population input old old (Unopened error))
 rows_refused IsFront setup start known left old m rows error e b h =
@@ -134,7 +134,7 @@ rows_refused IsFront setup start known left old m rows error e b h =
 
 -- ---- what holds of each text that a run may write
 abbrev Implies : IsText → IsText → Type 0
-Implies P Q = (m : List Procedure) (work : Work) (text : List ℕ) → P m work text → Q m work text
+Implies P Q = (m : ModuleState) (work : Work) (text : List ℕ) → P m work text → Q m work text
 
 of_work : (P Q : IsText) (procedures : Procedures) (population : Population) (input : List ℕ) (old new : Option (List ℕ))
     → Implies P Q → WritesOfWork P procedures population input old new → WritesOfWork Q procedures population input old new

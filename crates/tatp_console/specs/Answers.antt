@@ -2,7 +2,7 @@
 use Rattle.std.specs.Prelude.{◌≡◌, ℕ, ◌≤◌, List, [], ◌∷◌, ◌++◌, length, Option}
 use Rattle.std.specs.Io.KnownBytes.{Appends}
 use Rattle.tatp_tables.specs.Clean.{IsClean}
-use Rattle.tatp_encoding.specs.Modules.{Procedure}
+use Rattle.tatp_encoding.specs.Modules.{ModuleState}
 use Rattle.tatp_population.specs.Opening.{most_subscribers}
 use Rattle.tatp_dispatch.specs.Opened.{IsOpened}
 use Rattle.tatp_dispatch.specs.Serving.{IsWorld}
@@ -18,7 +18,7 @@ Answering = WorldState → List ℕ → List ℕ → WorldState → Type 0
 
 -- what has to hold before a line does before the first
 abbrev pub IsReadyUnder : (WorldState → Type 0) → Procedures → Type 0
-IsReadyUnder ready procedures = (w : WorldState) → IsModuleFor procedures w.procedures → ready w
+IsReadyUnder ready procedures = (w : WorldState) → IsModuleFor procedures w.modul → ready w
 
 -- new is what old is and after it what is answered to the line
 pub record AppendsAnswer (answers : Answering) (w : WorldState) (line : List ℕ)
@@ -58,7 +58,7 @@ pub record AnswersUpTo (answers : Answering) (w : WorldState) (lines : List (Lis
 -- ---- the lines of an input
 -- the text is what is answered to all lines of the work, from a whole that was just opened with its
 -- rows under the module m; they may be opened
-pub record AnswersWork (answers : Answering) (setup : Setup) (m : List Procedure) (work : Work)
+pub record AnswersWork (answers : Answering) (setup : Setup) (m : ModuleState) (work : Work)
     (text : List ℕ) : Type 0 where
   pub few : length work.rows.subscribers ≤ most_subscribers
   pub clean : IsClean work.rows
@@ -69,7 +69,7 @@ pub record AnswersWork (answers : Answering) (setup : Setup) (m : List Procedure
   pub answered : AnswersLines answers opened work.lines text after
 
 -- a front of what is answered to the lines up to some line
-pub record AnswersFront (answers : Answering) (setup : Setup) (m : List Procedure) (work : Work)
+pub record AnswersFront (answers : Answering) (setup : Setup) (m : ModuleState) (work : Work)
     (front : List ℕ) : Type 0 where
   pub lines : List (List ℕ)
   pub later : List (List ℕ)

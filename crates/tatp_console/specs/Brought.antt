@@ -1,7 +1,7 @@
 -- What an input brings to a run over lines: the module under which they are answered, the rows, and
 -- the lines: docs/FORMATS.md.
 use Rattle.std.specs.Prelude.{◌≡◌, ℕ, ◌+◌, List, length, Option, Some, None, Result, Ok, Err}
-use Rattle.tatp_encoding.specs.Modules.{Procedure}
+use Rattle.tatp_encoding.specs.Modules.{ModuleState}
 use Rattle.tatp_loader.specs.Lawful.{IsLawful}
 use Rattle.tatp_asm.specs.Texts.{IsTextOf}
 use Rattle.tatp_procs.specs.Standard.{standard_module}
@@ -24,12 +24,12 @@ use Rattle.tatp_console.specs.declared.fault.ConsoleFault.TheVariants.{Input, Te
 -- ---- the module
 -- it is the standard module; or what stands before the first line `.` is a text of it, and it keeps
 -- the loader's rules
-abbrev pub IsModuleAsked : Procedures → List (List ℕ) → List Procedure → Type 0
+abbrev pub IsModuleAsked : Procedures → List (List ℕ) → ModuleState → Type 0
 IsModuleAsked Standard lines m = m ≡ standard_module
 IsModuleAsked Read lines m = IsTextOf (text_before_dot lines) m × IsLawful m
 
 -- it is the standard module, or keeps the rules
-abbrev pub IsModuleFor : Procedures → List Procedure → Type 0
+abbrev pub IsModuleFor : Procedures → ModuleState → Type 0
 IsModuleFor Standard m = m ≡ standard_module
 IsModuleFor Read m = IsLawful m
 
@@ -54,9 +54,9 @@ work_asked Read population lines =
 -- ---- an input
 -- of the module and the work that its lines bring
 abbrev pub OfInput : Procedures → Population → List (List ℕ)
-    → (List Procedure → Work → Type 0) → Type 0
+    → (ModuleState → Work → Type 0) → Type 0
 OfInput procedures population lines P =
-    (m : List Procedure) × IsModuleAsked procedures lines m
+    (m : ModuleState) × IsModuleAsked procedures lines m
     × (work : Work) × (work_asked procedures population lines ≡ Ok work) × P m work
 
 -- why it is refused: a fault of the text comes before one of the rows. A reader can fail, and
@@ -67,7 +67,7 @@ RefusesInput procedures population lines (Text fault) =
 RefusesInput procedures population lines (Module fault) =
     RefusesModule procedures lines (assembly.Module fault)
 RefusesInput procedures population lines (Input (BadLine n)) =
-    (m : List Procedure) × IsModuleAsked procedures lines m
+    (m : ModuleState) × IsModuleAsked procedures lines m
     × (work_asked procedures population lines ≡ Err n)
 RefusesInput procedures population lines (Input (Stream WriteFault)) = ⊥
 RefusesInput procedures population lines (Input (Stream fault)) = Unit {0}
@@ -76,7 +76,7 @@ RefusesInput procedures population lines (Unopened error) = ⊥
 -- ---- taking what it brings
 -- of all these lines the first are the module's text, where it is read; those that are left, from
 -- line n on, bring the work
-pub record BringsModule (setup : Setup) (m : List Procedure) (n : ℕ) (all left : LinesLeft)
+pub record BringsModule (setup : Setup) (m : ModuleState) (n : ℕ) (all left : LinesLeft)
     : Type 0 where
   pub under : IsModuleAsked setup.procedures all.lines m
   pub work : work_asked setup.procedures setup.population all.lines
@@ -85,7 +85,7 @@ pub record BringsModule (setup : Setup) (m : List Procedure) (n : ℕ) (all left
 
 -- of all these lines the first bring this module and these rows, and those that are left are
 -- answered
-pub record Brings (setup : Setup) (m : List Procedure) (rows : Rows) (all left : LinesLeft)
+pub record Brings (setup : Setup) (m : ModuleState) (rows : Rows) (all left : LinesLeft)
     : Type 0 where
   pub under : IsModuleAsked setup.procedures all.lines m
   pub work : work_asked setup.procedures setup.population all.lines

@@ -3,7 +3,7 @@
 use Rattle.std.specs.Prelude.{◌≡◌, ℕ, ◌≤◌, List, ◌++◌, length, Result}
 use Rattle.tatp_tables.specs.Clean.{IsClean}
 use Rattle.tatp_tables.specs.declared.row.Rows.{Rows}
-use Rattle.tatp_encoding.specs.Modules.{Procedure}
+use Rattle.tatp_encoding.specs.Modules.{ModuleState}
 use Rattle.tatp_population.specs.Opening.{most_subscribers}
 use Rattle.tatp_events.specs.declared.event.Answer.{Answer}
 use Rattle.tatp_events.specs.declared.refusal.Refusal.{Refusal}
@@ -23,7 +23,7 @@ answers_events w line text w' =
 
 -- told is what is told of the lines, from a whole that was just opened with the rows under the
 -- module m; the answers are those of the lines' events, one after another, and are the benchmark's
-pub record TellsFrom (m : List Procedure) (rows : Rows) (setup : Setup) (lines : List (List ℕ))
+pub record TellsFrom (m : ModuleState) (rows : Rows) (setup : Setup) (lines : List (List ℕ))
     (told : List ℕ) : Type 0 where
   pub opened : WorldState
   pub after : WorldState
@@ -34,14 +34,14 @@ pub record TellsFrom (m : List Procedure) (rows : Rows) (setup : Setup) (lines :
   pub benchmark : IsTheBenchmark m rows answers after
 
 -- told is what is told of all lines of the work, whose rows may be opened
-pub record TellsWork (setup : Setup) (m : List Procedure) (work : Work) (told : List ℕ)
+pub record TellsWork (setup : Setup) (m : ModuleState) (work : Work) (told : List ℕ)
     : Type 0 where
   pub few : length work.rows.subscribers ≤ most_subscribers
   pub clean : IsClean work.rows
   pub tells : TellsFrom m work.rows setup work.lines told
 
 -- a front of what is told of the lines up to some line
-pub record TellsFront (setup : Setup) (m : List Procedure) (work : Work) (front : List ℕ)
+pub record TellsFront (setup : Setup) (m : ModuleState) (work : Work) (front : List ℕ)
     : Type 0 where
   pub lines : List (List ℕ)
   pub later : List (List ℕ)

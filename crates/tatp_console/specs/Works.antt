@@ -3,7 +3,7 @@
 use Rattle.std.specs.Prelude.{ℕ, ◌⊎◌, List, [], Option}
 use Rattle.std.specs.Io.KnownBytes.{Appends}
 use Rattle.tatp_lines.specs.Lines.{lines_of}
-use Rattle.tatp_encoding.specs.Modules.{Procedure}
+use Rattle.tatp_encoding.specs.Modules.{ModuleState}
 use Rattle.tatp_population.specs.Opening.{RefusesRows}
 use Rattle.tatp_tasks.specs.declared.population.Population.{Population}
 use Rattle.tatp_tasks.specs.declared.procedures.Procedures.{Procedures}
@@ -14,20 +14,20 @@ use Rattle.tatp_console.specs.declared.fault.ConsoleFault.TheVariants.{Input, Un
 use Rattle.tatp_console.specs.Brought.{OfInput, RefusesInput}
 
 -- new has besides a text of which this holds, of the module and the work that the input brings
-abbrev pub WritesOfWork : (List Procedure → Work → List ℕ → Type 0)
+abbrev pub WritesOfWork : (ModuleState → Work → List ℕ → Type 0)
     → Procedures → Population → List ℕ → Option (List ℕ) → Option (List ℕ) → Type 0
 WritesOfWork IsText procedures population input old new =
     (text : List ℕ) × OfInput procedures population (lines_of input) (λ m work. IsText m work text)
     × Appends old new text
 
 -- new has nothing besides, or such a text
-abbrev pub WritesFrontOfWork : (List Procedure → Work → List ℕ → Type 0)
+abbrev pub WritesFrontOfWork : (ModuleState → Work → List ℕ → Type 0)
     → Procedures → Population → List ℕ → Option (List ℕ) → Option (List ℕ) → Type 0
 WritesFrontOfWork IsFront procedures population input old new =
     Appends old new [] ⊎ WritesOfWork IsFront procedures population input old new
 
 -- what each fault tells of the input, and leaves, by what a front of what would be written is
-abbrev pub Leaves : (List Procedure → Work → List ℕ → Type 0) → Procedures → Population → List ℕ
+abbrev pub Leaves : (ModuleState → Work → List ℕ → Type 0) → Procedures → Population → List ℕ
     → Option (List ℕ) → Option (List ℕ) → ConsoleFault → Type 0
 Leaves IsFront procedures population input old new (Input (Stream fault)) =
     WritesFrontOfWork IsFront procedures population input old new

@@ -35,10 +35,10 @@ fn call_in(line: &[u8]) -> Option<Call>
 /// Appends the reply to a line, without a line feed. A call runs alone, as client 0's; whatever
 /// stands against it is told as want of memory.
 fn answer_line(world: &mut World<'_>, line: &[u8], pending: &mut String) -> Result<(), AllocError>
-    requires standard { world.old.procedures ≡ standard_module }
+    requires standard { world.old.modul ≡ standard_module }
     ensures answered { OnOk result (AnswersLine line.now (set_back world.old)
         (string_bytes pending.old) (string_bytes pending.new) (set_back world.new)) }
-    ensures standard { world.new.procedures ≡ standard_module }
+    ensures standard { world.new.modul ≡ standard_module }
 {
     let Some(call) = call_in(line) else {
         pending.push_str("REFUSED 5 BadLine")?;
@@ -59,7 +59,7 @@ fn answer_line(world: &mut World<'_>, line: &[u8], pending: &mut String) -> Resu
 impl LineCommand for Calls {
     ghost answers = { answers_call };
 
-    ghost ready = { λ w. w.procedures ≡ standard_module };
+    ghost ready = { λ w. w.modul ≡ standard_module };
 
     fn answer(
         _alloc: Global,

@@ -3,7 +3,7 @@ use Rattle.std.specs.Prelude.{◌≡◌, ℕ, List, [], ◌∷◌, None, IsSomeA
 use Rattle.std.specs.Option.{option_map_or}
 use Rattle.tatp_instr.specs.declared.instr.Instr.{Instr}
 use Rattle.tatp_instr.specs.Instrs.{text_of}
-use Rattle.tatp_encoding.specs.Modules.{Procedure}
+use Rattle.tatp_encoding.specs.Modules.{Procedure, ModuleState}
 use Rattle.tatp_machine.specs.Calls.{Frame}
 use Rattle.tatp_machine.specs.Instructions.{value}
 use Rattle.tatp_partition.specs.Sites.{SiteState, RunningCall}
@@ -12,8 +12,9 @@ use Rattle.tatp_partition.specs.declared.refusal.SiteRefusal.TheVariants.{NotRun
 use Rattle.tatp_debug.specs.declared.snapshot.Snapshot.{Snapshot}
 
 -- the name of a procedure of a module
-abbrev pub name_of : List Procedure → ℕ → List ℕ
-name_of modul procedure = option_map_or (λ (p : Procedure). p.name) (slice_get modul procedure) []
+abbrev pub name_of : ModuleState → ℕ → List ℕ
+name_of modul procedure =
+    option_map_or (λ (p : Procedure). p.name) (slice_get modul.procedures procedure) []
 
 -- the values of the sixteen registers
 abbrev pub register_values : Frame → List ℕ
@@ -25,7 +26,7 @@ register_values q =
 
 -- the snapshot is of a call of this module in this state, in each part that it has; its line is the
 -- text of the next instruction
-pub record IsSnapshot (modul : List Procedure) (q : Frame) (snapshot : Snapshot) : Type 0 where
+pub record IsSnapshot (modul : ModuleState) (q : Frame) (snapshot : Snapshot) : Type 0 where
   pub procedure : snapshot.procedure ≡ q.procedure
   pub name : snapshot.name.bytes ≡ name_of modul q.procedure
   pub pc : snapshot.pc ≡ q.pc
@@ -35,10 +36,12 @@ pub record IsSnapshot (modul : List Procedure) (q : Frame) (snapshot : Snapshot)
   pub facility : snapshot.current.facility ≡ q.current.facility
   pub forwarding : snapshot.current.forwarding ≡ q.current.forwarding
   pub outputs : snapshot.outputs ≡ q.outputs
+  pub steps_made : snapshot.steps_made ≡ q.steps
+  pub writes_made : snapshot.writes_made ≡ q.writes
   pub line : IsSomeAnd (slice_get q.code q.pc) (λ (i : Instr). snapshot.line.bytes ≡ text_of i)
 
 -- what looking at a site answers: a snapshot of the call that runs; that none runs
 abbrev pub Looks : SiteState → Result Snapshot SiteRefusal → Type 0
 Looks s (Ok snapshot) =
-    IsSomeAnd s.running (λ (r : RunningCall). IsSnapshot s.procedures r.call.frame snapshot)
+    IsSomeAnd s.running (λ (r : RunningCall). IsSnapshot s.modul r.call.frame snapshot)
 Looks s (Err refusal) = (refusal ≡ NotRunning) × (s.running ≡ None)

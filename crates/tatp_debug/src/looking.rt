@@ -52,6 +52,8 @@ fn snapshot_of(loaded: &Loaded, machine: &Machine<'_>) -> Snapshot
             forwarding: machine.current(Table::CallForwarding),
         },
         outputs: Outputs::from_slice(machine.outputs()),
+        steps_made: machine.steps_made(),
+        writes_made: machine.writes_made(),
         line: text(&machine.instr()),
     }
 }

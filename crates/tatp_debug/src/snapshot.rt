@@ -32,6 +32,10 @@ pub struct Snapshot {
     pub current: CurrentKeys,
     /// What it put out, in its order.
     pub outputs: Outputs,
+    /// How many steps it has made.
+    pub steps_made: usize,
+    /// How many of those steps were writes: PUT, INS or DEL.
+    pub writes_made: usize,
     /// The text of the next instruction.
     pub line: Line,
 }

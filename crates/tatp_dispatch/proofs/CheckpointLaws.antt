@@ -142,7 +142,7 @@ checkpoint_carries w p e s s' x good here site has is =
       here = here;
       site = site;
       partition = ap (λ k. k.partition) is;
-      procedures = ap (λ k. k.procedures) is;
+      modul = ap (λ k. k.modul) is;
       running = ap (λ k. k.running) is;
       placed = placed;
       homes = λ k. homes_same k (extent_in w.sites w.parcels) (extent_in (set w.sites p s') w.parcels) e x y was now refl others;
@@ -195,7 +195,7 @@ kept_with w p s chapter k = record {
 
 keeps_chapter : (w : WorldState) (p e : ℕ) (s s' : SiteState) (chapter : ChapterState) → IsWorld w → slice_get w.sites p ≡ Some s → IsSite s' → HandsOut s e chapter s' → Kept w (chapter_kept w p s' chapter)
 keeps_chapter w p zero s s' chapter h here whole out =
-    kept_with w p s' chapter (keeps_quiet w p s s' h here whole (record { partition = ap (λ t. t.partition) out.1; procedures = ap (λ t. t.procedures) out.1; running = ap (λ t. t.running) out.1; slots = ap (λ t. t.slots) out.1 }))
+    kept_with w p s' chapter (keeps_quiet w p s s' h here whole (record { partition = ap (λ t. t.partition) out.1; modul = ap (λ t. t.modul) out.1; running = ap (λ t. t.running) out.1; slots = ap (λ t. t.slots) out.1 }))
 keeps_chapter w p (suc e) s s' chapter h here whole out =
     kept_with w p s' chapter (keeps_carried w p s s' w.parcels w.landings h (checkpoint_carries w p (suc e) s s' out.0 h here whole (slot_has s.slots (suc e) out.0 out.1) out.3))
 
@@ -225,7 +225,7 @@ chapter_done a v l p e extent index entries chapter h x items =
         room = record { completions = omega (arith, h.room.completions, ap (total (λ (t : SiteState). one t.running)) x.after, total_set_same (λ (t : SiteState). one t.running) a.sites.items p x.before x.after_it x.site (ap one running)); landings = h.room.landings; clients = h.room.clients };
         empty = h.empty;
       },
-      record { goes = k.stays; serves = serves_kept w w' k.back k.completions; world = k.world; procedures = refl },
+      record { goes = k.stays; serves = serves_kept w w' k.back k.completions; world = k.world; modul = refl },
     )
 
 pub chapter_happens : (a : Inside) (v : Vec SiteState Global) (l : Vec ChapterState Global) (p e extent index entries : ℕ) (chapter : ChapterState) → IsSound a → CheckpointsIn a.sites.items p e (Ok chapter) v.items → l.items ≡ a.chapters.items ++ chapter ∷ [] → extent ≡ chapter.extent → index ≡ chapter.index → entries ≡ length chapter.entries

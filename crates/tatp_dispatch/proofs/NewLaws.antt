@@ -5,7 +5,7 @@ use Rattle.std.specs.Option.{option_flatten, option_map_or, option_and_then}
 use Rattle.std.proofs.lemmas.Bool.{and_parts, eqb-true, eq-eqb}
 use Rattle.std.proofs.lemmas.List.{length-replicate, length-map}
 use Rattle.std.proofs.lemmas.List.FromFn.{length-range_with_len}
-use Rattle.tatp_encoding.specs.Modules.{Procedure}
+use Rattle.tatp_encoding.specs.Modules.{ModuleState}
 use Rattle.tatp_loader.specs.Lawful.{IsLawful}
 use Rattle.tatp_tables.specs.Tuples.{Tuple, has, set_of}
 use Rattle.tatp_tables.specs.Keys.{has_key}
@@ -51,20 +51,20 @@ use Rattle.tatp_dispatch.proofs.RowsLaws.{home_at_index}
 use Rattle.tatp_dispatch.proofs.SlotLaws.{stands_here}
 
 -- ---- what holds of what is opened
-pub record Opens (procedures : List Procedure) (rows : Rows) (partitions : ℕ) (directory : Listing) (sites : List SiteState) : Type 0 where
-  pub lawful : IsLawful procedures
+pub record Opens (modul : ModuleState) (rows : Rows) (partitions : ℕ) (directory : Listing) (sites : List SiteState) : Type 0 where
+  pub lawful : IsLawful modul
   pub some : 1 ≤ partitions
   pub few : length rows.subscribers ≤ most_subscribers
   pub clean : IsClean rows
   pub answers : (key : Key) → answer directory key ≡ home_of_key (set_of rows.subscribers) key
-  pub opened : AreSitesOpened procedures partitions (opened_extents (database_of rows) (length rows.subscribers)) sites
+  pub opened : AreSitesOpened modul partitions (opened_extents (database_of rows) (length rows.subscribers)) sites
 
 abbrev pub no_parcels : ℕ → List (Option ExtentState)
 no_parcels n = replicate (extent_count n + 1) None
 
-abbrev pub new_world : List Procedure → ℕ → ℕ → ℕ → Listing → List SiteState → WorldState
-new_world procedures n partitions client_count directory sites = record {
-  procedures = procedures;
+abbrev pub new_world : ModuleState → ℕ → ℕ → ℕ → Listing → List SiteState → WorldState
+new_world modul n partitions client_count directory sites = record {
+  modul = modul;
   directory = directory;
   sites = sites;
   queues = replicate partitions [];
@@ -108,25 +108,25 @@ differs a b n = by_test (a == b) refl
     by_test true is = absurd (n (eqb-true a b is))
     by_test false is = is
 
-stands_once : (procedures : List Procedure) (partitions n e : ℕ) (u : Database) (sites : List SiteState) → 1 ≤ partitions → AreSitesOpened procedures partitions (opened_extents u n) sites → 1 ≤ e → e ≤ extent_count n → total (λ s. one (extent_at e s)) sites ≡ 1
-stands_once procedures partitions n e u sites some h least most =
+stands_once : (modul : ModuleState) (partitions n e : ℕ) (u : Database) (sites : List SiteState) → 1 ≤ partitions → AreSitesOpened modul partitions (opened_extents u n) sites → 1 ≤ e → e ≤ extent_count n → total (λ s. one (extent_at e s)) sites ≡ 1
+stands_once modul partitions n e u sites some h least most =
     let within : opening_partition partitions e < partitions = omega arith in
     let count : e ≤ length (opened_extents u n) = omega (arith, length-opened_extents u n) in
     total_single (λ (s : SiteState). one (extent_at e s)) sites (opening_partition partitions e) (omega (arith, h.count))
     (λ s at. ap one (
-    site_place procedures partitions (opening_partition partitions e) e (opened_extents u n) s (h.each (opening_partition partitions e) s at) count
+    site_place modul partitions (opening_partition partitions e) e (opened_extents u n) s (h.each (opening_partition partitions e) s at) count
     ∙ ap (λ b. if b then extent_numbered (opened_extents u n) e else None) (eq-eqb (opening_partition partitions e) (opening_partition partitions e) refl)
     ∙ its_extent u n e least most))
     (λ i s at other. ap one (
-    site_place procedures partitions i e (opened_extents u n) s (h.each i s at) count
+    site_place modul partitions i e (opened_extents u n) s (h.each i s at) count
     ∙ ap (λ b. if b then extent_numbered (opened_extents u n) e else None) (differs (opening_partition partitions e) i (λ same. other (sym same)))))
 
-pub placed : (procedures : List Procedure) (partitions n : ℕ) (u : Database) (sites : List SiteState) → 1 ≤ partitions → IsConsistent u → AreSitesOpened procedures partitions (opened_extents u n) sites → AreExtentsPlaced n sites (no_parcels n)
-placed procedures partitions n u sites some is h = record {
-  once = λ e least most. omega (arith, stands_once procedures partitions n e u sites some h least most, ap one (none_in (extent_count n + 1) e));
-  at_sites = λ p e s x at has. whole_extent u n e x is (numbers_of u n e x (stands_dealt procedures partitions p e (opened_extents u n) s x (h.each p s at) has).numbered);
+pub placed : (modul : ModuleState) (partitions n : ℕ) (u : Database) (sites : List SiteState) → 1 ≤ partitions → IsConsistent u → AreSitesOpened modul partitions (opened_extents u n) sites → AreExtentsPlaced n sites (no_parcels n)
+placed modul partitions n u sites some is h = record {
+  once = λ e least most. omega (arith, stands_once modul partitions n e u sites some h least most, ap one (none_in (extent_count n + 1) e));
+  at_sites = λ p e s x at has. whole_extent u n e x is (numbers_of u n e x (stands_dealt modul partitions p e (opened_extents u n) s x (h.each p s at) has).numbered);
   in_hand = λ e x has. absurd (not_held (extent_count n + 1) e x has);
-  site_slots = λ p s at. site_places procedures partitions p (opened_extents u n) s (h.each p s at) ∙ ap (λ (k : ℕ). k + 1) (length-opened_extents u n);
+  site_slots = λ p s at. site_places modul partitions p (opened_extents u n) s (h.each p s at) ∙ ap (λ (k : ℕ). k + 1) (length-opened_extents u n);
   parcel_slots = length-replicate (extent_count n + 1) None;
 }
 
@@ -135,31 +135,31 @@ pub record IsAsOpened (partitions n e : ℕ) (u : Database) (sites : List SiteSt
   pub number : IsNumberOf u n e x
   pub stands : stands_at sites e ≡ Some (opening_partition partitions e)
 
-as_opened : (procedures : List Procedure) (partitions n e : ℕ) (u : Database) (sites : List SiteState) (x : ExtentState) → 1 ≤ partitions → IsConsistent u → AreSitesOpened procedures partitions (opened_extents u n) sites
+as_opened : (modul : ModuleState) (partitions n e : ℕ) (u : Database) (sites : List SiteState) (x : ExtentState) → 1 ≤ partitions → IsConsistent u → AreSitesOpened modul partitions (opened_extents u n) sites
     → extent_in sites (no_parcels n) e ≡ Some x → IsAsOpened partitions n e u sites x
-as_opened procedures partitions n e u sites x some is h found = elim (extent_found sites (no_parcels n) e x found) as (λ _. IsAsOpened partitions n e u sites x) [
+as_opened modul partitions n e u sites x some is h found = elim (extent_found sites (no_parcels n) e x found) as (λ _. IsAsOpened partitions n e u sites x) [
   | inl a ↦
       let s = h.each a.p a.s a.site in
-      let d = stands_dealt procedures partitions a.p e (opened_extents u n) a.s x s a.has in
+      let d = stands_dealt modul partitions a.p e (opened_extents u n) a.s x s a.has in
       record {
         number = numbers_of u n e x d.numbered;
-        stands = stands_here n sites (no_parcels n) a.p e a.s x (placed procedures partitions n u sites some is h) a.site a.has ∙ ap (λ (t : SiteState). Some t.partition) s.fields ∙ ap (λ (p : ℕ). Some p) (sym d.opens);
+        stands = stands_here n sites (no_parcels n) a.p e a.s x (placed modul partitions n u sites some is h) a.site a.has ∙ ap (λ (t : SiteState). Some t.partition) s.fields ∙ ap (λ (p : ℕ). Some p) (sym d.opens);
       }
   | inr k ↦ absurd (not_held (extent_count n + 1) e x k)
 ]
 
-pub stands_opened : (procedures : List Procedure) (partitions n e : ℕ) (u : Database) (sites : List SiteState) → 1 ≤ partitions → IsConsistent u → AreSitesOpened procedures partitions (opened_extents u n) sites → 1 ≤ e → e ≤ extent_count n
+pub stands_opened : (modul : ModuleState) (partitions n e : ℕ) (u : Database) (sites : List SiteState) → 1 ≤ partitions → IsConsistent u → AreSitesOpened modul partitions (opened_extents u n) sites → 1 ≤ e → e ≤ extent_count n
     → extent_in sites (no_parcels n) e ≡ Some (opened_extent e (homes_of_extent u n e))
-stands_opened procedures partitions n e u sites some is h least most =
+stands_opened modul partitions n e u sites some is h least most =
     let p : ℕ = opening_partition partitions e in
     let within : p < partitions = omega arith in
     let count : e ≤ length (opened_extents u n) = omega (arith, length-opened_extents u n) in
     let s = site_at sites p (omega (arith, h.count)) in
     let has : extent_at e s.0 ≡ Some (opened_extent e (homes_of_extent u n e)) =
-    site_place procedures partitions p e (opened_extents u n) s.0 (h.each p s.0 s.1) count
+    site_place modul partitions p e (opened_extents u n) s.0 (h.each p s.0 s.1) count
     ∙ ap (λ b. if b then extent_numbered (opened_extents u n) e else None) (eq-eqb p p refl)
     ∙ its_extent u n e least most in
-    extent_at_site n sites (no_parcels n) p e s.0 (opened_extent e (homes_of_extent u n e)) (placed procedures partitions n u sites some is h) s.1 (slot_has s.0.slots e (opened_extent e (homes_of_extent u n e)) has)
+    extent_at_site n sites (no_parcels n) p e s.0 (opened_extent e (homes_of_extent u n e)) (placed modul partitions n u sites some is h) s.1 (slot_has s.0.slots e (opened_extent e (homes_of_extent u n e)) has)
 
 -- ---- the database
 home_of_place : (u : Database) (n e i : ℕ) (home : SubscriberRows) → slice_get (homes_of_extent u n e) i ≡ Some home → home ≡ home_in_database u (first_subscriber e + i)
@@ -169,25 +169,25 @@ home_of_place u n e i home at =
     let f : Some (home_in_database u (first_subscriber e + i)) ≡ Some home = sym (range_get (home_in_database u) count i (first_subscriber e) (first_subscriber e + i) refl lt) ∙ at in
     cc
 
-home_is : (procedures : List Procedure) (partitions n s : ℕ) (u : Database) (sites : List SiteState) (home : SubscriberRows) (o : Option ExtentState) → 1 ≤ partitions → IsConsistent u → AreSitesOpened procedures partitions (opened_extents u n) sites
+home_is : (modul : ModuleState) (partitions n s : ℕ) (u : Database) (sites : List SiteState) (home : SubscriberRows) (o : Option ExtentState) → 1 ≤ partitions → IsConsistent u → AreSitesOpened modul partitions (opened_extents u n) sites
     → extent_in sites (no_parcels n) (extent_of s) ≡ o → option_and_then (λ (x : ExtentState). home_at x s) o ≡ Some home → home ≡ home_in_database u s
-home_is procedures partitions n s u sites home None some is h found at = absurd cc
-home_is procedures partitions n s u sites home (Some x) some is h found at =
+home_is modul partitions n s u sites home None some is h found at = absurd cc
+home_is modul partitions n s u sites home (Some x) some is h found at =
     let e : ℕ = extent_of s in
-    let a = as_opened procedures partitions n e u sites x some is h found in
+    let a = as_opened modul partitions n e u sites x some is h found in
     let p = home_at_place x s home at in
     let number : x.number ≡ e = ap (λ (y : ExtentState). y.number) a.number.is in
     let place : s ≡ first_subscriber e + p.i = p.place ∙ ap (λ (k : ℕ). first_subscriber k + p.i) number in
     home_of_place u n e p.i home (ap (λ (y : ExtentState). slice_get y.homes p.i) (sym a.number.is) ∙ p.home_is) ∙ ap (home_in_database u) (sym place)
 
-home_there : (procedures : List Procedure) (partitions n s : ℕ) (u : Database) (sites : List SiteState) → 1 ≤ partitions → IsConsistent u → AreSitesOpened procedures partitions (opened_extents u n) sites → 1 ≤ s → s ≤ n
+home_there : (modul : ModuleState) (partitions n s : ℕ) (u : Database) (sites : List SiteState) → 1 ≤ partitions → IsConsistent u → AreSitesOpened modul partitions (opened_extents u n) sites → 1 ≤ s → s ≤ n
     → home_in sites (no_parcels n) s ≡ Some (home_in_database u s)
-home_there procedures partitions n s u sites some is h least most =
+home_there modul partitions n s u sites some is h least most =
     let e : ℕ = extent_of s in
     let i : ℕ = s - first_subscriber e in
     let place : s ≡ first_subscriber e + i = omega arith in
     let lt : i < last_subscriber n e + 1 - first_subscriber e = omega arith in
-    ap (option_and_then (λ (x : ExtentState). home_at x s)) (stands_opened procedures partitions n e u sites some is h (omega arith) (omega arith))
+    ap (option_and_then (λ (x : ExtentState). home_at x s)) (stands_opened modul partitions n e u sites some is h (omega arith) (omega arith))
     ∙ home_at_index (opened_extent e (homes_of_extent u n e)) s i place
     ∙ range_get (home_in_database u) (last_subscriber n e + 1 - first_subscriber e) i (first_subscriber e) s place lt
 
@@ -208,26 +208,26 @@ among n q h =
     range_has a (suc n) zero x is = let e : a ≡ x = cc in (omega (arith, e), omega (arith, e))
     range_has a (suc n) (suc i) x is = let more = range_has (a + 1) n i x is in (omega (arith, more.0), omega (arith, more.1))
 
-pub database_is : (procedures : List Procedure) (rows : Rows) (partitions client_count : ℕ) (directory : Listing) (sites : List SiteState) → Opens procedures rows partitions directory sites
-    → gathered (new_world procedures (length rows.subscribers) partitions client_count directory sites) ≡ database_of rows
-database_is procedures rows partitions client_count directory sites h =
+pub database_is : (modul : ModuleState) (rows : Rows) (partitions client_count : ℕ) (directory : Listing) (sites : List SiteState) → Opens modul rows partitions directory sites
+    → gathered (new_world modul (length rows.subscribers) partitions client_count directory sites) ≡ database_of rows
+database_is modul rows partitions client_count directory sites h =
     let u : Database = database_of rows in
     let n : ℕ = length rows.subscribers in
-    let w : WorldState = new_world procedures n partitions client_count directory sites in
+    let w : WorldState = new_world modul n partitions client_count directory sites in
     let is : IsConsistent u = IsConsistent-clean rows h.clean in
     let homes : ℕ → Option SubscriberRows = home_in sites (no_parcels n) in
-    let g : Collects homes (gathered w) = gathered_is n w (placed procedures partitions n u sites h.some is h.opened) in
+    let g : Collects homes (gathered w) = gathered_is n w (placed modul partitions n u sites h.some is h.opened) in
     collected_same homes homes u (gathered w) (record {
       own = g.own;
       rows = λ t q. both_ways (has (in_table t u) q) (has_row (homes (slice_index q 0)) t q)
           (λ a.
           let k = among n q (rows_of_clean rows h.clean t q a) in
-          ap (λ o. has_row o t q) (home_there procedures partitions n (slice_index q 0) u sites h.some is h.opened k.0 k.1)
+          ap (λ o. has_row o t q) (home_there modul partitions n (slice_index q 0) u sites h.some is h.opened k.0 k.1)
           ∙ (ap (λ v. has v q) (in_table-of_subscriber t u (slice_index q 0)) ∙ has-rows_with_s_id (slice_index q 0) (in_table t u) q)
           ∙ both_hold (has (in_table t u) q) (has_key (slice_index q 0 ∷ []) q) a k.2)
           (λ b.
           let k = has_some t q (homes (slice_index q 0)) b in
-          let home = home_is procedures partitions n (slice_index q 0) u sites k.0 (extent_in sites (no_parcels n) (extent_of (slice_index q 0))) h.some is h.opened refl k.1 in
+          let home = home_is modul partitions n (slice_index q 0) u sites k.0 (extent_in sites (no_parcels n) (extent_of (slice_index q 0))) h.some is h.opened refl k.1 in
           let own : has (in_table t (of_subscriber u (slice_index q 0))) q ≡ true = ap (λ (y : SubscriberRows). has (in_table t y.tables) q) (sym home) ∙ k.2 in
           (and_parts (has (in_table t u) q) (has_key (slice_index q 0 ∷ []) q) (sym (ap (λ v. has v q) (in_table-of_subscriber t u (slice_index q 0)) ∙ has-rows_with_s_id (slice_index q 0) (in_table t u) q) ∙ own)).0);
     }) g (λ k. refl)
@@ -235,8 +235,8 @@ database_is procedures rows partitions client_count directory sites h =
     both_hold : (a b : Bool) → a ≡ true → b ≡ true → (a && b) ≡ true
     both_hold a b h k = rw (h, k) refl
 
-none_runs : (procedures : List Procedure) (partitions : ℕ) (xs : List ExtentState) (sites : List SiteState) → AreSitesOpened procedures partitions xs sites → NoneRuns sites
-none_runs procedures partitions xs sites h p s at = ap (λ (t : SiteState). t.running) (h.each p s at).fields
+none_runs : (modul : ModuleState) (partitions : ℕ) (xs : List ExtentState) (sites : List SiteState) → AreSitesOpened modul partitions xs sites → NoneRuns sites
+none_runs modul partitions xs sites h p s at = ap (λ (t : SiteState). t.running) (h.each p s at).fields
 
 -- ---- no call
 not_running : (sites : List SiteState) (r : RunningCall) → NoneRuns sites → RunsIn sites r → ⊥
@@ -290,24 +290,24 @@ moved_so : (o : Option ExtentState) (m : ℕ) → moves_of o ≡ Some m → (x :
 moved_so None m h = absurd cc
 moved_so (Some x) m h = (x, refl, cc)
 
-pub routes_are_right : (procedures : List Procedure) (partitions n : ℕ) (u : Database) (sites : List SiteState) → 1 ≤ partitions → IsConsistent u → AreSitesOpened procedures partitions (opened_extents u n) sites
+pub routes_are_right : (modul : ModuleState) (partitions n : ℕ) (u : Database) (sites : List SiteState) → 1 ≤ partitions → IsConsistent u → AreSitesOpened modul partitions (opened_extents u n) sites
     → AreRoutesRight (opened_routes n partitions).routes [] (λ e. moves_of (extent_in sites (no_parcels n) e)) (stands_at sites)
-routes_are_right procedures partitions n u sites some is h = record {
+routes_are_right modul partitions n u sites some is h = record {
   below = λ e m route at moves. let r = ap (λ (k : Route). k.moves) (route_is n partitions e route at) in omega (arith, r);
   there = λ e route at moves.
       let x = moved_so (extent_in sites (no_parcels n) e) route.moves moves in
-      (as_opened procedures partitions n e u sites x.0 some is h x.1).stands ∙ ap (λ (k : Route). Some k.partition) (route_is n partitions e route at);
+      (as_opened modul partitions n e u sites x.0 some is h x.1).stands ∙ ap (λ (k : Route). Some k.partition) (route_is n partitions e route at);
   under_way = λ e m route at moves lt.
       let x = moved_so (extent_in sites (no_parcels n) e) m moves in
-      let a = as_opened procedures partitions n e u sites x.0 some is h x.1 in
+      let a = as_opened modul partitions n e u sites x.0 some is h x.1 in
       let none : x.0.moves ≡ 0 = ap (λ (y : ExtentState). y.moves) a.number.is in
       absurd (omega (arith, lt, none, x.2));
   landing = λ i m t at moves. absurd cc;
   once = λ i j t u at at' number many. absurd cc;
 }
 
-pub partitions_named : (procedures : List Procedure) (partitions n : ℕ) (xs : List ExtentState) (sites : List SiteState) → 1 ≤ partitions → AreSitesOpened procedures partitions xs sites → NamePartitions (length sites) (opened_routes n partitions).routes []
-partitions_named procedures partitions n xs sites some h = record {
+pub partitions_named : (modul : ModuleState) (partitions n : ℕ) (xs : List ExtentState) (sites : List SiteState) → 1 ≤ partitions → AreSitesOpened modul partitions xs sites → NamePartitions (length sites) (opened_routes n partitions).routes []
+partitions_named modul partitions n xs sites some h = record {
   some = omega (arith, h.count);
   of_routes = λ e route at.
       let r : opening_partition partitions e ≡ route.partition = ap (λ (k : Route). k.partition) (route_is n partitions e route at) in
@@ -317,33 +317,33 @@ partitions_named procedures partitions n xs sites some h = record {
 }
 
 -- ---- the whole
-pub is_world : (procedures : List Procedure) (rows : Rows) (partitions client_count : ℕ) (directory : Listing) (sites : List SiteState) → Opens procedures rows partitions directory sites
-    → IsWorld (new_world procedures (length rows.subscribers) partitions client_count directory sites)
-is_world procedures rows partitions client_count directory sites h =
+pub is_world : (modul : ModuleState) (rows : Rows) (partitions client_count : ℕ) (directory : Listing) (sites : List SiteState) → Opens modul rows partitions directory sites
+    → IsWorld (new_world modul (length rows.subscribers) partitions client_count directory sites)
+is_world modul rows partitions client_count directory sites h =
     let u : Database = database_of rows in
     let n : ℕ = length rows.subscribers in
-    let w : WorldState = new_world procedures n partitions client_count directory sites in
+    let w : WorldState = new_world modul n partitions client_count directory sites in
     let is : IsConsistent u = IsConsistent-clean rows h.clean in
-    let none : NoneRuns sites = none_runs procedures partitions (opened_extents u n) sites h.opened in
-    let database : gathered w ≡ u = database_is procedures rows partitions client_count directory sites h in
+    let none : NoneRuns sites = none_runs modul partitions (opened_extents u n) sites h.opened in
+    let database : gathered w ≡ u = database_is modul rows partitions client_count directory sites h in
     let back : set_back w ≡ u = none_set_back (gathered w) sites none ∙ database in
     let populated : IsPopulated n u = clean_populated rows h.clean in
     record {
       lawful = h.lawful;
       few = h.few;
       queues = length-replicate partitions [] ∙ sym h.opened.count;
-      extents = placed procedures partitions n u sites h.some is h.opened;
+      extents = placed modul partitions n u sites h.some is h.opened;
       sites = λ p s at.
           let k = h.opened.each p s at in
-          record { site = k.site; partition = ap (λ (t : SiteState). t.partition) k.fields; runs = ap (λ (t : SiteState). t.procedures) k.fields };
+          record { site = k.site; partition = ap (λ (t : SiteState). t.partition) k.fields; runs = ap (λ (t : SiteState). t.modul) k.fields };
       one_call_a_home = λ p q home r r' runs more on also. absurd (not_running sites r none (p, runs));
       clients = new_clients_in_order partitions client_count sites none;
       items = λ item waits. absurd (not_waiting partitions item waits);
       calls = λ r runs. absurd (not_running sites r none runs);
       routed = length_opened n partitions;
       route_partitions = sym h.opened.count;
-      partitions = partitions_named procedures partitions n (opened_extents u n) sites h.some h.opened;
-      routes = routes_are_right procedures partitions n u sites h.some is h.opened;
+      partitions = partitions_named modul partitions n (opened_extents u n) sites h.some h.opened;
+      routes = routes_are_right modul partitions n u sites h.some is h.opened;
       keys = subst (λ (v : Database). (key : Key) → answer directory key ≡ home_of_key v.subscribers key) (sym database) h.answers;
       keys_back = subst (λ (v : Database). (key : Key) → answer directory key ≡ home_of_key v.subscribers key) (sym back) h.answers;
       consistent = subst IsConsistent (sym database) is;
@@ -352,14 +352,14 @@ is_world procedures rows partitions client_count directory sites h =
       populated_back = subst (IsPopulated n) (sym back) populated;
     }
 
-pub is_opened : (procedures : List Procedure) (rows : Rows) (partitions client_count : ℕ) (directory : Listing) (sites : List SiteState) → Opens procedures rows partitions directory sites
-    → IsOpened procedures rows partitions client_count (new_world procedures (length rows.subscribers) partitions client_count directory sites)
-is_opened procedures rows partitions client_count directory sites h =
+pub is_opened : (modul : ModuleState) (rows : Rows) (partitions client_count : ℕ) (directory : Listing) (sites : List SiteState) → Opens modul rows partitions directory sites
+    → IsOpened modul rows partitions client_count (new_world modul (length rows.subscribers) partitions client_count directory sites)
+is_opened modul rows partitions client_count directory sites h =
     let u : Database = database_of rows in
     let n : ℕ = length rows.subscribers in
-    let w : WorldState = new_world procedures n partitions client_count directory sites in
-    let none : NoneRuns sites = none_runs procedures partitions (opened_extents u n) sites h.opened in
-    let database : gathered w ≡ u = database_is procedures rows partitions client_count directory sites h in
+    let w : WorldState = new_world modul n partitions client_count directory sites in
+    let none : NoneRuns sites = none_runs modul partitions (opened_extents u n) sites h.opened in
+    let database : gathered w ≡ u = database_is modul rows partitions client_count directory sites h in
     record {
       runs = refl;
       shows = λ i. record { database = database i; calls = λ client. none_shown sites none client i; completions = [] };
@@ -377,5 +377,5 @@ is_opened procedures rows partitions client_count directory sites h =
 pub none_under_way : (n : ℕ) → total (λ (x : Option ExtentState). one x) (no_parcels n) ≡ 0
 none_under_way n = total_none (λ (x : Option ExtentState). one x) (no_parcels n) (λ i x at. ap one (sym (got_replicated (extent_count n + 1) i None x at)))
 
-pub none_to_end : (procedures : List Procedure) (partitions : ℕ) (xs : List ExtentState) (sites : List SiteState) → AreSitesOpened procedures partitions xs sites → total (λ (s : SiteState). one s.running) sites ≡ 0
-none_to_end procedures partitions xs sites h = total_none (λ (s : SiteState). one s.running) sites (λ p s at. ap one (none_runs procedures partitions xs sites h p s at))
+pub none_to_end : (modul : ModuleState) (partitions : ℕ) (xs : List ExtentState) (sites : List SiteState) → AreSitesOpened modul partitions xs sites → total (λ (s : SiteState). one s.running) sites ≡ 0
+none_to_end modul partitions xs sites h = total_none (λ (s : SiteState). one s.running) sites (λ p s at. ap one (none_runs modul partitions xs sites h p s at))

@@ -11,7 +11,7 @@ use Rattle.tatp_dispatch.specs.Serving.{IsWorld}
 
 abbrev pub world_of : Inside → WorldState
 world_of a = record {
-  procedures = a.loaded.now;
+  modul = a.loaded.now;
   directory = a.directory;
   sites = a.sites.items;
   queues = a.queues.items;

@@ -1,7 +1,7 @@
 -- Why an event is refused: the first obstacle that is there, in their order.
-use Rattle.std.specs.Prelude.{ℕ, ◌-◌, ◌^◌, ◌==◌, not, Bool, if◌then◌else◌, List, is_none, Option, Some, None, slice_get}
+use Rattle.std.specs.Prelude.{ℕ, ◌-◌, ◌^◌, ◌==◌, not, Bool, if◌then◌else◌, is_none, Option, Some, None, slice_get}
 use Rattle.std.specs.Option.{option_map, option_map_or}
-use Rattle.tatp_encoding.specs.Modules.{Procedure}
+use Rattle.tatp_encoding.specs.Modules.{ModuleState}
 use Rattle.tatp_procs.specs.declared.ask.Ask.{Ask}
 use Rattle.tatp_partition.specs.declared.item.Item.{Item}
 use Rattle.tatp_partition.specs.declared.refusal.SiteRefusal.{SiteRefusal}
@@ -24,16 +24,16 @@ abbrev pub argument_obstacle : Ask → Option Refusal
 argument_obstacle ask = option_map BadArgument (bad_argument ask)
 
 -- what stands against a call of this client
-abbrev pub call_obstacle : List Procedure → Ask → Client → Option Refusal
-call_obstacle procedures ask c =
+abbrev pub call_obstacle : ModuleState → Ask → Client → Option Refusal
+call_obstacle modul ask c =
     or_else (where_holds c.busy ClientBusy)
-    (or_else (where_holds (not (has_procedure procedures ask)) NoProcedure)
+    (or_else (where_holds (not (has_procedure modul ask)) NoProcedure)
     (or_else (argument_obstacle ask)
     (where_holds (c.accepted == 2 ^ 64 - 1) NumbersFull)))
 
 abbrev pub client_obstacle : WorldState → Ask → Option Client → Option Refusal
 client_obstacle w ask None = Some NoClient
-client_obstacle w ask (Some c) = call_obstacle w.procedures ask c
+client_obstacle w ask (Some c) = call_obstacle w.modul ask c
 
 abbrev pub submit_obstacle : WorldState → ℕ → Ask → Option Refusal
 submit_obstacle w client ask = client_obstacle w ask (slice_get w.clients client)

@@ -1,7 +1,7 @@
 -- trusted: read it
 -- A whole that was just opened.
 use Rattle.std.specs.Prelude.{◌≡◌, ℕ, ◌+◌, false, List, [], length, replicate, None}
-use Rattle.tatp_encoding.specs.Modules.{Procedure}
+use Rattle.tatp_encoding.specs.Modules.{ModuleState}
 use Rattle.tatp_tables.specs.Database.{Database, database_of}
 use Rattle.tatp_tables.specs.declared.row.Rows.{Rows}
 use Rattle.tatp_population.specs.Extents.{ExtentState}
@@ -28,12 +28,12 @@ extents_of rows = opened_extents (database_of rows) (length rows.subscribers)
 -- a whole that was just opened with these rows in so many partitions and for so many clients:
 -- its database is that of the rows, no call runs or waits, none was completed, and each extent
 -- stands where its route says
-pub record IsOpened (procedures : List Procedure) (rows : Rows) (partitions client_count : ℕ)
+pub record IsOpened (modul : ModuleState) (rows : Rows) (partitions client_count : ℕ)
     (w : WorldState) : Type 0 where
-  pub runs : w.procedures ≡ procedures
+  pub runs : w.modul ≡ modul
   pub shows : shown w ≡ at_rest (database_of rows)
   pub back : set_back w ≡ database_of rows
-  pub sites : AreSitesOpened procedures partitions (extents_of rows) w.sites
+  pub sites : AreSitesOpened modul partitions (extents_of rows) w.sites
   pub routes : w.routes ≡ opened_routes (length rows.subscribers) partitions
   pub queues : w.queues ≡ replicate partitions []
   pub clients : w.clients ≡ replicate client_count new_client

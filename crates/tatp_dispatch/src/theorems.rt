@@ -1,7 +1,7 @@
 //! The theorem, and the laws of the definitions for the crates above. Nothing runs here: a clause
 //! is the law.
 ghost use Rattle.std.specs.Prelude.{◌≡◌, ◌≤◌, ◌⊎◌, ◌∷◌, ◌++◌, ℕ, List, [], None, Some, length, slice_get};
-ghost use Rattle.tatp_encoding.specs.Modules.{Procedure};
+ghost use Rattle.tatp_encoding.specs.Modules.{ModuleState};
 ghost use Rattle.tatp_tables.specs.Clean.{IsClean};
 ghost use Rattle.tatp_tables.specs.Database.{database_of};
 ghost use Rattle.tatp_tables.specs.declared.row.Rows.{Rows};
@@ -29,10 +29,10 @@ ghost use Rattle.tatp_dispatch.specs.Serving.{IsWorld, ServesTransactions, Tells
 /// From a population to the end of any run: for whatever module, partitions, clients and events,
 /// the answers, and the whole after them, are the benchmark, one call after another.
 pub fn every_run_is_the_benchmark()
-    ensures { (procedures : List Procedure) (population : Rows) (partitions clients : ℕ)
+    ensures { (modul : ModuleState) (population : Rows) (partitions clients : ℕ)
         (opened after : WorldState) (events : List Event) (answers : List Answered)
-        → IsWorld opened → IsOpened procedures population partitions clients opened
-        → Runs opened events answers after → IsTheBenchmark procedures population answers after }
+        → IsWorld opened → IsOpened modul population partitions clients opened
+        → Runs opened events answers after → IsTheBenchmark modul population answers after }
 {}
 
 /// A run may have no event, and goes on by each event that is applied after it.

@@ -1,12 +1,13 @@
 //! The instruction of eight bytes.
-ghost use Rattle.std.specs.Prelude.{◌≡◌, ◌≤◌, not, ◌&&◌, ◌↔◌, IsTrue, IfOk, IsErrOf, Ok, Some};
+ghost use Rattle.std.specs.Prelude.{◌≡◌, ◌≤◌, true, not, ◌&&◌, ◌↔◌, IsTrue, IfOk, IfSome, IsErrOf, Ok, Some};
 ghost use Rattle.std.specs.List.{list_any};
 ghost use Rattle.tatp_instr.specs.declared.instr.Instr.{Instr};
-ghost use Rattle.tatp_instr.specs.Parts.{has_bad_op, has_unused, has_unused_in, has_bad_register, is_not_zero, is_unused_word};
+ghost use Rattle.tatp_instr.specs.Parts.{has_unused, has_unused_in, has_bad_register, is_not_zero, is_unused_word};
 ghost use Rattle.tatp_encoding.specs.Spelling.{spelling, IsInstr};
-ghost use Rattle.tatp_encoding.specs.Decoding.{parts_in, decoded};
+ghost use Rattle.tatp_instr.specs.Versions.{is_in};
+ghost use Rattle.tatp_encoding.specs.Decoding.{parts_in, shape_in, has_bad_op_in, decoded};
 
-use tatp_instr::{Instr, Parts, Shape, Word, operands};
+use tatp_instr::{Instr, Parts, Shape, Version, Word, operands};
 use thiserror::Error;
 
 /// Why eight bytes are no instruction. Its text is its number and its name.
@@ -61,25 +62,41 @@ fn has_unused_part(parts: &Parts, shape: Shape) -> bool
         || has_unused_word(shape.word, parts.word)
 }
 
-/// The instruction that the bytes spell. Otherwise the first of the three faults that they have.
+/// The operands of an op, where the version has it.
+fn operands_in(version: Version, op: u8) -> Option<Shape>
+    ensures value { result ≡ shape_in version op }
+    ensures registers { IfSome result (λ shape. shape.registers ≤ 3) }
+{
+    match version {
+        Version::One => { if op == 0x16 { None } else { operands(op) } }
+        Version::Two => operands(op),
+    }
+}
+
+/// The instruction of this version that the bytes spell. Otherwise the first of the three faults
+/// that they have.
 #[tactic(auto, unfolding(crate::specs::Decoding::decoded))]
-pub fn decode(bytes: &[u8; 8]) -> Result<Instr, Bad>
+pub fn decode(version: Version, bytes: &[u8; 8]) -> Result<Instr, Bad>
     // What is read is spelled so, and what is spelled so is read.
-    ensures ok { IfOk result (λ instr. bytes.now ≡ spelling instr) }
-    ensures only { (instr : Instr) → IsInstr instr → bytes.now ≡ spelling instr
-        → result ≡ Ok instr }
+    ensures ok { IfOk result
+        (λ instr. (bytes.now ≡ spelling instr) × (is_in version instr ≡ true)) }
+    ensures only { (instr : Instr) → IsInstr instr → is_in version instr ≡ true
+        → bytes.now ≡ spelling instr → result ≡ Ok instr }
 
-    ensures exact { result ≡ decoded bytes.now }
+    ensures exact { result ≡ decoded version bytes.now }
 
-    // Which fault it is. Bytes without an op have no unused ones.
-    ensures bad_op { IsErrOf result Bad.BadOp ↔ IsTrue (has_bad_op (parts_in bytes.now)) }
+    // Which fault it is: the first of the three.
+    ensures bad_op { IsErrOf result Bad.BadOp
+        ↔ IsTrue (has_bad_op_in version (parts_in bytes.now)) }
     ensures unused_not_zero { IsErrOf result Bad.UnusedNotZero
-        ↔ IsTrue (has_unused (parts_in bytes.now)) }
+        ↔ IsTrue (not (has_bad_op_in version (parts_in bytes.now))
+        && has_unused (parts_in bytes.now)) }
     ensures bad_register { IsErrOf result Bad.BadRegister
-        ↔ IsTrue (not (has_unused (parts_in bytes.now)) && has_bad_register (parts_in bytes.now)) }
+        ↔ IsTrue (not (has_bad_op_in version (parts_in bytes.now))
+        && (not (has_unused (parts_in bytes.now)) && has_bad_register (parts_in bytes.now))) }
 {
     let parts = parts_at(bytes);
-    let shape = operands(parts.op).ok_or(Bad::BadOp)?;
+    let shape = operands_in(version, parts.op).ok_or(Bad::BadOp)?;
     if has_unused_part(&parts, shape) {
         return Err(Bad::UnusedNotZero);
     }

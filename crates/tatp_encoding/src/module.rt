@@ -4,7 +4,7 @@ ghost use Rattle.tatp_encoding.specs.Modules.{is_name, is_procedure, is_module};
 
 use arrayvec::ArrayString;
 use std::marker::Model;
-use tatp_instr::Instr;
+use tatp_instr::{Instr, Version};
 
 /// The most procedures that a module has.
 pub const MAX_PROCEDURES: usize = 16;
@@ -91,36 +91,50 @@ impl Proc {
     }
 }
 
-/// A module: 1 to 16 procedures, whose jumps lead to a place in their code or to its end. Names may
-/// repeat.
+/// A module: a version of the instruction table, and 1 to 16 procedures of its instructions, whose
+/// jumps lead to a place in their code or to its end. Names may repeat.
 #[derive(Debug, Drop)]
 pub struct Module {
+    version: Version,
     procs: Vec<Proc>,
 }
 
 impl Model for Module {
-    ghost use Rattle.std.specs.Prelude.{◌≡◌, true, List};
-    ghost use Rattle.tatp_encoding.specs.Modules.{Procedure, is_module};
+    ghost use Rattle.std.specs.Prelude.{◌≡◌, true};
+    ghost use Rattle.tatp_encoding.specs.Modules.{ModuleState, is_module};
 
-    ghost Value = { List Procedure };
+    ghost Value = { ModuleState };
 
-    ghost view = { λ m. m.procs.items };
+    ghost view = { λ m. record { version = m.version; procedures = m.procs.items } };
 
-    ghost invariant = { λ m. is_module m.procs.items ≡ true };
+    ghost invariant = { λ m. is_module (record {
+      version = m.version;
+      procedures = m.procs.items;
+    }) ≡ true };
 }
 
 impl Module {
-    /// A module of these procedures.
-    pub fn new(procs: Vec<Proc>) -> Module
-        requires { is_module procs.items ≡ true }
-        ensures { result ≡ procs.items }
+    /// A module of this version and these procedures.
+    pub fn new(version: Version, procs: Vec<Proc>) -> Module
+        requires { is_module (record {
+          version = version;
+          procedures = procs.items;
+        }) ≡ true }
+        ensures { result ≡ record { version = version; procedures = procs.items } }
     {
-        Module { procs }
+        Module { version, procs }
+    }
+
+    /// The version of the instruction table.
+    pub fn version(&self) -> Version
+        ensures { result ≡ self.now.version }
+    {
+        self.version
     }
 
     /// The procedures.
     pub fn procs(&self) -> &[Proc]
-        ensures value { result.now ≡ self.now }
+        ensures value { result.now ≡ self.now.procedures }
         ensures module { is_module self.now ≡ true }
     {
         self.procs.as_slice()
@@ -128,10 +142,10 @@ impl Module {
 
     /// The procedures, out of the module.
     pub fn into_procs(self) -> Vec<Proc>
-        ensures value { result.items ≡ self }
+        ensures value { result.items ≡ self.procedures }
         ensures module { is_module self ≡ true }
     {
-        let Self { procs } = self;
+        let Self { version: _, procs } = self;
         procs
     }
 }

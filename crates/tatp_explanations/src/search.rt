@@ -8,7 +8,7 @@ use crate::table::{
     about_queues, about_rules, about_streams, about_texts,
 };
 
-/// The explanation of a number from 1 to 57 that isn't 53.
+/// The explanation of a number from 1 to 57.
 fn explained(number: u64) -> Explanation
     requires { is_explained number ≡ true }
     ensures { result.number ≡ number }
@@ -22,7 +22,7 @@ fn explained(number: u64) -> Explanation
         29..=34 => about_machines(number),
         35..=40 => about_places(number),
         41..=46 => about_queues(number),
-        47..=53 => about_streams(number),
+        47..=52 => about_streams(number),
         _ => about_logs(number),
     }
 }
@@ -32,7 +32,7 @@ pub fn explanation_of(number: u64) -> Option<Explanation>
     ensures own { IfSome result (λ row. row.number ≡ number) }
     ensures some { is_some result ≡ is_explained number }
 {
-    if number == 0 || number == 53 || number > 57 {
+    if number == 0 || number > 57 {
         None
     } else {
         Some(explained(number))

@@ -78,9 +78,9 @@ pub(crate) fn about_texts(number: u64) -> Explanation
         6 "BadOp" "there is no such op"
             "  $ printf 'TPM\\1\\1\\1A\\0\\0\\1\\026\\0\\0\\0\\0\\0\\0\\0' | tatp check
   tatp: 6 BadOp 0 0"
-            "  The bytes of the instruction begin with an op that isn't 01 to 15 (hex).
-  Behind the name are the numbers of the procedure and of the instruction, from
-  0. Make the module from a text, by tatp asm."
+            "  The bytes of the instruction begin with an op that isn't 01 to 15 (hex), or
+  16 in version 2. Behind the name are the numbers of the procedure and of the
+  instruction, from 0. Make the module from a text, by tatp asm."
         7 "UnusedNotZero" "a part that the op doesn't use isn't 0"
             "  $ printf 'TPM\\1\\1\\1A\\0\\0\\1\\024\\1\\0\\0\\0\\0\\0\\0' | tatp check
   tatp: 7 UnusedNotZero 0 0"
@@ -99,7 +99,8 @@ pub(crate) fn about_texts(number: u64) -> Explanation
             "  Behind the name is the number of the line, from 1. Lines have no indent, no
   comment and no carriage return; the operands have commas between them and no
   spaces; registers are r0 to r15. A procedure is proc NAME ARITY, at least one
-  instruction, and end, which the last procedure has to have too."
+  instruction, and end, which the last procedure has to have too. A text with
+  LOOP begins with a line version 2."
         10 "NoSuchLabel" "a line names a label that the procedure doesn't have"
             "  $ printf 'proc A 0\\nJMP @last\\nDONE\\nend\\n' | tatp asm
   tatp: 10 NoSuchLabel 2"
@@ -163,12 +164,12 @@ pub(crate) fn about_rules(number: u64) -> Explanation
     ensures { result.number ≡ number }
 {
     row_of!(number,
-        18 "BackwardJump" "a jump to itself or backwards"
+        18 "BackwardJump" "a JMP or JZ to itself or backwards"
             "  $ printf 'proc A 0\\nx:\\nJMP @x\\nDONE\\nend\\n' | tatp asm
   tatp: 18 BackwardJump 0 0"
-            "  Put the label below the jump. There are no loops, so that each call ends:
-  what is done three times is written three times. Behind the name are the
-  numbers of the procedure and of the instruction, from 0."
+            "  Put the label below the jump. LOOP alone goes back, in a text whose first
+  line is version 2. Behind the name are the numbers of the procedure and of the
+  instruction, from 0."
         19 "BadTarget" "a jump past the last instruction"
             "  $ printf 'proc A 0\\nJZ r0,@x\\nDONE\\nx:\\nend\\n' | tatp asm
   tatp: 19 BadTarget 0 0"
@@ -187,15 +188,17 @@ pub(crate) fn about_rules(number: u64) -> Explanation
             "  Arguments count from 0. The line proc NAME ARITY says how many there are.
   Behind the name are the numbers of the procedure and of the instruction, from
   0."
-        22 "TooManyOut" "the 41st OUT"
+        22 "TooManyOut" "in version 1, the 41st OUT of a procedure"
             "  $ (echo 'proc A 0'; yes 'OUT r0' | head -n 41; echo DONE; echo end) | tatp asm
   tatp: 22 TooManyOut 0 40"
-            "  A reply has at most 40 values. Make two procedures of one."
-        23 "TooManyWrites" "the 65th of PUT, INS and DEL"
+            "  A reply has at most 40 values. Make two procedures of one. In version 2 only
+  those are counted that a call makes."
+        23 "TooManyWrites" "in version 1, the 65th of PUT, INS and DEL of a procedure"
             "  $ (echo 'proc A 0'; yes DEL | head -n 65; echo DONE; echo end) | tatp asm
   tatp: 23 TooManyWrites 0 64"
             "  A procedure has at most 64 instructions that change rows, since what they
-  change is kept until it ends. Make two procedures of one."
+  change is kept until it ends. Make two procedures of one. In version 2 only
+  those are counted that a call makes."
         24 "NoEnd" "the last instruction is neither DONE nor FAIL"
             "  $ printf 'proc A 0\\nOUT r0\\nend\\n' | tatp asm
   tatp: 24 NoEnd 0 0"
@@ -399,13 +402,18 @@ pub(crate) fn about_streams(number: u64) -> Explanation
     )
 }
 
-/// Logs, homes and threads.
+/// Loops, logs, homes and threads.
 pub(crate) fn about_logs(number: u64) -> Explanation
-    requires least { 54 ≤ number }
+    requires least { 53 ≤ number }
     requires most { number ≤ 57 }
     ensures { result.number ≡ number }
 {
     row_of!(number,
+        53 "ForwardLoop" "a LOOP to a later instruction"
+            "  $ printf 'version 2\\nproc A 0\\nLOOP r0,@x\\nx:\\nDONE\\nend\\n' | tatp asm
+  tatp: 53 ForwardLoop 0 0"
+            "  Put the label at the LOOP, or above it; JMP and JZ go down. Behind the name
+  are the numbers of the procedure and of the instruction, from 0."
         54 "LogEnded" "the extent is mixed"
             "  $ printf 'raw 0 4 id 1 2 7\\nbegin 0\\nsteps 0 4\\ncheckpoint 0 1\\n' |
       tatp trace --gen 1 | tail -n 1

@@ -1,7 +1,7 @@
 -- The parts of each instruction, and its text.
 use Rattle.std.specs.Prelude.{ℕ, List, [], ◌∷◌, ◌++◌, codes, decimal}
 use Rattle.tatp_instr.specs.declared.instr.Instr.{Instr}
-use Rattle.tatp_instr.specs.declared.instr.Instr.TheVariants.{Ldi, Mov, Arg, Add, Sub, Eq, Lt, Jmp, Jz, Fsub, Fnum, Facc, Ffac, Fcfw, Get, Put, Ins, Del, Out, Done, Fail}
+use Rattle.tatp_instr.specs.declared.instr.Instr.TheVariants.{Ldi, Mov, Arg, Add, Sub, Eq, Lt, Jmp, Jz, Fsub, Fnum, Facc, Ffac, Fcfw, Get, Put, Ins, Del, Out, Done, Fail, Loop}
 use Rattle.tatp_instr.specs.declared.instr.Parts.{Parts}
 
 -- an op with these registers and this u32
@@ -35,6 +35,7 @@ parts_of Del = parts_with 0x12 0 0 0 0
 parts_of (Out a) = parts_with 0x13 a 0 0 0
 parts_of Done = parts_with 0x14 0 0 0 0
 parts_of (Fail n) = parts_with 0x15 0 0 0 n
+parts_of (Loop a t) = parts_with 0x16 a 0 0 t
 
 -- the text of a register
 abbrev pub register_text : ℕ → List ℕ
@@ -68,3 +69,4 @@ text_of Del = codes "DEL"
 text_of (Out a) = codes "OUT " ++ register_text a
 text_of Done = codes "DONE"
 text_of (Fail n) = codes "FAIL #" ++ decimal n
+text_of (Loop a t) = codes "LOOP " ++ register_text a ++ codes ",@L" ++ decimal t

@@ -6,7 +6,7 @@ use Rattle.tatp_instr.specs.declared.book.Word.TheVariants.{Nothing, Count, Colu
 use Rattle.tatp_instr.specs.declared.book.Shape.{Shape}
 use Rattle.tatp_instr.specs.declared.instr.Parts.{Parts}
 use Rattle.tatp_instr.specs.declared.instr.Instr.{Instr}
-use Rattle.tatp_instr.specs.declared.instr.Instr.TheVariants.{Ldi, Mov, Arg, Add, Sub, Eq, Lt, Jmp, Jz, Fsub, Fnum, Facc, Ffac, Fcfw, Get, Put, Ins, Del, Out, Done, Fail}
+use Rattle.tatp_instr.specs.declared.instr.Instr.TheVariants.{Ldi, Mov, Arg, Add, Sub, Eq, Lt, Jmp, Jz, Fsub, Fnum, Facc, Ffac, Fcfw, Get, Put, Ins, Del, Out, Done, Fail, Loop}
 use Rattle.tatp_instr.specs.Shapes.{shape_at}
 
 -- ---- what can be wrong
@@ -71,7 +71,8 @@ instr_with op d a b n =
     if op == 0x12 then Del else
     if op == 0x13 then Out d else
     if op == 0x14 then Done else
-    Fail n
+    if op == 0x15 then Fail n else
+    Loop d n
 
 abbrev pub instr_of_parts : Parts → Instr
 instr_of_parts p = instr_with p.op

@@ -36,7 +36,7 @@ row_word_first op mnemonic word registers = record {
   word_first = true;
 }
 
--- the rows of the ops 1 to 21, in order
+-- the rows of the ops 1 to 22, in order
 abbrev pub rows : List Row
 rows =
     row 0x01 (codes "LDI") 1 Count
@@ -60,6 +60,7 @@ rows =
     ∷ row 0x13 (codes "OUT") 1 Nothing
     ∷ row 0x14 (codes "DONE") 0 Nothing
     ∷ row 0x15 (codes "FAIL") 0 Count
+    ∷ row 0x16 (codes "LOOP") 1 Target
     ∷ []
 
 -- the first of some rows with this mnemonic
@@ -70,7 +71,7 @@ named mnemonic rows = find (λ row. bytes_eq row.mnemonic mnemonic) rows
 unfoldable pub row_named : List ℕ → Option Row
 row_named mnemonic = named mnemonic rows
 
--- the shapes of the ops 1 to 21, in order
+-- the shapes of the ops 1 to 22, in order
 abbrev pub shapes : List Shape
 shapes = map (λ row. row.shape) rows
 

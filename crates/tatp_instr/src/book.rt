@@ -1,9 +1,9 @@
 //! The table of the instructions as data.
-ghost use Rattle.std.specs.Prelude.{◌≡◌, ◌<◌, ◌≤◌, ◌↔◌, IsSome, IfSome, option_map, map, Some};
+ghost use Rattle.std.specs.Prelude.{◌≡◌, ◌<◌, ◌≤◌, ◌↔◌, IsSome, IfSome, option_map, map, length, Some};
 ghost use Rattle.tatp_instr.specs.declared.instr.Instr.{Instr};
 ghost use Rattle.tatp_instr.specs.Instrs.{parts_of};
 ghost use Rattle.tatp_instr.specs.Rows.{IsRowOf, row_view};
-ghost use Rattle.tatp_instr.specs.Shapes.{shape_at, named, row_named};
+ghost use Rattle.tatp_instr.specs.Shapes.{shape_at, rows, named, row_named};
 
 /// What stands in an instruction's u32.
 #[derive(Clone, Copy, Debug, PartialEq, Eq)]
@@ -67,8 +67,8 @@ macro_rules! row {
     };
 }
 
-/// The table of the instructions, version 1. The row of an op is at index op - 1.
-pub const BOOK: [OpRow; 21] = [
+/// The table of the instructions. The row of an op is at index op - 1; version 1 has the first 21.
+pub const BOOK: [OpRow; 22] = [
     row!(0x01, "LDI", 1, Count),
     row!(0x02, "MOV", 2),
     row!(0x03, "ARG", 1, Argument),
@@ -90,12 +90,21 @@ pub const BOOK: [OpRow; 21] = [
     row!(0x13, "OUT", 1),
     row!(0x14, "DONE", 0),
     row!(0x15, "FAIL", 0, Count),
+    row!(0x16, "LOOP", 1, Target),
 ];
+
+// The rows of the table.
+fn book() -> &'static [OpRow]
+    ensures rows { map row_view result.now ≡ rows }
+    ensures count { length result.now ≡ 22 }
+{
+    &BOOK
+}
 
 // The row of an op, from which the text of each instruction of that op is read.
 pub(crate) fn row_at(op: u8) -> &'static OpRow
     requires above_zero { 0 < op }
-    requires in_table { op ≤ 21 }
+    requires in_table { op ≤ 22 }
     ensures { (instr : Instr) → (parts_of instr).op ≡ op → IsRowOf result.now instr }
 {
     let book = &BOOK;
@@ -105,11 +114,14 @@ pub(crate) fn row_at(op: u8) -> &'static OpRow
 /// The operands of an op, or `None` where op is no op of the table.
 pub fn operands(op: u8) -> Option<Shape>
     ensures value { result ≡ shape_at op }
-    ensures known { IsSome result ↔ ((0 < op) × (op ≤ 21)) }
+    ensures known { IsSome result ↔ ((0 < op) × (op ≤ 22)) }
     ensures registers { IfSome result (λ shape. shape.registers ≤ 3) }
 {
-    let index = op.checked_sub(1)?;
-    BOOK.get(usize::from(index)).map(|row| row.shape)
+    if op == 0 || op > 22 {
+        return None;
+    }
+    let rows = book();
+    Some(rows[usize::from(op) - 1].shape)
 }
 
 // The first of some rows with this mnemonic.

@@ -51,6 +51,8 @@ pub enum Instr {
     Done,
     /// (n): The call ends with failure n.
     Fail(u32),
+    /// (a, t): Where r[a] is above 0 it goes down by one and pc = t. Version 2.
+    Loop(Register, u32),
 }
 
 /// An instruction taken apart: its op, its register operands in the order of the text, with 0
@@ -97,6 +99,7 @@ impl Instr {
             Instr::Out(a) => (0x13, [a.number(), 0, 0], 0),
             Instr::Done => (0x14, [0, 0, 0], 0),
             Instr::Fail(n) => (0x15, [0, 0, 0], n),
+            Instr::Loop(a, t) => (0x16, [a.number(), 0, 0], t),
         };
         Parts {
             op,
@@ -157,8 +160,9 @@ fn instr_of(op: u8, first: u8, second: u8, third: u8, word: u32) -> Option<Instr
         0x12 => Instr::Del,
         0x13 => Instr::Out(first),
         0x14 => Instr::Done,
-        // 0x15
-        _ => Instr::Fail(word),
+        0x15 => Instr::Fail(word),
+        // 0x16
+        _ => Instr::Loop(first, word),
     };
     Some(instr)
 }

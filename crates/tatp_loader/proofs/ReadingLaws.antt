@@ -1,27 +1,30 @@
 -- The loops over instructions and over procedures.
-use Rattle.std.proofs.Common.{◌≡◌, true, ℕ, ◌+◌, ◌*◌, ◌≤◌, List, [], ◌∷◌, ◌++◌, length, drop, Ok, refl, sym, ap, ◌∙◌, append_assoc, arith, length-append}
+use Rattle.std.proofs.Common.{◌≡◌, true, ℕ, ◌+◌, ◌*◌, ◌≤◌, List, [], ◌∷◌, ◌++◌, length, drop, get_or, Result, Ok, Err, refl, sym, ap, ◌∙◌, append_assoc, arith, length-append}
 use Rattle.std.proofs.lemmas.List.{append-nil, drop_at}
 use Rattle.tatp_instr.specs.declared.instr.Instr.{Instr}
 use Rattle.tatp_instr.specs.declared.instr.Instr.TheVariants.{Ldi}
-use Rattle.std.specs.Prelude.{◌&&◌}
+use Rattle.tatp_instr.specs.declared.version.Version.{Version}
+use Rattle.tatp_instr.specs.Versions.{is_in}
+use Rattle.std.specs.Prelude.{◌&&◌, IfOk}
 use Rattle.std.specs.Int.{w16, to_be_bytes}
 use Rattle.std.specs.List.{list_all}
 use Rattle.std.proofs.lemmas.Bool.{le-leb}
 use Rattle.std.proofs.lemmas.List.Folds.{list_all-append}
 use Rattle.std.proofs.lemmas.List.{drop_all}
-use Rattle.tatp_encoding.specs.Modules.{Procedure, is_name, is_procedure}
+use Rattle.tatp_encoding.specs.Modules.{Procedure, is_name, is_procedure, has_version}
+use Rattle.tatp_encoding.specs.declared.decoding.Bad.{Bad}
 use Rattle.tatp_encoding.specs.Spelling.{spelling}
 use Rattle.tatp_loader.specs.ModuleBytes.{code_bytes, procedure_bytes, procedures_bytes, magic, module_bytes}
 use Rattle.tatp_loader.specs.Reading.{name_at, arity_at, length_at, instr_at, code_at, procedure_at, procedures_at}
 use Rattle.tatp_loader.proofs.LoopLaws.{Repeats}
 
-pub code_repeats : (n : ℕ) → Repeats (instr_at n) (code_at n)
+pub code_repeats : (version : Version) (n : ℕ) → Repeats (instr_at version n) (code_at version n)
 unfolding code_at
-code_repeats n = record { stop = λ i bytes. refl; go = λ i k bytes. refl }
+code_repeats version n = record { stop = λ i bytes. refl; go = λ i k bytes. refl }
 
-pub procedures_repeat : Repeats procedure_at procedures_at
+pub procedures_repeat : (version : Version) → Repeats (procedure_at version) (procedures_at version)
 unfolding procedures_at
-procedures_repeat = record { stop = λ i bytes. refl; go = λ i k bytes. refl }
+procedures_repeat version = record { stop = λ i bytes. refl; go = λ i k bytes. refl }
 
 pub length-spelling : (instr : Instr) → length (spelling instr) ≡ 8
 length-spelling (Ldi d n) = refl
@@ -41,6 +44,20 @@ length-code_bytes (x ∷ code) = omega (arith, length-append (spelling x) (code_
 pub code_goes_on : (bytes rest after : List ℕ) (code : List Instr) (instr : Instr) → bytes ≡ code_bytes code ++ rest → rest ≡ spelling instr ++ after → bytes ≡ code_bytes (code ++ instr ∷ []) ++ after
 code_goes_on bytes rest after code instr e h =
     e ∙ ap (λ more. code_bytes code ++ more) h ∙ sym (append_assoc (code_bytes code) (spelling instr) after) ∙ ap (λ front. front ++ after) (sym (code_bytes-push code instr))
+
+-- eight bytes, each by itself
+pub eight : (bytes : List ℕ) → length bytes ≡ 8 → get_or bytes 0 0 ∷ get_or bytes 1 0 ∷ get_or bytes 2 0 ∷ get_or bytes 3 0 ∷ get_or bytes 4 0 ∷ get_or bytes 5 0 ∷ get_or bytes 6 0 ∷ get_or bytes 7 0 ∷ [] ≡ bytes
+eight (a ∷ b ∷ c ∷ d ∷ e ∷ f ∷ g ∷ h ∷ []) len = refl
+eight _ len = absurd (omega arith)
+
+-- what is read of bytes is spelled by them
+pub instr_spelled : (version : Version) (all bytes : List ℕ) (read : Result Instr Bad) → all ≡ bytes → IfOk read (λ instr. (all ≡ spelling instr) × (is_in version instr ≡ true)) → IfOk read (λ instr. bytes ≡ spelling instr)
+instr_spelled version all bytes (Ok instr) same h = sym same ∙ h.0
+instr_spelled version all bytes (Err bad) same h = tt
+
+-- each instruction that was read is one of the version
+pub one_more_in : (version : Version) (code : List Instr) (instr : Instr) → list_all (is_in version) code ≡ true → is_in version instr ≡ true → list_all (is_in version) (code ++ instr ∷ []) ≡ true
+one_more_in version code instr all one = list_all-append (is_in version) code (instr ∷ []) ∙ ap (λ b. b && (is_in version instr && true)) all ∙ ap (λ b. b && true) one
 
 -- the bytes after the code
 pub rest_after_code : (bytes rest : List ℕ) (code : List Instr) (len : ℕ) → bytes ≡ code_bytes code ++ rest → length code ≡ len → drop (8 * len) bytes ≡ rest
@@ -64,11 +81,11 @@ code_bytes-nil = refl
 pub procedure_fits : (name : List ℕ) (arity : ℕ) (code : List Instr) → is_name name ≡ true → arity ≤ 8 → 1 ≤ length code → length code ≤ 256 → is_procedure (record { name = name; arity = arity; code = code }) ≡ true
 procedure_fits name arity code named few least most = rw (named, le-leb arity 8 few, le-leb 1 (length code) least, le-leb (length code) 256 most) refl
 
-pub procedure_read : (n : ℕ) (bytes name r1 : List ℕ) (arity : ℕ) (r2 : List ℕ) (len : ℕ) (r3 : List ℕ) (code : List Instr) (r4 : List ℕ)
-    → name_at n bytes ≡ Ok (name, r1) → arity_at n r1 ≡ Ok (arity, r2) → length_at n r2 ≡ Ok (len, r3) → code_at n 0 len r3 ≡ Ok (code, r4)
-    → procedure_at n bytes ≡ Ok (record { name = name; arity = arity; code = code }, r4)
+pub procedure_read : (version : Version) (n : ℕ) (bytes name r1 : List ℕ) (arity : ℕ) (r2 : List ℕ) (len : ℕ) (r3 : List ℕ) (code : List Instr) (r4 : List ℕ)
+    → name_at n bytes ≡ Ok (name, r1) → arity_at n r1 ≡ Ok (arity, r2) → length_at n r2 ≡ Ok (len, r3) → code_at version n 0 len r3 ≡ Ok (code, r4)
+    → procedure_at version n bytes ≡ Ok (record { name = name; arity = arity; code = code }, r4)
 unfolding procedure_at
-procedure_read n bytes name r1 arity r2 len r3 code r4 named counted long coded = rw (named, counted, long, coded) refl
+procedure_read version n bytes name r1 arity r2 len r3 code r4 named counted long coded = rw (named, counted, long, coded) refl
 
 pub procedure_spelled : (bytes name r1 : List ℕ) (arity : ℕ) (r2 : List ℕ) (len : ℕ) (r3 : List ℕ) (code : List Instr) (r4 : List ℕ)
     → bytes ≡ (length name ∷ name) ++ r1 → r1 ≡ arity ∷ r2 → r2 ≡ to_be_bytes w16 len ++ r3 → r3 ≡ code_bytes code ++ r4 → length code ≡ len
@@ -101,9 +118,13 @@ procedures_bytes-nil = refl
 pub one_more_fits : (procs : List Procedure) (p : Procedure) → list_all is_procedure procs ≡ true → is_procedure p ≡ true → list_all is_procedure (procs ++ p ∷ []) ≡ true
 one_more_fits procs p all one = list_all-append is_procedure procs (p ∷ []) ∙ ap (λ b. b && (is_procedure p && true)) all ∙ ap (λ b. b && true) one
 
+pub one_more_has : (version : Version) (procs : List Procedure) (p : Procedure) → list_all (has_version version) procs ≡ true → has_version version p ≡ true → list_all (has_version version) (procs ++ p ∷ []) ≡ true
+one_more_has version procs p all one = list_all-append (has_version version) procs (p ∷ []) ∙ ap (λ b. b && (has_version version p && true)) all ∙ ap (λ b. b && true) one
+
 -- ---- a module
-pub module_spelled : (bytes rest : List ℕ) (count size : ℕ) (procs : List Procedure) → bytes ≡ magic ++ (count ∷ rest) → rest ≡ procedures_bytes procs ++ drop size rest → length procs ≡ count → length rest ≤ size → bytes ≡ module_bytes procs
+pub module_spelled : (version : Version) (bytes rest : List ℕ) (count size : ℕ) (procs : List Procedure) → bytes ≡ magic version ++ (count ∷ rest) → rest ≡ procedures_bytes procs ++ drop size rest → length procs ≡ count → length rest ≤ size
+    → bytes ≡ module_bytes (record { version = version; procedures = procs })
 unfolding module_bytes
-module_spelled bytes rest count size procs e spelled same over =
-    e ∙ ap (λ k. magic ++ (k ∷ rest)) (sym same)
-    ∙ ap (λ more. magic ++ (length procs ∷ more)) (spelled ∙ ap (λ more. procedures_bytes procs ++ more) (drop_all size rest over) ∙ append-nil (procedures_bytes procs))
+module_spelled version bytes rest count size procs e spelled same over =
+    e ∙ ap (λ k. magic version ++ (k ∷ rest)) (sym same)
+    ∙ ap (λ more. magic version ++ (length procs ∷ more)) (spelled ∙ ap (λ more. procedures_bytes procs ++ more) (drop_all size rest over) ∙ append-nil (procedures_bytes procs))

@@ -3,7 +3,8 @@ use Rattle.std.proofs.Common.{◌≡◌, ℕ, List, [], ◌∷◌, ◌++◌, len
 use Rattle.std.specs.Int.{w16, to_be_bytes}
 use Rattle.std.proofs.lemmas.List.{append-nil}
 use Rattle.tatp_instr.specs.declared.instr.Instr.{Instr}
-use Rattle.tatp_encoding.specs.Modules.{Procedure}
+use Rattle.tatp_instr.specs.declared.version.Version.{Version}
+use Rattle.tatp_encoding.specs.Modules.{Procedure, ModuleState}
 use Rattle.tatp_encoding.specs.Spelling.{spelling}
 use Rattle.tatp_loader.specs.ModuleBytes.{magic, code_bytes, procedure_bytes, procedures_bytes, module_bytes}
 use Rattle.tatp_loader.proofs.ReadingLaws.{code_bytes-nil, code_bytes-push, procedures_bytes-nil, procedures_bytes-push}
@@ -27,14 +28,14 @@ procedure_pushed before with_size with_name with_arity with_len after p e1 e2 e3
     let from_name : after ≡ with_size ++ (name ++ (p.arity ∷ code)) = from_arity ∙ ap (λ front. front ++ (p.arity ∷ code)) e2 ∙ append_assoc with_size name (p.arity ∷ code) in
     from_name ∙ ap (λ front. front ++ (name ++ (p.arity ∷ code))) e1 ∙ append_assoc before (length name ∷ []) (name ++ (p.arity ∷ code))
 
-pub no_procedure : (with_magic after : List ℕ) (count : ℕ) → with_magic ≡ [] ++ magic → after ≡ with_magic ++ count ∷ [] → after ≡ magic ++ (count ∷ procedures_bytes [])
-no_procedure with_magic after count e pushed =
-    pushed ∙ ap (λ front. front ++ count ∷ []) e ∙ ap (λ more. magic ++ (count ∷ more)) (sym procedures_bytes-nil)
+pub no_procedure : (version : Version) (with_magic after : List ℕ) (count : ℕ) → with_magic ≡ [] ++ magic version → after ≡ with_magic ++ count ∷ [] → after ≡ magic version ++ (count ∷ procedures_bytes [])
+no_procedure version with_magic after count e pushed =
+    pushed ∙ ap (λ front. front ++ count ∷ []) e ∙ ap (λ more. magic version ++ (count ∷ more)) (sym procedures_bytes-nil)
 
-pub one_pushed : (now after : List ℕ) (count : ℕ) (procs : List Procedure) (p : Procedure) → now ≡ magic ++ (count ∷ procedures_bytes procs) → after ≡ now ++ procedure_bytes p → after ≡ magic ++ (count ∷ procedures_bytes (procs ++ p ∷ []))
-one_pushed now after count procs p e pushed =
-    pushed ∙ ap (λ front. front ++ procedure_bytes p) e ∙ ap (λ more. magic ++ (count ∷ more)) (sym (procedures_bytes-push procs p))
+pub one_pushed : (version : Version) (now after : List ℕ) (count : ℕ) (procs : List Procedure) (p : Procedure) → now ≡ magic version ++ (count ∷ procedures_bytes procs) → after ≡ now ++ procedure_bytes p → after ≡ magic version ++ (count ∷ procedures_bytes (procs ++ p ∷ []))
+one_pushed version now after count procs p e pushed =
+    pushed ∙ ap (λ front. front ++ procedure_bytes p) e ∙ append_assoc (magic version) (count ∷ procedures_bytes procs) (procedure_bytes p) ∙ ap (λ more. magic version ++ (count ∷ more)) (sym (procedures_bytes-push procs p))
 
-pub all_pushed : (bytes : List ℕ) (m all : List Procedure) → bytes ≡ magic ++ (length all ∷ procedures_bytes all) → all ≡ m → bytes ≡ module_bytes m
+pub all_pushed : (bytes : List ℕ) (m : ModuleState) (all : List Procedure) → bytes ≡ magic m.version ++ (length all ∷ procedures_bytes all) → all ≡ m.procedures → bytes ≡ module_bytes m
 unfolding module_bytes
-all_pushed bytes m all e same = e ∙ ap (λ procs. magic ++ (length procs ∷ procedures_bytes procs)) same
+all_pushed bytes m all e same = e ∙ ap (λ procs. magic m.version ++ (length procs ∷ procedures_bytes procs)) same

@@ -2,12 +2,15 @@
 use Rattle.std.specs.Prelude.{◌≡◌, ℕ, List, [], ◌∷◌, ◌++◌, length, All}
 use Rattle.std.specs.Int.{w16, to_be_bytes}
 use Rattle.tatp_instr.specs.declared.instr.Instr.{Instr}
-use Rattle.tatp_encoding.specs.Modules.{Procedure}
+use Rattle.tatp_instr.specs.declared.version.Version.{Version}
+use Rattle.tatp_instr.specs.declared.version.Version.TheVariants.{One, Two}
+use Rattle.tatp_encoding.specs.Modules.{Procedure, ModuleState}
 use Rattle.tatp_encoding.specs.Spelling.{spelling, IsInstr}
 
--- what each module begins with
-abbrev pub magic : List ℕ
-magic = 0x54 ∷ 0x50 ∷ 0x4D ∷ 0x01 ∷ []
+-- what each module of a version begins with
+abbrev pub magic : Version → List ℕ
+magic One = 0x54 ∷ 0x50 ∷ 0x4D ∷ 0x01 ∷ []
+magic Two = 0x54 ∷ 0x50 ∷ 0x4D ∷ 0x02 ∷ []
 
 -- eight bytes an instruction
 unfoldable pub code_bytes : List Instr → List ℕ
@@ -24,12 +27,12 @@ unfoldable pub procedures_bytes : List Procedure → List ℕ
 procedures_bytes [] = []
 procedures_bytes (p ∷ more) = procedure_bytes p ++ procedures_bytes more
 
--- the magic, how many procedures there are, and those
-unfoldable pub module_bytes : List Procedure → List ℕ
-module_bytes m = magic ++ (length m ∷ procedures_bytes m)
+-- the magic of its version, how many procedures there are, and those
+unfoldable pub module_bytes : ModuleState → List ℕ
+module_bytes m = magic m.version ++ (length m.procedures ∷ procedures_bytes m.procedures)
 
 -- the bytes are the module's, all of them
-abbrev pub IsModuleOf : List ℕ → List Procedure → Type 0
+abbrev pub IsModuleOf : List ℕ → ModuleState → Type 0
 IsModuleOf bytes m = bytes ≡ module_bytes m
 
 -- the registers and numbers of its instructions are those that a program can have

@@ -5,10 +5,12 @@ use Rattle.std.specs.Int.{w16, from_be_bytes}
 use Rattle.std.specs.List.{list_all}
 use Rattle.tatp_lines.specs.Numbers.{is_between}
 use Rattle.tatp_instr.specs.declared.instr.Instr.{Instr}
+use Rattle.tatp_instr.specs.declared.version.Version.{Version}
+use Rattle.tatp_instr.specs.declared.version.Version.TheVariants.{One, Two}
 use Rattle.tatp_encoding.specs.declared.decoding.Bad.{Bad}
 use Rattle.tatp_encoding.specs.declared.decoding.Bad.TheVariants as bad
 use Rattle.tatp_encoding.specs.Decoding.{decoded}
-use Rattle.tatp_encoding.specs.Modules.{Procedure, is_name_byte}
+use Rattle.tatp_encoding.specs.Modules.{Procedure, ModuleState, is_name_byte}
 use Rattle.tatp_encoding.specs.declared.module.TheConstants.{MAX_PROCEDURES, MAX_NAME_BYTES, MAX_ARGUMENTS, MAX_INSTRUCTIONS}
 use Rattle.tatp_loader.specs.declared.fault.LoadFaultKind.{LoadFaultKind}
 use Rattle.tatp_loader.specs.declared.fault.LoadFaultKind.TheVariants.{BadOp, UnusedNotZero, BadRegister, Truncated, BadMagic, Extra, BadHeader}
@@ -92,58 +94,76 @@ abbrev pub placed : ℕ → ℕ → Result Instr Bad → Result Instr LoadFault
 placed n i (Ok instr) = Ok instr
 placed n i (Err why) = Err (fault (kind_of why) n i)
 
-unfoldable pub instr_at : ℕ → ℕ → List ℕ → Result (Instr × List ℕ) LoadFault
-instr_at n i bytes = do
+unfoldable pub instr_at : Version → ℕ → ℕ → List ℕ → Result (Instr × List ℕ) LoadFault
+instr_at version n i bytes = do
   field ← bytes_at (fault Truncated n i) 8 bytes
-  instr ← placed n i (decoded field.0)
+  instr ← placed n i (decoded version field.0)
   Ok (instr, field.1)
 
 -- so many instructions, the first of them being i
-unfoldable pub code_at : ℕ → ℕ → ℕ → List ℕ → Result (List Instr × List ℕ) LoadFault
-code_at n i zero bytes = Ok ([], bytes)
-code_at n i (suc k) bytes = do
-  first ← instr_at n i bytes
-  others ← code_at n (suc i) k first.1
+unfoldable pub code_at : Version → ℕ → ℕ → ℕ → List ℕ → Result (List Instr × List ℕ) LoadFault
+code_at version n i zero bytes = Ok ([], bytes)
+code_at version n i (suc k) bytes = do
+  first ← instr_at version n i bytes
+  others ← code_at version n (suc i) k first.1
   Ok (first.0 ∷ others.0, others.1)
 
-unfoldable pub procedure_at : ℕ → List ℕ → Result (Procedure × List ℕ) LoadFault
-procedure_at n bytes = do
+unfoldable pub procedure_at : Version → ℕ → List ℕ → Result (Procedure × List ℕ) LoadFault
+procedure_at version n bytes = do
   name ← name_at n bytes
   arity ← arity_at n name.1
   len ← length_at n arity.1
-  code ← code_at n 0 len.0 len.1
+  code ← code_at version n 0 len.0 len.1
   Ok (record { name = name.0; arity = arity.0; code = code.0 }, code.1)
 
 -- ---- the module
 -- so many procedures, the first of them being n
-unfoldable pub procedures_at : ℕ → ℕ → List ℕ → Result (List Procedure × List ℕ) LoadFault
-procedures_at n zero bytes = Ok ([], bytes)
-procedures_at n (suc k) bytes = do
-  first ← procedure_at n bytes
-  others ← procedures_at (suc n) k first.1
+unfoldable pub procedures_at : Version → ℕ → ℕ → List ℕ → Result (List Procedure × List ℕ) LoadFault
+procedures_at version n zero bytes = Ok ([], bytes)
+procedures_at version n (suc k) bytes = do
+  first ← procedure_at version n bytes
+  others ← procedures_at version (suc n) k first.1
   Ok (first.0 ∷ others.0, others.1)
 
--- how many procedures there are, after the magic
-unfoldable pub count_at : List ℕ → Result (ℕ × List ℕ) LoadFault
-count_at bytes = do
+-- the version whose modules begin so, if one's do
+abbrev pub version_of : List ℕ → Option Version
+version_of front =
+    if bytes_eq front (magic One) then Some One else
+    if bytes_eq front (magic Two) then Some Two else
+    None
+
+-- a version, and the bytes after its magic
+abbrev pub told_version : Option Version → List ℕ → Result (Version × List ℕ) LoadFault
+told_version None rest = Err (fault BadMagic 0 0)
+told_version (Some version) rest = Ok (version, rest)
+
+unfoldable pub version_at : List ℕ → Result (Version × List ℕ) LoadFault
+version_at bytes = do
   front ← bytes_at (cut 0) 4 bytes
-  rest ← passing (fault BadMagic 0 0) (bytes_eq front.0 magic) front.1
-  count ← byte_at (cut 0) rest
-  passing (bad_header 0) (is_between 1 MAX_PROCEDURES count.0) count
+  told_version (version_of front.0) front.1
+
+-- the version, and how many procedures there are, after the magic
+unfoldable pub count_at : List ℕ → Result (Version × (ℕ × List ℕ)) LoadFault
+count_at bytes = do
+  version ← version_at bytes
+  count ← byte_at (cut 0) version.1
+  counted ← passing (bad_header 0) (is_between 1 MAX_PROCEDURES count.0) count
+  Ok (version.0, counted)
 
 -- all of the bytes
-unfoldable pub module_at : List ℕ → Result (List Procedure) LoadFault
+unfoldable pub module_at : List ℕ → Result ModuleState LoadFault
 module_at bytes = do
   count ← count_at bytes
-  procs ← procedures_at 0 count.0 count.1
-  passing (fault Extra 0 0) (length procs.1 == 0) procs.0
+  procs ← procedures_at count.0 0 count.1.0 count.1.1
+  passing (fault Extra 0 0) (length procs.1 == 0)
+      (record { version = count.0; procedures = procs.0 })
 
 -- ---- the rules, after them
-abbrev pub unless : Option LoadFault → List Procedure → Result (List Procedure) LoadFault
+abbrev pub unless : Option LoadFault → ModuleState → Result ModuleState LoadFault
 unless None m = Ok m
 unless (Some f) m = Err f
 
-unfoldable pub lawful_module_at : List ℕ → Result (List Procedure) LoadFault
+unfoldable pub lawful_module_at : List ℕ → Result ModuleState LoadFault
 lawful_module_at bytes = do
   m ← module_at bytes
   unless (first_fault m) m

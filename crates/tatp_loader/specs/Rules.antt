@@ -2,11 +2,13 @@
 use Rattle.std.specs.Prelude.{ℕ, suc, ◌-◌, Bool, false, not, ◌&&◌, nat_le, if◌then◌else◌, List, [], ◌∷◌, ◌++◌, length, take, Option, Some, None, slice_get, count_by, bytes_eq}
 use Rattle.std.specs.List.{list_any}
 use Rattle.tatp_instr.specs.declared.instr.Instr.{Instr}
-use Rattle.tatp_encoding.specs.Modules.{Procedure}
-use Rattle.tatp_loader.specs.Lawful.{reads_argument_below, has_fit_column, jumps_ahead, jumps_below, is_out, is_write, is_end}
+use Rattle.tatp_instr.specs.declared.version.Version.{Version}
+use Rattle.tatp_instr.specs.declared.version.Version.TheVariants.{One, Two}
+use Rattle.tatp_encoding.specs.Modules.{Procedure, ModuleState}
+use Rattle.tatp_loader.specs.Lawful.{reads_argument_below, has_fit_column, jumps_ahead, loops_back, jumps_below, is_out, is_write, is_end}
 use Rattle.tatp_loader.specs.declared.fault.LoadFaultKind.{LoadFaultKind}
 use Rattle.tatp_loader.specs.declared.rules.TheConstants.{MAX_OUTS, MAX_WRITES}
-use Rattle.tatp_loader.specs.declared.fault.LoadFaultKind.TheVariants.{NameTwice, NoSuchArgument, FixedColumn, BackwardJump, BadTarget, TooManyOut, TooManyWrites, NoEnd}
+use Rattle.tatp_loader.specs.declared.fault.LoadFaultKind.TheVariants.{NameTwice, NoSuchArgument, FixedColumn, BackwardJump, ForwardLoop, BadTarget, TooManyOut, TooManyWrites, NoEnd}
 use Rattle.tatp_loader.specs.declared.fault.LoadFault.{LoadFault}
 
 -- a fault of this kind in the procedure p, at the instruction i
@@ -25,20 +27,23 @@ misfit p i x =
     if not (reads_argument_below p.arity x) then Some NoSuchArgument else
     if not (has_fit_column x) then Some FixedColumn else
     if not (jumps_ahead i x) then Some BackwardJump else
+    if not (loops_back i x) then Some ForwardLoop else
     if not (jumps_below (length p.code) x) then Some BadTarget else
     None
 
--- whether it is the 41st OUT or the 65th PUT, INS or DEL
-abbrev pub excess : ℕ → ℕ → Instr → Option LoadFaultKind
-excess outs writes x =
+-- whether it is the 41st OUT or the 65th PUT, INS or DEL of a procedure of version 1; those of
+-- version 2 are not counted here
+abbrev pub excess : Version → ℕ → ℕ → Instr → Option LoadFaultKind
+excess One outs writes x =
     if is_out x && nat_le MAX_OUTS outs then Some TooManyOut else
     if is_write x && nat_le MAX_WRITES writes then Some TooManyWrites else
     None
+excess Two outs writes x = None
 
 -- the first rule that it breaks
-abbrev pub broken_at : Procedure → ℕ → Instr → Option LoadFaultKind
-broken_at p i x = first_of (misfit p i x)
-    (excess (count_by is_out (take i p.code)) (count_by is_write (take i p.code)) x)
+abbrev pub broken_at : Version → Procedure → ℕ → Instr → Option LoadFaultKind
+broken_at version p i x = first_of (misfit p i x)
+    (excess version (count_by is_out (take i p.code)) (count_by is_write (take i p.code)) x)
 
 -- ---- a procedure
 -- the fault of the procedure n, at the instruction i, where a rule is broken
@@ -47,10 +52,10 @@ fault_at n i None = None
 fault_at n i (Some kind) = Some (fault kind n i)
 
 -- the first instruction, of those from the position i on, that breaks a rule
-abbrev pub first_broken : ℕ → Procedure → ℕ → List Instr → Option LoadFault
-first_broken n p i [] = None
-first_broken n p i (x ∷ more) =
-    first_of (fault_at n i (broken_at p i x)) (first_broken n p (suc i) more)
+abbrev pub first_broken : Version → ℕ → Procedure → ℕ → List Instr → Option LoadFault
+first_broken version n p i [] = None
+first_broken version n p i (x ∷ more) =
+    first_of (fault_at n i (broken_at version p i x)) (first_broken version n p (suc i) more)
 
 abbrev pub is_end_at : Option Instr → Bool
 is_end_at None = false
@@ -67,17 +72,17 @@ abbrev pub has_name : List ℕ → Procedure → Bool
 has_name name p = bytes_eq p.name name
 
 -- the first fault of the procedure after these: its name, its instructions in order, its end
-abbrev pub fault_after : List Procedure → Procedure → Option LoadFault
-fault_after before p =
+abbrev pub fault_after : Version → List Procedure → Procedure → Option LoadFault
+fault_after version before p =
     if list_any (has_name p.name) before then Some (fault NameTwice (length before) 0) else
-    first_of (first_broken (length before) p 0 p.code) (missing_end (length before) p)
+    first_of (first_broken version (length before) p 0 p.code) (missing_end (length before) p)
 
 -- ---- a module
 -- the first fault of the procedures, in order, after these
-abbrev pub first_fault_after : List Procedure → List Procedure → Option LoadFault
-first_fault_after before [] = None
-first_fault_after before (p ∷ more) =
-    first_of (fault_after before p) (first_fault_after (before ++ p ∷ []) more)
+abbrev pub first_fault_after : Version → List Procedure → List Procedure → Option LoadFault
+first_fault_after version before [] = None
+first_fault_after version before (p ∷ more) =
+    first_of (fault_after version before p) (first_fault_after version (before ++ p ∷ []) more)
 
-abbrev pub first_fault : List Procedure → Option LoadFault
-first_fault m = first_fault_after [] m
+abbrev pub first_fault : ModuleState → Option LoadFault
+first_fault m = first_fault_after m.version [] m.procedures

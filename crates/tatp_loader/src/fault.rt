@@ -33,7 +33,7 @@ pub enum LoadFaultKind {
     /// A count, a name's length or byte, an arity or a procedure's length is out of range.
     #[error("17 BadHeader")]
     BadHeader = 17,
-    /// A jump doesn't go to a later instruction.
+    /// A JMP or JZ doesn't go to a later instruction.
     #[error("18 BackwardJump")]
     BackwardJump = 18,
     /// A jump leads past the last instruction.
@@ -45,15 +45,18 @@ pub enum LoadFaultKind {
     /// The procedure takes no such argument.
     #[error("21 NoSuchArgument")]
     NoSuchArgument = 21,
-    /// The 41st OUT.
+    /// The 41st OUT of a procedure, in version 1.
     #[error("22 TooManyOut")]
     TooManyOut = 22,
-    /// The 65th of PUT, INS and DEL.
+    /// The 65th of PUT, INS and DEL of a procedure, in version 1.
     #[error("23 TooManyWrites")]
     TooManyWrites = 23,
     /// The last instruction is neither DONE nor FAIL.
     #[error("24 NoEnd")]
     NoEnd = 24,
+    /// A LOOP goes to a later instruction.
+    #[error("53 ForwardLoop")]
+    ForwardLoop = 53,
 }
 
 /// A fault and its place: the procedure and the instruction in it, both counted from 0.

@@ -1,6 +1,6 @@
 //! Modules from bytes.
-ghost use Rattle.std.specs.Prelude.{◌≡◌, List, Ok, Err, true, All, IfOk};
-ghost use Rattle.tatp_encoding.specs.Modules.{Procedure, is_module};
+ghost use Rattle.std.specs.Prelude.{◌≡◌, Ok, Err, true, All, IfOk};
+ghost use Rattle.tatp_encoding.specs.Modules.{ModuleState, is_module};
 ghost use Rattle.tatp_loader.specs.Lawful.{IsLawful};
 ghost use Rattle.tatp_loader.specs.ModuleBytes.{IsModuleOf, HasInstrs};
 ghost use Rattle.tatp_loader.specs.Reading.{Gives, count_at, lawful_module_at};
@@ -20,10 +20,10 @@ fn lawful_module(alloc: Global, bytes: &[u8]) -> Result<Loaded, LoadError>
     ensures early { (fault : LoadFault) → count_at bytes.now ≡ Err fault
         → result ≡ Err (LoadError.Fault fault) }
 {
-    let procs = module_at(alloc, bytes)?;
-    match first_fault(&procs) {
+    let (version, procs) = module_at(alloc, bytes)?;
+    match first_fault(version, &procs) {
         Some(fault) => Err(LoadError::Fault(fault)),
-        None => Ok(Loaded::new(Module::new(procs))),
+        None => Ok(Loaded::new(Module::new(version, procs))),
     }
 }
 
@@ -33,8 +33,8 @@ pub fn load(alloc: Global, bytes: &[u8]) -> Result<Loaded, LoadError>
     // What is loaded is spelled so and keeps the rules, and what is spelled so and keeps them is
     // loaded, unless memory runs out.
     ensures found { IfOk result (λ loaded. IsModuleOf bytes.now loaded × IsLawful loaded) }
-    ensures only { (m : List Procedure) → is_module m ≡ true → All HasInstrs m → IsLawful m
-        → IsModuleOf bytes.now m → Gives (λ loaded. loaded) result (Ok m) }
+    ensures only { (m : ModuleState) → is_module m ≡ true → All HasInstrs m.procedures
+        → IsLawful m → IsModuleOf bytes.now m → Gives (λ loaded. loaded) result (Ok m) }
 
     // Which fault it is. One of the magic or of the count comes before any memory is asked for.
     ensures exact { Gives (λ loaded. loaded) result (lawful_module_at bytes.now) }

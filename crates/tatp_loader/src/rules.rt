@@ -1,20 +1,21 @@
 //! The rules that a module keeps before a machine runs it.
-ghost use Rattle.std.specs.Prelude.{◌≡◌, ◌↔◌, ◌&&◌, not, IsOk, IfOk, IfErr, Some};
+ghost use Rattle.std.specs.Prelude.{◌≡◌, ◌↔◌, ◌<◌, ◌&&◌, not, [], length, IsOk, IfOk, IfErr, Some};
 ghost use Rattle.std.specs.List.{list_any};
 ghost use Rattle.tatp_tables.specs.Columns.{is_column, is_fixed};
 ghost use Rattle.tatp_loader.specs.Lawful.{IsLawful, is_out, is_write, is_end};
-ghost use Rattle.tatp_loader.specs.Rules.{misfit, excess, first_broken, missing_end, has_name, fault_after, first_fault};
+ghost use Rattle.tatp_loader.specs.Rules.{misfit, excess, first_broken, missing_end, has_name, fault_after, first_fault_after, first_fault};
 
 use crate::fault::{LoadFault, LoadFaultKind, fault};
 use crate::loaded::Loaded;
 use tatp_encoding::{Module, Proc};
-use tatp_instr::Instr;
+use tatp_instr::{Instr, Version};
 use tatp_tables::is_fixed;
 
-/// The most OUT that a procedure has.
+/// The most OUT that a procedure of version 1 has, and the most that a call makes.
 pub const MAX_OUTS: usize = 40;
 
-/// The most of PUT, INS and DEL that a procedure has.
+/// The most of PUT, INS and DEL that a procedure of version 1 has, and the most that a call
+/// makes.
 pub const MAX_WRITES: usize = 64;
 
 fn is_out(instr: &Instr) -> bool
@@ -44,6 +45,7 @@ fn is_settable(column: u32) -> bool
 
 /// The first rule that the instruction at a position breaks by itself.
 fn instr_misfit(procedure: &Proc, position: usize, instr: &Instr) -> Option<LoadFaultKind>
+    requires inside { position < length procedure.now.code }
     ensures { result ≡ misfit procedure.now position instr.now }
 {
     match *instr {
@@ -61,32 +63,45 @@ fn instr_misfit(procedure: &Proc, position: usize, instr: &Instr) -> Option<Load
                 None
             }
         }
+        Instr::Loop(_, target) if target as usize > position => Some(LoadFaultKind::ForwardLoop),
         _ => None,
     }
 }
 
-/// Whether the instruction is one OUT, or one PUT, INS or DEL, too many after so many.
-fn instr_excess(outs: usize, writes: usize, instr: &Instr) -> Option<LoadFaultKind>
-    ensures { result ≡ excess outs writes instr.now }
+/// Whether the instruction is one OUT, or one PUT, INS or DEL, too many after so many. Those of
+/// version 2 are not counted.
+fn instr_excess(
+    version: Version,
+    outs: usize,
+    writes: usize,
+    instr: &Instr,
+) -> Option<LoadFaultKind>
+    ensures { result ≡ excess version outs writes instr.now }
 {
-    if is_out(instr) && outs >= MAX_OUTS {
-        Some(LoadFaultKind::TooManyOut)
-    } else if is_write(instr) && writes >= MAX_WRITES {
-        Some(LoadFaultKind::TooManyWrites)
-    } else {
-        None
+    match version {
+        Version::One => {
+            if is_out(instr) && outs >= MAX_OUTS {
+                Some(LoadFaultKind::TooManyOut)
+            } else if is_write(instr) && writes >= MAX_WRITES {
+                Some(LoadFaultKind::TooManyWrites)
+            } else {
+                None
+            }
+        }
+        Version::Two => None,
     }
 }
 
 /// The first instruction that breaks a rule, in the procedure with this number.
-fn first_broken(number: usize, procedure: &Proc) -> Option<LoadFault>
-    ensures { result ≡ first_broken number procedure.now 0 procedure.now.code }
+fn first_broken(version: Version, number: usize, procedure: &Proc) -> Option<LoadFault>
+    ensures { result ≡ first_broken version number procedure.now 0 procedure.now.code }
 {
     let mut outs = 0;
     let mut writes = 0;
     for (position, instr) in procedure.code().iter().enumerate() {
-        let kind = instr_misfit(procedure, position, instr).or(instr_excess(outs, writes, instr));
-        if let Some(kind) = kind {
+        let misfit = instr_misfit(procedure, position, instr);
+        let excess = instr_excess(version, outs, writes, instr);
+        if let Some(kind) = misfit.or(excess) {
             return Some(fault(kind, number, position));
         }
         outs += usize::from(is_out(instr));
@@ -114,22 +129,22 @@ fn any_has_name(procs: &[Proc], name: &str) -> bool
 }
 
 /// The first fault of the procedure after these.
-fn fault_after(before: &[Proc], procedure: &Proc) -> Option<LoadFault>
-    ensures { result ≡ fault_after before.now procedure.now }
+fn fault_after(version: Version, before: &[Proc], procedure: &Proc) -> Option<LoadFault>
+    ensures { result ≡ fault_after version before.now procedure.now }
 {
     let number = before.len();
     if any_has_name(before, procedure.name()) {
         return Some(fault(LoadFaultKind::NameTwice, number, 0));
     }
-    first_broken(number, procedure).or(missing_end(number, procedure))
+    first_broken(version, number, procedure).or(missing_end(number, procedure))
 }
 
-/// The first rule that the procedures break.
-pub(crate) fn first_fault(procs: &[Proc]) -> Option<LoadFault>
-    ensures { result ≡ first_fault procs.now }
+/// The first rule that the procedures of a version break.
+pub(crate) fn first_fault(version: Version, procs: &[Proc]) -> Option<LoadFault>
+    ensures { result ≡ first_fault_after version [] procs.now }
 {
     for number in 0..procs.len() {
-        let fault = fault_after(&procs[..number], &procs[number]);
+        let fault = fault_after(version, &procs[..number], &procs[number]);
         if fault.is_some() {
             return fault;
         }
@@ -144,7 +159,7 @@ pub fn check(module: Module) -> Result<Loaded, LoadFault>
     ensures lawful { IsOk result ↔ IsLawful «module» }
     ensures fault { IfErr result (λ fault. first_fault «module» ≡ Some fault) }
 {
-    match first_fault(module.procs()) {
+    match first_fault(module.version(), module.procs()) {
         Some(fault) => Err(fault),
         None => Ok(Loaded::new(module)),
     }

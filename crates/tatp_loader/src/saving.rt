@@ -3,7 +3,7 @@ ghost use Rattle.std.specs.Prelude.{◌≡◌, ◌++◌, IfOk, OnOk};
 ghost use Rattle.tatp_loader.specs.ModuleBytes.{code_bytes, procedure_bytes, IsModuleOf};
 
 use crate::loaded::Loaded;
-use crate::parsing::MAGIC;
+use crate::parsing::magic;
 use std::alloc::{AllocError, Global};
 use tatp_encoding::{Proc, encode};
 use tatp_instr::Instr;
@@ -32,13 +32,13 @@ fn push_procedure(bytes: &mut Vec<u8>, procedure: &Proc) -> Result<(), AllocErro
     Ok(())
 }
 
-/// The one spelling of a module.
+/// The one spelling of a module, which begins with the magic of its version.
 pub fn save(alloc: Global, loaded: &Loaded) -> Result<Vec<u8>, AllocError>
     ensures { IfOk result (λ bytes. IsModuleOf bytes.items loaded.now) }
 {
     let procs = loaded.module().procs();
     let mut bytes = Vec::new(alloc);
-    bytes.extend_from_slice(&MAGIC)?;
+    bytes.extend_from_slice(&magic(loaded.module().version()))?;
     bytes.push(procs.len() as u8)?;
     for procedure in procs {
         push_procedure(&mut bytes, procedure)?;

@@ -2,7 +2,9 @@ pub mod SoundLaws
 pub mod UndoLaws
 pub mod KeptLaws
 pub mod FindLaws
+pub mod ActLaws
 pub mod LaterLaws
 pub mod LineLaws
 pub mod HomelessLaws
 pub mod RunLaws
+pub mod OneLaws

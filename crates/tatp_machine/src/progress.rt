@@ -4,6 +4,9 @@ ghost use Rattle.tatp_machine.specs.Traps.{trap_name};
 
 use std::fmt;
 
+/// The most steps of a call, the one that ends it among them.
+pub const MAX_STEPS: usize = 4096;
+
 /// Why a call is stopped.
 #[derive(Clone, Copy, Debug, PartialEq, Eq)]
 pub enum Trap {
@@ -11,6 +14,12 @@ pub enum Trap {
     NoCurrent,
     /// A value is outside its column's domain.
     Domain,
+    /// The 4,096th step would not end the call. Version 2.
+    Budget,
+    /// A 41st output. Version 2.
+    Output,
+    /// A 65th write. Version 2.
+    Writes,
 }
 
 impl fmt::Display for Trap {
@@ -20,6 +29,9 @@ impl fmt::Display for Trap {
         f.write_str(match self {
             Trap::NoCurrent => "NoCurrent",
             Trap::Domain => "Domain",
+            Trap::Budget => "Budget",
+            Trap::Output => "Output",
+            Trap::Writes => "Writes",
         })
     }
 }

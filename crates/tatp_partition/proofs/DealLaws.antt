@@ -3,7 +3,7 @@ use Rattle.std.proofs.Common.{◌≡◌, ℕ, ◌+◌, ◌≤◌, ◌==◌, Bool
 use Rattle.std.proofs.Math.ListN.{length-set}
 use Rattle.std.proofs.lemmas.List.{append-nil}
 use Rattle.std.proofs.lemmas.Bool.{eq-eqb}
-use Rattle.tatp_encoding.specs.Modules.{Procedure}
+use Rattle.tatp_encoding.specs.Modules.{ModuleState}
 use Rattle.tatp_population.specs.Extents.{ExtentState}
 use Rattle.tatp_partition.specs.Opening.{AreNumbered, extent_numbered, opened_site}
 use Rattle.tatp_partition.specs.Sites.{SiteState}
@@ -28,64 +28,64 @@ none_of_filtered f (x ∷ xs) e none = none_of_one f x xs e (x.number == e) (f x
 pub no_extents : (total : ℕ) → AreNumbered total []
 no_extents total = record { numbers = λ i x is. absurd cc; differ = λ i j x y is at other. absurd cc }
 
-has_place : (procedures : List Procedure) (partitions p total : ℕ) (placed : List ExtentState) (x : ExtentState) (s : SiteState) → IsSiteDealt procedures partitions p total placed s → x.number ≤ total → extent_numbered placed x.number ≡ None → HasPlaceFor s x.number
-has_place procedures partitions p total placed x s h within none =
+has_place : (modul : ModuleState) (partitions p total : ℕ) (placed : List ExtentState) (x : ExtentState) (s : SiteState) → IsSiteDealt modul partitions p total placed s → x.number ≤ total → extent_numbered placed x.number ≡ None → HasPlaceFor s x.number
+has_place modul partitions p total placed x s h within none =
     ap (λ (t : SiteState). slice_get t.slots x.number) h.fields
     ∙ empty_place (total + 1) x.number (dealt_to partitions p placed) (omega (arith, within)) (none_of_filtered (opens_in partitions p) placed x.number none)
 
-with_one_more : (procedures : List Procedure) (partitions p total : ℕ) (placed : List ExtentState) (x : ExtentState) (s : SiteState) → IsSiteDealt procedures partitions p total placed s → x.number ≤ total → opens_in partitions p x ≡ true
-    → IsSite (with_extent s x.number (Some x)) → IsSiteDealt procedures partitions p total (x ∷ placed) (with_extent s x.number (Some x))
-with_one_more procedures partitions p total placed x s h within opens site =
+with_one_more : (modul : ModuleState) (partitions p total : ℕ) (placed : List ExtentState) (x : ExtentState) (s : SiteState) → IsSiteDealt modul partitions p total placed s → x.number ≤ total → opens_in partitions p x ≡ true
+    → IsSite (with_extent s x.number (Some x)) → IsSiteDealt modul partitions p total (x ∷ placed) (with_extent s x.number (Some x))
+with_one_more modul partitions p total placed x s h within opens site =
     let dealt : List ExtentState = dealt_to partitions p placed in
     record {
       site = site;
       fields =
           ap (λ (t : SiteState). with_extent t x.number (Some x)) h.fields
-          ∙ ap (λ k. record (opened_site procedures p total [] s.standard) { slots = k }) (one_more_in_places (total + 1) x dealt (omega (arith, within)))
-          ∙ ap (λ b. opened_site procedures p total (cond b (x ∷ dealt) dealt) s.standard) (sym opens);
+          ∙ ap (λ k. record (opened_site modul p total [] s.standard) { slots = k }) (one_more_in_places (total + 1) x dealt (omega (arith, within)))
+          ∙ ap (λ b. opened_site modul p total (cond b (x ∷ dealt) dealt) s.standard) (sym opens);
     }
 
-without_it : (procedures : List Procedure) (partitions p total : ℕ) (placed : List ExtentState) (x : ExtentState) (s : SiteState) → IsSiteDealt procedures partitions p total placed s → opens_in partitions p x ≡ false → IsSiteDealt procedures partitions p total (x ∷ placed) s
-without_it procedures partitions p total placed x s h opens =
+without_it : (modul : ModuleState) (partitions p total : ℕ) (placed : List ExtentState) (x : ExtentState) (s : SiteState) → IsSiteDealt modul partitions p total placed s → opens_in partitions p x ≡ false → IsSiteDealt modul partitions p total (x ∷ placed) s
+without_it modul partitions p total placed x s h opens =
     let dealt : List ExtentState = dealt_to partitions p placed in
-    record { site = h.site; fields = h.fields ∙ ap (λ b. opened_site procedures p total (cond b (x ∷ dealt) dealt) s.standard) (sym opens) }
+    record { site = h.site; fields = h.fields ∙ ap (λ b. opened_site modul p total (cond b (x ∷ dealt) dealt) s.standard) (sym opens) }
 
 -- ---- all sites
-one_more : (procedures : List Procedure) (partitions p total : ℕ) (placed : List ExtentState) (x : ExtentState) (sites sites' : List SiteState) → AreSitesDealt procedures partitions total placed sites → opening_partition partitions x.number ≡ p → x.number ≤ total
-    → LandsAt sites p x sites' → AreSitesDealt procedures partitions total (x ∷ placed) sites'
-one_more procedures partitions p total placed x sites sites' h opens within lands =
+one_more : (modul : ModuleState) (partitions p total : ℕ) (placed : List ExtentState) (x : ExtentState) (sites sites' : List SiteState) → AreSitesDealt modul partitions total placed sites → opening_partition partitions x.number ≡ p → x.number ≤ total
+    → LandsAt sites p x sites' → AreSitesDealt modul partitions total (x ∷ placed) sites'
+one_more modul partitions p total placed x sites sites' h opens within lands =
     let new : SiteState = with_extent lands.before x.number (Some x) in
-    subst (AreSitesDealt procedures partitions total (x ∷ placed)) (sym lands.after) (record {
+    subst (AreSitesDealt modul partitions total (x ∷ placed)) (sym lands.after) (record {
       count = length-set sites p new ∙ h.count;
-      each = λ q s is. elim (set_cases sites p q new lands.before s lands.there is) as (λ _. IsSiteDealt procedures partitions q total (x ∷ placed) s) [
+      each = λ q s is. elim (set_cases sites p q new lands.before s lands.there is) as (λ _. IsSiteDealt modul partitions q total (x ∷ placed) s) [
         | inl here ↦
-            let its = with_one_more procedures partitions p total placed x lands.before (h.each p lands.before lands.there) within (eq-eqb (opening_partition partitions x.number) p opens) lands.site in
-            subst (λ (k : ℕ). IsSiteDealt procedures partitions k total (x ∷ placed) s) (sym here.0) (subst (IsSiteDealt procedures partitions p total (x ∷ placed)) (sym here.1) its)
-        | inr there ↦ without_it procedures partitions q total placed x s (h.each q s there.1) (differs (opening_partition partitions x.number) q (λ e. there.0 (sym e ∙ opens)))
+            let its = with_one_more modul partitions p total placed x lands.before (h.each p lands.before lands.there) within (eq-eqb (opening_partition partitions x.number) p opens) lands.site in
+            subst (λ (k : ℕ). IsSiteDealt modul partitions k total (x ∷ placed) s) (sym here.0) (subst (IsSiteDealt modul partitions p total (x ∷ placed)) (sym here.1) its)
+        | inr there ↦ without_it modul partitions q total placed x s (h.each q s there.1) (differs (opening_partition partitions x.number) q (λ e. there.0 (sym e ∙ opens)))
       ];
     })
 
 -- ---- one extent after another
-pub record AreBeingDealt (procedures : List Procedure) (partitions : ℕ) (all rest : List ExtentState) (sites : List SiteState) : Type 0 where
+pub record AreBeingDealt (modul : ModuleState) (partitions : ℕ) (all rest : List ExtentState) (sites : List SiteState) : Type 0 where
   pub placed : List ExtentState
   pub whole : all ≡ rest ++ placed
-  pub dealt : AreSitesDealt procedures partitions (length all) placed sites
+  pub dealt : AreSitesDealt modul partitions (length all) placed sites
 
-pub none_dealt : (procedures : List Procedure) (partitions : ℕ) (all : List ExtentState) (sites : List SiteState) → AreSitesDealt procedures partitions (length all) [] sites → AreBeingDealt procedures partitions all all sites
-none_dealt procedures partitions all sites h = record { placed = []; whole = sym (append-nil all); dealt = h }
+pub none_dealt : (modul : ModuleState) (partitions : ℕ) (all : List ExtentState) (sites : List SiteState) → AreSitesDealt modul partitions (length all) [] sites → AreBeingDealt modul partitions all all sites
+none_dealt modul partitions all sites h = record { placed = []; whole = sym (append-nil all); dealt = h }
 
-pub its_place_is_there : (procedures : List Procedure) (partitions p : ℕ) (all left rest : List ExtentState) (x : ExtentState) (sites : List SiteState) (s : SiteState) → AreNumbered (length all) all → left ≡ rest ++ x ∷ [] → AreBeingDealt procedures partitions all left sites
+pub its_place_is_there : (modul : ModuleState) (partitions p : ℕ) (all left rest : List ExtentState) (x : ExtentState) (sites : List SiteState) (s : SiteState) → AreNumbered (length all) all → left ≡ rest ++ x ∷ [] → AreBeingDealt modul partitions all left sites
     → slice_get sites p ≡ Some s → HasPlaceFor s x.number
-its_place_is_there procedures partitions p all left rest x sites s numbers last h at =
+its_place_is_there modul partitions p all left rest x sites s numbers last h at =
     let whole = together all rest h.placed x (h.whole ∙ ap (λ xs. xs ++ h.placed) last) in
-    has_place procedures partitions p (length all) h.placed x s (h.dealt.each p s at) (its_range (length all) all rest h.placed x numbers whole).1 (is_new (length all) all rest h.placed x numbers whole)
+    has_place modul partitions p (length all) h.placed x s (h.dealt.each p s at) (its_range (length all) all rest h.placed x numbers whole).1 (is_new (length all) all rest h.placed x numbers whole)
 
-pub one_more_dealt : (procedures : List Procedure) (partitions p : ℕ) (all left rest : List ExtentState) (x : ExtentState) (sites sites' : List SiteState) → AreNumbered (length all) all → left ≡ rest ++ x ∷ [] → AreBeingDealt procedures partitions all left sites
-    → opening_partition partitions x.number ≡ p → LandsAt sites p x sites' → AreBeingDealt procedures partitions all rest sites'
-one_more_dealt procedures partitions p all left rest x sites sites' numbers last h opens lands =
+pub one_more_dealt : (modul : ModuleState) (partitions p : ℕ) (all left rest : List ExtentState) (x : ExtentState) (sites sites' : List SiteState) → AreNumbered (length all) all → left ≡ rest ++ x ∷ [] → AreBeingDealt modul partitions all left sites
+    → opening_partition partitions x.number ≡ p → LandsAt sites p x sites' → AreBeingDealt modul partitions all rest sites'
+one_more_dealt modul partitions p all left rest x sites sites' numbers last h opens lands =
     let whole = together all rest h.placed x (h.whole ∙ ap (λ xs. xs ++ h.placed) last) in
     record {
       placed = x ∷ h.placed;
       whole = whole;
-      dealt = one_more procedures partitions p (length all) h.placed x sites sites' h.dealt opens (its_range (length all) all rest h.placed x numbers whole).1 lands;
+      dealt = one_more modul partitions p (length all) h.placed x sites sites' h.dealt opens (its_range (length all) all rest h.placed x numbers whole).1 lands;
     }

@@ -1,6 +1,6 @@
 -- The extents of a database are dealt to its partitions.
 use Rattle.std.specs.Prelude.{◌≡◌, ◌==◌, ◌-◌, ◌%◌, ℕ, Bool, List, length, filter, Some, slice_get, slice_set}
-use Rattle.tatp_encoding.specs.Modules.{Procedure}
+use Rattle.tatp_encoding.specs.Modules.{ModuleState}
 use Rattle.tatp_population.specs.Extents.{ExtentState}
 use Rattle.tatp_partition.specs.Opening.{opened_site}
 use Rattle.tatp_partition.specs.Moving.{with_extent}
@@ -22,30 +22,30 @@ dealt_to partitions p extents = filter (opens_in partitions p) extents
 -- the site of partition p, just opened for so many extents, with those of these that were dealt to
 -- it
 pub record IsSiteDealt
-    (procedures : List Procedure) (partitions p total : ℕ) (extents : List ExtentState)
+    (modul : ModuleState) (partitions p total : ℕ) (extents : List ExtentState)
     (s : SiteState)
     : Type 0 where
   pub site : IsSite s
-  pub fields : s ≡ opened_site procedures p total (dealt_to partitions p extents) s.standard
+  pub fields : s ≡ opened_site modul p total (dealt_to partitions p extents) s.standard
 
 -- the sites of all partitions, just opened for so many extents, with these
 pub record AreSitesDealt
-    (procedures : List Procedure) (partitions total : ℕ) (extents : List ExtentState)
+    (modul : ModuleState) (partitions total : ℕ) (extents : List ExtentState)
     (sites : List SiteState)
     : Type 0 where
   pub count : length sites ≡ partitions
   pub each : (p : ℕ) (s : SiteState)
-      → slice_get sites p ≡ Some s → IsSiteDealt procedures partitions p total extents s
+      → slice_get sites p ≡ Some s → IsSiteDealt modul partitions p total extents s
 
 -- the site of partition p, just opened with those of all extents that were dealt to it
-abbrev pub IsSiteOpened : List Procedure → ℕ → ℕ → List ExtentState → SiteState → Type 0
-IsSiteOpened procedures partitions p extents s =
-    IsSiteDealt procedures partitions p (length extents) extents s
+abbrev pub IsSiteOpened : ModuleState → ℕ → ℕ → List ExtentState → SiteState → Type 0
+IsSiteOpened modul partitions p extents s =
+    IsSiteDealt modul partitions p (length extents) extents s
 
 -- the sites of all partitions, just opened with all extents
-abbrev pub AreSitesOpened : List Procedure → ℕ → List ExtentState → List SiteState → Type 0
-AreSitesOpened procedures partitions extents sites =
-    AreSitesDealt procedures partitions (length extents) extents sites
+abbrev pub AreSitesOpened : ModuleState → ℕ → List ExtentState → List SiteState → Type 0
+AreSitesOpened modul partitions extents sites =
+    AreSitesDealt modul partitions (length extents) extents sites
 
 -- extent x lands at site p
 pub record LandsAt (sites : List SiteState) (p : ℕ) (x : ExtentState) (sites' : List SiteState)

@@ -22,8 +22,9 @@ use Rattle.tatp_procs.specs.Performs.{Performs}
 use Rattle.tatp_procs.proofs.HomeRowLaws.{row_at-own, no_child, key_parts, forwarding_key_parts, home_found, row_length}
 use Rattle.tatp_procs.proofs.PerformLaws.{performs_failing, performs_reading, performs_without}
 use Rattle.tatp_procs.proofs.RunLaws.{run}
+use Rattle.tatp_procs.proofs.WithinLaws.{is_within}
 use Rattle.tatp_procs.proofs.StartLaws.{AreForwardings, starting, rows_of_facility}
-use Rattle.tatp_machine.specs.Calls.{entered}
+use Rattle.tatp_machine.specs.Calls.{code_of, entered}
 use Rattle.tatp_procs.proofs.DestinationRunLaws.{destination_homeless, facility_none, facility_inactive, facility_active, chosen, all_of, ending_of, number_from}
 
 -- ---- values in their domains
@@ -122,12 +123,29 @@ no_destinations u s k b e inactive =
     ∙ ap (map numberx_of) (nothing_passes (has_key (s ∷ k ∷ [])) (rows_of u.forwardings))
 
 -- ---- the call
+-- three numbers at most, in no more turns, pass no limit
+few_numbers : (a b c : Option ℕ) → nat_le (length (all_of a b c)) 40 ≡ true
+few_numbers None None None = refl
+few_numbers None None (Some o) = refl
+few_numbers None (Some n) None = refl
+few_numbers None (Some n) (Some o) = refl
+few_numbers (Some m) None None = refl
+few_numbers (Some m) None (Some o) = refl
+few_numbers (Some m) (Some n) None = refl
+few_numbers (Some m) (Some n) (Some o) = refl
+
+few_turns : (n : ℕ) → n ≤ 50 → nat_lt n 4096 ≡ true
+few_turns n few = grind (arith, nat_tests)
+
+numbers_within : (n : ℕ) (a b c : Option ℕ) → n ≤ 50 → is_within n (all_of a b c) (code_of standard_module 1) ≡ true
+numbers_within n a b c few = rw (few_turns n few, few_numbers a b c) refl
+
 -- what it is answered, by the numbers that it put out
-performs_ending : (u : Database) (s k b e n : ℕ) (numbers : List ℕ) (row : Tuple) → IsConsistent u → row_at u.subscribers (s ∷ []) ≡ Some row
+performs_ending : (u : Database) (s k b e n : ℕ) (numbers : List ℕ) (row : Tuple) → IsConsistent u → is_within n numbers (code_of standard_module 1) ≡ true → row_at u.subscribers (s ∷ []) ≡ Some row
     → run n (entered standard_module 1 (s ∷ k ∷ b ∷ e ∷ []) (Some s)) (of_subscriber u s) ≡ ending_of numbers (of_subscriber u s) → destinations u s k b e ≡ numbers → Performs standard_module (GetNewDestination s k b e) u
-performs_ending u s k b e n [] row is f ran are = performs_failing standard_module (GetNewDestination s k b e) u (of_subscriber u s) s n 1 [] is refl (home_found u.subscribers s row f) ran (ap (some_of u) (sym are))
-performs_ending u s k b e n (number ∷ numbers) row is f ran are =
-    performs_reading standard_module (GetNewDestination s k b e) u s n (number ∷ numbers) is refl (home_found u.subscribers s row f) ran (ap (some_of u) (sym are))
+performs_ending u s k b e n [] row is within f ran are = performs_failing standard_module (GetNewDestination s k b e) u (of_subscriber u s) s n 1 [] is within (home_found u.subscribers s row f) ran (ap (some_of u) (sym are))
+performs_ending u s k b e n (number ∷ numbers) row is within f ran are =
+    performs_reading standard_module (GetNewDestination s k b e) u s n (number ∷ numbers) is within (home_found u.subscribers s row f) ran (ap (some_of u) (sym are))
 
 number_own : (u : Database) (s k b e n : ℕ) → number_from (of_subscriber u s) s k b e n ≡ number_from u s k b e n
 number_own u s k b e n = ap (chosen ((b + 1) % 2 ^ 64) e n) (row_at-own u.forwardings s (k ∷ n ∷ []))
@@ -146,12 +164,13 @@ module _ (u : Database) (s k b e : ℕ) (row facility : Tuple) (is : IsConsisten
   performs_active one_is =
       let ran = facility_active s k b e (Some s) (of_subscriber u s) facility found found_again one_is forwarding_again in
       let active : is_active (row_at u.facilities (s ∷ k ∷ [])) ≡ true = ap is_active g ∙ ap (λ v. v == 1) one_is in
-      performs_ending u s k b e ran.0 (all_of (number_from (of_subscriber u s) s k b e 0) (number_from (of_subscriber u s) s k b e 8) (number_from (of_subscriber u s) s k b e 16)) row is f ran.1
+      performs_ending u s k b e ran.0 (all_of (number_from (of_subscriber u s) s k b e 0) (number_from (of_subscriber u s) s k b e 8) (number_from (of_subscriber u s) s k b e 16)) row is
+      (numbers_within ran.0 (number_from (of_subscriber u s) s k b e 0) (number_from (of_subscriber u s) s k b e 8) (number_from (of_subscriber u s) s k b e 16) ran.2) f ran.1
       (destinations_are u s k b e is d active ∙ sym (λ i. all_of (number_own u s k b e 0 i) (number_own u s k b e 8 i) (number_own u s k b e 16 i)))
 
   performs_inactive : slice_index facility 2 ≡ 0 → Performs standard_module (GetNewDestination s k b e) u
   performs_inactive zero_is =
-      performs_ending u s k b e 9 [] row is f (facility_inactive s k b e (Some s) (of_subscriber u s) facility found found_again zero_is)
+      performs_ending u s k b e 9 [] row is refl f (facility_inactive s k b e (Some s) (of_subscriber u s) facility found found_again zero_is)
       (no_destinations u s k b e (ap is_active g ∙ ap (λ v. v == 1) zero_is))
 
   performs_facility : Performs standard_module (GetNewDestination s k b e) u
@@ -166,7 +185,7 @@ get_new_destination_performs u s k b e is d =
       | None ↦ λ f. performs_without standard_module (GetNewDestination s k b e) u no_tables 7 1 [] refl (ap (option_map s_id_of) f) (destination_homeless s k b e)
           (ap (some_of u) (sym (no_destinations u s k b e (ap is_active (no_child u.subscribers u.facilities s (k ∷ []) is.parents.of_facilities f)))))
       | Some row ↦ λ f. elim (row_at u.facilities (s ∷ k ∷ [])) as (λ o. row_at u.facilities (s ∷ k ∷ []) ≡ o → Performs standard_module (GetNewDestination s k b e) u) [
-        | None ↦ λ g. performs_ending u s k b e 7 [] row is f (facility_none s k b e (Some s) (of_subscriber u s) (row_at-own u.facilities s (k ∷ []) ∙ g)) (no_destinations u s k b e (ap is_active g))
+        | None ↦ λ g. performs_ending u s k b e 7 [] row is refl f (facility_none s k b e (Some s) (of_subscriber u s) (row_at-own u.facilities s (k ∷ []) ∙ g)) (no_destinations u s k b e (ap is_active g))
         | Some facility ↦ λ g. performs_facility u s k b e row facility is d f g
       ] refl
     ] refl

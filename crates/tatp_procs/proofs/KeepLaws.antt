@@ -5,7 +5,7 @@ use Rattle.std.specs.Option.{option_and_then}
 use Rattle.std.proofs.Common.{refl, subst}
 use Rattle.std.proofs.lemmas.Bool.{and_parts}
 use Rattle.tatp_instr.specs.declared.instr.Instr.{Instr}
-use Rattle.tatp_instr.specs.declared.instr.Instr.TheVariants.{Ldi, Mov, Arg, Add, Sub, Eq, Lt, Jmp, Jz, Fsub, Fnum, Facc, Ffac, Fcfw, Get, Put, Ins, Del, Out, Done, Fail}
+use Rattle.tatp_instr.specs.declared.instr.Instr.TheVariants.{Ldi, Mov, Arg, Add, Sub, Eq, Lt, Jmp, Jz, Fsub, Fnum, Facc, Ffac, Fcfw, Get, Put, Ins, Del, Out, Done, Fail, Loop}
 use Rattle.tatp_tables.specs.Tuples.{Tuple}
 use Rattle.tatp_tables.specs.Columns.{table_of, is_fixed}
 use Rattle.tatp_tables.specs.Database.{Database}
@@ -16,7 +16,9 @@ use Rattle.tatp_tables.specs.declared.refusal.Refusal.{Refusal}
 use Rattle.tatp_tables.specs.declared.refusal.Refusal.TheVariants.{NoCurrent, Domain, KeyExists, NoParent}
 use Rattle.tatp_tables.proofs.ChangeLaws.{IsHome-put, IsHome-insert, IsHome-delete}
 use Rattle.tatp_machine.specs.Calls.{Frame, key_in}
-use Rattle.tatp_machine.specs.Instructions.{Turn, Goes_on, Stops, Nothing_next, value, got, put, put_current, inserted, deleted, delete_current, five_values, act, act_at, turn}
+use Rattle.tatp_machine.specs.Instructions.{Turn, Goes_on, Stops, Nothing_next, value, got, put, put_current, inserted, deleted, delete_current, five_values, act, act_at, limit, unless_stopped, step_at, turn}
+use Rattle.tatp_machine.specs.VersionOne.{turn_by_table}
+use Rattle.tatp_machine.specs.declared.progress.Trap.{Trap}
 
 -- PUT is on no fixed column
 abbrev pub puts_free : Instr → Bool
@@ -85,15 +87,28 @@ act_keeps Del s q v f is = delete_current_keeps s q v (key_in CallForwarding q.c
 act_keeps (Out a) s q v f is = (refl, refl, is)
 act_keeps Done s q v f is = tt
 act_keeps (Fail n) s q v f is = tt
+act_keeps (Loop a t) s q v f is = (refl, refl, is)
 
 at_each : (test : Instr → Bool) (code : List Instr) (i : ℕ) (x : Instr) → list_all test code ≡ true → slice_get code i ≡ Some x → test x ≡ true
 at_each test [] i x all e = cc
 at_each test (y ∷ more) zero x all e = let is : y ≡ x = cc in subst (λ z. test z ≡ true) is (and_parts (test y) (list_all test more) all).0
 at_each test (y ∷ more) (suc i) x all e = at_each test more i x (and_parts (test y) (list_all test more) all).1 e
 
-pub turn_keeps : (s : ℕ) (q : Frame) (v : Database) → list_all puts_free q.code ≡ true → AreHome s v → Keeps s q (turn q v)
-turn_keeps s q v f is =
+-- by the table alone
+pub table_keeps : (s : ℕ) (q : Frame) (v : Database) → list_all puts_free q.code ≡ true → AreHome s v → Keeps s q (turn_by_table q v)
+table_keeps s q v f is =
     elim (slice_get q.code q.pc) as (λ o. slice_get q.code q.pc ≡ o → Keeps s q (act_at o q v)) [
       | None ↦ λ e. tt
       | Some i ↦ λ e. act_keeps i s q v (at_each puts_free q.code q.pc i f e) is
+    ] refl
+
+unless_keeps : (s : ℕ) (q : Frame) (o : Option Trap) (t : Turn) → Keeps s q t → Keeps s q (unless_stopped o t)
+unless_keeps s q None t k = k
+unless_keeps s q (Some trap) t k = tt
+
+pub turn_keeps : (s : ℕ) (q : Frame) (v : Database) → list_all puts_free q.code ≡ true → AreHome s v → Keeps s q (turn q v)
+turn_keeps s q v f is =
+    elim (slice_get q.code q.pc) as (λ o. slice_get q.code q.pc ≡ o → Keeps s q (step_at o q v)) [
+      | None ↦ λ e. tt
+      | Some i ↦ λ e. unless_keeps s q (limit q.version i q) (act i q v) (act_keeps i s q v (at_each puts_free q.code q.pc i f e) is)
     ] refl

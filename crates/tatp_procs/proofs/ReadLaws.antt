@@ -1,5 +1,5 @@
 -- GET_SUBSCRIBER_DATA and GET_ACCESS_DATA.
-use Rattle.std.specs.Prelude.{◌≡◌, ℕ, zero, suc, ◌+◌, ◌≤◌, List, [], ◌∷◌, take, drop, length, Option, Some, None, slice_index}
+use Rattle.std.specs.Prelude.{◌≡◌, ℕ, zero, suc, ◌+◌, ◌≤◌, true, List, [], ◌∷◌, take, drop, length, Option, Some, None, slice_index}
 use Rattle.std.proofs.Common.{refl, sym, ap, ◌∙◌, arith, add-one}
 use Rattle.std.proofs.Math.Seq.{drop-cons}
 use Rattle.std.proofs.lemmas.List.{take_all}
@@ -9,7 +9,7 @@ use Rattle.tatp_tables.specs.Database.{Database, no_tables, of_subscriber}
 use Rattle.tatp_tables.specs.declared.table.Table.TheVariants.{Subscriber, AccessInfo}
 use Rattle.tatp_tables.proofs.KeyLaws.{row_at-key, row_at-has, first_is}
 use Rattle.tatp_machine.specs.declared.progress.End.TheVariants.{Done, Failed}
-use Rattle.tatp_machine.specs.Calls.{entered}
+use Rattle.tatp_machine.specs.Calls.{code_of, entered}
 use Rattle.tatp_machine.proofs.HomelessLaws.{nothing_at}
 use Rattle.tatp_numbers.specs.Homes.{s_id_of}
 use Rattle.std.specs.Option.{option_map}
@@ -19,6 +19,7 @@ use Rattle.tatp_procs.specs.Transactions.{replies, reads}
 use Rattle.tatp_procs.specs.Consistent.{IsConsistent}
 use Rattle.tatp_procs.specs.Performs.{Performs}
 use Rattle.tatp_procs.proofs.RunLaws.{Over, run, run_homeless}
+use Rattle.tatp_procs.proofs.WithinLaws.{is_within}
 use Rattle.tatp_procs.proofs.HomeRowLaws.{row_at-own, no_child, key_parts, home_found, row_length}
 use Rattle.tatp_procs.proofs.PerformLaws.{performs_failing, performs_reading, performs_without}
 
@@ -43,6 +44,10 @@ subscriber_found : (s : ℕ) (home : Option ℕ) (t : Database) (row : Tuple) �
 unfolding values
 subscriber_found s home t row e f = rw e (simp f)
 
+subscriber_within : (row : Tuple) → is_within 73 (values 34 0 row) (code_of standard_module 0) ≡ true
+unfolding values
+subscriber_within row = refl
+
 subscriber_homeless : (s : ℕ) → run_homeless 5 (entered standard_module 0 (s ∷ []) None) ≡ Over (Failed 1) [] no_tables
 subscriber_homeless s = rw (nothing_at (s ∷ [])) refl
 
@@ -53,7 +58,7 @@ get_subscriber_data_performs u s is =
       | Some row ↦ λ e.
           let found = row_at-own u.subscribers s [] ∙ e in
           let again : row_at (of_subscriber u s).subscribers (slice_index row 0 ∷ []) ≡ Some row = ap (λ k. row_at (of_subscriber u s).subscribers (k ∷ [])) (first_is s row (row_at-key u.subscribers (s ∷ []) row e)) ∙ found in
-          performs_reading standard_module (GetSubscriberData s) u s 73 (values 34 0 row) is refl (home_found u.subscribers s row e) (subscriber_found s (Some s) (of_subscriber u s) row found again)
+          performs_reading standard_module (GetSubscriberData s) u s 73 (values 34 0 row) is (subscriber_within row) (home_found u.subscribers s row e) (subscriber_found s (Some s) (of_subscriber u s) row found again)
           (ap (replies u) (all_values row (row_length Subscriber u row is (row_at-has u.subscribers (s ∷ []) row e))) ∙ ap (reads u (λ row. row)) (sym e))
     ] refl
 
@@ -92,7 +97,7 @@ get_access_data_performs u s k is =
             | Some row ↦ λ f.
                 let found = row_at-own u.accesses s (k ∷ []) ∙ f in
                 let again : row_at (of_subscriber u s).accesses (slice_index row 0 ∷ slice_index row 1 ∷ []) ≡ Some row = ap (row_at (of_subscriber u s).accesses) (key_parts s k row (row_at-key u.accesses (s ∷ k ∷ []) row f)) ∙ found in
-                performs_reading standard_module (GetAccessData s k) u s 13 _ is refl named (access_found s k (Some s) (of_subscriber u s) row found again)
+                performs_reading standard_module (GetAccessData s k) u s 13 (slice_index row 2 ∷ slice_index row 3 ∷ slice_index row 4 ∷ slice_index row 5 ∷ []) is refl named (access_found s k (Some s) (of_subscriber u s) row found again)
                 (ap (replies u) (rest_of row (row_length AccessInfo u row is (row_at-has u.accesses (s ∷ k ∷ []) row f))) ∙ ap (reads u (drop 2)) (sym f))
           ] refl
     ] refl

@@ -1,18 +1,13 @@
--- A call run alone on the rows of its home, and so on each database that has those rows.
-use Rattle.std.specs.Prelude.{◌≡◌, ℕ, zero, suc, true, List, Some, None}
-use Rattle.std.specs.List.{list_all}
-use Rattle.std.proofs.Common.{refl, sym, ap, subst, ◌∙◌}
-use Rattle.tatp_tables.specs.Database.{Database, no_tables, of_subscriber, with_subscriber}
-use Rattle.tatp_tables.proofs.SubscriberLaws.{of_subscriber-with_subscriber, with_subscriber-of_subscriber, with_subscriber-with_subscriber}
-use Rattle.tatp_tables.proofs.ChangeLaws.{IsHome-none}
+-- A call run alone by the table, on the rows of its home or without a home.
+use Rattle.std.specs.Prelude.{◌≡◌, ℕ, zero, suc, ◌≤◌, List, length, Option, Some, None, slice_get}
+use Rattle.std.proofs.Common.{refl, ap, subst, arith}
+use Rattle.tatp_instr.specs.declared.instr.Instr.{Instr}
+use Rattle.tatp_tables.specs.Database.{Database, no_tables}
 use Rattle.tatp_machine.specs.declared.progress.End.{End}
-use Rattle.tatp_machine.specs.declared.progress.End.TheVariants.{Done, Failed, Trapped}
-use Rattle.tatp_machine.specs.Calls.{Frame, CallState}
-use Rattle.tatp_machine.specs.Instructions.{Turn, Goes_on, Stops, Nothing_next, turn}
-use Rattle.tatp_machine.specs.Lines.{left_by, rows_of_home, with_home_rows}
-use Rattle.tatp_machine.specs.Machines.{rows_left}
-use Rattle.tatp_machine.specs.Runs.{Outcome, EndsAfter}
-use Rattle.tatp_procs.proofs.KeepLaws.{puts_free, AreHome, Keeps, turn_keeps}
+use Rattle.tatp_machine.specs.Calls.{Frame}
+use Rattle.tatp_machine.specs.Instructions.{Turn, Goes_on, Stops, Nothing_next, act_at}
+use Rattle.tatp_machine.specs.VersionOne.{turn_by_table}
+use Rattle.tatp_machine.proofs.ActLaws.{Makes, MakesOn, act_makes}
 
 -- how a run of so many turns at most ends: with what, after which outputs, and with which rows at the end
 pub data Ending : Type 0 where
@@ -27,93 +22,46 @@ go_on more outputs v Nothing_next = Unfinished
 -- on the rows v of the home
 abbrev pub run : ℕ → Frame → Database → Ending
 run zero q v = Unfinished
-run (suc n) q v = go_on (run n) q.outputs v (turn q v)
+run (suc n) q v = go_on (run n) q.outputs v (turn_by_table q v)
 
 -- without a home
 abbrev pub run_homeless : ℕ → Frame → Ending
 run_homeless zero q = Unfinished
-run_homeless (suc n) q = go_on (λ next w. run_homeless n next) q.outputs no_tables (turn q no_tables)
+run_homeless (suc n) q = go_on (λ next w. run_homeless n next) q.outputs no_tables (turn_by_table q no_tables)
 
 -- ---- what an ending says
-end_is : (e f : End) (a b : List ℕ) (v w : Database) → Over e a v ≡ Over f b w → e ≡ f
+pub end_is : (e f : End) (a b : List ℕ) (v w : Database) → Over e a v ≡ Over f b w → e ≡ f
 end_is e f a b v w h = cc
 
-outputs_are : (e f : End) (a b : List ℕ) (v w : Database) → Over e a v ≡ Over f b w → a ≡ b
+pub outputs_are : (e f : End) (a b : List ℕ) (v w : Database) → Over e a v ≡ Over f b w → a ≡ b
 outputs_are e f a b v w h = cc
 
-rows_are : (e f : End) (a b : List ℕ) (v w : Database) → Over e a v ≡ Over f b w → v ≡ w
+pub rows_are : (e f : End) (a b : List ℕ) (v w : Database) → Over e a v ≡ Over f b w → v ≡ w
 rows_are e f a b v w h = cc
 
--- ---- on every database
--- the outcome of a call whose run ended so
-abbrev pub outcome : End → List ℕ → Database → Outcome
-outcome end outputs u = record { end = end; outputs = outputs; database = u }
+-- ---- outputs only grow
+makes_at : (o : Option Instr) (q q' : Frame) (v v' : Database) → act_at o q v ≡ Goes_on q' v' → (i : Instr) × (o ≡ Some i) × Makes i q q'
+makes_at None q q' v v' e = cc
+makes_at (Some i) q q' v v' e = (i, refl, subst (MakesOn i q) e (act_makes i q v))
 
--- the call leads to this outcome, after some lines
-abbrev pub LeadsTo : CallState → Database → Outcome → Type 0
-LeadsTo q u o = (lines : ℕ) × EndsAfter lines q u o
+-- the instruction of a turn that goes on, and what it made
+pub makes_next : (q q' : Frame) (v v' : Database) → turn_by_table q v ≡ Goes_on q' v' → (i : Instr) × (slice_get q.code q.pc ≡ Some i) × Makes i q q'
+makes_next q q' v v' e = makes_at (slice_get q.code q.pc) q q' v v' e
 
-abbrev pub call_in : Frame → Database → CallState
-call_in q entry = record { frame = q; entry = entry }
+pub grows : (n : ℕ) (q : Frame) (v w : Database) (end : End) (outputs : List ℕ) → run n q v ≡ Over end outputs w → length q.outputs ≤ length outputs
+grows zero q v w end outputs h = cc
+grows (suc n) q v w end outputs h =
+    elim (turn_by_table q v) as (λ t. turn_by_table q v ≡ t → go_on (run n) q.outputs v t ≡ Over end outputs w → length q.outputs ≤ length outputs) [
+      | Goes_on next x ↦ λ e h. omega (arith, (makes_next q next v x e).2.outputs, grows n next x w end outputs h)
+      | Stops f ↦ λ e h. omega (arith, ap length (outputs_are f end q.outputs outputs v w h))
+      | Nothing_next ↦ λ e h. cc
+    ] refl h
 
--- what an end leaves of the home's rows is what it leaves of the database
-left_is : (end : End) (q : Frame) (entry : Database) (s : ℕ) (v w u : Database) → q.home ≡ Some s → of_subscriber u s ≡ v → v ≡ w → with_subscriber u s (rows_left end entry w) ≡ left_by end (call_in q entry) u
-left_is Done q entry s v w u h o e = ap (with_subscriber u s) (sym e ∙ sym o) ∙ with_subscriber-of_subscriber u s
-left_is (Failed n) q entry s v w u h o e = sym (ap (λ k. with_home_rows u k entry) h)
-left_is (Trapped trap) q entry s v w u h o e = sym (ap (λ k. with_home_rows u k entry) h)
-
-pub run_leads : (n : ℕ) (q : Frame) (entry v w : Database) (s : ℕ) (u : Database) (end : End) (outputs : List ℕ) → list_all puts_free q.code ≡ true → q.home ≡ Some s → of_subscriber u s ≡ v → AreHome s v
-    → run n q v ≡ Over end outputs w → LeadsTo (call_in q entry) u (outcome end outputs (with_subscriber u s (rows_left end entry w)))
-run_leads zero q entry v w s u end outputs free home o is h = cc
-run_leads (suc n) q entry v w s u end outputs free home o is h =
-    let here : turn q (rows_of_home u q.home) ≡ turn q v = ap (λ k. turn q (rows_of_home u k)) home ∙ ap (turn q) o in
-    elim (turn q v) as (λ t. turn q v ≡ t → Keeps s q t → go_on (run n) q.outputs v t ≡ Over end outputs w → LeadsTo (call_in q entry) u (outcome end outputs (with_subscriber u s (rows_left end entry w)))) [
-      | Goes_on next x ↦ λ e k h.
-          let more = run_leads n next entry x w s (with_subscriber u s x) end outputs (ap (list_all puts_free) k.1 ∙ free) (k.0 ∙ home) (of_subscriber-with_subscriber u s x k.2.own) k.2 h in (
-            suc more.0,
-            (
-              call_in next entry,
-              with_subscriber u s x,
-              record { rows = x; acts = here ∙ e; entry = refl; whole = sym (ap (λ k. with_home_rows u k x) home) },
-              subst (λ d. EndsAfter more.0 (call_in next entry) (with_subscriber u s x) (outcome end outputs d)) (with_subscriber-with_subscriber u s x (rows_left end entry w) k.2.own) more.1,
-            ),
-          )
-      | Stops f ↦ λ e k h. (
-        zero,
-        (
-          record {
-            acts = here ∙ e ∙ ap Stops (end_is f end q.outputs outputs v w h);
-            whole = left_is end q entry s v w u home o (rows_are f end q.outputs outputs v w h);
-          },
-          sym (outputs_are f end q.outputs outputs v w h),
-        ),
-      )
-      | Nothing_next ↦ λ e k h. cc
-    ] refl (turn_keeps s q v free is) h
-
--- ---- without a home
-left_homeless : (end : End) (q : Frame) (u : Database) → q.home ≡ None → u ≡ left_by end (call_in q no_tables) u
-left_homeless Done q u h = refl
-left_homeless (Failed n) q u h = sym (ap (λ k. with_home_rows u k no_tables) h)
-left_homeless (Trapped trap) q u h = sym (ap (λ k. with_home_rows u k no_tables) h)
-
-pub run_homeless_leads : (n : ℕ) (q : Frame) (w u : Database) (end : End) (outputs : List ℕ) → list_all puts_free q.code ≡ true → q.home ≡ None
-    → run_homeless n q ≡ Over end outputs w → LeadsTo (call_in q no_tables) u (outcome end outputs u)
-run_homeless_leads zero q w u end outputs free home h = cc
-run_homeless_leads (suc n) q w u end outputs free home h =
-    let here : turn q (rows_of_home u q.home) ≡ turn q no_tables = ap (λ k. turn q (rows_of_home u k)) home in
-    elim (turn q no_tables) as (λ t. turn q no_tables ≡ t → Keeps 0 q t → go_on (λ next v. run_homeless n next) q.outputs no_tables t ≡ Over end outputs w → LeadsTo (call_in q no_tables) u (outcome end outputs u)) [
-      | Goes_on next x ↦ λ e k h.
-          let more = run_homeless_leads n next w u end outputs (ap (list_all puts_free) k.1 ∙ free) (k.0 ∙ home) h in (
-            suc more.0,
-            (call_in next no_tables, u, record { rows = x; acts = here ∙ e; entry = refl; whole = sym (ap (λ k. with_home_rows u k x) home) }, more.1),
-          )
-      | Stops f ↦ λ e k h. (
-        zero,
-        (
-          record { acts = here ∙ e ∙ ap Stops (end_is f end q.outputs outputs no_tables w h); whole = left_homeless end q u home },
-          sym (outputs_are f end q.outputs outputs no_tables w h),
-        ),
-      )
-      | Nothing_next ↦ λ e k h. cc
-    ] refl (turn_keeps 0 q no_tables free (IsHome-none 0)) h
+pub grows_homeless : (n : ℕ) (q : Frame) (w : Database) (end : End) (outputs : List ℕ) → run_homeless n q ≡ Over end outputs w → length q.outputs ≤ length outputs
+grows_homeless zero q w end outputs h = cc
+grows_homeless (suc n) q w end outputs h =
+    elim (turn_by_table q no_tables) as (λ t. turn_by_table q no_tables ≡ t → go_on (λ next v. run_homeless n next) q.outputs no_tables t ≡ Over end outputs w → length q.outputs ≤ length outputs) [
+      | Goes_on next x ↦ λ e h. omega (arith, (makes_next q next no_tables x e).2.outputs, grows_homeless n next w end outputs h)
+      | Stops f ↦ λ e h. omega (arith, ap length (outputs_are f end q.outputs outputs no_tables w h))
+      | Nothing_next ↦ λ e h. cc
+    ] refl h

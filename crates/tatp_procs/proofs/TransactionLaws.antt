@@ -3,7 +3,7 @@ use Rattle.std.specs.Prelude.{◌≡◌, ℕ, ◌+◌, Bool, true, false, not, L
 use Rattle.std.specs.List.{position_from}
 use Rattle.std.proofs.Common.{refl, sym, subst}
 use Rattle.tatp_tables.specs.Database.{Database}
-use Rattle.tatp_encoding.specs.Modules.{Procedure}
+use Rattle.tatp_encoding.specs.Modules.{ModuleState}
 use Rattle.tatp_procs.specs.declared.call.Call.{Call}
 use Rattle.tatp_procs.specs.declared.call.Call.TheVariants.{GetSubscriberData, GetNewDestination, GetAccessData, UpdateSubscriberData, UpdateLocation, InsertCallForwarding, DeleteCallForwarding}
 use Rattle.tatp_procs.specs.Arguments.{accepted, arguments_accepted, fits_of}
@@ -43,5 +43,5 @@ standard_performs (InsertCallForwarding n t b e x) u is h =
 standard_performs (DeleteCallForwarding n t b) u is h = delete_call_forwarding_performs u n t b is
 
 -- so it is with each module that is the standard one
-pub standard_performs_as : (modul : List Procedure) → modul ≡ standard_module → (call : Call) (u : Database) → IsConsistent u → arguments_accepted call ≡ Ok tt → Performs modul call u
+pub standard_performs_as : (modul : ModuleState) → modul ≡ standard_module → (call : Call) (u : Database) → IsConsistent u → arguments_accepted call ≡ Ok tt → Performs modul call u
 standard_performs_as modul is call u consistent fits = subst (λ m. Performs m call u) (sym is) (standard_performs call u consistent fits)

@@ -3,7 +3,7 @@
 use Rattle.std.specs.Prelude.{◌≡◌, ℕ, ◌==◌, Bool, true, false, Ok, List, length, map, Option, Some, None, slice_get}
 use Rattle.std.specs.Option.{option_map_or}
 use Rattle.std.specs.Result.{result_err}
-use Rattle.tatp_encoding.specs.Modules.{Procedure}
+use Rattle.tatp_encoding.specs.Modules.{Procedure, ModuleState}
 use Rattle.tatp_numbers.specs.declared.key.Key.{Key}
 use Rattle.tatp_procs.specs.declared.ask.Ask.{Ask}
 use Rattle.tatp_procs.specs.declared.ask.Ask.TheVariants.{Txn, Raw}
@@ -33,8 +33,8 @@ AreInDomains (Txn call) = arguments_accepted call ≡ Ok tt
 AreInDomains (Raw raw) = Unit {0}
 
 -- how many arguments each procedure of a module takes
-abbrev pub arities_of : List Procedure → List ℕ
-arities_of modul = map (λ (p : Procedure). p.arity) modul
+abbrev pub arities_of : ModuleState → List ℕ
+arities_of modul = map (λ (p : Procedure). p.arity) modul.procedures
 
 -- among procedures of these arities there is the one that is asked, and it takes as many arguments;
 -- a transaction's are in their domains
@@ -43,11 +43,11 @@ pub record Fits (arities : List ℕ) (ask : Ask) : Type 0 where
   pub domains : AreInDomains ask
 
 -- a module has the procedure that is asked, and it takes as many arguments
-abbrev pub has_procedure : List Procedure → Ask → Bool
-has_procedure procedures ask =
+abbrev pub has_procedure : ModuleState → Ask → Bool
+has_procedure modul ask =
     option_map_or
     (λ (p : Procedure). p.arity == length (arguments_asked ask))
-    (slice_get procedures (procedure_asked ask))
+    (slice_get modul.procedures (procedure_asked ask))
     false
 
 -- a transaction's first argument outside its domain; those of any other call may be any numbers

@@ -1,7 +1,7 @@
 -- A standard procedure against its transaction: what a call that ran alone is answered.
-use Rattle.std.specs.Prelude.{◌≡◌, List}
+use Rattle.std.specs.Prelude.{◌≡◌}
 use Rattle.tatp_tables.specs.Database.{Database}
-use Rattle.tatp_encoding.specs.Modules.{Procedure}
+use Rattle.tatp_encoding.specs.Modules.{ModuleState}
 use Rattle.tatp_machine.specs.Runs.{Outcome, Alone}
 use Rattle.tatp_numbers.specs.Homes.{home_of_key}
 use Rattle.tatp_procs.specs.declared.call.Call.{Call}
@@ -14,13 +14,13 @@ answer_of o = record { reply = reply_to o.end o.outputs; database = o.database }
 
 -- the call, run alone by this module on the database, with the home that its key names there, has
 -- this outcome
-abbrev pub CallAlone : List Procedure → Call → Database → Outcome → Type 0
+abbrev pub CallAlone : ModuleState → Call → Database → Outcome → Type 0
 CallAlone modul call u o =
     Alone modul (procedure_of call) (arguments_of call)
     (home_of_key u.subscribers (key_of_call call)) u o
 
 -- run alone on the database, the call has an outcome, and it is what its transaction answers and
 -- leaves
-pub record Performs (modul : List Procedure) (call : Call) (u : Database) : Type 0 where
+pub record Performs (modul : ModuleState) (call : Call) (u : Database) : Type 0 where
   pub some : (o : Outcome) × CallAlone modul call u o
   pub each : (o : Outcome) → CallAlone modul call u o → answer_of o ≡ transaction call u

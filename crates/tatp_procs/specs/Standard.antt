@@ -1,9 +1,10 @@
--- The standard module: the seven transactions as procedures.
+-- The standard module: the seven transactions as procedures, in version 2 of the instruction table.
 -- docs/FORMATS.md, "The standard module".
 use Rattle.std.specs.Prelude.{ℕ, zero, suc, ◌+◌, List, [], ◌∷◌, ◌++◌, codes}
 use Rattle.tatp_instr.specs.declared.instr.Instr.{Instr}
-use Rattle.tatp_instr.specs.declared.instr.Instr.TheVariants.{Ldi, Mov, Arg, Add, Eq, Lt, Jz, Fsub, Fnum, Facc, Ffac, Fcfw, Get, Put, Ins, Del, Out, Done, Fail}
-use Rattle.tatp_encoding.specs.Modules.{Procedure}
+use Rattle.tatp_instr.specs.declared.instr.Instr.TheVariants.{Ldi, Mov, Arg, Add, Eq, Lt, Jz, Fsub, Fnum, Facc, Ffac, Fcfw, Get, Put, Ins, Del, Out, Done, Fail, Loop}
+use Rattle.tatp_instr.specs.declared.version.Version.TheVariants.{Two}
+use Rattle.tatp_encoding.specs.Modules.{Procedure, ModuleState}
 
 -- n columns from c on, each read and put out
 abbrev pub columns : ℕ → ℕ → List Instr
@@ -14,20 +15,15 @@ columns (suc n) c = Get 2 c ∷ Out 2 ∷ columns n (c + 1)
 abbrev pub get_subscriber_data_code : List Instr
 get_subscriber_data_code = Arg 0 0 ∷ Fsub 1 0 ∷ Jz 1 72 ∷ columns 34 0 ++ Done ∷ Fail 1 ∷ []
 
--- the forwarding that starts at n is put out, where it is a destination; x: the place after the
--- block
-abbrev pub block : ℕ → ℕ → List Instr
-block n x =
-    Ldi 2 n ∷ Fcfw 7 0 ∷ Jz 7 x ∷ Lt 7 2 5 ∷ Jz 7 x
-    ∷ Get 8 49 ∷ Lt 7 6 8 ∷ Jz 7 x ∷ Get 8 50 ∷ Out 8 ∷ Mov 9 4 ∷ []
-
--- a: 21, b: 32, c: 43, none: 45
+-- next: 12, skip: 22, none: 26
 abbrev pub get_new_destination_code : List Instr
 get_new_destination_code =
     Arg 0 0 ∷ Arg 1 1 ∷ Arg 5 2 ∷ Arg 6 3
-    ∷ Ffac 7 0 1 ∷ Jz 7 45 ∷ Get 7 42 ∷ Jz 7 45 ∷ Ldi 4 1 ∷ Add 5 5 4 ∷ []
-    ++ block 0 21 ++ block 8 32 ++ block 16 43
-    ++ Jz 9 45 ∷ Done ∷ Fail 1 ∷ []
+    ∷ Ffac 7 0 1 ∷ Jz 7 26 ∷ Get 7 42 ∷ Jz 7 26 ∷ Ldi 4 1 ∷ Add 5 5 4
+    ∷ Ldi 3 8 ∷ Ldi 10 2
+    ∷ Fcfw 7 0 ∷ Jz 7 22 ∷ Lt 7 2 5 ∷ Jz 7 22
+    ∷ Get 8 49 ∷ Lt 7 6 8 ∷ Jz 7 22 ∷ Get 8 50 ∷ Out 8 ∷ Mov 9 4
+    ∷ Add 2 2 3 ∷ Loop 10 12 ∷ Jz 9 26 ∷ Done ∷ Fail 1 ∷ []
 
 -- none: 13
 abbrev pub get_access_data_code : List Instr
@@ -113,13 +109,16 @@ delete_call_forwarding_procedure = record {
 }
 
 -- in the order of the benchmark's mix
-abbrev pub standard_module : List Procedure
-standard_module =
-    get_subscriber_data_procedure
-    ∷ get_new_destination_procedure
-    ∷ get_access_data_procedure
-    ∷ update_subscriber_data_procedure
-    ∷ update_location_procedure
-    ∷ insert_call_forwarding_procedure
-    ∷ delete_call_forwarding_procedure
-    ∷ []
+abbrev pub standard_module : ModuleState
+standard_module = record {
+  version = Two;
+  procedures =
+      get_subscriber_data_procedure
+      ∷ get_new_destination_procedure
+      ∷ get_access_data_procedure
+      ∷ update_subscriber_data_procedure
+      ∷ update_location_procedure
+      ∷ insert_call_forwarding_procedure
+      ∷ delete_call_forwarding_procedure
+      ∷ [];
+}

@@ -1,4 +1,4 @@
-//! The standard module: the seven transactions as procedures.
+//! The standard module: the seven transactions as procedures, in version 2 of the table.
 ghost use Rattle.std.specs.Prelude.{◌≡◌, ◌↔◌, true, IsTrue, IfOk, Ok};
 ghost use Rattle.tatp_tables.specs.Database.{Database};
 ghost use Rattle.tatp_encoding.specs.Modules.{is_procedure};
@@ -16,9 +16,9 @@ mod writes;
 use reads::{get_access_data, get_new_destination, get_subscriber_data};
 use std::alloc::{AllocError, Global};
 use tatp_encoding::{Module, Proc, encode};
-use tatp_instr::Instr;
+use tatp_instr::{Instr, Version};
 use tatp_loader::{Loaded, check};
-pub use text::STANDARD;
+pub use text::{STANDARD, STANDARD_1};
 use writes::{
     delete_call_forwarding, insert_call_forwarding, update_location, update_subscriber_data,
 };
@@ -33,14 +33,18 @@ pub fn standard(alloc: Global) -> Result<Loaded, AllocError>
         → Performs loaded call u) }
 {
     let procs = procedures(alloc)?;
-    Ok(check(Module::new(procs)).unwrap())
+    Ok(check(Module::new(Version::Two, procs)).unwrap())
 }
 
 /// Whether this is the standard module.
 pub fn is_standard(loaded: &Loaded) -> bool
     ensures { IsTrue result ↔ (loaded.now ≡ standard_module) }
 {
-    let [a, b, c, d, e, f, g] = loaded.module().procs() else {
+    let module = loaded.module();
+    if module.version() != Version::Two {
+        return false;
+    }
+    let [a, b, c, d, e, f, g] = module.procs() else {
         return false;
     };
     if !consists_of(a, "GET_SUBSCRIBER_DATA", 1, &get_subscriber_data()) {
@@ -65,7 +69,7 @@ pub fn is_standard(loaded: &Loaded) -> bool
 }
 
 fn procedures(alloc: Global) -> Result<Vec<Proc>, AllocError>
-    ensures { IfOk result (λ procs. procs.items ≡ standard_module) }
+    ensures { IfOk result (λ procs. procs.items ≡ standard_module.procedures) }
 {
     Ok(vec![in alloc;
         procedure(alloc, "GET_SUBSCRIBER_DATA", 1, &get_subscriber_data())?,

@@ -63,6 +63,9 @@ fn trapped(trap: &Trap) -> &'static str
     match trap {
         Trap::NoCurrent => "TRAPPED NoCurrent",
         Trap::Domain => "TRAPPED Domain",
+        Trap::Budget => "TRAPPED Budget",
+        Trap::Output => "TRAPPED Output",
+        Trap::Writes => "TRAPPED Writes",
     }
 }
 

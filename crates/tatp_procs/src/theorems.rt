@@ -26,7 +26,7 @@ pub fn standard_procedures_are_transactions()
         → arguments_accepted call ≡ Ok tt
         → Performs standard_module call u }
     ensures arity { (call : Call)
-        → IsSomeAnd (slice_get standard_module (procedure_of call))
+        → IsSomeAnd (slice_get standard_module.procedures (procedure_of call))
         (λ (p : Procedure). p.arity ≡ length (arguments_of call)) }
 {}
 

@@ -16,4 +16,5 @@ mod stops;
 mod threads;
 mod trace_lines;
 mod unsettled;
+mod versions;
 mod world;

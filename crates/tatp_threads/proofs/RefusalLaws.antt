@@ -3,7 +3,7 @@ use Rattle.std.proofs.Common.{◌≡◌, ◌⊎◌, ℕ, ◌<◌, ◌≤◌, ◌
 use Rattle.std.specs.Option.{option_map}
 use Rattle.std.specs.declared.alloc.Global.{Global}
 use Rattle.std.proofs.lemmas.List.FromFn.{length-map-range_with_len}
-use Rattle.tatp_encoding.specs.Modules.{Procedure}
+use Rattle.tatp_encoding.specs.Modules.{ModuleState}
 use Rattle.tatp_tables.specs.Database.{Database}
 use Rattle.tatp_tables.specs.declared.row.Rows.{Rows}
 use Rattle.tatp_procs.specs.declared.ask.Ask.{Ask}
@@ -18,10 +18,10 @@ use Rattle.tatp_threads.specs.declared.refusal.RunRefusal.TheVariants.{TooMany, 
 use Rattle.tatp_threads.specs.Calls.{obstacle_to, first_of, obstacle_in, obstacle_among, opening_refusal, AreOpened, RefusesRun}
 
 -- ---- the rows
-pub opening_refused : (procedures : List Procedure) (rows : Rows) (lists : List (Vec Ask Global)) (error : OpenError) → RefusesRows rows error → RefusesRun procedures rows lists (opening_refusal error)
-opening_refused procedures rows lists opening.TooMany h = h
-opening_refused procedures rows lists (opening.NotClean verdict) h = h
-opening_refused procedures rows lists opening.NoMemory h = h
+pub opening_refused : (modul : ModuleState) (rows : Rows) (lists : List (Vec Ask Global)) (error : OpenError) → RefusesRows rows error → RefusesRun modul rows lists (opening_refusal error)
+opening_refused modul rows lists opening.TooMany h = h
+opening_refused modul rows lists (opening.NotClean verdict) h = h
+opening_refused modul rows lists opening.NoMemory h = h
 
 pub few_extents : (u : Database) (n : ℕ) (extents : List ExtentState) → extents ≡ opened_extents u n → n ≤ 1000000 → length extents < 2 ^ 32
 few_extents u n extents is few =
@@ -46,8 +46,8 @@ of_arguments : (bad : Option Bad) → AreOfCalls (option_map BadArgument bad)
 of_arguments None = tt
 of_arguments (Some bad) = tt
 
-of_call : (procedures : List Procedure) (ask : Ask) → AreOfCalls (obstacle_to procedures ask)
-of_call procedures ask = by (has_procedure procedures ask)
+of_call : (modul : ModuleState) (ask : Ask) → AreOfCalls (obstacle_to modul ask)
+of_call modul ask = by (has_procedure modul ask)
   where
     by : (b : Bool) → AreOfCalls (cond b (option_map BadArgument (bad_argument ask)) (Some NoProcedure))
     by true = of_arguments (bad_argument ask)
@@ -61,11 +61,11 @@ of_first f (x ∷ xs) each = by (f x) (each x) (of_first f xs each)
     by None h more = more
     by (Some refusal) h more = h
 
-pub call_refused : (procedures : List Procedure) (rows : Rows) (lists : List (Vec Ask Global)) (refusal : RunRefusal) → AreOpened rows → obstacle_among procedures lists ≡ Some refusal → RefusesRun procedures rows lists refusal
-call_refused procedures rows lists refusal opened is =
-    by refusal (subst AreOfCalls is (of_first (λ (list : Vec Ask Global). obstacle_in procedures list.items) lists (λ list. of_first (obstacle_to procedures) list.items (of_call procedures)))) is
+pub call_refused : (modul : ModuleState) (rows : Rows) (lists : List (Vec Ask Global)) (refusal : RunRefusal) → AreOpened rows → obstacle_among modul lists ≡ Some refusal → RefusesRun modul rows lists refusal
+call_refused modul rows lists refusal opened is =
+    by refusal (subst AreOfCalls is (of_first (λ (list : Vec Ask Global). obstacle_in modul list.items) lists (λ list. of_first (obstacle_to modul) list.items (of_call modul)))) is
   where
-    by : (refusal : RunRefusal) → IsOfCall refusal → obstacle_among procedures lists ≡ Some refusal → RefusesRun procedures rows lists refusal
+    by : (refusal : RunRefusal) → IsOfCall refusal → obstacle_among modul lists ≡ Some refusal → RefusesRun modul rows lists refusal
     by TooMany h is = absurd h
     by (NotClean verdict) h is = absurd h
     by NoProcedure h is = (opened, is)
@@ -74,8 +74,8 @@ call_refused procedures rows lists refusal opened is =
     by NoThread h is = absurd h
 
 -- ---- the run
-pub end_refused : (procedures : List Procedure) (rows : Rows) (lists : List (Vec Ask Global)) → AreOpened rows → obstacle_among procedures lists ≡ None → (refusal : RunRefusal) → (refusal ≡ NoMemory) ⊎ (refusal ≡ NoThread) → RefusesRun procedures rows lists refusal
-end_refused procedures rows lists opened none refusal h = elim h as (λ _. RefusesRun procedures rows lists refusal) [
-  | inl k ↦ subst (RefusesRun procedures rows lists) (sym k) opened.0
-  | inr k ↦ subst (RefusesRun procedures rows lists) (sym k) (opened, none)
+pub end_refused : (modul : ModuleState) (rows : Rows) (lists : List (Vec Ask Global)) → AreOpened rows → obstacle_among modul lists ≡ None → (refusal : RunRefusal) → (refusal ≡ NoMemory) ⊎ (refusal ≡ NoThread) → RefusesRun modul rows lists refusal
+end_refused modul rows lists opened none refusal h = elim h as (λ _. RefusesRun modul rows lists refusal) [
+  | inl k ↦ subst (RefusesRun modul rows lists) (sym k) opened.0
+  | inr k ↦ subst (RefusesRun modul rows lists) (sym k) (opened, none)
 ]

@@ -2,7 +2,7 @@
 use Rattle.std.specs.Prelude.{◌≡◌, ◌≤◌, if◌then◌else◌, List, [], ◌∷◌, map, length, Option, Some, None, Vec}
 use Rattle.std.specs.Option.{option_map}
 use Rattle.std.specs.declared.alloc.Global.{Global}
-use Rattle.tatp_encoding.specs.Modules.{Procedure}
+use Rattle.tatp_encoding.specs.Modules.{ModuleState}
 use Rattle.tatp_tables.specs.Clean.{IsClean}
 use Rattle.tatp_tables.specs.declared.row.Rows.{Rows}
 use Rattle.tatp_procs.specs.declared.ask.Ask.{Ask}
@@ -14,9 +14,9 @@ use Rattle.tatp_threads.specs.declared.refusal.RunRefusal.{RunRefusal}
 use Rattle.tatp_threads.specs.declared.refusal.RunRefusal.TheVariants.{TooMany, NotClean, NoProcedure, BadArgument, NoMemory, NoThread}
 
 -- what stands against a call
-abbrev pub obstacle_to : List Procedure → Ask → Option RunRefusal
-obstacle_to procedures ask =
-    if has_procedure procedures ask then option_map BadArgument (bad_argument ask)
+abbrev pub obstacle_to : ModuleState → Ask → Option RunRefusal
+obstacle_to modul ask =
+    if has_procedure modul ask then option_map BadArgument (bad_argument ask)
     else Some NoProcedure
 
 -- the first obstacle of some
@@ -26,13 +26,13 @@ first_of (Some obstacle ∷ more) = Some obstacle
 first_of (None ∷ more) = first_of more
 
 -- what stands against the first call of a list that can't be run
-abbrev pub obstacle_in : List Procedure → List Ask → Option RunRefusal
-obstacle_in procedures asks = first_of (map (obstacle_to procedures) asks)
+abbrev pub obstacle_in : ModuleState → List Ask → Option RunRefusal
+obstacle_in modul asks = first_of (map (obstacle_to modul) asks)
 
 -- what stands against the first call of the first client that can't be run
-abbrev pub obstacle_among : List Procedure → List (Vec Ask Global) → Option RunRefusal
-obstacle_among procedures lists =
-    first_of (map (λ (list : Vec Ask Global). obstacle_in procedures list.items) lists)
+abbrev pub obstacle_among : ModuleState → List (Vec Ask Global) → Option RunRefusal
+obstacle_among modul lists =
+    first_of (map (λ (list : Vec Ask Global). obstacle_in modul list.items) lists)
 
 -- why a run is refused whose rows aren't opened
 abbrev pub opening_refusal : OpenError → RunRefusal
@@ -46,13 +46,13 @@ AreOpened rows = (length rows.subscribers ≤ most_subscribers) × IsClean rows
 
 -- why a run of the clients' lists on these rows is refused: the rows first, then the first call
 -- that can't be run, then that a thread couldn't be started; memory may run out at any time
-abbrev pub RefusesRun : List Procedure → Rows → List (Vec Ask Global) → RunRefusal → Type 0
-RefusesRun procedures rows lists TooMany = RefusesRows rows opening.TooMany
-RefusesRun procedures rows lists (NotClean verdict) = RefusesRows rows (opening.NotClean verdict)
-RefusesRun procedures rows lists NoProcedure =
-    AreOpened rows × (obstacle_among procedures lists ≡ Some NoProcedure)
-RefusesRun procedures rows lists (BadArgument bad) =
-    AreOpened rows × (obstacle_among procedures lists ≡ Some (BadArgument bad))
-RefusesRun procedures rows lists NoMemory = RefusesRows rows opening.NoMemory
-RefusesRun procedures rows lists NoThread =
-    AreOpened rows × (obstacle_among procedures lists ≡ None)
+abbrev pub RefusesRun : ModuleState → Rows → List (Vec Ask Global) → RunRefusal → Type 0
+RefusesRun modul rows lists TooMany = RefusesRows rows opening.TooMany
+RefusesRun modul rows lists (NotClean verdict) = RefusesRows rows (opening.NotClean verdict)
+RefusesRun modul rows lists NoProcedure =
+    AreOpened rows × (obstacle_among modul lists ≡ Some NoProcedure)
+RefusesRun modul rows lists (BadArgument bad) =
+    AreOpened rows × (obstacle_among modul lists ≡ Some (BadArgument bad))
+RefusesRun modul rows lists NoMemory = RefusesRows rows opening.NoMemory
+RefusesRun modul rows lists NoThread =
+    AreOpened rows × (obstacle_among modul lists ≡ None)

@@ -108,16 +108,16 @@ of_three word keyword fields build line t text form h =
     subst (PrintsAs (word ∷ fields)) n.2 (of_numbers word keyword fields (n.0.0 ∷ n.0.1 ∷ n.0.2 ∷ []) (build n.0) t (three_read fields n.0 n.1) (text n.0) (form n.0))
 
 -- steps
-within : (count : ℕ) → (leb 1 count && leb count 256) ≡ true → (1 ≤ count) × (count ≤ 256)
+within : (count : ℕ) → (leb 1 count && leb count 4096) ≡ true → (1 ≤ count) × (count ≤ 4096)
 within count h = (grind (arith, nat_tests), grind (arith, nat_tests))
 
-steps_some : (p count : ℕ) (line : TraceLine) (b : Bool) → (b ≡ true → (1 ≤ count) × (count ≤ 256)) → cond b (Some (Steps p count)) None ≡ Some line → (line ≡ Steps p count) × (1 ≤ count) × (count ≤ 256)
+steps_some : (p count : ℕ) (line : TraceLine) (b : Bool) → (b ≡ true → (1 ≤ count) × (count ≤ 4096)) → cond b (Some (Steps p count)) None ≡ Some line → (line ≡ Steps p count) × (1 ≤ count) × (count ≤ 4096)
 steps_some p count line true f h = let w = f refl in (sym (same_Some (Steps p count) line h), w.0, w.1)
 steps_some p count line false f h = absurd (none-some line h)
 
 of_steps : (word : List ℕ) (fields : List (List ℕ)) (line : TraceLine) → bytes_eq word (codes "steps") ≡ true → option_and_then (λ (n : ℕ × ℕ). steps_of n.0 n.1) (two_numbers fields) ≡ Some line → PrintsAs (word ∷ fields) line
 of_steps word fields line t h = option_and_then_some (λ (n : ℕ × ℕ). steps_of n.0 n.1) (two_numbers fields) line h (λ n is then.
-    let s = steps_some n.0 n.1 line (leb 1 n.1 && leb n.1 256) (within n.1) then in
+    let s = steps_some n.0 n.1 line (leb 1 n.1 && leb n.1 4096) (within n.1) then in
     subst (PrintsAs (word ∷ fields)) (sym s.0) (of_numbers word (codes "steps") fields (n.0 ∷ n.1 ∷ []) (Steps n.0 n.1) t (two_read fields n is) refl (s.1, s.2)))
 
 of_audit : (word : List ℕ) (fields : List (List ℕ)) (line : TraceLine) → bytes_eq word (codes "audit") ≡ true → ended Audit fields ≡ Some line → PrintsAs (word ∷ fields) line
@@ -311,10 +311,10 @@ three_line word build n m o w f h =
     let f₂ = later_small n (m ∷ o ∷ []) f in
     numbers_line word (n ∷ m ∷ o ∷ []) (build (n, m, o)) w f (h ∙ ap (option_map build) (three_of_decimal n m o (first_small n (m ∷ o ∷ []) f) (first_small m (o ∷ []) f₂) (first_small o [] (later_small m (o ∷ []) f₂))))
 
-tests_within : (count : ℕ) → 1 ≤ count → count ≤ 256 → (leb 1 count && leb count 256) ≡ true
+tests_within : (count : ℕ) → 1 ≤ count → count ≤ 4096 → (leb 1 count && leb count 4096) ≡ true
 tests_within count h k = grind (arith, nat_tests)
 
-steps_line : (p count : ℕ) → AreSmall (p ∷ count ∷ []) → 1 ≤ count → count ≤ 256 → line_of (line_text (Steps p count)) ≡ Some (Steps p count)
+steps_line : (p count : ℕ) → AreSmall (p ∷ count ∷ []) → 1 ≤ count → count ≤ 4096 → line_of (line_text (Steps p count)) ≡ Some (Steps p count)
 steps_line p count f h k = numbers_line (codes "steps") (p ∷ count ∷ []) (Steps p count) refl f
     (ap (option_and_then (λ (n : ℕ × ℕ). steps_of n.0 n.1)) (two_of_decimal p count (first_small p (count ∷ []) f) (first_small count [] (later_small p (count ∷ []) f)))
     ∙ ap (λ b. cond b (Some (Steps p count)) None) (tests_within count h k))

@@ -72,9 +72,9 @@ abbrev pub raw_of : List (List ℕ) → Option TraceLine
 raw_of fields = next_number fields (λ client more. next_number more (raw_call_of client))
 
 -- ---- steps
--- 1 to 256 of them
+-- 1 to 4,096 of them
 abbrev pub steps_of : ℕ → ℕ → Option TraceLine
-steps_of p count = if nat_le 1 count && nat_le count 256 then Some (Steps p count) else None
+steps_of p count = if nat_le 1 count && nat_le count 4096 then Some (Steps p count) else None
 
 abbrev pub steps_in : List (List ℕ) → Option TraceLine
 steps_in fields = option_and_then (λ (n : ℕ × ℕ). steps_of n.0 n.1) (two_numbers fields)

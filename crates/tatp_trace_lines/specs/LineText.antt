@@ -94,8 +94,8 @@ abbrev pub HasEventForm : AnEvent → Type 0
 HasEventForm (Submit client ask) = HasAskForm ask
 HasEventForm event = Unit {0}
 
--- its calls have that form, and steps are 1 to 256
+-- its calls have that form, and steps are 1 to 4,096
 abbrev pub HasForm : TraceLine → Type 0
 HasForm (Event event) = HasEventForm event
-HasForm (Steps p count) = (1 ≤ count) × (count ≤ 256)
+HasForm (Steps p count) = (1 ≤ count) × (count ≤ 4096)
 HasForm line = Unit {0}

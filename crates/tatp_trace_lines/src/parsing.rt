@@ -75,12 +75,12 @@ fn line_of(text: &str) -> Option<TraceLine>
     }
 }
 
-/// A partition, and how many steps: 1 to 256.
+/// A partition, and how many steps: 1 to 4,096.
 fn steps(fields: &mut Fields) -> Option<TraceLine>
     ensures { result ≡ steps_in fields.old }
 {
     let (partition, count) = two_numbers(fields)?;
-    if 1 <= count && count <= 256 {
+    if 1 <= count && count <= 4096 {
         Some(TraceLine::Steps(partition, count))
     } else {
         None

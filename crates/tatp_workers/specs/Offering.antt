@@ -11,7 +11,7 @@ use Rattle.tatp_workers.specs.declared.offers.Offered.TheVariants.{Began, Again,
 
 -- the module takes what is asked
 abbrev pub IsTaken : SiteState → Item → Type 0
-IsTaken s item = Fits (arities_of s.procedures) item.ask
+IsTaken s item = Fits (arities_of s.modul) item.ask
 
 -- why a call is dropped: the module doesn't take it, or it can never begin here
 abbrev pub IsDropped : SiteState → Item → Type 0

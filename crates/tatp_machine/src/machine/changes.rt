@@ -1,13 +1,14 @@
 //! The rows of the table that change a row of the home, FAIL, and traps.
-ghost use Rattle.std.specs.Prelude.{◌≡◌, Some};
+ghost use Rattle.std.specs.Prelude.{◌≡◌, ◌+◌, ◌<◌, Some};
 ghost use Rattle.tatp_machine.specs.Instructions.{Stops, IsNext};
 ghost use Rattle.tatp_machine.specs.Machines.{Turns, Performs};
 ghost use Rattle.tatp_machine.specs.Sound.{FitsAt};
 
 use super::Machine;
 use crate::change::{Change, byte};
-use crate::{End, Progress, Trap};
+use crate::{End, MAX_STEPS, Progress, Trap};
 use tatp_instr::{Instr, Register, RowRegisters};
+use tatp_loader::MAX_WRITES;
 use tatp_tables::{Home, Refusal, Table, what_holds_of_every_home};
 
 impl<'m> Machine<'m> {
@@ -37,6 +38,8 @@ impl<'m> Machine<'m> {
         requires home { self.old.frame.home ≡ Some home.old.s_id }
         requires here { IsNext self.old.frame (Instr.Put column a) }
         requires fits { FitsAt self.old.frame (Instr.Put column a) }
+        requires more { self.old.frame.steps + 1 < MAX_STEPS }
+        requires room { self.old.frame.writes < MAX_WRITES }
         ensures performs { Performs (Instr.Put column a)
             self.old home.old.tables result self.new home.new.tables }
         ensures same { home.new.s_id ≡ home.old.s_id }
@@ -62,6 +65,8 @@ impl<'m> Machine<'m> {
         requires home { self.old.frame.home ≡ Some home.old.s_id }
         requires here { IsNext self.old.frame (Instr.Ins d a) }
         requires fits { FitsAt self.old.frame (Instr.Ins d a) }
+        requires more { self.old.frame.steps + 1 < MAX_STEPS }
+        requires room { self.old.frame.writes < MAX_WRITES }
         ensures performs { Performs (Instr.Ins d a)
             self.old home.old.tables result self.new home.new.tables }
         ensures same { home.new.s_id ≡ home.old.s_id }
@@ -77,8 +82,8 @@ impl<'m> Machine<'m> {
                 })
             }
             Err(Refusal::Domain) => self.trap(home, Trap::Domain),
-            Err(Refusal::NoParent) => self.set(d, 3),
-            Err(_) => self.set(d, 2),
+            Err(Refusal::NoParent) => self.set_written(d, 3),
+            Err(_) => self.set_written(d, 2),
         }
     }
 
@@ -87,6 +92,8 @@ impl<'m> Machine<'m> {
         requires home { self.old.frame.home ≡ Some home.old.s_id }
         requires here { IsNext self.old.frame Instr.Del }
         requires fits { FitsAt self.old.frame Instr.Del }
+        requires more { self.old.frame.steps + 1 < MAX_STEPS }
+        requires room { self.old.frame.writes < MAX_WRITES }
         ensures performs { Performs Instr.Del
             self.old home.old.tables result self.new home.new.tables }
         ensures same { home.new.s_id ≡ home.old.s_id }

@@ -17,14 +17,17 @@ impl<'m> Machine<'m> {
         arguments: &[u64],
         home: Option<u64>,
     )
-        requires { IsSomeAnd (slice_get loaded.now procedure)
+        requires { IsSomeAnd (slice_get loaded.now.procedures procedure)
             (λ (p : Procedure). p.arity ≡ length arguments.now) }
         ensures { self.new ≡ machine_at_entry loaded.now procedure arguments.now home }
     {
-        let proc = &loaded.module().procs()[procedure];
+        let module = loaded.module();
+        let proc = &module.procs()[procedure];
         self.code = proc.code();
         self.pc = 0;
+        self.steps = 0;
         self.ended = false;
+        self.version = module.version();
         self.procedure = procedure;
         self.home = home;
         self.registers = [0; 16];
@@ -32,6 +35,7 @@ impl<'m> Machine<'m> {
         self.argument_count = proc.arity() as usize;
         self.arguments = kept(arguments);
         self.output_count = 0;
+        self.writes = 0;
         self.change_count = 0;
     }
 }

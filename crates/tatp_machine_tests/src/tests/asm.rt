@@ -3,7 +3,7 @@
 use std::test::Fail;
 use tatp_asm::{AsmError, AsmFault, AsmFaultKind, assemble, assemble_disassembled, disassemble};
 
-/// Each mnemonic, with a jump backwards and one to the end.
+/// Each mnemonic of version 1, with a jump backwards and one to the end.
 const EACH_MNEMONIC: &str = "proc ALL 8\nL0:\nLDI r0,#4294967295\nMOV r1,r2\nARG r3,#7\n\
     ADD r4,r5,r6\nSUB r7,r8,r9\nEQ r10,r11,r12\nLT r13,r14,r15\nJMP @L21\nJZ r1,@L0\nFSUB r1,r0\n\
     FNUM r2,r0\nFACC r3,r0,r1\nFFAC r4,r0,r1\nFCFW r5,r13\nGET r6,#50\nPUT #44,r4\nINS r7,r11\n\
@@ -30,6 +30,11 @@ fn texts_and_what_is_printed_of_their_modules(rt: HostRuntime) -> Result<(), Fai
             "proc A_B 8\nJMP @L1\nL1:\nend\n",
         ),
         (EACH_MNEMONIC, EACH_MNEMONIC),
+        // LOOP to any label, in version 2.
+        (
+            "\nversion 2\n\nproc A 0\nLOOP r1,@x\ny:\nLOOP r15,@y\nx:\nend",
+            "version 2\nproc A 0\nLOOP r1,@L2\nL1:\nLOOP r15,@L1\nL2:\nend\n",
+        ),
     ] {
         let module = assemble(alloc, text)?;
         let again = assemble_disassembled(alloc, &module)?;

@@ -2,7 +2,7 @@
 use std::process::Abort;
 use std::test::Fail;
 use tatp_encoding::{Bad, decode, encode};
-use tatp_instr::{Instr, KeyRegisters, Register, RowRegisters};
+use tatp_instr::{Instr, KeyRegisters, Register, RowRegisters, Version};
 
 fn register(number: u8) -> Result<Register, &'static str> {
     Register::new(number).ok_or("a register")
@@ -10,11 +10,13 @@ fn register(number: u8) -> Result<Register, &'static str> {
 
 fn expect_spelling(rt: &impl Abort, instr: Instr, bytes: [u8; 8]) {
     assert_eq!(rt; encode(&instr), bytes);
-    assert_eq!(rt; decode(&bytes), Ok(instr));
+    assert_eq!(rt; decode(Version::One, &bytes), Ok(instr));
+    assert_eq!(rt; decode(Version::Two, &bytes), Ok(instr));
 }
 
 fn expect_fault(rt: &impl Abort, bytes: [u8; 8], fault: Bad) {
-    assert_eq!(rt; decode(&bytes), Err(fault));
+    assert_eq!(rt; decode(Version::One, &bytes), Err(fault));
+    assert_eq!(rt; decode(Version::Two, &bytes), Err(fault));
 }
 
 #[test]
@@ -52,8 +54,27 @@ fn one_spelling_of_each_op(rt: HostRuntime) -> Result<(), Fail> {
 }
 
 #[test]
+fn an_op_of_version_2_alone(rt: HostRuntime) -> Result<(), Fail> {
+    let rt = &rt;
+    let bytes = [22, 15, 0, 0, 0, 0, 1, 2];
+    let back = Instr::Loop(register(15)?, 258);
+    assert_eq!(rt; encode(&back), bytes);
+    assert_eq!(rt; decode(Version::Two, &bytes), Ok(back));
+    for (bytes, fault) in [
+        ([22, 0, 1, 0, 0, 0, 0, 0], Bad::UnusedNotZero),
+        ([22, 16, 0, 1, 0, 0, 0, 0], Bad::UnusedNotZero),
+        ([22, 16, 0, 0, 0, 0, 0, 0], Bad::BadRegister),
+    ] {
+        assert_eq!(rt; decode(Version::Two, &bytes), Err(fault));
+        assert_eq!(rt; decode(Version::One, &bytes), Err(Bad::BadOp));
+    }
+    assert_eq!(rt; decode(Version::One, &bytes), Err(Bad::BadOp));
+    Ok(())
+}
+
+#[test]
 fn ops_outside_the_table(rt: HostRuntime) {
-    for op in [0, 22, 255] {
+    for op in [0, 23, 255] {
         expect_fault(&rt, [op, 0, 0, 0, 0, 0, 0, 0], Bad::BadOp);
         expect_fault(&rt, [op, 255, 255, 255, 255, 255, 255, 255], Bad::BadOp);
     }

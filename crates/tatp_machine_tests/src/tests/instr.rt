@@ -6,8 +6,8 @@ use std::process::Abort;
 use std::test::Fail;
 use tatp_instr::Word::{Argument, Column, Count, Nothing, Target};
 use tatp_instr::{
-    BOOK, Instr, KeyRegisters, Parts, Register, RowRegisters, Shape, Word, operands, row_named,
-    text,
+    BOOK, Instr, KeyRegisters, Parts, Register, RowRegisters, Shape, Version, Word, operands,
+    row_named, text,
 };
 
 fn register(number: u8) -> Result<Register, &'static str> {
@@ -47,6 +47,7 @@ fn each_row_of_the_table(rt: HostRuntime) -> Result<(), Fail> {
     expect_row(rt, Instr::Out(b), "OUT r7", 0x13, 1, Nothing);
     expect_row(rt, Instr::Done, "DONE", 0x14, 0, Nothing);
     expect_row(rt, Instr::Fail(1), "FAIL #1", 0x15, 0, Count);
+    expect_row(rt, Instr::Loop(b, 2), "LOOP r7,@L2", 0x16, 1, Target);
     Ok(())
 }
 
@@ -59,12 +60,22 @@ fn longest_texts(rt: HostRuntime) -> Result<(), Fail> {
     assert_eq!(rt; jz.as_str(), "JZ r15,@L4294967295");
     let put = text(&Instr::Put(4294967295, last));
     assert_eq!(rt; put.as_str(), "PUT #4294967295,r15");
+    let back = text(&Instr::Loop(last, 4294967295));
+    assert_eq!(rt; back.as_str(), "LOOP r15,@L4294967295");
+    Ok(())
+}
+
+#[test]
+fn instructions_of_version_2_alone(rt: HostRuntime) -> Result<(), Fail> {
+    let (back, jump) = (Instr::Loop(register(0)?, 1), Instr::Jz(register(0)?, 1));
+    assert!(rt; !back.is_in(Version::One) && back.is_in(Version::Two));
+    assert!(rt; jump.is_in(Version::One) && jump.is_in(Version::Two));
     Ok(())
 }
 
 #[test]
 fn ops_outside_the_table(rt: HostRuntime) {
-    for op in [0, 22, 255] {
+    for op in [0, 23, 255] {
         assert_eq!(rt; operands(op), None, "{op}");
     }
 }
@@ -105,6 +116,7 @@ fn register_bounds(rt: HostRuntime) {
 fn rows_by_their_mnemonics(rt: HostRuntime) {
     assert_eq!(rt; row_named("LDI").map(|row| row.op), Some(0x01));
     assert_eq!(rt; row_named("FAIL").map(|row| row.op), Some(0x15));
+    assert_eq!(rt; row_named("LOOP").map(|row| row.op), Some(0x16));
     assert_eq!(rt; row_named("PUT").map(|row| row.word_first), Some(true));
     for mnemonic in ["", "LD", "LDIX", "ldi"] {
         assert_eq!(rt; row_named(mnemonic).map(|row| row.op), None, "{mnemonic}");

@@ -39,6 +39,7 @@ fn numbers_and_texts_of_faults(rt: HostRuntime) -> Result<(), Fail> {
         (LoadFaultKind::TooManyOut, 22),
         (LoadFaultKind::TooManyWrites, 23),
         (LoadFaultKind::NoEnd, 24),
+        (LoadFaultKind::ForwardLoop, 53),
     ];
     for (kind, number) in numbers {
         assert_eq!(rt; kind as u8, number);
@@ -50,6 +51,14 @@ fn numbers_and_texts_of_faults(rt: HostRuntime) -> Result<(), Fail> {
     };
     for (error, expected) in [
         (LoadError::Fault(fault), "19 BadTarget 3 17"),
+        (
+            LoadError::Fault(LoadFault {
+                kind: LoadFaultKind::ForwardLoop,
+                procedure: 15,
+                instruction: 255,
+            }),
+            "53 ForwardLoop 15 255",
+        ),
         (LoadError::NoMemory, "46 NoMemory"),
     ] {
         assert_eq!(rt; format!(in rt.alloc(); "{error}")?.as_str(), expected);

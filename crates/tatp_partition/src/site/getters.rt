@@ -37,7 +37,7 @@ impl<'m> Site<'m> {
 
     /// The module whose procedures its calls run.
     pub fn loaded(&self) -> &'m Loaded
-        ensures { result.now ≡ self.now.procedures }
+        ensures { result.now ≡ self.now.modul }
     {
         self.loaded
     }

@@ -55,7 +55,7 @@ impl<'m> Site<'m> {
     /// Whether the module of the site has the procedure that is asked, with as many arguments,
     /// which are in their domains where it is a transaction.
     pub fn fits(&self, item: &Item) -> bool
-        ensures { IsTrue result ↔ Fits (arities_of self.now.procedures) item.now.ask }
+        ensures { IsTrue result ↔ Fits (arities_of self.now.modul) item.now.ask }
     {
         item.ask.fits_module(self.loaded)
     }

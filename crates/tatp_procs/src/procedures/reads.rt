@@ -1,6 +1,6 @@
 //! The standard procedures that read.
-ghost use Rattle.std.specs.Prelude.{◌≡◌, ◌+◌, ◌≤◌, ◌++◌, length, take, drop};
-ghost use Rattle.tatp_procs.specs.Standard.{get_subscriber_data_code, block, get_new_destination_code, get_access_data_code};
+ghost use Rattle.std.specs.Prelude.{◌≡◌};
+ghost use Rattle.tatp_procs.specs.Standard.{get_subscriber_data_code, get_new_destination_code, get_access_data_code};
 
 use super::registers::{registers, registers_from};
 use tatp_instr::{Instr, KeyRegisters};
@@ -23,14 +23,14 @@ pub(super) fn get_subscriber_data() -> [Instr; 73]
     code
 }
 
-/// GET_NEW_DESTINATION: 46 instructions, of which three blocks look for a forwarding each.
-pub(super) fn get_new_destination() -> [Instr; 46]
+/// GET_NEW_DESTINATION: 27 instructions, of which 12 are a round for each of three start times.
+pub(super) fn get_new_destination() -> [Instr; 27]
     ensures { result ≡ get_new_destination_code }
 {
-    let [r0, r1, _, _, r4, r5, r6, r7, _, r9] = registers();
-    let none = 45;
-    let mut code = [Instr::Done; 46];
-    code[..10].copy_from_slice(&[
+    let [r0, r1, r2, r3, r4, r5, r6, r7, r8, r9, r10] = registers();
+    let key: KeyRegisters = registers_from(0);
+    let [next, skip, none] = [12, 22, 26];
+    [
         Instr::Arg(r0, 0),
         Instr::Arg(r1, 1),
         Instr::Arg(r5, 2),
@@ -41,41 +41,23 @@ pub(super) fn get_new_destination() -> [Instr; 46]
         Instr::Jz(r7, none),
         Instr::Ldi(r4, 1),
         Instr::Add(r5, r5, r4),
-    ]);
-    copy_at(&mut code, 10, &block(0, 21));
-    copy_at(&mut code, 21, &block(8, 32));
-    copy_at(&mut code, 32, &block(16, 43));
-    code[43] = Instr::Jz(r9, none);
-    code[45] = Instr::Fail(1);
-    code
-}
-
-fn copy_at(code: &mut [Instr], place: usize, block: &[Instr; 11])
-    requires { place + 11 ≤ length code.old }
-    ensures { code.new ≡ take place code.old ++ (block.now ++ drop (place + 11) code.old) }
-{
-    code[place..place + 11].copy_from_slice(block);
-}
-
-/// Puts out the forwarding with this start time, where it is a destination; `after` is the place
-/// after the block.
-fn block(start: u32, after: u32) -> [Instr; 11]
-    ensures { result ≡ block start after }
-{
-    let [_, _, r2, _, r4, r5, r6, r7, r8, r9] = registers();
-    let key: KeyRegisters = registers_from(0);
-    [
-        Instr::Ldi(r2, start),
+        Instr::Ldi(r3, 8),
+        Instr::Ldi(r10, 2),
         Instr::Fcfw(r7, key),
-        Instr::Jz(r7, after),
+        Instr::Jz(r7, skip),
         Instr::Lt(r7, r2, r5),
-        Instr::Jz(r7, after),
+        Instr::Jz(r7, skip),
         Instr::Get(r8, 49),
         Instr::Lt(r7, r6, r8),
-        Instr::Jz(r7, after),
+        Instr::Jz(r7, skip),
         Instr::Get(r8, 50),
         Instr::Out(r8),
         Instr::Mov(r9, r4),
+        Instr::Add(r2, r2, r3),
+        Instr::Loop(r10, next),
+        Instr::Jz(r9, none),
+        Instr::Done,
+        Instr::Fail(1),
     ]
 }
 

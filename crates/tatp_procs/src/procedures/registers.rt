@@ -11,9 +11,9 @@ pub(super) fn registers_from<const COUNT: u8>(number: u8) -> Registers<COUNT>
     Registers::new(number).unwrap()
 }
 
-/// The registers 0 to 9.
-pub(super) fn registers() -> [Register; 10]
-    ensures { result ≡ 0 ∷ 1 ∷ 2 ∷ 3 ∷ 4 ∷ 5 ∷ 6 ∷ 7 ∷ 8 ∷ 9 ∷ [] }
+/// The registers 0 to 10.
+pub(super) fn registers() -> [Register; 11]
+    ensures { result ≡ 0 ∷ 1 ∷ 2 ∷ 3 ∷ 4 ∷ 5 ∷ 6 ∷ 7 ∷ 8 ∷ 9 ∷ 10 ∷ [] }
 {
     [
         registers_from(0),
@@ -26,5 +26,6 @@ pub(super) fn registers() -> [Register; 10]
         registers_from(7),
         registers_from(8),
         registers_from(9),
+        registers_from(10),
     ]
 }

@@ -14,7 +14,7 @@ static LINES: [&str; 21] = [
     "step 18446744073709551615",
     "one 2",
     "steps 0 1",
-    "steps 0 256",
+    "steps 0 4096",
     "take 0 3",
     "give 1 3",
     "route 3 65535",

@@ -28,7 +28,7 @@ fault_of-requires g c =
     let lists = c.as_slice-lists.result.now in
     let same : lists_of lists ≡ calls_drawn plan = search rules in
     let drawn : c.parts-population.result.1 ≡ rows_drawn plan = search rules in
-    let none : obstacle_among c.in_ok-loaded.loaded lists ≡ None = subst (λ procedures. obstacle_among procedures lists ≡ None) (sym c.in_ok-loaded.ensures.value) (calls_are_run plan lists c.requires.plan same) in
+    let none : obstacle_among c.in_ok-loaded.loaded lists ≡ None = subst (λ modul. obstacle_among modul lists ≡ None) (sym c.in_ok-loaded.ensures.value) (calls_are_run plan lists c.requires.plan same) in
     run_refused c.in_ok-loaded.loaded c.parts-population.result.1 lists c.in-Err.refusal (rows_are_opened plan c.parts-population.result.1 c.requires.plan c.requires.drawn.clean drawn) none c.in-Err.ensures.refusal
 
 pub returns-in-Err-clause-refusal : goal.returns-in-Err-clause-refusal

@@ -13,7 +13,7 @@ returns-clause-read c =
     let spelled = procedure_spelled c.args.bytes.now c.in_ok-name.name.now c.in_ok-name.rest.now c.in_ok-arity.arity c.in_ok-arity.rest.now c.in_ok-len.len c.in_ok-len.rest.now c.in_ok-code.code.items rest
     c.in_ok-name.ensures.spelled c.in_ok-arity.ensures.spelled c.in_ok-len.ensures.spelled c.in_ok-code.ensures.spelled c.in_ok-code.ensures.count in
     let after = rest_after_procedure c.args.bytes.now c.in_ok-name.name.now c.in_ok-arity.arity c.in_ok-code.code.items rest c.in_ok-len.len spelled c.in_ok-code.ensures.count in
-    rw (c.new.ensures, after.0) (procedure_read c.args.n c.args.bytes.now c.in_ok-name.name.now c.in_ok-name.rest.now c.in_ok-arity.arity c.in_ok-arity.rest.now c.in_ok-len.len c.in_ok-len.rest.now c.in_ok-code.code.items rest
+    rw (c.new.ensures, after.0) (procedure_read c.args.version c.args.n c.args.bytes.now c.in_ok-name.name.now c.in_ok-name.rest.now c.in_ok-arity.arity c.in_ok-arity.rest.now c.in_ok-len.len c.in_ok-len.rest.now c.in_ok-code.code.items rest
     c.in_ok-name.ensures.read c.in_ok-arity.ensures.read c.in_ok-len.ensures.read c.in_ok-code.ensures.read)
 
 pub returns-clause-spelled : goal.returns-clause-spelled

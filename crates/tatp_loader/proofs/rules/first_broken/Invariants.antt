@@ -8,5 +8,5 @@ abbrev pub invariant-loop-position : goal.invariant-loop-position
 invariant-loop-position l = record {
   outs : l.outs ≡ count_by is_out (take l.position l.procedure.code);
   writes : l.writes ≡ count_by is_write (take l.position l.procedure.code);
-  rest : first_broken l.number l.procedure l.position (drop l.position l.procedure.code) ≡ first_broken l.number l.procedure 0 l.procedure.code;
+  rest : first_broken l.version l.number l.procedure l.position (drop l.position l.procedure.code) ≡ first_broken l.version l.number l.procedure 0 l.procedure.code;
 }

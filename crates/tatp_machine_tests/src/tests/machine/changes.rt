@@ -60,6 +60,7 @@ pub const CASES: &[Case] = &[
         runs: &[Run {
             arguments: &[2],
             running: 5,
+            writes: 1,
             pc: 5,
             end: End::Done,
             registers: [
@@ -99,6 +100,7 @@ pub const CASES: &[Case] = &[
         runs: &[Run {
             arguments: &[2],
             running: 4,
+            writes: 2,
             pc: 4,
             end: End::Trapped(Trap::Domain),
             registers: [2, 1, 0, 0, 0, 0, 0, 0, 0, 0, 0, 0, 0, 0, 0, 0],
@@ -127,6 +129,7 @@ pub const CASES: &[Case] = &[
             Run {
                 arguments: &[2, 1, 8, 20, 888],
                 running: 6,
+                writes: 1,
                 pc: 6,
                 end: End::Done,
                 registers: [0, 0, 0, 0, 0, 0, 0, 0, 0, 0, 0, 2, 1, 8, 20, 1],
@@ -136,6 +139,7 @@ pub const CASES: &[Case] = &[
             Run {
                 arguments: &[2, 1, 16, 1, 0],
                 running: 6,
+                writes: 1,
                 pc: 6,
                 end: End::Done,
                 registers: [0, 0, 0, 0, 0, 0, 0, 0, 0, 0, 0, 2, 1, 16, 1, 1],
@@ -145,6 +149,7 @@ pub const CASES: &[Case] = &[
             Run {
                 arguments: &[2, 4, 8, 20, 888],
                 running: 6,
+                writes: 1,
                 pc: 6,
                 end: End::Done,
                 registers: [0, 0, 0, 0, 0, 0, 0, 0, 0, 0, 0, 2, 4, 8, 20, 3],
@@ -154,6 +159,7 @@ pub const CASES: &[Case] = &[
             Run {
                 arguments: &[1, 1, 8, 20, 888],
                 running: 6,
+                writes: 1,
                 pc: 6,
                 end: End::Done,
                 registers: [0, 0, 0, 0, 0, 0, 0, 0, 0, 0, 0, 1, 1, 8, 20, 3],
@@ -213,6 +219,7 @@ pub const CASES: &[Case] = &[
         runs: &[Run {
             arguments: &[2, 1, 8, 24, 7],
             running: 6,
+            writes: 1,
             pc: 6,
             end: End::Done,
             registers: [0, 0, 0, 0, 0, 0, 0, 0, 0, 0, 0, 2, 1, 8, 24, 2],
@@ -237,6 +244,7 @@ pub const CASES: &[Case] = &[
         runs: &[Run {
             arguments: &[2],
             running: 8,
+            writes: 1,
             pc: 8,
             end: End::Done,
             registers: [2, 1, 16, 24, 0, 1, 8, 0, 0, 0, 0, 0, 0, 0, 0, 0],
@@ -260,6 +268,7 @@ pub const CASES: &[Case] = &[
         runs: &[Run {
             arguments: &[2],
             running: 5,
+            writes: 1,
             pc: 5,
             end: End::Trapped(Trap::NoCurrent),
             registers: [2, 1, 8, 1, 0, 0, 0, 0, 0, 0, 0, 0, 0, 0, 0, 0],
@@ -281,6 +290,7 @@ pub const CASES: &[Case] = &[
         runs: &[Run {
             arguments: &[2],
             running: 5,
+            writes: 1,
             pc: 5,
             end: End::Done,
             registers: [2, 1, 8, 1, 0, 0, 0, 0, 0, 0, 0, 0, 0, 0, 0, 0],

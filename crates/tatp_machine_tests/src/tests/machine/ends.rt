@@ -19,6 +19,7 @@ pub const CASES: &[Case] = &[
             Run {
                 arguments: &[2, 7],
                 running: 5,
+                writes: 1,
                 pc: 5,
                 end: End::Done,
                 registers: [2, 1, 7, 0, 0, 0, 0, 0, 0, 0, 0, 0, 0, 0, 0, 0],
@@ -61,6 +62,7 @@ pub const CASES: &[Case] = &[
         runs: &[Run {
             arguments: &[2],
             running: 5,
+            writes: 2,
             pc: 5,
             end: End::Failed(4294967295),
             registers: [2, 1, 0, 0, 0, 0, 0, 0, 0, 0, 0, 0, 0, 0, 0, 0],
@@ -89,6 +91,7 @@ pub const CASES: &[Case] = &[
         runs: &[Run {
             arguments: &[2],
             running: 10,
+            writes: 4,
             pc: 10,
             end: End::Failed(3),
             registers: [2, 1, 8, 9, 0, 1, 0, 0, 0, 0, 0, 0, 0, 0, 0, 0],

@@ -8,12 +8,14 @@ use std::alloc::{AllocError, Global};
 use std::test::Fail;
 use tatp_instr::Instr;
 use tatp_loader::{Loaded, load};
-use tatp_machine::{End, Machine, Progress};
+use tatp_machine::{End, MAX_STEPS, Machine, Progress};
 use tatp_tables::{Home, Row, Rows, Table};
 
-/// A module of two procedures, of which the second has this arity and code.
-const FRONT: [u8; 20] = [
-    0x54, 0x50, 0x4D, 0x01, // the magic
+/// The front of a module's magic, before its version.
+const MAGIC: [u8; 3] = [0x54, 0x50, 0x4D];
+
+/// What follows the version in a module of two procedures, up to the second one's arity.
+const FRONT: [u8; 16] = [
     2, // procedures
     1, 0x41, 0, 0, 1, // A, no argument, one instruction
     0x14, 0, 0, 0, 0, 0, 0, 0, // DONE
@@ -52,9 +54,11 @@ fn second_home(alloc: Global, forwarding: bool) -> Result<Home, AllocError>
     Ok(home)
 }
 
-/// A module whose procedure 1 has this code.
-fn load_code(alloc: Global, arity: usize, code: &[[u8; 8]]) -> Result<Loaded, Fail> {
-    let mut bytes = Vec::from_slice(alloc, &FRONT)?;
+/// A module of the version whose procedure 1 has this code.
+fn load_code(alloc: Global, version: u8, arity: usize, code: &[[u8; 8]]) -> Result<Loaded, Fail> {
+    let mut bytes = Vec::from_slice(alloc, &MAGIC)?;
+    bytes.push(version)?;
+    bytes.extend_from_slice(&FRONT)?;
     let (Ok(arity), Ok(count)) = (u8::try_from(arity), u8::try_from(code.len())) else {
         return Err(Fail::new("too many"));
     };
@@ -74,7 +78,7 @@ fn finish(machine: &mut Machine, home: &mut Home) -> Result<(usize, End), &'stat
     ensures machine { machine.new.frame.home ≡ machine.old.frame.home }
     ensures home { home.new.s_id ≡ home.old.s_id }
 {
-    for running in 0..256 {
+    for running in 0..MAX_STEPS {
         if let Progress::Ended(end) = machine.step(home) {
             return Ok((running, end));
         }
@@ -87,7 +91,7 @@ fn finish_homeless(machine: &mut Machine) -> Result<(usize, End), &'static str>
     requires running { machine.old.ended ≡ false }
     requires home { machine.old.frame.home ≡ None }
 {
-    for running in 0..256 {
+    for running in 0..MAX_STEPS {
         if let Progress::Ended(end) = machine.step_homeless() {
             return Ok((running, end));
         }
@@ -104,6 +108,8 @@ fn is_at(machine: &Machine, wanted: &Run) -> bool {
     }
     let current = wanted.current;
     machine.pc() == wanted.pc
+        && machine.steps_made() == wanted.running
+        && machine.writes_made() == wanted.writes
         && machine.current(Table::Subscriber) == current[0]
         && machine.current(Table::AccessInfo) == current[1]
         && machine.current(Table::SpecialFacility) == current[2]
@@ -124,15 +130,21 @@ fn has_values(home: &Home, values: &[(u8, [u64; 3], Option<u64>)]) -> bool {
 /// Whether the module's procedure 1 takes so many arguments.
 fn takes(loaded: &Loaded, count: usize) -> bool
     ensures { IsTrue result
-        → IsSomeAnd (slice_get loaded.now 1) (λ (p : Procedure). p.arity ≡ count) }
+        → IsSomeAnd (slice_get loaded.now.procedures 1) (λ (p : Procedure). p.arity ≡ count) }
 {
     let procs = loaded.module().procs();
     procs.len() > 1 && procs[1].arity() as usize == count
 }
 
 /// Whether a call of the code on a home runs as it has to.
-fn runs(alloc: Global, home: &mut Home, code: &[[u8; 8]], run: &Run) -> Result<bool, Fail> {
-    let loaded = load_code(alloc, run.arguments.len(), code)?;
+fn runs(
+    alloc: Global,
+    version: u8,
+    home: &mut Home,
+    code: &[[u8; 8]],
+    run: &Run,
+) -> Result<bool, Fail> {
+    let loaded = load_code(alloc, version, run.arguments.len(), code)?;
     if !takes(&loaded, run.arguments.len()) {
         return Ok(false);
     }
@@ -147,8 +159,8 @@ fn runs(alloc: Global, home: &mut Home, code: &[[u8; 8]], run: &Run) -> Result<b
 }
 
 /// The same without a home.
-fn runs_homeless(alloc: Global, code: &[[u8; 8]], run: &Run) -> Result<bool, Fail> {
-    let loaded = load_code(alloc, run.arguments.len(), code)?;
+fn runs_homeless(alloc: Global, version: u8, code: &[[u8; 8]], run: &Run) -> Result<bool, Fail> {
+    let loaded = load_code(alloc, version, run.arguments.len(), code)?;
     if !takes(&loaded, run.arguments.len()) {
         return Ok(false);
     }
@@ -158,12 +170,13 @@ fn runs_homeless(alloc: Global, code: &[[u8; 8]], run: &Run) -> Result<bool, Fai
     Ok(running == run.running && end == wanted && is_at(&machine, run))
 }
 
-/// Tries each call on the home of subscriber 2; the name of the first case that fails.
-pub fn try_on_home(alloc: Global, cases: &[Case]) -> Result<(), Fail> {
+/// Tries each call on the home of subscriber 2, in a module of the version; the name of the first
+/// case that fails.
+pub fn try_on_home(alloc: Global, version: u8, cases: &[Case]) -> Result<(), Fail> {
     for case in cases {
         for run in case.runs {
             let mut home = second_home(alloc, case.forwarding)?;
-            if !runs(alloc, &mut home, case.code, run)? {
+            if !runs(alloc, version, &mut home, case.code, run)? {
                 return Err(Fail::new(case.name));
             }
         }
@@ -172,12 +185,73 @@ pub fn try_on_home(alloc: Global, cases: &[Case]) -> Result<(), Fail> {
 }
 
 /// The same without a home.
-pub fn try_homeless(alloc: Global, cases: &[Case]) -> Result<(), Fail> {
+pub fn try_homeless(alloc: Global, version: u8, cases: &[Case]) -> Result<(), Fail> {
     for case in cases {
         for run in case.runs {
-            if !runs_homeless(alloc, case.code, run)? {
+            if !runs_homeless(alloc, version, case.code, run)? {
                 return Err(Fail::new(case.name));
             }
+        }
+    }
+    Ok(())
+}
+
+/// Tries a case's calls, the first of them twice, one after another on one machine: each on the
+/// home of subscriber 2 as it was at first.
+pub fn try_on_one_machine(alloc: Global, version: u8, case: &Case) -> Result<(), Fail> {
+    let Some(first) = case.runs.first() else {
+        return Ok(());
+    };
+    let loaded = load_code(alloc, version, first.arguments.len(), case.code)?;
+    if !takes(&loaded, first.arguments.len()) {
+        return Err(Fail::new(case.name));
+    }
+    let mut home = second_home(alloc, case.forwarding)?;
+    let mut machine = Machine::enter(&loaded, 1, first.arguments, Some(home.s_id()));
+    finish(&mut machine, &mut home)?;
+    for run in case.runs {
+        if !takes(&loaded, run.arguments.len()) {
+            return Err(Fail::new(case.name));
+        }
+        let mut home = second_home(alloc, case.forwarding)?;
+        machine.enter_next(&loaded, 1, run.arguments, Some(home.s_id()));
+        if machine.steps_made() != 0 || machine.writes_made() != 0 {
+            return Err(Fail::new(case.name));
+        }
+        let (running, end) = finish(&mut machine, &mut home)?;
+        if running != run.running
+            || end != run.end
+            || !is_at(&machine, run)
+            || !has_values(&home, run.values)
+        {
+            return Err(Fail::new(case.name));
+        }
+    }
+    Ok(())
+}
+
+/// The same without a home.
+pub fn try_homeless_on_one_machine(alloc: Global, version: u8, case: &Case) -> Result<(), Fail> {
+    let Some(first) = case.runs.first() else {
+        return Ok(());
+    };
+    let loaded = load_code(alloc, version, first.arguments.len(), case.code)?;
+    if !takes(&loaded, first.arguments.len()) {
+        return Err(Fail::new(case.name));
+    }
+    let mut machine = Machine::enter(&loaded, 1, first.arguments, None);
+    finish_homeless(&mut machine)?;
+    for run in case.runs {
+        if !takes(&loaded, run.arguments.len()) {
+            return Err(Fail::new(case.name));
+        }
+        machine.enter_next(&loaded, 1, run.arguments, None);
+        if machine.steps_made() != 0 || machine.writes_made() != 0 {
+            return Err(Fail::new(case.name));
+        }
+        let (running, end) = finish_homeless(&mut machine)?;
+        if running != run.running || end != run.end || !is_at(&machine, run) {
+            return Err(Fail::new(case.name));
         }
     }
     Ok(())
@@ -186,7 +260,7 @@ pub fn try_homeless(alloc: Global, cases: &[Case]) -> Result<(), Fail> {
 /// Tries a case's first call, and sets it back after its end: the home is then as it was.
 pub fn try_set_back(alloc: Global, case: &Case) -> Result<(), Fail> {
     let mut home = second_home(alloc, case.forwarding)?;
-    let loaded = load_code(alloc, 2, case.code)?;
+    let loaded = load_code(alloc, 1, 2, case.code)?;
     if !takes(&loaded, 2) {
         return Err(Fail::new("no such procedure"));
     }

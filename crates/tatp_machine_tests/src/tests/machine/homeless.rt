@@ -47,6 +47,7 @@ pub const CASES: &[Case] = &[
             Run {
                 arguments: &[2, 1],
                 running: 5,
+                writes: 1,
                 pc: 5,
                 end: End::Done,
                 registers: [2, 1, 8, 20, 0, 3, 0, 0, 0, 0, 0, 0, 0, 0, 0, 0],

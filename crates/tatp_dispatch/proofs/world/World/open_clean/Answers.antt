@@ -44,7 +44,7 @@ opens c = record {
 
 abbrev shown_as : goal.After-empty-2 → WorldState
 shown_as c = record {
-  procedures = c.args.loaded.now;
+  modul = c.args.loaded.now;
   directory = c.in_ok-extents.directory;
   sites = c.in-Ok-open_sites.sites.items;
   queues = c.in_ok-front.front.queues.items;
@@ -66,7 +66,7 @@ same c =
     let n : c.len-subscribers.result ≡ length c.args.rows.subscribers = c.len-subscribers.ensures in
     let routes = c.in_ok-front.ensures.routes ∙ ap (λ (k : ℕ). opened_routes k c.args.partitions) n in
     λ i. record {
-      procedures = c.args.loaded.now;
+      modul = c.args.loaded.now;
       directory = c.in_ok-extents.directory;
       sites = c.in-Ok-open_sites.sites.items;
       queues = sym c.in_ok-front.ensures.queues i;

@@ -68,8 +68,8 @@ fn operands_in(version: Version, op: u8) -> Option<Shape>
     ensures registers { IfSome result (λ shape. shape.registers ≤ 3) }
 {
     match version {
-        Version::One => { if op == 0x16 { None } else { operands(op) } }
-        Version::Two => operands(op),
+        Version::One if op == 0x16 => None,
+        _ => operands(op),
     }
 }
 

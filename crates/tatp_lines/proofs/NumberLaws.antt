@@ -1,10 +1,13 @@
 -- Decimal numbers in text: what is read, and that it is what is written.
-use Rattle.std.proofs.Common.{◌≡◌, ◌≢◌, ℕ, zero, suc, ◌<◌, ◌≤◌, ◌^◌, ◌∙◌, sym, ap, subst, Bool, true, false, not, List, [], ◌∷◌, length, get_or, refl, arith, eqb, ltb, Some, None, Result, Ok, Err, decimal, ◌&&◌, ◌||◌}
+use Rattle.std.proofs.Common.{◌≡◌, ◌≢◌, ℕ, zero, suc, ◌<◌, ◌≤◌, ◌^◌, ◌+◌, ◌++◌, ◌∙◌, sym, ap, subst, Bool, true, false, not, List, [], ◌∷◌, length, get_or, refl, arith, eqb, ltb, Some, None, Result, Ok, Err, decimal, ◌&&◌, ◌||◌}
 use Rattle.std.proofs.lemmas.Bool.Decides.{nat_tests}
 use Rattle.std.proofs.lemmas.Fmt.{digits_decimal, digits_value-decimal, decimal-digits_value, decimal_nonempty, first_decimal, decimal_digit}
 use Rattle.std.proofs.lemmas.Option.{cond_some}
+use Rattle.std.proofs.Math.Utf8.{encode}
+use Rattle.std.proofs.lemmas.Str.{encode_ascii}
 use Rattle.std.proofs.lemmas.Str.Parse.{IsNumeralModel, numerals_by_value, tells_all_ascii_digits, parse_plain}
-use Rattle.std.specs.Result.{result_ok, OkIff}
+use Rattle.std.specs.Bool.{if◌then◌else◌}
+use Rattle.std.specs.Result.{result_ok, is_ok, OkIff, OnOk}
 use Rattle.std.specs.Str.{all_ascii_digits}
 use Rattle.std.specs.Str.Parse.{ParsesUnsigned, digits_value}
 use Rattle.tatp_lines.specs.Numbers.{is_number, number_of}
@@ -72,3 +75,8 @@ decimal-number_of bs n h =
     let p = cond_some _ (digits_value 10 bs) n h in
     let parts = number_test_parts (length bs) (digits_value 10 bs) (get_or bs 0 0) (2 ^ 64) (all_ascii_digits bs) p.0 in
     (ap decimal (sym p.1) ∙ decimal-digits_value own bs parts.1 parts.0 parts.2 parts.3, subst (λ m. m < 2 ^ 64) p.1 parts.3, parts.1)
+
+-- ---- a number of one digit, pushed as a character
+pub digit_pushed : {E : Type 0} (r : Result (Unit {0}) E) (old text : List ℕ) (c n : ℕ) → n < 10 → c ≡ 48 + n → text ≡ (if is_ok r then old ++ encode c else old) → OnOk r (text ≡ old ++ decimal n)
+digit_pushed (Err error) old text c n low is pushed = tt
+digit_pushed (Ok done) old text c n low is pushed = pushed ∙ ap (λ digits. old ++ digits) (encode_ascii c (omega (arith, low, is)) ∙ ap (λ d. d ∷ []) is ∙ sym (decimal_digit n low))

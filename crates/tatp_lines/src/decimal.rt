@@ -22,7 +22,21 @@ pub fn read_number(text: &str) -> Option<u64>
 }
 
 /// Appends a number in decimal. An error leaves the text as it was.
+///
+/// Most numbers of rows and replies have one digit.
 pub fn push_decimal(text: &mut String, number: u64) -> Result<(), AllocError>
+    ensures ok { OnOk result (string_bytes text.new ≡ string_bytes text.old ++ decimal number) }
+    ensures err { OnErr result (string_bytes text.new ≡ string_bytes text.old) }
+{
+    if number < 10 {
+        return text.push(char::from(b'0' + number as u8));
+    }
+    push_digits(text, number)
+}
+
+/// The same of any number. It stands apart, since it clears the memory of a whole number's digits.
+#[inline(never)]
+fn push_digits(text: &mut String, number: u64) -> Result<(), AllocError>
     ensures ok { OnOk result (string_bytes text.new ≡ string_bytes text.old ++ decimal number) }
     ensures err { OnErr result (string_bytes text.new ≡ string_bytes text.old) }
 {

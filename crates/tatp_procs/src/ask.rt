@@ -92,7 +92,7 @@ impl Ask {
         ensures { result ≡ length (arguments_asked self.now) }
     {
         match self {
-            Ask::Txn(call) => call.args().len(),
+            Ask::Txn(call) => call.arg_count(),
             Ask::Raw(raw) => raw.args().len(),
         }
     }
@@ -103,7 +103,7 @@ impl Ask {
             ↔ ((arity ≡ length (arguments_asked self.now)) × AreInDomains self.now) }
     {
         match self {
-            Ask::Txn(call) => arity as usize == call.args().len() && args_ok(call).is_ok(),
+            Ask::Txn(call) => arity as usize == call.arg_count() && args_ok(call).is_ok(),
             Ask::Raw(raw) => arity as usize == raw.args().len(),
         }
     }

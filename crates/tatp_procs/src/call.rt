@@ -77,6 +77,21 @@ impl Call {
         }
     }
 
+    /// How many arguments it has.
+    pub(crate) fn arg_count(&self) -> usize
+        ensures { result ≡ length (arguments_of self.now) }
+    {
+        match self {
+            Call::GetSubscriberData { .. } => 1,
+            Call::GetNewDestination { .. } => 4,
+            Call::GetAccessData { .. } => 2,
+            Call::UpdateSubscriberData { .. } => 4,
+            Call::UpdateLocation { .. } => 2,
+            Call::InsertCallForwarding { .. } => 5,
+            Call::DeleteCallForwarding { .. } => 3,
+        }
+    }
+
     /// Its arguments, in the order of its standard procedure.
     pub fn args(&self) -> ArrayVec<u64, 8>
         ensures { result.items ≡ arguments_of self.now }

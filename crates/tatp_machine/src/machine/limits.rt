@@ -1,35 +1,42 @@
-//! The limits of a call.
-ghost use Rattle.std.specs.Prelude.{◌≡◌};
+//! The limits of a call. They are those of version 2, but no call of version 1 comes so far, so
+//! nothing here asks for the version.
+ghost use Rattle.std.specs.Prelude.{◌≡◌, length, nat_lt};
 ghost use Rattle.tatp_loader.specs.Lawful.{is_end};
-ghost use Rattle.tatp_machine.specs.Instructions.{excess};
+ghost use Rattle.tatp_machine.specs.Instructions.{is_last_step};
 
 use super::Machine;
-use crate::{MAX_STEPS, Trap};
+use crate::MAX_STEPS;
 use tatp_instr::Instr;
 use tatp_loader::{MAX_OUTS, MAX_WRITES};
 
 impl<'m> Machine<'m> {
-    /// The trap of an instruction that would pass a limit of version 2. No call of version 1 comes
-    /// so far, so this asks for no version.
+    /// Whether the next step is the last that the call may make.
     #[inline(always)]
-    pub(super) fn excess(&self, instr: &Instr) -> Option<Trap>
-        ensures { result ≡ excess instr.now self.now.frame }
+    pub(super) fn is_last_step(&self) -> bool
+        ensures { result ≡ is_last_step self.now.frame }
     {
-        if self.steps + 1 >= MAX_STEPS && !is_end(instr) {
-            return Some(Trap::Budget);
-        }
-        match instr {
-            Instr::Out(_) if self.output_count >= MAX_OUTS => Some(Trap::Output),
-            Instr::Put(_, _) | Instr::Ins(_, _) | Instr::Del if self.writes >= MAX_WRITES => {
-                Some(Trap::Writes)
-            }
-            _ => None,
-        }
+        self.steps + 1 >= MAX_STEPS
+    }
+
+    /// Whether the call may put out one value more.
+    #[inline(always)]
+    pub(super) fn may_put_out(&self) -> bool
+        ensures { result ≡ nat_lt (length self.now.frame.outputs) MAX_OUTS }
+    {
+        self.output_count < MAX_OUTS
+    }
+
+    /// Whether the call may make one write more.
+    #[inline(always)]
+    pub(super) fn may_write(&self) -> bool
+        ensures { result ≡ nat_lt self.now.frame.writes MAX_WRITES }
+    {
+        self.writes < MAX_WRITES
     }
 }
 
 /// Whether an instruction ends the call.
-fn is_end(instr: &Instr) -> bool
+pub(super) fn is_end(instr: &Instr) -> bool
     ensures { result ≡ is_end instr.now }
 {
     matches!(instr, Instr::Done | Instr::Fail(_))

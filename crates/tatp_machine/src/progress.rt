@@ -1,5 +1,6 @@
 //! What a step answers.
-ghost use Rattle.std.specs.Prelude.{Some};
+ghost use Rattle.std.specs.Prelude.{◌≡◌, Some};
+ghost use Rattle.tatp_machine.specs.Machines.{told};
 ghost use Rattle.tatp_machine.specs.Traps.{trap_name};
 
 use std::fmt;
@@ -54,4 +55,28 @@ pub enum Progress {
     Running,
     /// That was its last step.
     Ended(End),
+}
+
+/// What became of a write that an instruction makes. It fits a register, as a [`Progress`] doesn't:
+/// a step that gives room to an answer pays for that whether or not it writes.
+#[derive(Clone, Copy)]
+pub(crate) enum Write {
+    /// It was made, or it wasn't and the call was told why.
+    Made,
+    /// No row was current, so the call has ended.
+    NoCurrent,
+    /// A value was outside its column's domain, so the call has ended.
+    Domain,
+}
+
+/// What a step answers that wrote.
+#[inline(always)]
+pub(crate) fn told(write: Write) -> Progress
+    ensures { result ≡ told write }
+{
+    match write {
+        Write::Made => Progress::Running,
+        Write::NoCurrent => Progress::Ended(End::Trapped(Trap::NoCurrent)),
+        Write::Domain => Progress::Ended(End::Trapped(Trap::Domain)),
+    }
 }

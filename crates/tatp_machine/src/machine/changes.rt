@@ -1,118 +1,156 @@
 //! The rows of the table that change a row of the home, FAIL, and traps.
 ghost use Rattle.std.specs.Prelude.{◌≡◌, ◌+◌, ◌<◌, Some};
+ghost use Rattle.tatp_tables.specs.Home.{IsHome};
 ghost use Rattle.tatp_machine.specs.Instructions.{Stops, IsNext};
-ghost use Rattle.tatp_machine.specs.Machines.{Turns, Performs};
+ghost use Rattle.tatp_machine.specs.Machines.{Turns, Performs, told};
 ghost use Rattle.tatp_machine.specs.Sound.{FitsAt};
 
 use super::Machine;
 use crate::change::{Change, byte};
+use crate::progress::Write;
 use crate::{End, MAX_STEPS, Progress, Trap};
 use tatp_instr::{Instr, Register, RowRegisters};
 use tatp_loader::MAX_WRITES;
 use tatp_tables::{Home, Refusal, Table, what_holds_of_every_home};
 
 impl<'m> Machine<'m> {
-    /// Ends the call with a failure or a trap.
-    #[inline(never)]
+    /// Ends the call with a failure.
+    #[inline(always)]
     pub(super) fn fail(&mut self, home: &mut Home, n: u32) -> Progress
         requires { self.old.frame.home ≡ Some home.old.s_id }
         ensures turns { Turns (Stops (End.Failed n))
             self.old home.old.tables result self.new home.new.tables }
         ensures same { home.new.s_id ≡ home.old.s_id }
+        ensures rows { IsHome home.new }
     {
-        self.end_undone(home, End::Failed(n))
+        self.end_undone(home);
+        Progress::Ended(End::Failed(n))
     }
 
-    #[inline(never)]
+    /// Ends the call with a trap.
+    #[inline(always)]
     pub(super) fn trap(&mut self, home: &mut Home, trap: Trap) -> Progress
         requires { self.old.frame.home ≡ Some home.old.s_id }
         ensures turns { Turns (Stops (End.Trapped trap))
             self.old home.old.tables result self.new home.new.tables }
         ensures same { home.new.s_id ≡ home.old.s_id }
+        ensures rows { IsHome home.new }
     {
-        self.end_undone(home, End::Trapped(trap))
+        self.end_undone(home);
+        Progress::Ended(End::Trapped(trap))
     }
 
     #[inline(never)]
-    pub(super) fn put(&mut self, home: &mut Home, column: u32, a: Register) -> Progress
+    pub(super) fn put(&mut self, home: &mut Home, column: u32, a: Register) -> Write
         requires home { self.old.frame.home ≡ Some home.old.s_id }
         requires here { IsNext self.old.frame (Instr.Put column a) }
         requires fits { FitsAt self.old.frame (Instr.Put column a) }
         requires more { self.old.frame.steps + 1 < MAX_STEPS }
         requires room { self.old.frame.writes < MAX_WRITES }
         ensures performs { Performs (Instr.Put column a)
-            self.old home.old.tables result self.new home.new.tables }
+            self.old home.old.tables (told result) self.new home.new.tables }
         ensures same { home.new.s_id ≡ home.old.s_id }
+        ensures rows { IsHome home.new }
     {
         let Some(key) = self.key_of_column(column) else {
-            return self.trap(home, Trap::NoCurrent);
+            self.end_undone(home);
+            return Write::NoCurrent;
         };
         what_holds_of_every_home(home);
         match home.put(column as u8, key, self.value(a)) {
-            Ok(before) => self.note(Change::Put {
-                column: column as u8,
-                row_type: byte(key[1]),
-                start_time: byte(key[2]),
-                before,
-            }),
-            Err(Refusal::Domain) => self.trap(home, Trap::Domain),
-            Err(_) => self.trap(home, Trap::NoCurrent),
+            Ok(before) => {
+                what_holds_of_every_home(home);
+                self.note(Change::Put {
+                    column: column as u8,
+                    row_type: byte(key[1]),
+                    start_time: byte(key[2]),
+                    before,
+                });
+                Write::Made
+            }
+            Err(Refusal::Domain) => {
+                self.end_undone(home);
+                Write::Domain
+            }
+            Err(_) => {
+                self.end_undone(home);
+                Write::NoCurrent
+            }
         }
     }
 
     #[inline(never)]
-    pub(super) fn ins(&mut self, home: &mut Home, d: Register, a: RowRegisters) -> Progress
+    pub(super) fn ins(&mut self, home: &mut Home, d: Register, a: RowRegisters) -> Write
         requires home { self.old.frame.home ≡ Some home.old.s_id }
         requires here { IsNext self.old.frame (Instr.Ins d a) }
         requires fits { FitsAt self.old.frame (Instr.Ins d a) }
         requires more { self.old.frame.steps + 1 < MAX_STEPS }
         requires room { self.old.frame.writes < MAX_WRITES }
         ensures performs { Performs (Instr.Ins d a)
-            self.old home.old.tables result self.new home.new.tables }
+            self.old home.old.tables (told result) self.new home.new.tables }
         ensures same { home.new.s_id ≡ home.old.s_id }
+        ensures rows { IsHome home.new }
     {
         let row = self.five_values(a);
         what_holds_of_every_home(home);
         match home.insert_cf(row) {
             Ok(()) => {
+                what_holds_of_every_home(home);
                 self.write(d, 1);
                 self.note(Change::Inserted {
                     sf_type: byte(row[1]),
                     start_time: byte(row[2]),
-                })
+                });
+                Write::Made
             }
-            Err(Refusal::Domain) => self.trap(home, Trap::Domain),
-            Err(Refusal::NoParent) => self.set_written(d, 3),
-            Err(_) => self.set_written(d, 2),
+            Err(Refusal::Domain) => {
+                self.end_undone(home);
+                Write::Domain
+            }
+            Err(Refusal::NoParent) => {
+                self.set_written(d, 3);
+                Write::Made
+            }
+            Err(_) => {
+                self.set_written(d, 2);
+                Write::Made
+            }
         }
     }
 
     #[inline(never)]
-    pub(super) fn del(&mut self, home: &mut Home) -> Progress
+    pub(super) fn del(&mut self, home: &mut Home) -> Write
         requires home { self.old.frame.home ≡ Some home.old.s_id }
         requires here { IsNext self.old.frame Instr.Del }
         requires fits { FitsAt self.old.frame Instr.Del }
         requires more { self.old.frame.steps + 1 < MAX_STEPS }
         requires room { self.old.frame.writes < MAX_WRITES }
         ensures performs { Performs Instr.Del
-            self.old home.old.tables result self.new home.new.tables }
+            self.old home.old.tables (told result) self.new home.new.tables }
         ensures same { home.new.s_id ≡ home.old.s_id }
+        ensures rows { IsHome home.new }
     {
         let Some(key) = self.current(Table::CallForwarding) else {
-            return self.trap(home, Trap::NoCurrent);
+            self.end_undone(home);
+            return Write::NoCurrent;
         };
         what_holds_of_every_home(home);
         match home.delete_cf(key) {
             Ok(row) => {
+                what_holds_of_every_home(home);
                 self.make_current(Table::CallForwarding, None);
                 self.note(Change::Deleted {
                     sf_type: byte(row[1]),
                     start_time: byte(row[2]),
                     end_time: byte(row[3]),
                     numberx: row[4],
-                })
+                });
+                Write::Made
             }
-            Err(_) => self.trap(home, Trap::NoCurrent),
+            Err(_) => {
+                self.end_undone(home);
+                Write::NoCurrent
+            }
         }
     }
 }

@@ -9,4 +9,4 @@ returns-in-Ok-clause-performs c =
     let five : length row ≡ 5 = search rules in
     let back = insert_kept c.args.home.now row c.byte.result c.byte-in-Ok.result c.args.home.now.tables c.insert_cf.new.self.tables c.what_holds_of_every_home.ensures five (sym c.in-Ok.ensures.answer) c.byte.ensures c.byte-in-Ok.ensures c.in-Ok.ensures.back in
     let entry = c.note.ensures.undoes c.args.home.now.tables c.insert_cf.new.self.tables (rw (c.write.ensures, c.requires.home) back) in
-    noted _ c.args.self.now c.note.new.self c.args.home.now.tables c.insert_cf.new.self.tables c.note.result c.note.ensures.answer (search rules) (rw c.write.ensures at entry) (rw c.write.ensures at c.note.ensures.ended)
+    noted _ c.args.self.now c.note.new.self c.args.home.now.tables c.insert_cf.new.self.tables (search rules) (rw c.write.ensures at entry) (rw c.write.ensures at c.note.ensures.ended)

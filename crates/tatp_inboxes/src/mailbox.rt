@@ -6,10 +6,10 @@ use std::thread;
 /// How often a thread looks for what it waits for before it sleeps.
 pub(crate) const TRIES: u32 = 20;
 
-/// Where the letters to one thread come, one after another.
+/// Where the messages to one thread come, one after another.
 #[derive(Drop)]
 pub struct Mailbox<T> {
-    letter: Mutex<Option<T>>,
+    message: Mutex<Option<T>>,
     filled: Condvar,
 }
 
@@ -17,22 +17,22 @@ impl<T: Copy> Mailbox<T> {
     /// An empty one.
     pub fn new() -> Mailbox<T> {
         Mailbox {
-            letter: Mutex::new(None),
+            message: Mutex::new(None),
             filled: Condvar::new(),
         }
     }
 
-    /// Puts a letter there.
-    pub fn put(&self, rt: &impl Wait, letter: T) {
-        *self.letter.lock(rt) = Some(letter);
+    /// Puts a message there.
+    pub fn put(&self, rt: &impl Wait, message: T) {
+        *self.message.lock(rt) = Some(message);
         self.filled.notify_one();
     }
 
-    /// Takes the next letter: looks for it a few times, and then sleeps until it comes.
+    /// Takes the next message: looks for it a few times, and then sleeps until it comes.
     pub fn take<R: Wait>(&self, rt: &R) -> T {
         for _ in 0..TRIES {
-            if let Some(letter) = self.letter.lock(rt).take() {
-                return letter;
+            if let Some(message) = self.message.lock(rt).take() {
+                return message;
             }
             thread::yield_now();
         }
@@ -43,9 +43,9 @@ impl<T: Copy> Mailbox<T> {
         for _ in rt.forever() {
             let mut place = self
                 .filled
-                .wait_while(rt, self.letter.lock(rt), |place| place.is_none());
-            if let Some(letter) = place.take() {
-                return letter;
+                .wait_while(rt, self.message.lock(rt), |place| place.is_none());
+            if let Some(message) = place.take() {
+                return message;
             }
         }
         unreachable!()

@@ -1,6 +1,7 @@
-//! What is done at the site of one partition under its lock. What the site was before isn't known;
-//! so contracts say that the answer is that of some site.
+//! What is done at the site of one partition under its lock. What the site was before isn't known,
+//! but that it was a site; so contracts say that the answer is that of some site.
 ghost use Rattle.std.specs.Prelude.{◌≡◌, ◌<◌, List, None, IfOk, IfErr, vec_len, vec_capacity};
+ghost use Rattle.tatp_population.specs.Extents.{ExtentState};
 ghost use Rattle.tatp_partition.specs.Moving.{LandedState, Takes, Gives};
 ghost use Rattle.tatp_partition.specs.declared.refusal.NotGiven.{NotGiven};
 ghost use Rattle.tatp_partition.specs.Obstacles.{one_obstacle};
@@ -20,6 +21,7 @@ use std::{mem, thread};
 use tatp_debug::{Snapshot, look};
 use tatp_partition::{
     CompletionPlace, Item, Landed, NotGiven, Parcel, Site, SiteRefusal, Stepped, discard_all,
+    what_holds_of_every_site,
 };
 use tatp_population::Chapter;
 use tatp_workers::{Checkpointed, Gate, Gated, Offered, checkpoint_full, is_wanted, offer, slice};
@@ -65,7 +67,12 @@ impl<'m> Partition<'m> {
     pub(crate) fn offer<R: Wait>(&self, rt: &R, alloc: Global, item: &Item) -> Offered
         ensures { OfSomeSite (λ s s'. Offers s item.now result s') }
     {
-        offer(&mut *self.site.lock(rt), alloc, item)
+        let mut locked = self.site.lock(rt);
+        let site = &mut *locked;
+        what_holds_of_every_site(site);
+        let offered = offer(site, alloc, item);
+        what_holds_of_every_site(site);
+        offered
     }
 
     /// Makes steps of a client's call, the gate before each. Where the call ends, its completion is
@@ -83,13 +90,14 @@ impl<'m> Partition<'m> {
             × IfOk result (λ logged. logged ≡ logged_at s' ended.new)) }
     {
         let mut observer = Gated { gate };
-        let made = slice(
-            &mut *self.site.lock(rt),
-            &mut observer,
-            client,
-            &self.wanted,
-            ended,
-        );
+        let made = {
+            let mut locked = self.site.lock(rt);
+            let site = &mut *locked;
+            what_holds_of_every_site(site);
+            let made = slice(site, &mut observer, client, &self.wanted, ended);
+            what_holds_of_every_site(site);
+            made
+        };
         self.give_way(&made, ended);
         made
     }
@@ -115,15 +123,26 @@ impl<'m> Partition<'m> {
         ensures { OfSomeSite (λ s s'.
             ChecksLog s extent chapter chapters.old.items result s' chapters.new.items) }
     {
-        checkpoint_full(&mut *self.site.lock(rt), alloc, extent, chapter, chapters)
+        let mut locked = self.site.lock(rt);
+        let site = &mut *locked;
+        what_holds_of_every_site(site);
+        let checkpointed = checkpoint_full(site, alloc, extent, chapter, chapters);
+        what_holds_of_every_site(site);
+        checkpointed
     }
 
     /// The extent leaves.
     pub(crate) fn take<R: Wait>(&self, rt: &R, extent: u32) -> Result<Parcel, SiteRefusal>
-        ensures { OfSomeSite (λ s s'. Takes s extent result s') }
+        ensures takes { OfSomeSite (λ s s'. Takes s extent result s') }
+        ensures number { IfOk result (λ (parcel : ExtentState). parcel.number ≡ extent) }
     {
         self.want();
-        let taken = self.site.lock(rt).take(extent);
+        let taken = {
+            let mut locked = self.site.lock(rt);
+            let site = &mut *locked;
+            what_holds_of_every_site(site);
+            site.take(extent)
+        };
         self.want_no_more();
         taken
     }
@@ -135,7 +154,12 @@ impl<'m> Partition<'m> {
         ensures back { IfErr result (λ (back : NotGiven). back.parcel ≡ parcel) }
     {
         self.want();
-        let given = self.site.lock(rt).give(parcel);
+        let given = {
+            let mut locked = self.site.lock(rt);
+            let site = &mut *locked;
+            what_holds_of_every_site(site);
+            site.give(parcel)
+        };
         self.want_no_more();
         given
     }
@@ -145,30 +169,44 @@ impl<'m> Partition<'m> {
         ensures { OfSomeSite (λ s s'. Stops s result s') }
     {
         self.want();
-        let stopped = self.site.lock(rt).stop();
+        let stopped = {
+            let mut locked = self.site.lock(rt);
+            let site = &mut *locked;
+            what_holds_of_every_site(site);
+            site.stop()
+        };
         self.want_no_more();
         stopped
     }
 
     /// Looks at the running call.
     pub(crate) fn look<R: Wait>(&self, rt: &R) -> Result<Snapshot, SiteRefusal>
-        ensures { OfSomeSite (λ s s'. Looks s result) }
+        ensures { OfSomeSite (λ s s'. Looks s result × (s' ≡ s)) }
     {
-        look(&*self.site.lock(rt))
+        let locked = self.site.lock(rt);
+        let site = &*locked;
+        what_holds_of_every_site(site);
+        look(site)
     }
 
     /// One step of the running call, though the site is stopped.
     pub(crate) fn one<R: Wait>(&self, rt: &R) -> Result<Stepped, SiteRefusal>
         ensures { OfSomeSite (λ s s'. AdvancesUnless (one_obstacle s) s result s') }
     {
-        self.site.lock(rt).one()
+        let mut locked = self.site.lock(rt);
+        let site = &mut *locked;
+        what_holds_of_every_site(site);
+        site.one()
     }
 
     /// Ends a stop.
     pub(crate) fn resume<R: Wait>(&self, rt: &R) -> Result<(), SiteRefusal>
         ensures { OfSomeSite (λ s s'. Resumes s result s') }
     {
-        self.site.lock(rt).resume()
+        let mut locked = self.site.lock(rt);
+        let site = &mut *locked;
+        what_holds_of_every_site(site);
+        site.resume()
     }
 
     /// The executor is asked to leave the lock.

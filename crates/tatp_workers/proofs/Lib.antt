@@ -3,4 +3,4 @@ pub mod EffectLaws
 pub mod ExecutorLaws
 pub mod MoverLaws
 pub mod SliceLaws
-pub mod TalkLaws
+pub mod ConversationLaws

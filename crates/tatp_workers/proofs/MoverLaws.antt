@@ -1,5 +1,5 @@
 -- What the mover has done so far, and at the end.
-use Rattle.std.proofs.Common.{◌≡◌, ℕ, List, [], ◌∷◌, ◌++◌, Option, Some, None, Ok, length, slice_get, refl, sym, ◌∙◌, inl, inr}
+use Rattle.std.proofs.Common.{◌≡◌, ℕ, List, [], ◌∷◌, ◌++◌, Option, Some, None, Ok, length, slice_get, refl, sym, ◌∙◌, subst, inl, inr}
 use Rattle.std.proofs.lemmas.List.{append-nil}
 use Rattle.tatp_population.specs.Extents.{ExtentState}
 use Rattle.tatp_partition.specs.declared.refusal.SiteRefusal.{SiteRefusal}
@@ -15,11 +15,12 @@ use Rattle.tatp_workers.proofs.EffectLaws.{grown_twice, Dealt}
 pub taken : (extent to : ℕ) (plan : Plan) (e : ℕ) (back : Option ExtentState) (known planned taken_known known' : Option (List MoveEffect))
     → Grows known planned (Plans extent to (Ok plan) ∷ [])
     → Grows planned taken_known (Takes plan.from plan.first None ∷ [])
+    → e ≡ plan.first
     → Does (Delivers plan.to e back) taken_known known'
     → Does (MakesMove extent to back) known known'
-taken extent to plan e back known planned taken_known known' a b c = (
+taken extent to plan e back known planned taken_known known' a b same c = (
   Plans extent to (Ok plan) ∷ Takes plan.from plan.first None ∷ c.0,
-  inr (inr (plan, e, c.0, c.1, refl)),
+  inr (inr (plan, c.0, subst (λ (n : ℕ). Delivers plan.to n back c.0) same c.1, refl)),
   grown_twice known planned known' (Plans extent to (Ok plan) ∷ []) (Takes plan.from plan.first None ∷ c.0) a (grown_twice planned taken_known known' (Takes plan.from plan.first None ∷ []) c.0 b c.2),
 )
 

@@ -29,44 +29,44 @@ seen_after seen (Done client number reply extent stamp) = stamp
 seen_after seen (Refused client number) = seen
 
 -- what a client exchanged, and the receipts that it keeps
-pub record Talk : Type 0 where
+pub record Conversation : Type 0 where
   pub exchanges : List Exchange
   pub receipts : List Receipt
 
 -- one more call, which got this receipt
-abbrev pub with_receipt : Talk → Item → Receipt → Talk
-with_receipt t item receipt = record {
-  exchanges = t.exchanges ++ record { item = item; receipt = Some receipt } ∷ [];
-  receipts = t.receipts ++ receipt ∷ [];
+abbrev pub with_receipt : Conversation → Item → Receipt → Conversation
+with_receipt c item receipt = record {
+  exchanges = c.exchanges ++ record { item = item; receipt = Some receipt } ∷ [];
+  receipts = c.receipts ++ receipt ∷ [];
 }
 
 -- one more call, which came to nothing
-abbrev pub with_nothing : Talk → Item → Talk
-with_nothing t item =
-    record t { exchanges = t.exchanges ++ record { item = item; receipt = None } ∷ [] }
+abbrev pub with_nothing : Conversation → Item → Conversation
+with_nothing c item =
+    record c { exchanges = c.exchanges ++ record { item = item; receipt = None } ∷ [] }
 
 -- the first calls, so many, were asked one after another, and each got a receipt; the last stamp
 -- that was seen then
-abbrev pub Answered : Listing → ℕ → List Ask → ℕ → Talk → ℕ → Type 0
-Answered listing client asks zero t seen =
-    (t ≡ record { exchanges = []; receipts = [] }) × (seen ≡ 0)
-Answered listing client asks (suc n) t seen =
-    (before : Talk) × (seen_before : ℕ) × (ask : Ask) × (receipt : Receipt)
+abbrev pub Answered : Listing → ℕ → List Ask → ℕ → Conversation → ℕ → Type 0
+Answered listing client asks zero c seen =
+    (c ≡ record { exchanges = []; receipts = [] }) × (seen ≡ 0)
+Answered listing client asks (suc n) c seen =
+    (before : Conversation) × (seen_before : ℕ) × (ask : Ask) × (receipt : Receipt)
     × Answered listing client asks n before seen_before
     × (slice_get asks n ≡ Some ask)
-    × (t ≡ with_receipt before
+    × (c ≡ with_receipt before
     (item_of listing client (record { number = n; seen = seen_before }) ask) receipt)
     × (seen ≡ seen_after seen_before receipt)
 
 -- all calls were asked one after another, and got their receipts; or so many were, and the next
 -- came to nothing
-pub record Converses (listing : Listing) (client : ℕ) (asks : List Ask) (t : Talk)
+pub record Converses (listing : Listing) (client : ℕ) (asks : List Ask) (c : Conversation)
     : Type 0 where
   pub answered : ℕ
-  pub before : Talk
+  pub before : Conversation
   pub seen : ℕ
   pub first : Answered listing client asks answered before seen
-  pub rest : ((answered ≡ length asks) × (t ≡ before))
+  pub rest : ((answered ≡ length asks) × (c ≡ before))
       ⊎ ((ask : Ask) × (slice_get asks answered ≡ Some ask)
-      × (t ≡ with_nothing before
+      × (c ≡ with_nothing before
       (item_of listing client (record { number = answered; seen = seen }) ask)))

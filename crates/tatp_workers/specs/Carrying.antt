@@ -49,11 +49,11 @@ IsNotTaken extent to back effects =
     (plan : Plan) × (refusal : SiteRefusal) × (back ≡ None)
     × (effects ≡ Plans extent to (Ok plan) ∷ Takes plan.from plan.first (Some refusal) ∷ [])
 
--- a plan is made, and the extent is taken and delivered
+-- a plan is made, and the extent that it names, no other, is taken and delivered
 abbrev pub IsDelivered : ℕ → ℕ → Option ExtentState → List MoveEffect → Type 0
 IsDelivered extent to back effects =
-    (plan : Plan) × (e : ℕ) × (delivery : List MoveEffect)
-    × Delivers plan.to e back delivery
+    (plan : Plan) × (delivery : List MoveEffect)
+    × Delivers plan.to plan.first back delivery
     × (effects ≡ Plans extent to (Ok plan) ∷ Takes plan.from plan.first None ∷ delivery)
 
 -- an extent is planned to be moved to a partition; it is taken where there is a plan, and delivered

@@ -2,7 +2,7 @@
 ghost use Rattle.std.specs.Prelude.{◌≡◌, ◌+◌, ◌++◌, ◌∷◌, [], ◌≤◌, List, Option, None, length, vec_len, vec_capacity};
 ghost use Rattle.tatp_workers.specs.Effects.{Grows};
 ghost use Rattle.tatp_workers.specs.declared.client.Exchange.{Exchange};
-ghost use Rattle.tatp_workers.specs.Asking.{Converses, Talk, item_of, seen_after};
+ghost use Rattle.tatp_workers.specs.Asking.{Converses, Conversation, item_of, seen_after};
 
 use tatp_numbers::Directory;
 use tatp_partition::{Item, Receipt};
@@ -63,9 +63,9 @@ pub fn ask_all<D: Requester>(
     receipts: &mut Vec<Receipt>,
 )
     requires room { vec_len receipts.old + length asks.now ≤ vec_capacity receipts.old }
-    ensures { (talk : Talk) × Converses directory.now client asks.now talk
-        × Grows (D.exchanges requester.old) (D.exchanges requester.new) talk.exchanges
-        × (receipts.new.items ≡ receipts.old.items ++ talk.receipts) }
+    ensures { (conversation : Conversation) × Converses directory.now client asks.now conversation
+        × Grows (D.exchanges requester.old) (D.exchanges requester.new) conversation.exchanges
+        × (receipts.new.items ≡ receipts.old.items ++ conversation.receipts) }
 {
     let mut seen = 0;
     for number in 0..asks.len() {

@@ -1,5 +1,6 @@
 //! What the mover does: it moves one extent after another.
 ghost use Rattle.std.specs.Prelude.{◌≡◌, ◌<◌, ◌∷◌, [], List, Option, None, IfOk, IfErr, vec_len, vec_capacity};
+ghost use Rattle.tatp_population.specs.Extents.{ExtentState};
 ghost use Rattle.tatp_partition.specs.Moving.{LandedState};
 ghost use Rattle.tatp_workers.specs.Effects.{Grows, Does};
 ghost use Rattle.tatp_workers.specs.Carrying.{refusal_in, is_landed, plan_to, Delivers, MakesMove, MovesAll};
@@ -33,10 +34,11 @@ pub trait Carrying {
     fn plan(&mut self, extent: u32, to: u8) -> Result<Plan, MoveRefusal>
         ensures { Grows (effects self.old) (effects self.new) (Plans extent to result ∷ []) };
 
-    /// Takes an extent from the site of a partition.
+    /// Takes an extent from the site of a partition. The parcel is of that extent.
     fn take(&mut self, from: u8, extent: u32) -> Result<Parcel, SiteRefusal>
-        ensures { Grows (effects self.old) (effects self.new)
-            (Takes from extent (refusal_in result) ∷ []) };
+        ensures effects { Grows (effects self.old) (effects self.new)
+            (Takes from extent (refusal_in result) ∷ []) }
+        ensures number { IfOk result (λ (parcel : ExtentState). parcel.number ≡ extent) };
 
     /// Gives a parcel to the site of a partition. It comes back where there is no place for it.
     fn give(&mut self, to: u8, parcel: Parcel) -> Result<Landed, Parcel>

@@ -4,7 +4,7 @@
 ghost use Rattle.std.specs.Prelude.{◌≡◌, [], ◌∷◌, List, None, false, length, vec_len, vec_capacity, ◌<◌, ◌≤◌, ◌+◌, ◌++◌};
 ghost use Rattle.tatp_population.specs.Extents.{ExtentState};
 ghost use Rattle.tatp_workers.specs.Effects.{Grows, InTurn, known_unless};
-ghost use Rattle.tatp_workers.specs.Asking.{Talk, Converses};
+ghost use Rattle.tatp_workers.specs.Asking.{Conversation, Converses};
 ghost use Rattle.tatp_workers.specs.Carrying.{MakesMoves};
 ghost use Rattle.tatp_workers.specs.Debugging.{IsDebugged};
 ghost use Rattle.tatp_workers.specs.Executing.{ExecutesUntilQuit};
@@ -214,9 +214,9 @@ fn ask_each(
     receipts: &mut Vec<Receipt>,
 ) -> Record<Exchange>
     requires room { vec_len receipts.old + length asks.now ≤ vec_capacity receipts.old }
-    ensures { (talk : Talk) × Converses directory.now 0 asks.now talk
-        × (result.is_lost ≡ false → result.kept.items ≡ talk.exchanges)
-        × (receipts.new.items ≡ receipts.old.items ++ talk.receipts) }
+    ensures { (conversation : Conversation) × Converses directory.now 0 asks.now conversation
+        × (result.is_lost ≡ false → result.kept.items ≡ conversation.exchanges)
+        × (receipts.new.items ≡ receipts.old.items ++ conversation.receipts) }
 {
     let mut requester = Record::new(alloc);
     ask_all(&mut requester, directory, 0, asks, receipts);

@@ -6,44 +6,44 @@ use Rattle.tatp_numbers.specs.Listing.{Listing}
 use Rattle.tatp_partition.specs.declared.receipt.Receipt.{Receipt}
 use Rattle.tatp_workers.specs.declared.client.Exchange.{Exchange}
 use Rattle.tatp_workers.specs.Effects.{Grows}
-use Rattle.tatp_workers.specs.Asking.{Talk, Answered, Converses, item_of, seen_after, with_receipt}
+use Rattle.tatp_workers.specs.Asking.{Conversation, Answered, Converses, item_of, seen_after, with_receipt}
 use Rattle.tatp_workers.proofs.EffectLaws.{grown_twice, not_grown}
 
 -- what a client has asked and got so far, from these exchanges and receipts to those
-abbrev pub Talked : Listing → ℕ → List Ask → ℕ → ℕ → Option (List Exchange) → Option (List Exchange) → List Receipt → List Receipt → Type 0
-Talked listing client asks n seen known known' kept kept' =
-    (talk : Talk) × Answered listing client asks n talk seen × Grows known known' talk.exchanges × (kept' ≡ kept ++ talk.receipts)
+abbrev pub Conversed : Listing → ℕ → List Ask → ℕ → ℕ → Option (List Exchange) → Option (List Exchange) → List Receipt → List Receipt → Type 0
+Conversed listing client asks n seen known known' kept kept' =
+    (conversation : Conversation) × Answered listing client asks n conversation seen × Grows known known' conversation.exchanges × (kept' ≡ kept ++ conversation.receipts)
 
-pub none_talked : (listing : Listing) (client : ℕ) (asks : List Ask) (known : Option (List Exchange)) (kept : List Receipt) → Talked listing client asks 0 0 known known kept kept
-none_talked listing client asks known kept = (record { exchanges = []; receipts = [] }, (refl, refl), not_grown known, sym (append-nil kept))
+pub none_asked : (listing : Listing) (client : ℕ) (asks : List Ask) (known : Option (List Exchange)) (kept : List Receipt) → Conversed listing client asks 0 0 known known kept kept
+none_asked listing client asks known kept = (record { exchanges = []; receipts = [] }, (refl, refl), not_grown known, sym (append-nil kept))
 
-pub one_more_talked : (listing : Listing) (client : ℕ) (asks : List Ask) (n seen : ℕ) (known mid known' : Option (List Exchange)) (kept kept' kept'' : List Receipt) (ask : Ask) (receipt : Receipt)
-    → Talked listing client asks n seen known mid kept kept'
+pub one_more_asked : (listing : Listing) (client : ℕ) (asks : List Ask) (n seen : ℕ) (known mid known' : Option (List Exchange)) (kept kept' kept'' : List Receipt) (ask : Ask) (receipt : Receipt)
+    → Conversed listing client asks n seen known mid kept kept'
     → slice_get asks n ≡ Some ask
     → Grows mid known' (record { item = item_of listing client (record { number = n; seen = seen }) ask; receipt = Some receipt } ∷ [])
     → kept'' ≡ kept' ++ receipt ∷ []
-    → Talked listing client asks (n + 1) (seen_after seen receipt) known known' kept kept''
-one_more_talked listing client asks n seen known mid known' kept kept' kept'' ask receipt so_far at grows pushed =
+    → Conversed listing client asks (n + 1) (seen_after seen receipt) known known' kept kept''
+one_more_asked listing client asks n seen known mid known' kept kept' kept'' ask receipt so_far at grows pushed =
     let item = item_of listing client (record { number = n; seen = seen }) ask in
-    let talk = with_receipt so_far.0 item receipt in
+    let conversation = with_receipt so_far.0 item receipt in
     let e : suc n ≡ n + 1 = omega arith in (
-      talk,
-      subst (λ (k : ℕ). Answered listing client asks k talk (seen_after seen receipt)) e (so_far.0, seen, ask, receipt, so_far.1, at, refl, refl),
+      conversation,
+      subst (λ (k : ℕ). Answered listing client asks k conversation (seen_after seen receipt)) e (so_far.0, seen, ask, receipt, so_far.1, at, refl, refl),
       grown_twice known mid known' so_far.0.exchanges _ so_far.2 grows,
       pushed ∙ ap (λ (l : List Receipt). l ++ receipt ∷ []) so_far.3 ∙ append_assoc kept so_far.0.receipts (receipt ∷ []),
     )
 
 -- what a client's contract promises
 abbrev pub Says : Listing → ℕ → List Ask → Option (List Exchange) → Option (List Exchange) → List Receipt → List Receipt → Type 0
-Says listing client asks known known' kept kept' = (talk : Talk) × Converses listing client asks talk × Grows known known' talk.exchanges × (kept' ≡ kept ++ talk.receipts)
+Says listing client asks known known' kept kept' = (conversation : Conversation) × Converses listing client asks conversation × Grows known known' conversation.exchanges × (kept' ≡ kept ++ conversation.receipts)
 
-pub all_talked : (listing : Listing) (client : ℕ) (asks : List Ask) (n seen : ℕ) (known known' : Option (List Exchange)) (kept kept' : List Receipt)
-    → Talked listing client asks n seen known known' kept kept' → n ≡ length asks → Says listing client asks known known' kept kept'
-all_talked listing client asks n seen known known' kept kept' so_far all =
+pub all_asked : (listing : Listing) (client : ℕ) (asks : List Ask) (n seen : ℕ) (known known' : Option (List Exchange)) (kept kept' : List Receipt)
+    → Conversed listing client asks n seen known known' kept kept' → n ≡ length asks → Says listing client asks known known' kept kept'
+all_asked listing client asks n seen known known' kept kept' so_far all =
     (so_far.0, record { answered = n; before = so_far.0; seen = seen; first = so_far.1; rest = inl (all, refl) }, so_far.2, so_far.3)
 
 pub last_unanswered : (listing : Listing) (client : ℕ) (asks : List Ask) (n seen : ℕ) (known mid known' : Option (List Exchange)) (kept kept' : List Receipt) (ask : Ask)
-    → Talked listing client asks n seen known mid kept kept'
+    → Conversed listing client asks n seen known mid kept kept'
     → slice_get asks n ≡ Some ask
     → Grows mid known' (record { item = item_of listing client (record { number = n; seen = seen }) ask; receipt = None } ∷ [])
     → Says listing client asks known known' kept kept'

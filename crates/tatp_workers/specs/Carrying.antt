@@ -31,6 +31,10 @@ plan_to r extent to =
     if extent == 0 then Err NoExtent else
     plan_of r (record { lo = s; hi = s; from = route_of r (Some s); to = to })
 
+-- a plan moves this extent alone, and to this partition
+abbrev pub IsPlanOf : ℕ → ℕ → Plan → Type 0
+IsPlanOf extent to plan = (plan.first ≡ extent) × (plan.last ≡ extent) × (plan.to ≡ to)
+
 -- ---- one move
 -- extent e is given to a partition: it lands there, and the routes are told so before anything
 -- else; or it comes back
@@ -47,14 +51,14 @@ IsNotPlanned extent to back effects =
 abbrev pub IsNotTaken : ℕ → ℕ → Option ExtentState → List MoveEffect → Type 0
 IsNotTaken extent to back effects =
     (plan : Plan) × (refusal : SiteRefusal) × (back ≡ None)
-    × (effects ≡ Plans extent to (Ok plan) ∷ Takes plan.from plan.first (Some refusal) ∷ [])
+    × (effects ≡ Plans extent to (Ok plan) ∷ Takes plan.from extent (Some refusal) ∷ [])
 
--- a plan is made, and the extent that it names, no other, is taken and delivered
+-- a plan is made, and the extent, no other, is taken and delivered to the partition
 abbrev pub IsDelivered : ℕ → ℕ → Option ExtentState → List MoveEffect → Type 0
 IsDelivered extent to back effects =
     (plan : Plan) × (delivery : List MoveEffect)
-    × Delivers plan.to plan.first back delivery
-    × (effects ≡ Plans extent to (Ok plan) ∷ Takes plan.from plan.first None ∷ delivery)
+    × Delivers to extent back delivery
+    × (effects ≡ Plans extent to (Ok plan) ∷ Takes plan.from extent None ∷ delivery)
 
 -- an extent is planned to be moved to a partition; it is taken where there is a plan, and delivered
 -- where it was taken

@@ -3,7 +3,7 @@ ghost use Rattle.std.specs.Prelude.{◌≡◌, ◌<◌, ◌∷◌, [], List, Opt
 ghost use Rattle.tatp_population.specs.Extents.{ExtentState};
 ghost use Rattle.tatp_partition.specs.Moving.{LandedState};
 ghost use Rattle.tatp_workers.specs.Effects.{Grows, Does};
-ghost use Rattle.tatp_workers.specs.Carrying.{refusal_in, is_landed, plan_to, Delivers, MakesMove, MovesAll};
+ghost use Rattle.tatp_workers.specs.Carrying.{refusal_in, is_landed, plan_to, IsPlanOf, Delivers, MakesMove, MovesAll};
 ghost use Rattle.tatp_workers.specs.declared.mover.MoveEffect.{MoveEffect};
 ghost use Rattle.tatp_workers.specs.declared.mover.MoveEffect.TheVariants.{Plans, Takes, Gives, Settles};
 
@@ -30,9 +30,11 @@ pub trait Carrying {
     /// What was done, where that is known.
     ghost effects: { Self → Option (List MoveEffect) } = { λ _. None };
 
-    /// The plan to move an extent from where its route says to a partition.
+    /// The plan to move an extent, that one alone, from where its route says to a partition.
     fn plan(&mut self, extent: u32, to: u8) -> Result<Plan, MoveRefusal>
-        ensures { Grows (effects self.old) (effects self.new) (Plans extent to result ∷ []) };
+        ensures effects { Grows (effects self.old) (effects self.new)
+            (Plans extent to result ∷ []) }
+        ensures planned { IfOk result (IsPlanOf extent to) };
 
     /// Takes an extent from the site of a partition. The parcel is of that extent.
     fn take(&mut self, from: u8, extent: u32) -> Result<Parcel, SiteRefusal>
@@ -54,8 +56,10 @@ pub trait Carrying {
 
 /// The plan to move an extent from where its route says to a partition: none for an extent or a
 /// partition that doesn't exist, and where it is there already.
+#[tactic(auto, using(crate::proofs::MoverLaws::planned))]
 pub fn plan(routes: &Routes, extent: u32, to: u8) -> Result<Plan, MoveRefusal>
-    ensures { result ≡ plan_to routes.now extent to }
+    ensures by_route { result ≡ plan_to routes.now extent to }
+    ensures planned { IfOk result (IsPlanOf extent to) }
 {
     if extent == 0 {
         return Err(MoveRefusal::NoExtent);

@@ -39,12 +39,12 @@ impl Outputs {
         requires { length values.now ≤ 40 }
         ensures { result ≡ values.now }
     {
-        let mut all = [0; 40];
-        all[..values.len()].copy_from_slice(values);
-        Outputs {
-            count: values.len(),
-            values: all,
-        }
+        let mut outputs = Outputs {
+            count: 0,
+            values: [0; 40],
+        };
+        outputs.set(values);
+        outputs
     }
 
     /// These values in place of the others.
@@ -95,20 +95,11 @@ pub enum Reply {
 }
 
 impl Reply {
-    /// The reply to a call that ended so, with these outputs.
-    pub fn of(end: End, outputs: &[u64]) -> Reply
-        requires { length outputs.now ≤ 40 }
-        ensures { result ≡ reply_to end outputs.now }
-    {
-        match end {
-            End::Done => Reply::Values(Outputs::from_slice(outputs)),
-            End::Failed(number) => Reply::Failed(number),
-            End::Trapped(trap) => Reply::Trapped(trap),
-        }
-    }
-
     /// The reply to a call that ended so, with these outputs, in place of this one. Outputs go
     /// where outputs stand, so that only as many are copied as there are.
+    ///
+    /// What makes a whole reply stands apart, since a function clears the memory of all its locals
+    /// when it begins.
     pub fn set(&mut self, end: End, outputs: &[u64])
         requires { length outputs.now ≤ 40 }
         ensures { self.new ≡ reply_to end outputs.now }
@@ -116,19 +107,32 @@ impl Reply {
         match end {
             End::Done => match self {
                 Reply::Values(values) => values.set(outputs),
-                _ => self.replace(end, outputs),
+                _ => self.become_values(outputs),
             },
-            _ => self.replace(end, outputs),
+            End::Failed(number) => self.become_failed(number),
+            End::Trapped(trap) => self.become_trapped(trap),
         }
     }
 
-    /// The same, whatever stands there. It stands apart from [`Reply::set`], since it makes a whole
-    /// reply, and a function clears the room of all its locals when it begins.
     #[inline(never)]
-    fn replace(&mut self, end: End, outputs: &[u64])
+    fn become_values(&mut self, outputs: &[u64])
         requires { length outputs.now ≤ 40 }
-        ensures { self.new ≡ reply_to end outputs.now }
+        ensures { self.new ≡ Reply.Values outputs.now }
     {
-        *self = Reply::of(end, outputs);
+        *self = Reply::Values(Outputs::from_slice(outputs));
+    }
+
+    #[inline(never)]
+    fn become_failed(&mut self, number: u32)
+        ensures { self.new ≡ Reply.Failed number }
+    {
+        *self = Reply::Failed(number);
+    }
+
+    #[inline(never)]
+    fn become_trapped(&mut self, trap: Trap)
+        ensures { self.new ≡ Reply.Trapped trap }
+    {
+        *self = Reply::Trapped(trap);
     }
 }

@@ -1,5 +1,0 @@
-use Rattle.tatp_procs.proofs.PaddingLaws.{ArePadded-front}
-use Rattle.tatp_procs.proofs.reply.Outputs.from_slice.Goals as goal
-
-pub invariant_of-result : goal.invariant_of-result
-invariant_of-result c = ArePadded-front 40 c.args.values.now c.copy_from_slice.new.self c.copy_from_slice.ensures.after c.requires

@@ -31,12 +31,17 @@ impl<T: Copy> Mailbox<T> {
     /// Takes the next message: looks for it a few times, and then sleeps until it comes.
     pub fn take<R: Wait>(&self, rt: &R) -> T {
         for _ in 0..TRIES {
-            if let Some(message) = self.message.lock(rt).take() {
-                return message;
+            if self.is_filled(rt) {
+                break;
             }
             thread::yield_now();
         }
         self.wait(rt)
+    }
+
+    /// Whether a message is there. It is looked at where it lies, since it may be large.
+    fn is_filled(&self, rt: &impl Wait) -> bool {
+        self.message.lock(rt).is_some()
     }
 
     fn wait<R: Wait>(&self, rt: &R) -> T {

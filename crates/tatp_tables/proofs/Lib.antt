@@ -10,6 +10,7 @@ pub mod CleanLaws
 pub mod CellLaws
 pub mod PlaceLaws
 pub mod StorageLaws
+pub mod StoredLaws
 pub mod LoadingLaws
 pub mod HoldLaws
 pub mod ListLaws

@@ -16,6 +16,9 @@ mod loading;
 
 use crate::Table;
 use crate::place::{forwarding_place, type_place};
+use crate::stored::{
+    StoredAccess, StoredFacility, StoredForwarding, StoredSubscriber, copy_cells, copy_subscriber,
+};
 pub use loading::{homes, homes_in_lists};
 use std::marker::Model;
 
@@ -27,10 +30,10 @@ use std::marker::Model;
 #[derive(Debug, Drop)]
 pub struct Home {
     s_id: u64,
-    subscriber: Option<[u64; 34]>,
-    accesses: [Option<[u64; 6]>; 4],
-    facilities: [Option<[u64; 6]>; 4],
-    forwardings: [Option<[u64; 5]>; 12],
+    subscriber: Option<StoredSubscriber>,
+    accesses: [Option<StoredAccess>; 4],
+    facilities: [Option<StoredFacility>; 4],
+    forwardings: [Option<StoredForwarding>; 12],
 }
 
 impl Model for Home {
@@ -76,15 +79,15 @@ impl Home {
     {
         Home {
             s_id: self.s_id,
-            subscriber: self.subscriber,
-            accesses: self.accesses,
-            facilities: self.facilities,
-            forwardings: self.forwardings,
+            subscriber: copy_subscriber(&self.subscriber),
+            accesses: copy_cells(&self.accesses),
+            facilities: copy_cells(&self.facilities),
+            forwardings: copy_cells(&self.forwardings),
         }
     }
 
     /// The Subscriber row with this s_id.
-    fn subscriber(&self, s_id: u64) -> Option<&[u64; 34]>
+    fn subscriber(&self, s_id: u64) -> Option<&StoredSubscriber>
         ensures { option_copied result ≡ row_at self.now.tables.subscribers (s_id ∷ []) }
     {
         if s_id == self.s_id {
@@ -127,27 +130,27 @@ impl Home {
     }
 
     /// The Access_Info row with this key.
-    fn access(&self, s_id: u64, kind: u64) -> Option<&[u64; 6]>
-        ensures { option_copied result ≡ row_at self.now.tables.accesses (s_id ∷ kind ∷ []) }
+    fn access(&self, s_id: u64, kind: u64) -> Option<StoredAccess>
+        ensures { result ≡ row_at self.now.tables.accesses (s_id ∷ kind ∷ []) }
     {
         let place = self.place_of_type(s_id, kind)?;
-        self.accesses[place].as_ref()
+        self.accesses[place]
     }
 
     /// The Special_Facility row with this key.
-    fn facility(&self, s_id: u64, kind: u64) -> Option<&[u64; 6]>
-        ensures { option_copied result ≡ row_at self.now.tables.facilities (s_id ∷ kind ∷ []) }
+    fn facility(&self, s_id: u64, kind: u64) -> Option<StoredFacility>
+        ensures { result ≡ row_at self.now.tables.facilities (s_id ∷ kind ∷ []) }
     {
         let place = self.place_of_type(s_id, kind)?;
-        self.facilities[place].as_ref()
+        self.facilities[place]
     }
 
     /// The Call_Forwarding row with this key.
-    fn forwarding(&self, key: [u64; 3]) -> Option<&[u64; 5]>
-        ensures { option_copied result ≡ row_at self.now.tables.forwardings key }
+    fn forwarding(&self, key: [u64; 3]) -> Option<StoredForwarding>
+        ensures { result ≡ row_at self.now.tables.forwardings key }
     {
         let place = self.place_of_forwarding(key)?;
-        self.forwardings[place].as_ref()
+        self.forwardings[place]
     }
 
     /// Whether there is a Subscriber row with this s_id.
@@ -162,7 +165,7 @@ impl Home {
         ensures { result ≡ is_some (row_with_number self.now.tables.subscribers number) }
     {
         match &self.subscriber {
-            Some(row) => row[1] == number,
+            Some(row) => row.get(1) == number,
             None => false,
         }
     }
@@ -202,10 +205,10 @@ impl Home {
         let table = Table::of_column(column);
         let place = usize::from(column - table.first_column());
         match table {
-            Table::Subscriber => Some(self.subscriber(key[0])?[place]),
-            Table::AccessInfo => Some(self.access(key[0], key[1])?[place]),
-            Table::SpecialFacility => Some(self.facility(key[0], key[1])?[place]),
-            Table::CallForwarding => Some(self.forwarding(key)?[place]),
+            Table::Subscriber => Some(self.subscriber(key[0])?.get(place)),
+            Table::AccessInfo => Some(self.access(key[0], key[1])?.get(place)),
+            Table::SpecialFacility => Some(self.facility(key[0], key[1])?.get(place)),
+            Table::CallForwarding => Some(self.forwarding(key)?.get(place)),
         }
     }
 }

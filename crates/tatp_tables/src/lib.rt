@@ -4,7 +4,6 @@
 //! and the four sets of its rows. `docs/MODEL.md` tells the definitions in words.
 #![tactic(auto)]
 
-mod cell;
 mod digits;
 mod domain;
 mod fields;
@@ -14,6 +13,7 @@ mod letters;
 mod place;
 mod refusal;
 mod row;
+mod stored;
 mod table;
 mod text;
 mod theorems;

@@ -7,8 +7,10 @@ ghost use Rattle.tatp_tables.specs.Columns.{is_fixed, table_of};
 ghost use Rattle.tatp_tables.specs.Changes.{put_answer, put_tables, insert_answer, insert_tables, delete_answer, delete_tables, forwarding_key};
 
 use super::Home;
-use crate::cell::{put_at, put_in_cell, take_at};
 use crate::place::place_of_row;
+use crate::stored::{
+    StoredForwarding, put_access, put_facility, put_forwarding, put_subscriber, take_forwarding,
+};
 use crate::{Refusal, Table, in_domain};
 
 impl Home {
@@ -46,7 +48,7 @@ impl Home {
             return Err(Refusal::NoCurrent);
         }
         let fits = in_domain(column, value);
-        put_in_cell(&mut self.subscriber, column as usize, value, fits)
+        put_subscriber(&mut self.subscriber, column as usize, value, fits)
     }
 
     fn put_in_access(&mut self, column: u8, key: [u64; 3], value: u64) -> Result<u64, Refusal>
@@ -64,7 +66,7 @@ impl Home {
         };
         let fits = in_domain(column, value);
         let column = (column - Table::AccessInfo.first_column()) as usize;
-        put_at(&mut self.accesses, place, column, value, fits)
+        put_access(&mut self.accesses, place, column, value, fits)
     }
 
     fn put_in_facility(&mut self, column: u8, key: [u64; 3], value: u64) -> Result<u64, Refusal>
@@ -82,7 +84,7 @@ impl Home {
         };
         let fits = in_domain(column, value);
         let column = (column - Table::SpecialFacility.first_column()) as usize;
-        put_at(&mut self.facilities, place, column, value, fits)
+        put_facility(&mut self.facilities, place, column, value, fits)
     }
 
     fn put_in_forwarding(&mut self, column: u8, key: [u64; 3], value: u64) -> Result<u64, Refusal>
@@ -100,7 +102,7 @@ impl Home {
         };
         let fits = in_domain(column, value);
         let column = (column - Table::CallForwarding.first_column()) as usize;
-        put_at(&mut self.forwardings, place, column, value, fits)
+        put_forwarding(&mut self.forwardings, place, column, value, fits)
     }
 
     /// Inserts a Call_Forwarding row. Refused, in this order: [`Refusal::Domain`] where a column is
@@ -123,7 +125,7 @@ impl Home {
         if self.forwardings[place].is_some() {
             return Err(Refusal::KeyExists);
         }
-        self.forwardings[place] = Some(row);
+        self.forwardings[place] = Some(StoredForwarding::of(&row));
         Ok(())
     }
 
@@ -139,6 +141,6 @@ impl Home {
         let Some(place) = self.place_of_forwarding(key) else {
             return Err(Refusal::NoCurrent);
         };
-        take_at(&mut self.forwardings, place).ok_or(Refusal::NoCurrent)
+        take_forwarding(&mut self.forwardings, place).ok_or(Refusal::NoCurrent)
     }
 }

@@ -5,6 +5,7 @@ ghost use Rattle.std.specs.Cmp.Rules.{comparing};
 ghost use Rattle.tatp_tables.specs.Home.{same_home};
 
 use super::Home;
+use crate::stored::{accesses_in, facilities_in, forwardings_in, subscriber_in};
 
 impl PartialEq for Home {
     ghost eq = { same_home };
@@ -17,10 +18,10 @@ impl PartialEq for Home {
         ensures same { IsTrue result ↔ self.now ≡ other.now }
     {
         self.s_id == other.s_id
-            && self.subscriber == other.subscriber
-            && self.accesses == other.accesses
-            && self.facilities == other.facilities
-            && self.forwardings == other.forwardings
+            && subscriber_in(&self.subscriber) == subscriber_in(&other.subscriber)
+            && accesses_in(&self.accesses) == accesses_in(&other.accesses)
+            && facilities_in(&self.facilities) == facilities_in(&other.facilities)
+            && forwardings_in(&self.forwardings) == forwardings_in(&other.forwardings)
     }
 }
 

@@ -5,9 +5,9 @@ ghost use Rattle.tatp_tables.specs.Cells.{present};
 ghost use Rattle.tatp_tables.specs.Rows.{with_home, StartWith};
 
 use super::Home;
+use crate::stored::{accesses_in, facilities_in, forwardings_in, subscriber_in};
 use crate::{RowList, Rows};
 use std::alloc::AllocError;
-use std::slice;
 
 impl Home {
     /// Appends its rows to the lists of their tables, each table by key. An error leaves the lists
@@ -34,10 +34,10 @@ impl Home {
         ensures ok { OnOk result (rows.new ≡ with_home rows.old self.now.tables) }
         ensures err { OnErr result (StartWith rows.old rows.new) }
     {
-        append_cells(&mut rows.subscribers, slice::from_ref(&self.subscriber))?;
-        append_cells(&mut rows.accesses, &self.accesses)?;
-        append_cells(&mut rows.facilities, &self.facilities)?;
-        append_cells(&mut rows.forwardings, &self.forwardings)
+        append_cells(&mut rows.subscribers, &[subscriber_in(&self.subscriber)])?;
+        append_cells(&mut rows.accesses, &accesses_in(&self.accesses))?;
+        append_cells(&mut rows.facilities, &facilities_in(&self.facilities))?;
+        append_cells(&mut rows.forwardings, &forwardings_in(&self.forwardings))
     }
 }
 

@@ -11,6 +11,7 @@ ghost use Rattle.tatp_tables.specs.Loading.{read_until, read_with, homes_in, lis
 
 use super::Home;
 use crate::place::type_place;
+use crate::stored::{StoredAccess, StoredFacility, StoredSubscriber};
 use crate::{Rows, Table};
 use std::alloc::{AllocError, Global};
 
@@ -64,7 +65,7 @@ impl Home {
         requires free { row_at self.old.tables.subscribers (take 1 row.now) ≡ None }
         ensures { self.new ≡ home_with_row self.old Table.Subscriber row.now }
     {
-        self.subscriber = Some(*row);
+        self.subscriber = Some(StoredSubscriber::of(row));
     }
 
     fn hold_access(&mut self, row: &[u64; 6])
@@ -75,7 +76,7 @@ impl Home {
         ensures { self.new ≡ home_with_row self.old Table.AccessInfo row.now }
     {
         if let Some(place) = type_place(row[1]) {
-            self.accesses[place] = Some(*row);
+            self.accesses[place] = Some(StoredAccess::of(row));
         }
     }
 
@@ -87,7 +88,7 @@ impl Home {
         ensures { self.new ≡ home_with_row self.old Table.SpecialFacility row.now }
     {
         if let Some(place) = type_place(row[1]) {
-            self.facilities[place] = Some(*row);
+            self.facilities[place] = Some(StoredFacility::of(row));
         }
     }
 

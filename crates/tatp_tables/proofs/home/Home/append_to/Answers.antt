@@ -1,4 +1,4 @@
-use Rattle.std.proofs.Common.{ap, ◌∙◌, ◌++◌}
+use Rattle.std.proofs.Common.{ap, ◌∙◌, ◌++◌, ◌∷◌, []}
 use Rattle.tatp_tables.specs.Home.{SubscriberRows}
 use Rattle.tatp_tables.specs.Rows.{with_home}
 use Rattle.tatp_tables.specs.Cells.{present}
@@ -11,10 +11,10 @@ returns-clause-ok c =
     let r = c.args.rows.now in
     on_ok c.append_cells-4.result _ _ (λ last.
     (λ i. record {
-      subscribers = (c.in_ok-append_cells.ensures.ok ∙ ap (λ cells. r.subscribers ++ present cells) c.from_ref.ensures.value) i;
-      accesses = c.in_ok-append_cells-2.ensures.ok i;
-      facilities = c.in_ok-append_cells-3.ensures.ok i;
-      forwardings = last i;
+      subscribers = (c.in_ok-append_cells.ensures.ok ∙ ap (λ cell. r.subscribers ++ present (cell ∷ [])) c.subscriber_in.ensures) i;
+      accesses = (c.in_ok-append_cells-2.ensures.ok ∙ ap (λ cells. r.accesses ++ present cells) c.accesses_in.ensures) i;
+      facilities = (c.in_ok-append_cells-3.ensures.ok ∙ ap (λ cells. r.facilities ++ present cells) c.facilities_in.ensures) i;
+      forwardings = (last ∙ ap (λ cells. r.forwardings ++ present cells) c.forwardings_in.ensures) i;
     })
     ∙ listed f.s_id f.subscriber f.accesses f.facilities f.forwardings r c.self.invariant
     ∙ ap (λ (h : SubscriberRows). with_home r h.tables) c.self.view_is) c.append_cells-4.ensures.ok

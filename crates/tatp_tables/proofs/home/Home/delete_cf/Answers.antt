@@ -9,7 +9,7 @@ invariant_of-self c =
     let long : length c.args.key ≡ 3 = search rules in
     let f = c.self.inside in
     let own = c.in-Some.ensures.own ∙ sym (ap (λ (h : SubscriberRows). h.s_id) c.self.view_is) in
-    rw c.take_at.ensures.cells
+    rw c.take_forwarding.ensures.cells
     (delete_forwarding f.s_id f.subscriber f.accesses f.facilities f.forwardings c.args.key c.in-Some.place c.self.invariant long own c.in-Some.ensures.place).cells
 
 pub returns-clause-answer : goal.returns-clause-answer
@@ -17,8 +17,8 @@ returns-clause-answer c =
     let long : length c.args.key ≡ 3 = search rules in
     let f = c.self.inside in
     let own = c.in-Some.ensures.own ∙ sym (ap (λ (h : SubscriberRows). h.s_id) c.self.view_is) in
-    rw (← c.self.view_is) (c.ok_or.ensures.value ∙ deleted_answer c.take_at.result
-    ∙ ap delete_answer_at (c.take_at.ensures.row
+    rw (← c.self.view_is) (c.ok_or.ensures.value ∙ deleted_answer c.take_forwarding.result
+    ∙ ap delete_answer_at (c.take_forwarding.ensures.row
     ∙ sym (current_forwarding f.s_id f.subscriber f.accesses f.facilities f.forwardings c.in-Some.place c.args.key long own c.self.invariant.forwarding_places c.in-Some.ensures.place)))
 
 pub returns-clause-tables : goal.returns-clause-tables
@@ -26,7 +26,7 @@ returns-clause-tables c =
     let long : length c.args.key ≡ 3 = search rules in
     let f = c.self.inside in
     let own = c.in-Some.ensures.own ∙ sym (ap (λ (h : SubscriberRows). h.s_id) c.self.view_is) in
-    rw (← c.self.view_is, c.take_at.ensures.cells)
+    rw (← c.self.view_is, c.take_forwarding.ensures.cells)
     (delete_forwarding f.s_id f.subscriber f.accesses f.facilities f.forwardings c.args.key c.in-Some.place c.self.invariant long own c.in-Some.ensures.place).tables
 
 pub returns-clause-back : goal.returns-clause-back

@@ -11,7 +11,7 @@ invariant_of-self c =
     let long : length c.args.key ≡ 3 = search rules in
     let f = c.self.inside in
     let own = c.in-Some.ensures.own ∙ sym (ap (λ (h : SubscriberRows). h.s_id) c.self.view_is) in
-    rw (c.put_at.ensures.cells, c.first_column.ensures, c.in_domain-fits.ensures)
+    rw (c.put_forwarding.ensures.cells, c.first_column.ensures, c.in_domain-fits.ensures)
     (put_forwarding f.s_id f.subscriber f.accesses f.facilities f.forwardings c.args.column c.args.key c.args.value c.in-Some.place c.self.invariant c.requires.table c.requires.free long own c.in-Some.ensures.place).cells
 
 pub returns-clause-answer : goal.returns-clause-answer
@@ -19,7 +19,7 @@ returns-clause-answer c =
     let long : length c.args.key ≡ 3 = search rules in
     let f = c.self.inside in
     let own = c.in-Some.ensures.own ∙ sym (ap (λ (h : SubscriberRows). h.s_id) c.self.view_is) in
-    rw (← c.self.view_is) (c.put_at.ensures.answer
+    rw (← c.self.view_is) (c.put_forwarding.ensures.answer
     ∙ ap (λ first. put_answer_at (c.args.column - first) c.in_domain-fits.result (slice_index_or f.forwardings c.in-Some.place None)) c.first_column.ensures
     ∙ ap (λ fits. put_answer_at (c.args.column - 46) fits (slice_index_or f.forwardings c.in-Some.place None)) c.in_domain-fits.ensures
     ∙ sym (put_answer-found CallForwarding (tables_in f.subscriber f.accesses f.facilities f.forwardings) c.args.column c.args.key c.args.value _ c.requires.table
@@ -30,11 +30,11 @@ returns-clause-tables c =
     let long : length c.args.key ≡ 3 = search rules in
     let f = c.self.inside in
     let own = c.in-Some.ensures.own ∙ sym (ap (λ (h : SubscriberRows). h.s_id) c.self.view_is) in
-    rw (← c.self.view_is, c.put_at.ensures.cells, c.first_column.ensures, c.in_domain-fits.ensures)
+    rw (← c.self.view_is, c.put_forwarding.ensures.cells, c.first_column.ensures, c.in_domain-fits.ensures)
     (put_forwarding f.s_id f.subscriber f.accesses f.facilities f.forwardings c.args.column c.args.key c.args.value c.in-Some.place c.self.invariant c.requires.table c.requires.free long own c.in-Some.ensures.place).tables
 
 pub returns-clause-back : goal.returns-clause-back
 returns-clause-back c =
     let long : length c.args.key ≡ 3 = search rules in
-    put_undone c.args.self.now c.args.column c.args.key c.args.value c.put_at.result _ (subst IsHome c.self.view_is c.self.invariant.home) c.requires.free c.requires.column long
+    put_undone c.args.self.now c.args.column c.args.key c.args.value c.put_forwarding.result _ (subst IsHome c.self.view_is c.self.invariant.home) c.requires.free c.requires.column long
     (returns-clause-answer c) (returns-clause-tables c)

@@ -1,16 +1,17 @@
 //! What is done at the site of one partition under its lock. What the site was before isn't known,
 //! but that it was a site; so contracts say that the answer is that of some site.
-ghost use Rattle.std.specs.Prelude.{◌≡◌, ◌<◌, List, None, IfOk, IfErr, vec_len, vec_capacity};
+ghost use Rattle.std.specs.Prelude.{◌≡◌, ◌<◌, List, None, Ok, IfOk, IfErr, vec_len, vec_capacity};
+ghost use Rattle.std.specs.Result.{result_and};
 ghost use Rattle.tatp_population.specs.Extents.{ExtentState};
 ghost use Rattle.tatp_partition.specs.Moving.{LandedState, Takes, Gives};
 ghost use Rattle.tatp_partition.specs.declared.refusal.NotGiven.{NotGiven};
 ghost use Rattle.tatp_partition.specs.Obstacles.{one_obstacle};
-ghost use Rattle.tatp_partition.specs.Running.{AdvancesUnless};
+ghost use Rattle.tatp_partition.specs.Running.{AdvancesUnless, stepped_of};
 ghost use Rattle.tatp_partition.specs.Stopping.{Stops, Resumes};
 ghost use Rattle.tatp_debug.specs.Snapshots.{Looks};
 ghost use Rattle.tatp_workers.specs.FullLogs.{ChecksLog};
 ghost use Rattle.tatp_workers.specs.Offering.{Offers};
-ghost use Rattle.tatp_workers.specs.Slices.{IsSlice, logged_at, told_of};
+ghost use Rattle.tatp_workers.specs.Slices.{IsSlice, logged_at};
 ghost use Rattle.tatp_workers.specs.declared.observer.StepAhead.{StepAhead};
 ghost use Rattle.tatp_threads.specs.Locked.{OfSomeSite};
 
@@ -86,7 +87,7 @@ impl<'m> Partition<'m> {
     ) -> Result<u64, SiteRefusal>
         requires { ended.old ≡ None }
         ensures { OfSomeSite (λ s s'. (steps : List StepAhead)
-            × IsSlice client s (told_of result ended.new) s' steps
+            × IsSlice client s (result_and result (Ok (stepped_of ended.new))) s' steps
             × IfOk result (λ logged. logged ≡ logged_at s' ended.new)) }
     {
         let mut observer = Gated { gate };

@@ -5,7 +5,7 @@ use Rattle.tatp_partition.specs.declared.item.Completion.{Completion}
 use Rattle.tatp_partition.specs.declared.item.Stepped.{Stepped}
 use Rattle.tatp_partition.specs.declared.refusal.SiteRefusal.{SiteRefusal}
 use Rattle.tatp_partition.specs.Obstacles.{step_obstacle}
-use Rattle.tatp_partition.specs.Running.{GoesOn, AdvancesUnless, stepped_of}
+use Rattle.tatp_partition.specs.Running.{GoesOn, AdvancesUnless}
 use Rattle.tatp_partition.specs.Sites.{SiteState, RunningCall}
 use Rattle.tatp_workers.specs.declared.observer.StepAhead.{StepAhead}
 use Rattle.tatp_workers.specs.FullLogs.{log_length}
@@ -56,11 +56,6 @@ pub record IsSlice (client : ℕ) (s : SiteState) (answer : Result Stepped SiteR
 abbrev pub logged_at : SiteState → Option Completion → ℕ
 logged_at s None = 0
 logged_at s (Some completion) = log_length s completion.extent
-
--- the answer of the last step, by whether it was refused and which completion was left in a place
-abbrev pub told_of : Result ℕ SiteRefusal → Option Completion → Result Stepped SiteRefusal
-told_of (Ok logged) ended = Ok (stepped_of ended)
-told_of (Err refusal) ended = Err refusal
 
 -- how many entries the log has, by an answer that tells it; 0 where a step was refused
 abbrev pub logged_by : Result ℕ SiteRefusal → ℕ

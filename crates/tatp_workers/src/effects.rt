@@ -1,7 +1,9 @@
 //! What executors and the debugger do, one thing after another.
-ghost use Rattle.std.specs.Prelude.{◌≡◌, List, Option, None, [], ◌∷◌};
+ghost use Rattle.std.specs.Prelude.{◌≡◌, List, Option, None, Ok, [], ◌∷◌};
+ghost use Rattle.std.specs.Result.{result_and};
+ghost use Rattle.tatp_partition.specs.Running.{stepped_of};
 ghost use Rattle.tatp_workers.specs.Effects.{Grows, Does, Follows, receipt_of, concluding, effects_of_step};
-ghost use Rattle.tatp_workers.specs.Slices.{told_of, logged_by};
+ghost use Rattle.tatp_workers.specs.Slices.{logged_by};
 ghost use Rattle.tatp_workers.specs.declared.effects.Effect.{Effect};
 ghost use Rattle.tatp_workers.specs.declared.effects.Effect.TheVariants.{Sends, Answers, Tells, Receives, Offers, Slices, Checkpoints};
 
@@ -67,7 +69,8 @@ pub trait Executing: Answering {
     fn slice(&mut self, client: u64, ended: &mut CompletionPlace) -> Result<u64, SiteRefusal>
         requires { ended.old ≡ None }
         ensures { Grows (Self.effects self.old) (Self.effects self.new)
-            (Slices client (told_of result ended.new) (logged_by result) ∷ []) };
+            (Slices client (result_and result (Ok (stepped_of ended.new))) (logged_by result)
+                ∷ []) };
 
     /// Hands out the log of an extent at the site, where it has as many entries as a chapter has to
     /// have, or more, and keeps the chapter.

@@ -1,8 +1,10 @@
 //! What the executor of one partition does.
-ghost use Rattle.std.specs.Prelude.{◌≡◌};
+ghost use Rattle.std.specs.Prelude.{◌≡◌, Ok};
+ghost use Rattle.std.specs.Result.{result_and};
+ghost use Rattle.tatp_partition.specs.Running.{stepped_of};
 ghost use Rattle.tatp_workers.specs.Effects.{Does};
 ghost use Rattle.tatp_workers.specs.Executing.{IsOffered, ChecksFull, Completes, Finishes, RunsToItsEnd, ExecutesCall, ExecutesUntilQuit, is_not_running, is_to_go_on};
-ghost use Rattle.tatp_workers.specs.Slices.{told_of, logged_by};
+ghost use Rattle.tatp_workers.specs.Slices.{logged_by};
 
 use crate::effects::{conclude, follow};
 use crate::{Executing, Message};
@@ -72,7 +74,7 @@ fn is_not_running(refusal: &SiteRefusal) -> bool
 
 /// Whether more steps are to be made after some, which left this completion, or none.
 fn is_to_go_on(made: &Result<u64, SiteRefusal>, ended: &CompletionPlace) -> bool
-    ensures { result ≡ is_to_go_on (told_of made.now ended.now) }
+    ensures { result ≡ is_to_go_on (result_and made.now (Ok (stepped_of ended.now))) }
 {
     match made {
         Ok(_) => !ended.is_some(),
@@ -114,7 +116,9 @@ fn finish<E: Executing>(
     made: &Result<u64, SiteRefusal>,
     ended: &CompletionPlace,
 )
-    ensures { Does (Finishes partition chapter (told_of made.now ended.now) (logged_by made.now))
+    ensures { Does
+        (Finishes partition chapter (result_and made.now (Ok (stepped_of ended.now)))
+        (logged_by made.now))
         (E.effects executing.old) (E.effects executing.new) }
 {
     if let Ok(logged) = made {

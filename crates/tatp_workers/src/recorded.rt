@@ -1,14 +1,16 @@
 //! Workers' surroundings that are in memory and keep what is done. Those of threads are behind
 //! locks, where nothing is known of what is done; here it is known, so that the contracts of the
 //! workers say something, and are shown to be met.
-ghost use Rattle.std.specs.Prelude.{◌≡◌, [], ◌∷◌, List, None, false, length, vec_len, vec_capacity, ◌<◌, ◌≤◌, ◌+◌, ◌++◌};
+ghost use Rattle.std.specs.Prelude.{◌≡◌, [], ◌∷◌, List, None, Ok, false, length, vec_len, vec_capacity, ◌<◌, ◌≤◌, ◌+◌, ◌++◌};
 ghost use Rattle.tatp_population.specs.Extents.{ExtentState};
 ghost use Rattle.tatp_workers.specs.Effects.{Grows, InTurn, known_unless};
 ghost use Rattle.tatp_workers.specs.Asking.{Conversation, Converses};
 ghost use Rattle.tatp_workers.specs.Carrying.{MakesMoves};
 ghost use Rattle.tatp_workers.specs.Debugging.{IsDebugged};
 ghost use Rattle.tatp_workers.specs.Executing.{ExecutesUntilQuit};
-ghost use Rattle.tatp_workers.specs.Slices.{IsSlice, told_of};
+ghost use Rattle.std.specs.Result.{result_and};
+ghost use Rattle.tatp_partition.specs.Running.{stepped_of};
+ghost use Rattle.tatp_workers.specs.Slices.{IsSlice};
 
 use crate::{
     Answering, Carrying, Checkpointed, Debugging, Delivery, Effect, Exchange, Executing, Message,
@@ -234,7 +236,8 @@ fn slice_once(
 ) -> (Record<StepAhead>, Result<u64, SiteRefusal>)
     requires { ended.old ≡ None }
     ensures { result.0.is_lost ≡ false
-        → IsSlice client site.old (told_of result.1 ended.new) site.new result.0.kept.items }
+        → IsSlice client site.old (result_and result.1 (Ok (stepped_of ended.new))) site.new
+        result.0.kept.items }
 {
     let mut observer = Record::new(alloc);
     let made = slice(site, &mut observer, client, wanted, ended);

@@ -1,9 +1,10 @@
 //! Steps of a call under one hold of its site's lock.
-ghost use Rattle.std.specs.Prelude.{◌≡◌, None, IfOk, OnErr};
+ghost use Rattle.std.specs.Prelude.{◌≡◌, None, Ok, IfOk, OnErr};
+ghost use Rattle.std.specs.Result.{result_and};
 ghost use Rattle.tatp_partition.specs.Obstacles.{step_obstacle};
-ghost use Rattle.tatp_partition.specs.Running.{AdvancesUnless, told_in};
+ghost use Rattle.tatp_partition.specs.Running.{AdvancesUnless, stepped_of};
 ghost use Rattle.tatp_workers.specs.Effects.{Grows, Does};
-ghost use Rattle.tatp_workers.specs.Slices.{IsSlice, steps_ahead, logged_at, told_of};
+ghost use Rattle.tatp_workers.specs.Slices.{IsSlice, steps_ahead, logged_at};
 
 use crate::{Observer, StepAhead};
 use std::sync::atomic::{AtomicU64, Ordering};
@@ -27,7 +28,7 @@ fn observed_step<O: Observer>(
     ended: &mut CompletionPlace,
 ) -> Result<(), SiteRefusal>
     requires { ended.old ≡ None }
-    ensures step { AdvancesUnless (step_obstacle site.old) site.old (told_in result ended.new)
+    ensures step { AdvancesUnless (step_obstacle site.old) site.old (result_and result (Ok (stepped_of ended.new)))
         site.new }
     ensures refused { OnErr result (ended.new ≡ None) }
     ensures observed { Grows (O.observed observer.old) (O.observed observer.new)
@@ -57,7 +58,7 @@ fn make_steps<O: Observer>(
     ended: &mut CompletionPlace,
 ) -> Result<(), SiteRefusal>
     requires { ended.old ≡ None }
-    ensures { Does (IsSlice client site.old (told_in result ended.new) site.new)
+    ensures { Does (IsSlice client site.old (result_and result (Ok (stepped_of ended.new))) site.new)
         (O.observed observer.old) (O.observed observer.new) }
 {
     for _made in 0..MOST_STEPS - 1 {
@@ -94,7 +95,7 @@ pub fn slice<O: Observer>(
     ended: &mut CompletionPlace,
 ) -> Result<u64, SiteRefusal>
     requires { ended.old ≡ None }
-    ensures steps { Does (IsSlice client site.old (told_of result ended.new) site.new)
+    ensures steps { Does (IsSlice client site.old (result_and result (Ok (stepped_of ended.new))) site.new)
         (O.observed observer.old) (O.observed observer.new) }
     ensures logged { IfOk result (λ logged. logged ≡ logged_at site.new ended.new) }
 {

@@ -190,6 +190,6 @@ fn refusals_and_sizes(rt: HostRuntime) -> Result<(), Fail> {
         let given = format!(in rt.alloc(); "{refusal}")?;
         assert_eq!(rt; (*refusal as u8, given.as_str()), (*number, *text));
     }
-    assert!(rt; size_of::<Home>() <= 1536);
+    assert!(rt; size_of::<Home>() <= 640);
     Ok(())
 }

@@ -1,7 +1,8 @@
 use Rattle.std.proofs.Common.{◌≡◌, Option, None, Ok, sym, ◌∙◌, subst, arith}
+use Rattle.std.specs.Result.{result_and}
 use Rattle.tatp_partition.specs.declared.item.Completion.{Completion}
 use Rattle.tatp_partition.specs.Obstacles.{step_obstacle}
-use Rattle.tatp_partition.specs.Running.{AdvancesUnless, stepped_of, told_in}
+use Rattle.tatp_partition.specs.Running.{AdvancesUnless, stepped_of}
 use Rattle.tatp_workers.proofs.SliceLaws.{none_there, one_more, last_made}
 use Rattle.tatp_workers.proofs.slices.make_steps.Goals as goal
 
@@ -24,6 +25,6 @@ loop-made-preserved g c =
 
 pub returns : goal.returns
 returns g c =
-    last_made c.args.client c.loop-made._made c.args.site.now c.loop-made.site c.observed_step-2.new.site (told_in c.observed_step-2.result c.observed_step-2.new.ended)
+    last_made c.args.client c.loop-made._made c.args.site.now c.loop-made.site c.observed_step-2.new.site (result_and c.observed_step-2.result (Ok (stepped_of c.observed_step-2.new.ended)))
     (g.O.Observer.observed c.args.observer.now) (g.O.Observer.observed c.loop-made.observer) (g.O.Observer.observed c.observed_step-2.new.observer)
     (omega arith) c.loop-made.invariant.went_on c.observed_step-2.ensures.step c.observed_step-2.ensures.observed

@@ -6,7 +6,7 @@ use Rattle.tatp_partition.specs.declared.item.Completion.{Completion}
 use Rattle.tatp_partition.specs.declared.item.Stepped.{Stepped}
 use Rattle.tatp_partition.specs.declared.item.Stepped.TheVariants.{Moved as Did_move, Ended as Did_end}
 use Rattle.tatp_partition.specs.declared.refusal.SiteRefusal.{SiteRefusal}
-use Rattle.tatp_partition.specs.Running.{AdvancesUnless, obstacle_to, told_in}
+use Rattle.tatp_partition.specs.Running.{AdvancesUnless, obstacle_to, stepped_of}
 use Rattle.tatp_partition.specs.Sites.{SiteState}
 use Rattle.tatp_partition.specs.Sound.{IsSite}
 use Rattle.tatp_events.specs.declared.event.Answer.TheVariants.{Ended as Is_ended}
@@ -21,9 +21,9 @@ site_steps : (v : Vec SiteState Global) (p : ℕ) (obstacle : SiteState → Opti
     → StepsAt obstacle v.items p stepped (with_item v p s').items
 site_steps v p obstacle s s' stepped here steps whole = record { before = s; after_it = s'; site = here; steps = steps; whole = whole; after = refl }
 
-end_told_of : (v : Vec SiteState Global) (p : ℕ) (obstacle : SiteState → Option SiteRefusal) (s' : SiteState) (ended : Option Completion) (completion : Completion) → ended ≡ Some completion → StepsAt obstacle v.items p (told_in (Ok tt) ended) (with_item v p s').items
+end_told_of : (v : Vec SiteState Global) (p : ℕ) (obstacle : SiteState → Option SiteRefusal) (s' : SiteState) (ended : Option Completion) (completion : Completion) → ended ≡ Some completion → StepsAt obstacle v.items p (Ok (stepped_of ended)) (with_item v p s').items
     → StepsAt obstacle v.items p (Ok (Did_end completion)) (with_item v p s').items
-end_told_of v p obstacle s' ended completion is h = subst (λ (t : Option Completion). StepsAt obstacle v.items p (told_in (Ok tt) t) (with_item v p s').items) is h
+end_told_of v p obstacle s' ended completion is h = subst (λ (t : Option Completion). StepsAt obstacle v.items p (Ok (stepped_of t)) (with_item v p s').items) is h
 
 pub returns-then-p-len : goal.returns-then-p-len
 returns-then-p-len c = rw (← c.self.view_is) ((no_site (world_of c.self.inside) c.args.p (obstacle_to c.args.kind) (omega arith), refl), told_same (world_of c.self.inside) (world_of c.self.inside) NoPartition c.self.invariant.world refl)
@@ -44,7 +44,7 @@ invariant_of-self c =
 
 -- ---- it goes on
 moved : (c : goal.In-None) → StepsAt (obstacle_to c.args.kind) c.self.inside.sites.items c.args.p (Ok Did_move) (with_item c.self.inside.sites c.args.p c.step_into.new.self).items
-moved c = subst (λ (t : Option Completion). StepsAt (obstacle_to c.args.kind) c.self.inside.sites.items c.args.p (told_in (Ok tt) t) (with_item c.self.inside.sites c.args.p c.step_into.new.self).items) (sym c.get.ensures ∙ ap option_copied c.in-None.is) (site_steps c.self.inside.sites c.args.p (obstacle_to c.args.kind) c.index_mut.result.now c.step_into.new.self _ (slice_get_read c.self.inside.sites.items (length c.self.inside.sites.items) c.args.p c.index_mut.result.now refl (omega arith) c.index_mut.ensures.value) c.in-Ok.ensures.steps c.in-Ok.ensures.site)
+moved c = subst (λ (t : Option Completion). StepsAt (obstacle_to c.args.kind) c.self.inside.sites.items c.args.p (Ok (stepped_of t)) (with_item c.self.inside.sites c.args.p c.step_into.new.self).items) (sym c.get.ensures ∙ ap option_copied c.in-None.is) (site_steps c.self.inside.sites c.args.p (obstacle_to c.args.kind) c.index_mut.result.now c.step_into.new.self _ (slice_get_read c.self.inside.sites.items (length c.self.inside.sites.items) c.args.p c.index_mut.result.now refl (omega arith) c.index_mut.ensures.value) c.in-Ok.ensures.steps c.in-Ok.ensures.site)
 
 pub invariant_of-self-in-None : goal.invariant_of-self-in-None
 invariant_of-self-in-None c =

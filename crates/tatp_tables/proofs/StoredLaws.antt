@@ -1,30 +1,13 @@
--- The columns of a Subscriber row as a home keeps it: two, then thirty small ones, then two.
-use Rattle.std.specs.Prelude.{◌≡◌, ℕ, zero, suc, ◌+◌, ◌-◌, ◌<◌, ◌≤◌, List, [], ◌∷◌, ◌++◌, length, slice_set, slice_index, slice_index_or}
+-- The columns of a Subscriber row as a home keeps it: two, then thirty small ones, then two. Lists
+-- that are filled from the front.
+use Rattle.std.specs.Prelude.{◌≡◌, ℕ, zero, suc, ◌+◌, ◌-◌, ◌<◌, List, [], ◌∷◌, ◌++◌, length, slice_set, slice_index, slice_index_or}
 use Rattle.std.proofs.Common.{refl, sym, ap, ◌∙◌, arith, inl, inr}
-use Rattle.std.proofs.lemmas.List.{set-append_left, set-append_right, get_or_append_left, get_or-append_right, get_or-set_same, get_or-set_other, length-set, same_lists, get_or_default}
+use Rattle.std.proofs.lemmas.List.{get_or_append_left, get_or-append_right, get_or-set_same, get_or-set_other, length-set, same_lists, get_or_default}
 use Rattle.std.proofs.lemmas.Grind.{get_or_default_zero}
 use Rattle.std.proofs.lemmas.Bool.{cases_lt, cases_eq}
 
 abbrev pub columns_of : (s n : ℕ) (small : List ℕ) (m v : ℕ) → List ℕ
 columns_of s n small m v = s ∷ n ∷ (small ++ m ∷ v ∷ [])
-
-pub small_put : (s n : ℕ) (small : List ℕ) (m v place x : ℕ) → length small ≡ 30 → 2 ≤ place → place < 32 → columns_of s n (slice_set small (place - 2) x) m v ≡ slice_set (columns_of s n small m v) place x
-small_put s n small m v zero x long le lt = absurd (omega arith)
-small_put s n small m v (suc zero) x long le lt = absurd (omega arith)
-small_put s n small m v (suc (suc k)) x long le lt =
-    let e : suc (suc k) - 2 ≡ k = omega arith in
-    let within : k < length small = omega (arith, long) in
-    ap (λ j. columns_of s n (slice_set small j x) m v) e ∙ ap (λ more. s ∷ n ∷ more) (sym (set-append_left small (m ∷ v ∷ []) k x within))
-
-pub vlr_put : (s n : ℕ) (small : List ℕ) (m v x : ℕ) → length small ≡ 30 → columns_of s n small m x ≡ slice_set (columns_of s n small m v) 33 x
-vlr_put s n small m v x long =
-    let le : 30 ≤ 31 = omega arith in
-    ap (λ more. s ∷ n ∷ more) (sym (set-append_right small (m ∷ v ∷ []) 30 31 x long le))
-
-pub msc_put : (s n : ℕ) (small : List ℕ) (m v x : ℕ) → length small ≡ 30 → columns_of s n small x v ≡ slice_set (columns_of s n small m v) 32 x
-msc_put s n small m v x long =
-    let le : 30 ≤ 30 = omega arith in
-    ap (λ more. s ∷ n ∷ more) (sym (set-append_right small (m ∷ v ∷ []) 30 30 x long le))
 
 length_append : (small : List ℕ) (m v n : ℕ) → length small ≡ n → length (small ++ m ∷ v ∷ []) ≡ n + 2
 length_append [] m v n e = omega (arith, e)
@@ -59,6 +42,7 @@ column_at row small (suc (suc i)) long same lt =
           get_or-append_right small last 30 i 0 long more ∙ last_two row (i - 30) short ∙ ap (λ k. slice_index row k) back
     ]
 
+-- the columns of a row, taken apart and put together
 pub columns_are : (row small : List ℕ) → length row ≡ 34 → length small ≡ 30 → ((i : ℕ) → i < 30 → slice_index small i ≡ slice_index row (i + 2))
     → columns_of (slice_index row 0) (slice_index row 1) small (slice_index row 32) (slice_index row 33) ≡ row
 columns_are row small l long same =

@@ -51,6 +51,7 @@ impl StoredSubscriber {
     pub fn columns(&self) -> [u64; 34]
         ensures { result ≡ self.now }
     {
+        // The prover learns from it that there are 34 columns.
         let _ = &self.small;
         let mut columns = [0; 34];
         for place in 0..34 {

@@ -70,7 +70,7 @@ pub trait Executing: Answering {
         requires { ended.old ≡ None }
         ensures { Grows (Self.effects self.old) (Self.effects self.new)
             (Slices client (result_and result (Ok (stepped_of ended.new))) (logged_by result)
-                ∷ []) };
+            ∷ []) };
 
     /// Hands out the log of an extent at the site, where it has as many entries as a chapter has to
     /// have, or more, and keeps the chapter.

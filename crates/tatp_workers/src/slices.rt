@@ -28,8 +28,8 @@ fn observed_step<O: Observer>(
     ended: &mut CompletionPlace,
 ) -> Result<(), SiteRefusal>
     requires { ended.old ≡ None }
-    ensures step { AdvancesUnless (step_obstacle site.old) site.old (result_and result (Ok (stepped_of ended.new)))
-        site.new }
+    ensures step { AdvancesUnless (step_obstacle site.old) site.old
+        (result_and result (Ok (stepped_of ended.new))) site.new }
     ensures refused { OnErr result (ended.new ≡ None) }
     ensures observed { Grows (O.observed observer.old) (O.observed observer.new)
         (steps_ahead site.old client) }
@@ -58,7 +58,8 @@ fn make_steps<O: Observer>(
     ended: &mut CompletionPlace,
 ) -> Result<(), SiteRefusal>
     requires { ended.old ≡ None }
-    ensures { Does (IsSlice client site.old (result_and result (Ok (stepped_of ended.new))) site.new)
+    ensures { Does
+        (IsSlice client site.old (result_and result (Ok (stepped_of ended.new))) site.new)
         (O.observed observer.old) (O.observed observer.new) }
 {
     for _made in 0..MOST_STEPS - 1 {
@@ -95,7 +96,8 @@ pub fn slice<O: Observer>(
     ended: &mut CompletionPlace,
 ) -> Result<u64, SiteRefusal>
     requires { ended.old ≡ None }
-    ensures steps { Does (IsSlice client site.old (result_and result (Ok (stepped_of ended.new))) site.new)
+    ensures steps { Does
+        (IsSlice client site.old (result_and result (Ok (stepped_of ended.new))) site.new)
         (O.observed observer.old) (O.observed observer.new) }
     ensures logged { IfOk result (λ logged. logged ≡ logged_at site.new ended.new) }
 {

@@ -24,7 +24,8 @@ impl Model for StoredFacility {
 
     ghost Value = { List ℕ };
 
-    ghost view = { λ a. a.s_id ∷ a.sf_type ∷ a.is_active ∷ a.error_cntrl ∷ a.data_a ∷ a.data_b ∷ [] };
+    ghost view = { λ a.
+        a.s_id ∷ a.sf_type ∷ a.is_active ∷ a.error_cntrl ∷ a.data_a ∷ a.data_b ∷ [] };
 
     ghost inverse = { λ row. record {
       data_b = slice_index row 5;

@@ -1,3 +1,3 @@
-pub mod RefusalLaws
+mod RefusalLaws
 pub mod SendingLaws
 pub mod SeatLaws

@@ -1,16 +1,13 @@
 -- Why a run is refused.
-use Rattle.std.proofs.Common.{◌≡◌, ◌⊎◌, ℕ, ◌<◌, ◌≤◌, ◌^◌, Bool, true, false, cond, List, [], ◌∷◌, map, length, Option, Some, None, Vec, sym, ap, ◌∙◌, subst, arith, inl, inr}
+use Rattle.std.proofs.Common.{◌≡◌, ◌⊎◌, Bool, true, false, cond, List, [], ◌∷◌, map, Option, Some, None, Vec, sym, subst, inl, inr}
 use Rattle.std.specs.Option.{option_map}
 use Rattle.std.specs.declared.alloc.Global.{Global}
-use Rattle.std.proofs.lemmas.List.FromFn.{length-map-range_with_len}
 use Rattle.tatp_encoding.specs.Modules.{ModuleState}
-use Rattle.tatp_tables.specs.Database.{Database}
 use Rattle.tatp_tables.specs.declared.row.Rows.{Rows}
 use Rattle.tatp_procs.specs.declared.ask.Ask.{Ask}
 use Rattle.tatp_procs.specs.declared.domains.BadArgument.{BadArgument as Bad}
 use Rattle.tatp_procs.specs.Asked.{has_procedure, bad_argument}
-use Rattle.tatp_population.specs.Extents.{ExtentState}
-use Rattle.tatp_population.specs.Opening.{RefusesRows, extent_count, homes_of_extent, opened_extent, opened_extents}
+use Rattle.tatp_population.specs.Opening.{RefusesRows}
 use Rattle.tatp_population.specs.declared.open_error.OpenError.{OpenError}
 use Rattle.tatp_population.specs.declared.open_error.OpenError.TheVariants as opening
 use Rattle.tatp_threads.specs.declared.refusal.RunRefusal.{RunRefusal}
@@ -22,11 +19,6 @@ pub opening_refused : (modul : ModuleState) (rows : Rows) (lists : List (Vec Ask
 opening_refused modul rows lists opening.TooMany h = h
 opening_refused modul rows lists (opening.NotClean verdict) h = h
 opening_refused modul rows lists opening.NoMemory h = h
-
-pub few_extents : (u : Database) (n : ℕ) (extents : List ExtentState) → extents ≡ opened_extents u n → n ≤ 1000000 → length extents < 2 ^ 32
-few_extents u n extents is few =
-    let count : length extents ≡ extent_count n = ap length is ∙ length-map-range_with_len (λ (e : ℕ). opened_extent e (homes_of_extent u n e)) 1 (extent_count n) in
-    omega arith
 
 -- ---- the calls
 -- the refusals that a call may meet

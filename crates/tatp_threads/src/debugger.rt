@@ -4,7 +4,8 @@ use crate::admission::Arities;
 use crate::shared::Shared;
 use std::sync::Wait;
 use tatp_partition::{SiteRefusal, Stepped};
-use tatp_workers::{Answering, Debugging, Delivery, Gate, debug_run};
+use tatp_slices::Gate;
+use tatp_workers::{Answering, Debugging, Delivery, debug_run};
 
 /// The sites under their locks, and the mailboxes.
 #[derive(Drop)]

@@ -1,15 +1,14 @@
 //! The executor of one partition.
 
 use crate::admission::{Arities, Port, Reader};
-use crate::partition::Partition;
 use crate::reserved::ExecutorSeat;
 use crate::shared::Shared;
 use std::sync::Wait;
+use tatp_locks::Partition;
 use tatp_partition::{CompletionPlace, Item, SiteRefusal};
 use tatp_population::Chapter;
-use tatp_workers::{
-    Answering, Checkpointed, Delivery, Executing, Gate, Message, Offered, take_calls,
-};
+use tatp_slices::{Checkpointed, Gate, Offered};
+use tatp_workers::{Answering, Delivery, Executing, Message, take_calls};
 
 /// An executor's partition, the reader of its inbox, its ends at all inboxes and the chapters that
 /// it keeps, with what the threads share.

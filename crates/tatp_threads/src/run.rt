@@ -5,7 +5,6 @@ ghost use Rattle.tatp_threads.specs.Calls.{obstacle_among, opening_refusal, AreO
 
 use crate::admission::Arities;
 use crate::calls::obstacle_among;
-use crate::partition::Partition;
 use crate::reserved::{ClientSeat, Reserved};
 use crate::shared::Shared;
 use crate::starting::{Crew, run_threads};
@@ -15,13 +14,15 @@ use std::marker::Brand;
 use std::sync::{Mutex, Wait};
 use std::thread::Threads;
 use tatp_loader::Loaded;
+use tatp_locks::Partition;
 use tatp_move::Routes;
 use tatp_numbers::Directory;
 use tatp_partition::{Receipt, Site, close_sites, discard_parcels, open_sites};
 use tatp_population::{Chapter, OpenError, discard, open};
 use tatp_procs::Ask;
+use tatp_slices::Gate;
 use tatp_tables::Rows;
-use tatp_workers::{Gate, Moves};
+use tatp_workers::Moves;
 
 /// Why a run is refused whose rows aren't opened.
 fn refusal_of(error: OpenError) -> RunRefusal

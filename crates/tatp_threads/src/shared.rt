@@ -2,10 +2,10 @@
 ghost use Rattle.tatp_threads.specs.Inboxes.{SendsCall};
 
 use crate::admission::{Admission, Arities, Port};
-use crate::partition::Partition;
 use std::alloc::Global;
 use std::sync::{Mutex, Wait};
 use tatp_inboxes::Mailbox;
+use tatp_locks::Partition;
 use tatp_move::Routes;
 use tatp_numbers::Directory;
 use tatp_partition::Item;

@@ -15,7 +15,8 @@ use std::thread;
 use std::thread::Threads;
 use tatp_partition::Parcel;
 use tatp_procs::Ask;
-use tatp_workers::{Gate, Message};
+use tatp_slices::Gate;
+use tatp_workers::Message;
 
 /// What the threads start with: an end at each inbox, by which it gets Quit, the executors' seats,
 /// and what each client asks.

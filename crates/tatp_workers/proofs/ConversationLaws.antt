@@ -5,9 +5,9 @@ use Rattle.tatp_procs.specs.declared.ask.Ask.{Ask}
 use Rattle.tatp_numbers.specs.Listing.{Listing}
 use Rattle.tatp_partition.specs.declared.receipt.Receipt.{Receipt}
 use Rattle.tatp_workers.specs.declared.client.Exchange.{Exchange}
-use Rattle.tatp_workers.specs.Effects.{Grows}
+use Rattle.tatp_slices.specs.Growing.{Grows}
 use Rattle.tatp_workers.specs.Asking.{Conversation, Answered, Converses, item_of, seen_after, with_receipt}
-use Rattle.tatp_workers.proofs.EffectLaws.{grown_twice, not_grown}
+use Rattle.tatp_slices.proofs.GrowthLaws.{grown_twice, not_grown}
 
 -- what a client has asked and got so far, from these exchanges and receipts to those
 abbrev pub Conversed : Listing → ℕ → List Ask → ℕ → ℕ → Option (List Exchange) → Option (List Exchange) → List Receipt → List Receipt → Type 0

@@ -1,5 +1,5 @@
--- What workers put and get, where that is known.
-use Rattle.std.specs.Prelude.{◌≡◌, ℕ, zero, suc, List, [], ◌∷◌, ◌++◌, Bool, true, false, Option, Some, None, Result, Ok, Err, slice_get}
+-- What executors and the debugger do, one thing after another.
+use Rattle.std.specs.Prelude.{◌≡◌, ℕ, List, [], ◌∷◌, Bool, true, false, Result, Ok, Err}
 use Rattle.tatp_partition.specs.declared.item.Item.{Item}
 use Rattle.tatp_partition.specs.declared.item.Completion.{Completion}
 use Rattle.tatp_partition.specs.declared.item.Stepped.{Stepped}
@@ -10,35 +10,9 @@ use Rattle.tatp_partition.specs.declared.receipt.Receipt.TheVariants.{Done, Refu
 use Rattle.tatp_workers.specs.declared.delivery.Delivery.TheVariants.{Got, Dropped}
 use Rattle.tatp_workers.specs.declared.effects.Effect.{Effect}
 use Rattle.tatp_workers.specs.declared.effects.Effect.TheVariants.{Sends, Answers, Tells}
-use Rattle.tatp_workers.specs.declared.offers.Offered.{Offered}
-use Rattle.tatp_workers.specs.declared.offers.Offered.TheVariants as offered
+use Rattle.tatp_slices.specs.declared.offers.Offered.{Offered}
+use Rattle.tatp_slices.specs.declared.offers.Offered.TheVariants as offered
 
--- a list grows at its end, where it is known afterwards; what wasn't known stays unknown
-abbrev pub Grows : {A : Type 0} → Option (List A) → Option (List A) → List A → Type 0
-Grows before None more = Unit {0}
-Grows None (Some after) more = ⊥
-Grows (Some before) (Some after) more = after ≡ before ++ more
-
--- such things are done, and they are all by which a list grows
-abbrev pub Does : {A : Type 0} → (List A → Type 0) → Option (List A) → Option (List A) → Type 0
-Does {A = A} AreSuch before after = (more : List A) × AreSuch more × Grows before after more
-
--- what is known of a list that is kept, unless some of it was lost
-abbrev pub known_unless : {A : Type 0} → Bool → List A → Option (List A)
-known_unless true kept = None
-known_unless false kept = Some kept
-
--- of some things the first, so many, were dealt with one after another, each as it is to be
-abbrev pub InTurn : {A E : Type 0} → (A → List E → Type 0) → List A → ℕ → List E → Type 0
-InTurn IsDealtWith things zero effects = effects ≡ []
-InTurn {A = A} {E = E} IsDealtWith things (suc n) effects =
-    (before : List E) × (these : List E) × (thing : A)
-    × InTurn IsDealtWith things n before
-    × (slice_get things n ≡ Some thing)
-    × IsDealtWith thing these
-    × (effects ≡ before ++ these)
-
--- ---- executors and the debugger
 -- the receipt of a completed call: what its entry says, and in which extent's log it stands
 abbrev pub receipt_of : Completion → Receipt
 receipt_of c = Done c.entry.client c.entry.number c.entry.reply c.extent c.entry.stamp

@@ -1,7 +1,4 @@
 pub mod Effects
-pub mod Offering
-pub mod FullLogs
-pub mod Slices
 pub mod Asking
 pub mod Executing
 pub mod Debugging

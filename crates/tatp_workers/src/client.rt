@@ -1,6 +1,6 @@
 //! What a client does: it asks its calls one after another.
 ghost use Rattle.std.specs.Prelude.{◌≡◌, ◌+◌, ◌++◌, ◌∷◌, [], ◌≤◌, List, Option, None, length, vec_len, vec_capacity};
-ghost use Rattle.tatp_workers.specs.Effects.{Grows};
+ghost use Rattle.tatp_slices.specs.Growing.{Grows};
 ghost use Rattle.tatp_workers.specs.declared.client.Exchange.{Exchange};
 ghost use Rattle.tatp_workers.specs.Asking.{Converses, Conversation, item_of, seen_after};
 

@@ -1,8 +1,5 @@
 //! Chapters that executors keep while calls run.
 
-use super::events::{are_few, readings};
-use super::rows::clean_rows;
-use super::sites::module;
 use std::alloc::Global;
 use std::sync::Wait;
 use std::test::*;
@@ -10,6 +7,9 @@ use std::thread::Threads;
 use tatp_audits::audit;
 use tatp_bench::settle_run;
 use tatp_population::Chapter;
+use tatp_settle_tests::events::{are_few, readings};
+use tatp_settle_tests::rows::clean_rows;
+use tatp_settle_tests::sites::module;
 use tatp_threads::{Moves, NoGate, run_calls};
 
 /// Whom three clients ask, of 130 subscribers: one who isn't there, and then five times one of

@@ -2,8 +2,7 @@
 //! after another in that order, get the same replies and leave the same rows.
 ghost use Rattle.std.specs.Prelude.{◌≡◌, ◌≤◌, length, vec_len};
 
-use super::rows::clean_rows;
-use super::sites::{module, unpack};
+use super::threads::unpack;
 use std::alloc::{AllocError, Global};
 use std::process::Abort;
 use std::sync::Wait;
@@ -13,6 +12,8 @@ use std::thread::Threads;
 use tatp_dispatch::World;
 use tatp_partition::{Receipt, Site, close_sites};
 use tatp_procs::{Ask, Call};
+use tatp_settle_tests::rows::clean_rows;
+use tatp_settle_tests::sites::module;
 use tatp_tables::Rows;
 use tatp_threads::{Gate, Moves, Ran, run_calls};
 

@@ -2,18 +2,36 @@
 //! copied out of locked sites.
 ghost use Rattle.std.specs.Prelude.{◌≡◌, ◌≤◌, length, vec_len};
 
-use super::rows::clean_rows;
-use super::sites::{module, unpack};
 use std::alloc::{AllocError, Global};
 use std::process::Abort;
 use std::sync::{Mutex, Wait};
 use std::test::*;
 use std::thread::Threads;
-use tatp_partition::Site;
+use tatp_partition::{Receipt, Site};
 use tatp_population::ExtentParts;
 use tatp_procs::{Ask, Call, Reply};
-use tatp_settle::Receipt;
-use tatp_threads::{Gate, Moves, NoGate, Ran, copy_extent, run_calls};
+use tatp_settle_tests::rows::clean_rows;
+use tatp_settle_tests::sites::{module, spend_parcels};
+use tatp_threads::{Gate, Moves, NoGate, Ran, RanParts, copy_extent, discard_chapters, run_calls};
+
+/// What a run of threads leaves: its sites, how many parcels, which are spent with its chapters,
+/// and its receipts.
+pub fn unpack<'m>(ran: Ran<'m>) -> (Vec<Site<'m>>, usize, Vec<Vec<Receipt>>)
+    requires { vec_len ran.parts.landings ≡ 0 }
+{
+    let RanParts {
+        sites,
+        parcels,
+        landings,
+        chapters,
+        receipts,
+    } = ran.parts();
+    landings.destroy_empty();
+    discard_chapters(chapters);
+    let parcels_left = parcels.len();
+    spend_parcels(parcels);
+    (sites, parcels_left, receipts)
+}
 
 /// Moves to both partitions and to none, and stops of each.
 fn moves_and_stops(alloc: Global) -> Result<Moves, AllocError> {

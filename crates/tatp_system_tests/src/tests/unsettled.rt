@@ -1,8 +1,5 @@
 //! Runs that `bench` doesn't settle, each told with its own cause.
 
-use super::events::{Event, Left, are_few, left_at, readings};
-use super::rows::clean_rows;
-use super::sites::{module, spend_parcels};
 use std::alloc::{AllocError, Global};
 use std::test::*;
 use std::thread::Threads;
@@ -10,6 +7,9 @@ use tatp_audits::audit;
 use tatp_bench::{BenchFault, settle_run};
 use tatp_partition::{close_sites, discard_all};
 use tatp_settle::Settled;
+use tatp_settle_tests::events::{Event, Left, are_few, left_at, readings};
+use tatp_settle_tests::rows::clean_rows;
+use tatp_settle_tests::sites::{module, spend_parcels};
 use tatp_threads::RanParts;
 
 /// What is told of a run at one site, in which the first client asked one subscriber and got

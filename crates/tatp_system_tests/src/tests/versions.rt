@@ -1,7 +1,5 @@
 //! Modules of either version in the whole: the standard module as it was in version 1, and
 //! procedures with LOOP.
-use super::rows::clean_rows;
-use super::sites::module;
 use std::alloc::{AllocError, Global};
 use std::test::Fail;
 use tatp_assembly::{AssemblyFault, module_of_text};
@@ -10,6 +8,8 @@ use tatp_loader::{LoadFault, LoadFaultKind, Loaded, save};
 use tatp_numbers::Key;
 use tatp_partition::SiteRefusal;
 use tatp_procs::{Ask, Raw, Reply, STANDARD, STANDARD_1, is_standard, read_call, reply_text};
+use tatp_settle_tests::rows::clean_rows;
+use tatp_settle_tests::sites::module;
 use tatp_tables::{Row, Rows};
 
 /// A call line and the line of its reply, or `none` where it isn't run.

@@ -1,9 +1,9 @@
 //! A population that is opened, and gathered with a parcel in hand.
 
-use super::rows::clean_rows;
-use super::sites::module;
 use std::test::Fail;
 use tatp_dispatch::{Event, World};
+use tatp_settle_tests::rows::clean_rows;
+use tatp_settle_tests::sites::module;
 use tatp_tables::Rows;
 
 /// The s_id of the Subscriber row in a place.

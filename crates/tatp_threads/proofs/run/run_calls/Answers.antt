@@ -3,10 +3,11 @@ use Rattle.std.proofs.lemmas.Result.{IfErr-weaker}
 use Rattle.tatp_tables.specs.Database.{database_of}
 use Rattle.tatp_population.specs.Extents.{ExtentState}
 use Rattle.tatp_population.specs.Opening.{opened_extents}
+use Rattle.tatp_population.proofs.OpeningLaws.{few_extents}
 use Rattle.tatp_partition.specs.Opening.{AreNumbered}
 use Rattle.tatp_partition.proofs.NumberLaws.{opened_are_numbered}
 use Rattle.tatp_threads.specs.Calls.{AreOpened, RefusesRun, obstacle_among}
-use Rattle.tatp_threads.proofs.RefusalLaws.{opening_refused, call_refused, end_refused, few_extents}
+use Rattle.tatp_threads.proofs.RefusalLaws.{opening_refused, call_refused, end_refused}
 use Rattle.tatp_threads.proofs.run.run_calls.Goals as goal
 
 pub returns-in-Err-clause-refusal : goal.returns-in-Err-clause-refusal

@@ -1,0 +1,2 @@
+pub mod Locked
+pub mod Copies

@@ -1,0 +1,12 @@
+//! Tests, and what is told of a run.
+mod calls;
+mod chapters;
+mod checkpoints;
+mod entries;
+mod extents;
+mod gathering;
+mod moves;
+mod routes;
+mod settled;
+mod stops;
+mod told;

@@ -1,0 +1,2 @@
+pub mod GrowthLaws
+pub mod SliceLaws

@@ -1,0 +1,4 @@
+pub mod Growing
+pub mod Offering
+pub mod FullLogs
+pub mod Slices

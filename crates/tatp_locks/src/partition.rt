@@ -30,6 +30,7 @@ use tatp_slices::{Checkpointed, Gate, Gated, Offered, checkpoint_full, is_wanted
 /// One partition: its site under its lock, how many other threads want that lock, and where its
 /// executor leaves its chapters at the end.
 pub struct Partition<'m> {
+    /// Its number.
     pub number: u8,
     site: Mutex<Site<'m>>,
     wanted: AtomicU64,

@@ -3,7 +3,7 @@ use Rattle.std.specs.Prelude.{◌≡◌, ℕ, ◌-◌, false, [], ◌++◌, leng
 use Rattle.std.proofs.Common.{ap, refl, arith}
 use Rattle.std.proofs.lemmas.List.{append-nil}
 use Rattle.std.specs.Fmt.{padded_integral, number_padding, char_count, styled_decimal, format_spec}
-use Rattle.tatp_tables.specs.Text.{fifteen_digits}
+use Rattle.tatp_texts.specs.Text.{fifteen_digits}
 
 -- what `{:015}` writes of a number
 pub fifteen_digits_written : (n : ℕ) → styled_decimal (format_spec 32 0 4 15 18446744073709551615) n ≡ fifteen_digits n

@@ -1,6 +1,6 @@
 -- The text of a verdict: docs/FORMATS.md, "Verdicts".
 use Rattle.std.specs.Prelude.{ℕ, List, ◌++◌, slice_index, codes, decimal}
-use Rattle.tatp_tables.specs.Text.{fifteen_digits}
+use Rattle.tatp_texts.specs.Text.{fifteen_digits}
 use Rattle.tatp_audits.specs.declared.verdict.FailedKey.{FailedKey}
 use Rattle.tatp_audits.specs.declared.verdict.FailedKey.TheVariants.{S, A, F, C}
 use Rattle.tatp_audits.specs.declared.verdict.Verdict.{Verdict}

@@ -6,12 +6,13 @@ ghost use Rattle.tatp_debug.specs.Snapshots.{IsSnapshot, Looks, name_of, registe
 
 use crate::{CurrentKeys, Snapshot};
 use arrayvec::ArrayString;
+use tatp_homes::Home;
 use tatp_instr::text;
 use tatp_loader::Loaded;
 use tatp_machine::Machine;
 use tatp_partition::{Site, SiteRefusal};
 use tatp_procs::Outputs;
-use tatp_tables::{Home, Table};
+use tatp_tables::Table;
 
 /// The state of the running call: [`SiteRefusal::NotRunning`] where none runs.
 pub fn look(site: &Site<'_>) -> Result<Snapshot, SiteRefusal>

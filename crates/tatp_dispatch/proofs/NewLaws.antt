@@ -11,10 +11,10 @@ use Rattle.tatp_tables.specs.Tuples.{Tuple, has, set_of}
 use Rattle.tatp_tables.specs.Keys.{has_key}
 use Rattle.tatp_tables.specs.Clean.{IsClean}
 use Rattle.tatp_tables.specs.Database.{Database, database_of, in_table, of_subscriber}
-use Rattle.tatp_tables.specs.Home.{SubscriberRows, home_in as home_in_database}
+use Rattle.tatp_homes.specs.Home.{SubscriberRows, home_in as home_in_database}
 use Rattle.tatp_tables.specs.declared.row.Rows.{Rows}
 use Rattle.tatp_tables.specs.declared.table.Table.{Table}
-use Rattle.tatp_tables.proofs.SubscriberLaws.{has-rows_with_s_id, in_table-of_subscriber}
+use Rattle.tatp_homes.proofs.SubscriberLaws.{has-rows_with_s_id, in_table-of_subscriber}
 use Rattle.tatp_numbers.specs.declared.key.Key.{Key}
 use Rattle.tatp_numbers.specs.Homes.{home_of_key}
 use Rattle.tatp_numbers.specs.Listing.{Listing, answer}

@@ -6,7 +6,7 @@ use Rattle.std.proofs.Common.{refl, sym, ap, subst, ◌∙◌, arith}
 use Rattle.std.proofs.lemmas.Option.{IfSome_then}
 use Rattle.std.proofs.lemmas.Slice.Eq.{bytes_eq-Decides}
 use Rattle.tatp_lines.specs.Lines.{lines_of}
-use Rattle.tatp_tables.specs.Text.{row_of}
+use Rattle.tatp_texts.specs.Text.{row_of}
 use Rattle.tatp_tables.specs.declared.row.Row.{Row}
 use Rattle.tatp_tables.specs.declared.row.Rows.{Rows}
 use Rattle.tatp_population.specs.PopulationText.{on_rows, row_first, in_tables}

@@ -12,7 +12,8 @@ use crate::text::is_dot;
 use std::alloc::Global;
 use std::io::Read;
 use tatp_streams::{LineReader, MOST_BYTES, text_of};
-use tatp_tables::{Row, Rows, read_row};
+use tatp_tables::{Row, Rows};
+use tatp_texts::read_row;
 
 /// The rows of the lines before a line `.` or the end.
 #[derive(Drop)]

@@ -1,5 +1,6 @@
 //! What is done at the site of one partition under its lock. What the site was before isn't known,
 //! but that it was a site; so contracts say that the answer is that of some site.
+ghost use Rattle.std.specs.Fn.{FnOnceReturnsAt};
 ghost use Rattle.std.specs.Prelude.{◌≡◌, ◌<◌, List, None, Ok, IfOk, IfErr, vec_len, vec_capacity};
 ghost use Rattle.std.specs.Result.{result_and};
 ghost use Rattle.tatp_population.specs.Extents.{ExtentState};
@@ -8,7 +9,6 @@ ghost use Rattle.tatp_partition.specs.declared.refusal.NotGiven.{NotGiven};
 ghost use Rattle.tatp_partition.specs.Obstacles.{one_obstacle};
 ghost use Rattle.tatp_partition.specs.Running.{AdvancesUnless, stepped_of};
 ghost use Rattle.tatp_partition.specs.Stopping.{Stops, Resumes};
-ghost use Rattle.tatp_debug.specs.Snapshots.{Looks};
 ghost use Rattle.tatp_slices.specs.FullLogs.{ChecksLog};
 ghost use Rattle.tatp_slices.specs.Offering.{Offers};
 ghost use Rattle.tatp_slices.specs.Slices.{IsSlice, logged_at};
@@ -19,7 +19,6 @@ use std::alloc::Global;
 use std::sync::atomic::{AtomicU64, Ordering};
 use std::sync::{Mutex, Wait};
 use std::{mem, thread};
-use tatp_debug::{Snapshot, look};
 use tatp_partition::{
     CompletionPlace, Item, Landed, NotGiven, Parcel, Site, SiteRefusal, Stepped, discard_all,
     what_holds_of_every_site,
@@ -181,14 +180,15 @@ impl<'m> Partition<'m> {
         stopped
     }
 
-    /// Looks at the running call.
-    pub fn look<R: Wait>(&self, rt: &R) -> Result<Snapshot, SiteRefusal>
-        ensures { OfSomeSite (λ s s'. Looks s result × (s' ≡ s)) }
+    /// Lends the site to who only reads it, and gives what was read.
+    pub fn read<R: Wait, T, F: FnOnce(&Site<'m>) -> T>(&self, rt: &R, reading: F) -> T
+        requires { F.IsAlwaysCallable reading }
+        ensures { OfSomeSite (λ s s'. FnOnceReturnsAt F.FnOnce reading s result × (s' ≡ s)) }
     {
         let locked = self.site.lock(rt);
         let site = &*locked;
         what_holds_of_every_site(site);
-        look(site)
+        reading(site)
     }
 
     /// One step of the running call, though the site is stopped.

@@ -9,7 +9,7 @@ use Rattle.tatp_tables.specs.Domains.{is_in_domain, is_row}
 use Rattle.tatp_tables.specs.Clean.{IsClean, IdsRunFromOne, IsCountWithin, count_of_key}
 use Rattle.tatp_tables.specs.declared.row.Rows.{Rows}
 use Rattle.tatp_tables.specs.declared.table.Table.TheVariants.{Subscriber, AccessInfo, SpecialFacility}
-use Rattle.tatp_tables.proofs.CleanLaws.{count_by-cons}
+use Rattle.tatp_tables.proofs.CountLaws.{count_by-cons}
 
 abbrev pub subscriber : ℕ → Tuple
 subscriber s = s ∷ s ∷ 0 ∷ 0 ∷ 0 ∷ 0 ∷ 0 ∷ 0 ∷ 0 ∷ 0 ∷ 0 ∷ 0 ∷ 0 ∷ 0 ∷ 0 ∷ 0 ∷ 0 ∷ 0 ∷ 0 ∷ 0 ∷ 0 ∷ 0 ∷ 0 ∷ 0 ∷ 0 ∷ 0 ∷ 0 ∷ 0 ∷ 0 ∷ 0 ∷ 0 ∷ 0 ∷ 1 ∷ 1 ∷ []

@@ -10,7 +10,7 @@ use Rattle.tatp_tables.specs.Clean.{count_of_key}
 use Rattle.tatp_tables.proofs.TupleLaws.{same_is}
 use Rattle.tatp_tables.proofs.FindLaws.{PassesOnce}
 use Rattle.tatp_tables.proofs.KeyLaws.{first_is}
-use Rattle.tatp_tables.proofs.CleanLaws.{count_by-cons, none_counted}
+use Rattle.tatp_tables.proofs.CountLaws.{count_by-cons, none_counted}
 use Rattle.tatp_numbers.specs.Homes.{s_id_of}
 
 -- where none is counted, none is found

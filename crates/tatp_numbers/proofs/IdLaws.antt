@@ -6,7 +6,7 @@ use Rattle.tatp_tables.specs.Tuples.{Tuple}
 use Rattle.tatp_tables.specs.Keys.{has_key}
 use Rattle.tatp_tables.specs.Clean.{count_of_key, IsClean}
 use Rattle.tatp_tables.specs.declared.row.Rows.{Rows}
-use Rattle.tatp_tables.proofs.CleanLaws.{within, within_apart, count_by-apart, count-within}
+use Rattle.tatp_tables.proofs.CountLaws.{within, within_apart, count_by-apart, count-within}
 use Rattle.tatp_numbers.specs.Lists.{IdsRunToLength, NumbersStandOnce}
 
 pub no_other_id : (xs : List Tuple) (s : ℕ) → IdsRunToLength xs → (1 ≤ s → length xs < s) → count_of_key (s ∷ []) xs ≡ 0

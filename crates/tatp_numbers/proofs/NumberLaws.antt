@@ -7,7 +7,7 @@ use Rattle.std.proofs.lemmas.List.Folds.{find-append}
 use Rattle.std.specs.Option.{option_map, option_or}
 use Rattle.tatp_tables.specs.Tuples.{Tuple}
 use Rattle.tatp_tables.specs.Keys.{has_number}
-use Rattle.tatp_tables.proofs.CleanLaws.{count_by-append, count_by-cons}
+use Rattle.tatp_tables.proofs.CountLaws.{count_by-append, count_by-cons}
 use Rattle.tatp_numbers.specs.Homes.{s_id_of}
 use Rattle.tatp_numbers.specs.Lists.{s_id_at, NumbersStandOnce, NumberRepeats}
 use Rattle.tatp_numbers.proofs.FindLaws.{none_passes, one_passes}

@@ -90,7 +90,7 @@ fn s_ids_by_number(alloc: Global, rows: &[[u64; 34]]) -> Result<IndexMap<u64, u6
     ensures once { OnOk result (NumbersStandOnce rows.now) }
     ensures twice { result ≡ Err BuildError.NumberTwice → NumberRepeats rows.now }
 {
-    let mut s_ids = IndexMap::new(alloc);
+    let mut s_ids = IndexMap::with_capacity(alloc, rows.len()).map_err(|_| BuildError::NoMemory)?;
     for row in rows {
         if let Some(_) = s_ids.insert(row[1], row[0])? {
             return Err(BuildError::NumberTwice);

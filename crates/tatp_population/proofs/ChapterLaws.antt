@@ -4,7 +4,7 @@ use Rattle.std.specs.Option.{option_map, option_to_list}
 use Rattle.std.proofs.lemmas.Bool.Decides.{nat_tests}
 use Rattle.std.proofs.lemmas.List.{append_assoc}
 use Rattle.std.proofs.lemmas.List.Elements.{All-head, All-tail, All-append}
-use Rattle.tatp_tables.specs.Home.{SubscriberRows}
+use Rattle.tatp_homes.specs.Home.{SubscriberRows}
 use Rattle.tatp_procs.specs.declared.entry.Entry.{Entry}
 use Rattle.tatp_population.specs.Histories.{Leads, StampsRise, IsHistory}
 use Rattle.tatp_population.specs.Extents.{ExtentState, IsExtent, last_stamp_from}

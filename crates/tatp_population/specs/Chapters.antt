@@ -3,7 +3,7 @@ use Rattle.std.specs.Prelude.{◌≡◌, ℕ, zero, suc, ◌+◌, ◌-◌, ◌<�
 use Rattle.std.specs.List.{flat_map, range_with_len}
 use Rattle.std.specs.Option.{option_map, option_to_list}
 use Rattle.std.specs.Coded.{Coded, code_by, coded×, coded_ℕ, coded_list}
-use Rattle.tatp_tables.specs.Home.{SubscriberRows, subscriber_rows_code}
+use Rattle.tatp_homes.specs.Home.{SubscriberRows, subscriber_rows_code}
 use Rattle.tatp_procs.specs.declared.entry.Entry.{Entry}
 use Rattle.tatp_procs.specs.contracts.entry.Entry as entry
 use Rattle.tatp_population.specs.declared.chapter.CheckpointError.{CheckpointError}

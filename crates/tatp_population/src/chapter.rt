@@ -7,7 +7,7 @@ ghost use Rattle.tatp_population.specs.ChapterParts.{chapter_of_parts};
 use crate::Log;
 use std::alloc::AllocError;
 use std::marker::Model;
-use tatp_tables::Home;
+use tatp_homes::Home;
 use thiserror::Error;
 
 /// The most chapters of one extent.

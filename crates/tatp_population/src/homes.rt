@@ -6,7 +6,8 @@ ghost use Rattle.tatp_population.specs.Extents.{s_ids, home_among};
 ghost use Rattle.tatp_population.specs.HomeRows.{with_homes};
 
 use std::alloc::{AllocError, Global};
-use tatp_tables::{Home, Rows};
+use tatp_homes::Home;
+use tatp_tables::Rows;
 
 /// The home of a subscriber among those of subscribers in a row, from the first on.
 #[tactic(auto, using(crate::proofs::ExtentLaws::no_home_before, crate::proofs::ExtentLaws::home_got))]

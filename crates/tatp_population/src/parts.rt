@@ -1,7 +1,7 @@
 //! The parts of an extent, and of the log of calls without a home.
 
 use crate::Log;
-use tatp_tables::Home;
+use tatp_homes::Home;
 
 /// What an extent is made of. They tell nothing of each other: an [`crate::Extent`] does.
 #[derive(Debug, Drop)]

@@ -3,7 +3,7 @@ ghost use Rattle.std.specs.Prelude.{◌≡◌, ◌≢◌, ◌↔◌, ◌+◌, �
 ghost use Rattle.std.specs.List.{list_any, range_with_len};
 ghost use Rattle.tatp_tables.specs.Tuples.{Tuple, has};
 ghost use Rattle.tatp_tables.specs.Database.{Database, database_of, in_table, of_subscriber, with_subscriber};
-ghost use Rattle.tatp_tables.specs.Home.{SubscriberRows, home_in};
+ghost use Rattle.tatp_homes.specs.Home.{SubscriberRows, home_in};
 ghost use Rattle.tatp_tables.specs.Clean.{IsClean};
 ghost use Rattle.tatp_tables.specs.declared.table.Table.{Table};
 ghost use Rattle.tatp_tables.specs.declared.row.Rows.{Rows};

@@ -10,9 +10,9 @@ use Rattle.std.specs.List.{All, list_all, join_with_byte}
 use Rattle.std.specs.String.{string_bytes}
 use Rattle.std.specs.Result.{IfOk}
 use Rattle.std.specs.Option.{IfSome, option_map}
-use Rattle.tatp_tables.specs.Text.{fields_of, value_of, value_text, is_printable}
-use Rattle.tatp_tables.proofs.FieldLaws.{is_space}
-use Rattle.tatp_tables.proofs.ValueLaws.{HasNoSpace, value_of-value_text, value_text-value_of}
+use Rattle.tatp_texts.specs.Text.{fields_of, value_of, value_text, is_printable}
+use Rattle.tatp_texts.proofs.FieldLaws.{is_space}
+use Rattle.tatp_texts.proofs.ValueLaws.{HasNoSpace, value_of-value_text, value_text-value_of}
 use Rattle.tatp_procs.specs.declared.call.Call.{Call}
 use Rattle.tatp_procs.specs.declared.call.Call.TheVariants.{GetSubscriberData, GetNewDestination, GetAccessData, UpdateSubscriberData, UpdateLocation, InsertCallForwarding, DeleteCallForwarding}
 use Rattle.tatp_procs.specs.Calls.{arguments_of}

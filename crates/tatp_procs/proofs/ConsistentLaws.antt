@@ -9,7 +9,7 @@ use Rattle.tatp_tables.specs.Keys.{has_key, has_number}
 use Rattle.tatp_tables.specs.Columns.{key_length}
 use Rattle.tatp_tables.specs.Domains.{is_row}
 use Rattle.tatp_tables.specs.Database.{in_table, database_of}
-use Rattle.tatp_tables.specs.Home.{SubscriberRows, HaveParents, IsHome}
+use Rattle.tatp_homes.specs.Home.{SubscriberRows, HaveParents, IsHome}
 use Rattle.tatp_tables.specs.Clean.{IsClean, ValuesFit, count_of_key}
 use Rattle.tatp_tables.specs.Rows.{rows_in}
 use Rattle.tatp_tables.specs.declared.row.Rows.{Rows}
@@ -17,7 +17,8 @@ use Rattle.tatp_tables.specs.declared.table.Table.{Table}
 use Rattle.tatp_tables.specs.declared.table.Table.TheVariants.{Subscriber, AccessInfo, SpecialFacility, CallForwarding}
 use Rattle.tatp_tables.proofs.TupleLaws.{same_is, has-set_of}
 use Rattle.tatp_tables.proofs.KeyLaws.{key_is, has_key-take, row_at-some}
-use Rattle.tatp_tables.proofs.CleanLaws.{one_counted, row_key_stands_once}
+use Rattle.tatp_tables.proofs.CountLaws.{one_counted}
+use Rattle.tatp_homes.proofs.CleanLaws.{row_key_stands_once}
 use Rattle.tatp_numbers.proofs.FindLaws.{PassesOnce-counted}
 use Rattle.tatp_procs.specs.Consistent.{IsConsistent}
 

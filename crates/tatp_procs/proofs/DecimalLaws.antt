@@ -2,10 +2,10 @@
 use Rattle.std.proofs.Common.{◌≡◌, ℕ, ◌∙◌, sym, Bool, true, false, cond, List, [], ◌∷◌, ◌++◌, refl, ap, decimal, append_assoc, Result, Ok, Err}
 use Rattle.std.specs.Result.{OnOk}
 use Rattle.std.proofs.lemmas.Bool.{false≢true}
-use Rattle.tatp_tables.specs.declared.form.Form.{Form}
-use Rattle.tatp_tables.specs.declared.form.Form.TheVariants.{Decimal, FifteenDigits, Letters}
+use Rattle.tatp_texts.specs.declared.form.Form.{Form}
+use Rattle.tatp_texts.specs.declared.form.Form.TheVariants.{Decimal, FifteenDigits, Letters}
 use Rattle.tatp_tables.specs.Domains.{is_in_domain}
-use Rattle.tatp_tables.specs.Text.{form_of, is_decimal, text_in, value_text}
+use Rattle.tatp_texts.specs.Text.{form_of, is_decimal, text_in, value_text}
 
 in_either : (form : Form) (inside : Bool) (v : ℕ) → is_decimal form ≡ true → cond inside (text_in form v) (decimal v) ≡ decimal v
 in_either Decimal true v h = refl

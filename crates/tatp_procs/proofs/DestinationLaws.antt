@@ -12,7 +12,7 @@ use Rattle.tatp_tables.specs.Domains.{is_in_domain, are_in_domain}
 use Rattle.tatp_tables.specs.Database.{Database, no_tables, of_subscriber}
 use Rattle.tatp_tables.specs.declared.table.Table.TheVariants.{SpecialFacility, CallForwarding}
 use Rattle.tatp_tables.proofs.KeyLaws.{key_is, row_at-key, row_at-has}
-use Rattle.tatp_tables.proofs.UndoLaws.{are_in_domain-at}
+use Rattle.tatp_homes.proofs.UndoLaws.{are_in_domain-at}
 use Rattle.tatp_numbers.specs.Homes.{s_id_of}
 use Rattle.tatp_procs.specs.declared.call.Call.TheVariants.{GetNewDestination}
 use Rattle.tatp_procs.specs.Standard.{standard_module}

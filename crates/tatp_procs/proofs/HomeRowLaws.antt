@@ -7,13 +7,13 @@ use Rattle.tatp_tables.specs.Keys.{has_key, has_number, row_at, row_with_number}
 use Rattle.tatp_tables.specs.Columns.{first_column, column_count, key_length}
 use Rattle.tatp_tables.specs.Domains.{are_in_domain}
 use Rattle.tatp_tables.specs.Database.{Database, in_table, rows_with_s_id, of_subscriber}
-use Rattle.tatp_tables.specs.Home.{HaveParents}
+use Rattle.tatp_homes.specs.Home.{HaveParents}
 use Rattle.tatp_tables.specs.declared.table.Table.{Table}
 use Rattle.tatp_tables.specs.declared.table.Table.TheVariants.{Subscriber, AccessInfo, SpecialFacility, CallForwarding}
 use Rattle.tatp_tables.proofs.TupleLaws.{same_tuples, same_is, rows_of-retain_rows, has-insert_row, has-remove_row}
 use Rattle.tatp_tables.proofs.KeyLaws.{has_key-head, heads_equal, first_is, row_at-key, row_at-has, has_key-take, take-alike}
 use Rattle.tatp_tables.proofs.FindLaws.{found_in}
-use Rattle.tatp_tables.proofs.SubscriberLaws.{has-rows_with_s_id, replaced_rows, has-replaced_rows, in_table-of_subscriber, HaveSId-of_subscriber}
+use Rattle.tatp_homes.proofs.SubscriberLaws.{has-rows_with_s_id, replaced_rows, has-replaced_rows, in_table-of_subscriber, HaveSId-of_subscriber}
 use Rattle.tatp_numbers.specs.declared.key.Key.TheVariants.{Id}
 use Rattle.tatp_numbers.specs.Homes.{s_id_of, home_of_key}
 use Rattle.std.specs.Option.{option_map}

@@ -16,8 +16,8 @@ use Rattle.tatp_tables.proofs.TupleLaws.{same_is, same_itself, has-rows_of}
 use Rattle.tatp_tables.proofs.FindLaws.{found_in, none_in, not_found}
 use Rattle.tatp_tables.proofs.KeyLaws.{UniqueIn, key_is, has_key-alike, has-found, each-insert_row, has-from_remove_row, has-inserted, has-insert_row_there, has-remove_row_other, gone, UniqueIn-replace_row, UniqueIn-insert_new, UniqueIn-remove_row, Covers-replaced, Covers-replace_row}
 use Rattle.tatp_tables.proofs.FindLaws.{found_passes}
-use Rattle.tatp_tables.proofs.HomeLaws.{each_table, ParentsExist-covered}
-use Rattle.tatp_tables.proofs.ChangeLaws.{is_row-set}
+use Rattle.tatp_homes.proofs.HomeLaws.{each_table, ParentsExist-covered}
+use Rattle.tatp_homes.proofs.ChangeLaws.{is_row-set}
 use Rattle.tatp_numbers.specs.declared.key.Key.{Key}
 use Rattle.tatp_numbers.specs.declared.key.Key.TheVariants.{Id, Number}
 use Rattle.tatp_numbers.specs.Homes.{s_id_of, home_of_key}

@@ -3,8 +3,8 @@ use Rattle.std.specs.Prelude.{◌≡◌, ℕ, zero, suc, true, List, Some, None}
 use Rattle.std.specs.List.{list_all}
 use Rattle.std.proofs.Common.{refl, sym, ap, subst, ◌∙◌}
 use Rattle.tatp_tables.specs.Database.{Database, no_tables, of_subscriber, with_subscriber}
-use Rattle.tatp_tables.proofs.SubscriberLaws.{of_subscriber-with_subscriber, with_subscriber-of_subscriber, with_subscriber-with_subscriber}
-use Rattle.tatp_tables.proofs.ChangeLaws.{IsHome-none}
+use Rattle.tatp_homes.proofs.SubscriberLaws.{of_subscriber-with_subscriber, with_subscriber-of_subscriber, with_subscriber-with_subscriber}
+use Rattle.tatp_homes.proofs.ChangeLaws.{IsHome-none}
 use Rattle.tatp_machine.specs.declared.progress.End.{End}
 use Rattle.tatp_machine.specs.declared.progress.End.TheVariants.{Done, Failed, Trapped}
 use Rattle.tatp_machine.specs.Calls.{Frame, CallState}

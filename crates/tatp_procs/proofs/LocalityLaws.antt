@@ -9,8 +9,8 @@ use Rattle.tatp_tables.specs.Database.{Database, rows_with_s_id, of_subscriber}
 use Rattle.tatp_tables.proofs.TupleLaws.{same_is, rows_of-retain_rows, has-insert_row, has-remove_row}
 use Rattle.tatp_tables.proofs.FindLaws.{found_in, found_passes}
 use Rattle.tatp_tables.proofs.KeyLaws.{first_is, has-found, has_key-head, row_at-key}
-use Rattle.tatp_tables.proofs.SubscriberLaws.{AreOf, AreOf-rows_with_s_id, HaveSId-of_subscriber, has-rows_with_s_id, with_subscriber-of_subscriber}
-use Rattle.tatp_tables.specs.Home.{HaveSId}
+use Rattle.tatp_homes.proofs.SubscriberLaws.{AreOf, AreOf-rows_with_s_id, HaveSId-of_subscriber, has-rows_with_s_id, with_subscriber-of_subscriber}
+use Rattle.tatp_homes.specs.Home.{HaveSId}
 use Rattle.tatp_tables.specs.declared.table.Table.TheVariants.{Subscriber, AccessInfo, SpecialFacility, CallForwarding}
 use Rattle.tatp_numbers.specs.declared.key.Key.{Key}
 use Rattle.tatp_numbers.specs.declared.key.Key.TheVariants.{Id, Number}

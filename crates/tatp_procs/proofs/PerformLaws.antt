@@ -5,7 +5,7 @@ use Rattle.std.proofs.Common.{refl, sym, ap, subst, ◌∙◌}
 use Rattle.std.proofs.lemmas.Bool.{and_parts}
 use Rattle.tatp_instr.specs.declared.instr.Instr.{Instr}
 use Rattle.tatp_tables.specs.Database.{Database, of_subscriber, with_subscriber}
-use Rattle.tatp_tables.proofs.SubscriberLaws.{with_subscriber-of_subscriber}
+use Rattle.tatp_homes.proofs.SubscriberLaws.{with_subscriber-of_subscriber}
 use Rattle.tatp_encoding.specs.Modules.{ModuleState}
 use Rattle.tatp_machine.specs.declared.progress.End.{End}
 use Rattle.tatp_machine.specs.declared.progress.End.TheVariants.{Done, Failed}

@@ -2,7 +2,7 @@
 use Rattle.std.proofs.Common.{◌≡◌, ℕ, zero, suc, ◌+◌, ◌<◌, ◌≤◌, ◌∙◌, sym, ap, List, [], ◌∷◌, ◌++◌, length, drop, get_or, refl, decimal, append_assoc, add-one, drop-cons, Result, Ok, Err, codes}
 use Rattle.std.specs.Result.{OnOk}
 use Rattle.std.proofs.lemmas.List.{append-nil, drop_all}
-use Rattle.tatp_tables.specs.Text.{value_text}
+use Rattle.tatp_texts.specs.Text.{value_text}
 use Rattle.tatp_procs.specs.declared.ask.Ask.{Ask}
 use Rattle.tatp_procs.specs.declared.reply.Reply.{Reply}
 use Rattle.tatp_procs.specs.declared.reply.Reply.TheVariants.{Failed}

@@ -4,7 +4,7 @@ use Rattle.std.proofs.lemmas.Grind.{take-set_at}
 use Rattle.std.proofs.lemmas.Iterator.Adapters.{option_map_id}
 use Rattle.std.proofs.lemmas.List.{append-nil, take_all, drop_all}
 use Rattle.std.specs.Option.{option_map}
-use Rattle.tatp_tables.specs.Text.{value_of}
+use Rattle.tatp_texts.specs.Text.{value_of}
 use Rattle.tatp_procs.specs.ValuesText.{values_of}
 
 -- values that those of the fields left complete, the first i being read

@@ -2,7 +2,7 @@
 use Rattle.std.specs.Prelude.{◌≡◌, true, slice_index}
 use Rattle.tatp_tables.specs.Tuples.{Tuple, Tuples, has}
 use Rattle.tatp_tables.specs.Database.{Database}
-use Rattle.tatp_tables.specs.Home.{AreRows, KeysAreUnique, ParentsExist}
+use Rattle.tatp_homes.specs.Home.{AreRows, KeysAreUnique, ParentsExist}
 
 -- no two subscribers have one number
 abbrev pub NumbersAreUnique : Tuples → Type 0

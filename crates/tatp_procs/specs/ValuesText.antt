@@ -1,7 +1,7 @@
 -- Values in text, one after another, each in the form of the column that stands at its place.
 use Rattle.std.specs.Prelude.{ℕ, Bool, true, false, ◌&&◌, List, [], ◌∷◌, ◌++◌, Option, Some, None, decimal}
 use Rattle.std.specs.Option.{option_map, option_and_then}
-use Rattle.tatp_tables.specs.Text.{value_of, value_text, is_printable}
+use Rattle.tatp_texts.specs.Text.{value_of, value_text, is_printable}
 
 -- exactly one value of each of these columns
 unfoldable pub values_of : List ℕ → List (List ℕ) → Option (List ℕ)

@@ -9,7 +9,7 @@ use crate::Call;
 use crate::columns::columns;
 use crate::values::with_values;
 use std::alloc::{AllocError, Global};
-use tatp_tables::Fields;
+use tatp_texts::Fields;
 
 /// The call that a line is: its name and its arguments, each in its column's form.
 pub fn read_call(line: &str) -> Option<Call>

@@ -1,7 +1,7 @@
 //! Theorems on the definitions. Nothing runs here: a clause is the theorem.
 ghost use Rattle.std.specs.Prelude.{◌≡◌, ℕ, Ok, Some, None, IsSomeAnd, length, slice_get};
 ghost use Rattle.tatp_tables.specs.Database.{Database, database_of, of_subscriber};
-ghost use Rattle.tatp_tables.specs.Home.{SubscriberRows, IsHome, HaveSId};
+ghost use Rattle.tatp_homes.specs.Home.{SubscriberRows, IsHome, HaveSId};
 ghost use Rattle.tatp_tables.specs.Clean.{IsClean};
 ghost use Rattle.tatp_tables.specs.declared.row.Rows.{Rows};
 ghost use Rattle.tatp_procs.specs.declared.call.Call.{Call};

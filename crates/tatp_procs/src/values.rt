@@ -1,13 +1,13 @@
 //! Values in text, one after another, each in the form of the column that stands at its place.
 ghost use Rattle.std.specs.Prelude.{◌≡◌, ◌<◌, ◌^◌, ◌∷◌, ◌++◌, All, IfOk, OnOk, OnErr, slice_index_or};
 ghost use Rattle.std.specs.String.{string_bytes};
-ghost use Rattle.tatp_tables.specs.Text.{value_text};
+ghost use Rattle.tatp_texts.specs.Text.{value_text};
 ghost use Rattle.tatp_procs.specs.Extends.{Extends};
 ghost use Rattle.tatp_procs.specs.ValuesText.{values_of, values_text};
 
 use std::alloc::{AllocError, Global};
 use tatp_lines::push_decimal;
-use tatp_tables::{Fields, is_decimal, push_value, read_value};
+use tatp_texts::{Fields, is_decimal, push_value, read_value};
 
 /// Names no column, so that its values stand in decimal.
 pub(crate) const NO_COLUMN: u8 = 255;

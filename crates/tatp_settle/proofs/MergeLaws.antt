@@ -1,8 +1,8 @@
 -- The histories of separate extents, interleaved in any order, are one history of the database: by induction along the history, of which each entry is a transaction on its extent's homes.
 use Rattle.std.proofs.Common.{◌≡◌, ◌≢◌, ℕ, zero, suc, List, [], ◌∷◌, map, drop, Some, slice_get, slice_set, refl, sym, ◌∙◌, ap, subst, arith, ◌⊎◌, inl, inr}
 use Rattle.tatp_tables.specs.Database.{Database, of_subscriber, with_subscriber}
-use Rattle.tatp_tables.specs.Home.{SubscriberRows, HaveSId, home_in}
-use Rattle.tatp_tables.proofs.SubscriberLaws.{of_subscriber-with_subscriber, of_subscriber-with_other}
+use Rattle.tatp_homes.specs.Home.{SubscriberRows, HaveSId, home_in}
+use Rattle.tatp_homes.proofs.SubscriberLaws.{of_subscriber-with_subscriber, of_subscriber-with_other}
 use Rattle.tatp_numbers.specs.declared.key.Key.{Key}
 use Rattle.tatp_numbers.specs.Homes.{home_of_key}
 use Rattle.tatp_procs.specs.declared.ask.Ask.TheVariants.{Txn}

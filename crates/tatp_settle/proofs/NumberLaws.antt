@@ -6,7 +6,7 @@ use Rattle.std.proofs.lemmas.List.Sums.{fold-append, sum_by-append, sum_by-cons}
 use Rattle.std.proofs.lemmas.List.FromFn.{map-range_with_len_more}
 use Rattle.std.proofs.lemmas.List.{map-id, append-nil}
 use Rattle.std.proofs.lemmas.Grind.{flat_map-append}
-use Rattle.tatp_tables.specs.Home.{SubscriberRows}
+use Rattle.tatp_homes.specs.Home.{SubscriberRows}
 use Rattle.tatp_tables.specs.Rows.{with_home}
 use Rattle.tatp_tables.specs.declared.row.Rows.{Rows}
 use Rattle.tatp_population.specs.Extents.{ExtentState}

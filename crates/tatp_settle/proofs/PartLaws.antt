@@ -6,8 +6,8 @@ use Rattle.std.proofs.lemmas.List.Folds.{flat_map-map}
 use Rattle.tatp_tables.specs.Tuples.{Tuple, Tuples, has}
 use Rattle.tatp_tables.specs.Keys.{has_key, row_at}
 use Rattle.tatp_tables.specs.Database.{Database, in_table}
-use Rattle.tatp_tables.specs.Home.{SubscriberRows}
-use Rattle.tatp_tables.specs.Loading.{homes_in}
+use Rattle.tatp_homes.specs.Home.{SubscriberRows}
+use Rattle.tatp_homes.specs.Loading.{homes_in}
 use Rattle.tatp_tables.specs.Columns.{column_count}
 use Rattle.tatp_tables.specs.declared.table.Table.{Table}
 use Rattle.tatp_tables.specs.declared.table.Table.TheVariants.{Subscriber, AccessInfo, SpecialFacility, CallForwarding}

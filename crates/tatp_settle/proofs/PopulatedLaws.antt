@@ -4,10 +4,10 @@ use Rattle.std.specs.List.{range_with_len}
 use Rattle.std.proofs.lemmas.Bool.Decides.{nat_tests}
 use Rattle.std.proofs.lemmas.List.{take-map, drop-map, take_min, length-drop}
 use Rattle.tatp_tables.specs.Database.{Database, database_of}
-use Rattle.tatp_tables.specs.Home.{SubscriberRows, home_in}
-use Rattle.tatp_tables.specs.Loading.{homes_in}
+use Rattle.tatp_homes.specs.Home.{SubscriberRows, home_in}
+use Rattle.tatp_homes.specs.Loading.{homes_in}
 use Rattle.tatp_tables.specs.declared.row.Rows.{Rows}
-use Rattle.tatp_tables.proofs.LoadingLaws.{length-homes_in}
+use Rattle.tatp_homes.proofs.LoadingLaws.{length-homes_in}
 use Rattle.tatp_population.specs.Extents.{first_subscriber}
 use Rattle.tatp_population.specs.Opening.{homes_of_extent, last_subscriber}
 use Rattle.tatp_population.proofs.CutLaws.{drop-range, take-range}

@@ -8,12 +8,12 @@ use Rattle.std.proofs.lemmas.List.Elements.{All-nil, All-head, All-tail, All-fil
 use Rattle.tatp_tables.specs.Tuples.{Tuple, rows_of, no_rows}
 use Rattle.tatp_tables.specs.Keys.{has_key, has_number}
 use Rattle.tatp_tables.specs.Database.{Database, database_of, no_tables}
-use Rattle.tatp_tables.specs.Home.{SubscriberRows}
-use Rattle.tatp_tables.specs.Loading.{homes_in}
+use Rattle.tatp_homes.specs.Home.{SubscriberRows}
+use Rattle.tatp_homes.specs.Loading.{homes_in}
 use Rattle.tatp_tables.specs.Clean.{IsClean}
 use Rattle.tatp_tables.proofs.TupleLaws.{has-no_rows}
 use Rattle.tatp_tables.proofs.KeyLaws.{has-found}
-use Rattle.tatp_tables.proofs.ChangeLaws.{IsHome-none}
+use Rattle.tatp_homes.proofs.ChangeLaws.{IsHome-none}
 use Rattle.tatp_numbers.specs.declared.key.Key.{Key}
 use Rattle.tatp_numbers.specs.declared.key.Key.TheVariants.{Id, Number}
 use Rattle.tatp_numbers.specs.Homes.{s_id_of, home_of_key}

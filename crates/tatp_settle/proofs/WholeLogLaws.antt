@@ -89,6 +89,19 @@ in_part before (q ∷ more) len (suc j) index p h at l last =
     got_back (entries_in q) (entries_of_parts more) (index - before) (omega (arith, least, l))
     ∙ (ap (λ (n : ℕ). slice_get (entries_of_parts more) n) further ∙ in_part (before + length (entries_in q)) more len j index p h.1 at l last)
 
+pub stands_around : (parts : List JoinedPart) (len j index : ℕ) (p : JoinedPart) → AreJoined 0 parts len → slice_get parts j ≡ Some p → p.first ≤ index → ((q : JoinedPart) → slice_get parts (suc j) ≡ Some q → index < q.first)
+    → slice_get (entries_of_parts parts) index ≡ slice_get (entries_in p) (index - p.first)
+stands_around parts len j index p h at l last = ap (λ (n : ℕ). slice_get (entries_of_parts parts) n) (let e : index ≡ index - 0 = omega arith in e) ∙ in_part 0 parts len j index p h at l last
+
+-- where the next part, if there is one, begins at this end
+pub stands_before_end : (parts : List JoinedPart) (len number index end : ℕ) (p : JoinedPart) (next : Option (Bor JoinedPart)) → AreJoined 0 parts len → slice_get parts number ≡ Some p → option_copied next ≡ slice_get parts (number + 1)
+    → IfSome next (λ (q : Bor JoinedPart). end ≡ q.now.first) → p.first ≤ index → index < end → slice_get (entries_of_parts parts) index ≡ slice_get (entries_in p) (index - p.first)
+stands_before_end parts len number index end p next h at is ends l lt = stands_around parts len number index p h at l (λ q k. later next is ends q (ap (λ (n : ℕ). slice_get parts n) (let e : number + 1 ≡ suc number = omega arith in e) ∙ k))
+  where
+    later : (next : Option (Bor JoinedPart)) → option_copied next ≡ slice_get parts (number + 1) → IfSome next (λ (q : Bor JoinedPart). end ≡ q.now.first) → (q : JoinedPart) → slice_get parts (number + 1) ≡ Some q → index < q.first
+    later None is ends q k = absurd (none-some q (is ∙ k))
+    later (Some r) is ends q k = let same : r.now.first ≡ q.first = ap (λ (x : JoinedPart). x.first) (same_Some r.now q (is ∙ k)) in omega (arith, lt, ends, same)
+
 -- so many parts begin by the place
 abbrev pub Begin : List JoinedPart → ℕ → ℕ → Type 0
 Begin parts index count = IsPartitionPoint (λ (p : JoinedPart). leb p.first index ≡ true) (λ (p : JoinedPart). leb p.first index ≡ false) parts count
@@ -113,7 +126,7 @@ module _ (parts : List JoinedPart) (len index count : ℕ) (h : AreJoined 0 part
       leb-false q.first index (subst (λ (x : JoinedPart). leb x.first index ≡ false) is (begin.1 (suc (count - 1)) q (omega (arith, some)) within))
 
   stands_in : (p : JoinedPart) → slice_get parts (count - 1) ≡ Some p → slice_get (entries_of_parts parts) index ≡ slice_get (entries_in p) (index - p.first)
-  stands_in p at = ap (λ (n : ℕ). slice_get (entries_of_parts parts) n) (let e : index ≡ index - 0 = omega arith in e) ∙ in_part 0 parts len (count - 1) index p h at (begins_by p at) next_later
+  stands_in p at = stands_around parts len (count - 1) index p h at (begins_by p at) next_later
 
   -- the last of them begins by it, and has its entry
   pub last_begins : (r : Option (Bor JoinedPart)) → option_copied r ≡ slice_get parts (count - 1) → IfSome r (λ (part : Bor JoinedPart). part.now.first ≤ index)

@@ -7,7 +7,7 @@ use Rattle.std.specs.declared.cmp.Ordering.TheVariants.{Less}
 use Rattle.tatp_tables.specs.Tuples.{Tuples}
 use Rattle.tatp_tables.specs.declared.row.Rows.{Rows}
 use Rattle.tatp_tables.specs.Database.{database_of}
-use Rattle.tatp_tables.specs.Home.{SubscriberRows}
+use Rattle.tatp_homes.specs.Home.{SubscriberRows}
 use Rattle.tatp_numbers.specs.Homes.{home_of_key}
 use Rattle.tatp_audits.specs.Audits.{IsVerdict, says_clean}
 use Rattle.tatp_procs.specs.declared.ask.Ask.{Ask}

@@ -4,8 +4,8 @@ use Rattle.std.specs.List.{flat_map, range_with_len}
 use Rattle.std.specs.Option.{option_and_then}
 use Rattle.std.specs.declared.alloc.Global.{Global}
 use Rattle.tatp_tables.specs.Database.{database_of}
-use Rattle.tatp_tables.specs.Home.{SubscriberRows}
-use Rattle.tatp_tables.specs.Loading.{homes_in}
+use Rattle.tatp_homes.specs.Home.{SubscriberRows}
+use Rattle.tatp_homes.specs.Loading.{homes_in}
 use Rattle.tatp_tables.specs.declared.row.Rows.{Rows}
 use Rattle.tatp_procs.specs.declared.ask.Ask.{Ask}
 use Rattle.tatp_procs.specs.declared.entry.Entry.{Entry}

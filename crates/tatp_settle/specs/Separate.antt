@@ -1,7 +1,7 @@
 -- Logs of separate extents of a database, and where a history of all of them leads.
 use Rattle.std.specs.Prelude.{◌≡◌, ℕ, zero, suc, List, [], ◌∷◌, map, None, Some, slice_get}
 use Rattle.tatp_tables.specs.Database.{Database}
-use Rattle.tatp_tables.specs.Home.{SubscriberRows, home_in}
+use Rattle.tatp_homes.specs.Home.{SubscriberRows, home_in}
 use Rattle.tatp_numbers.specs.declared.key.Key.{Key}
 use Rattle.tatp_numbers.specs.Homes.{home_of_key}
 use Rattle.tatp_procs.specs.declared.ask.Ask.TheVariants.{Txn}

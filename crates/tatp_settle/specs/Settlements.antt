@@ -5,7 +5,7 @@ use Rattle.std.specs.List.{range_with_len}
 use Rattle.std.specs.Option.{is_some}
 use Rattle.tatp_tables.specs.Clean.{IsClean}
 use Rattle.tatp_tables.specs.Database.{database_of}
-use Rattle.tatp_tables.specs.Home.{SubscriberRows}
+use Rattle.tatp_homes.specs.Home.{SubscriberRows}
 use Rattle.tatp_audits.specs.declared.verdict.Verdict.{Verdict}
 use Rattle.tatp_audits.specs.Audits.{IsVerdict, clean_of, says_clean}
 use Rattle.tatp_tables.specs.declared.row.Rows.{Rows}

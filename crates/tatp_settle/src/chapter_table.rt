@@ -14,8 +14,8 @@ use crate::places::{ChapterPlace, lesser_chapter};
 use crate::table::Table;
 use std::alloc::{AllocError, Global};
 use std::marker::Model;
+use tatp_homes::Home;
 use tatp_population::Chapter;
-use tatp_tables::Home;
 
 /// What was gathered, with each chapter at hand that its extent handed out and that came.
 #[derive(Drop)]

@@ -13,8 +13,8 @@ ghost use Rattle.tatp_population.specs.Extents.{last_stamp_from};
 use crate::chapter_table::ChapterTable;
 use crate::log_parts::LogPart;
 use crate::places::ChapterPlace;
+use tatp_homes::Home;
 use tatp_population::{EXTENT_SIZE, extent_count};
-use tatp_tables::Home;
 
 /// The homes from which the whole log of a number goes on, of those of the population.
 fn homes_at_first(homes: &[Home], number: u64) -> Option<&[Home]>

@@ -27,8 +27,8 @@ use crate::{SettleError, Settled, Unsettled};
 use std::alloc::{AllocError, Global};
 use std::thread::{Threads, join};
 use tatp_audits::{Verdict, audit};
+use tatp_homes::homes;
 use tatp_numbers::Directory;
-use tatp_tables::homes;
 
 /// What a settled run counts, or why the run isn't settled.
 pub(crate) fn judge<R: Threads + Sync>(
@@ -47,10 +47,10 @@ pub(crate) fn judge<R: Threads + Sync>(
         return Err(SettleError::Because(cause));
     }
     let Listed { chapters, twice } = ChapterTable::new(alloc, run.closed)?;
-    if let Some(cause) = chapter_cause(alloc, run, &chapters, twice)? {
+    let (in_chapters, (audited, in_calls)) = judge_apart(rt, alloc, run, &chapters, twice);
+    if let Some(cause) = in_chapters? {
         return Err(SettleError::Because(cause));
     }
-    let (audited, in_calls) = audit_beside_calls(rt, alloc, run, &chapters);
     if let Some(cause) = in_calls? {
         return Err(SettleError::Because(cause));
     }
@@ -69,6 +69,47 @@ pub(crate) fn judge<R: Threads + Sync>(
         verdict,
         moves: count_moves(run),
     })
+}
+
+/// What can be judged apart: the first cause that a chapter is, where no extent is one, and what
+/// `audit_beside_calls` gives. Each by a thread of its own, where one can be made.
+fn judge_apart<R: Threads + Sync>(
+    rt: &R,
+    alloc: Global,
+    run: &Run<'_>,
+    chapters: &ChapterTable<'_>,
+    twice: Option<ChapterPlace>,
+) -> (
+    Result<Option<Unsettled>, AllocError>,
+    (
+        Result<Verdict, AllocError>,
+        Result<Option<Unsettled>, AllocError>,
+    ),
+)
+    requires clean { IsClean run.now.population.now }
+    requires gathered { chapters.now ≡ run.now.closed.now }
+    requires twice { IsFirstChapter (IsChapterTwice chapters.now) twice }
+    requires unmixed { (e : ℕ) → IsMixed chapters.now e → ⊥ }
+    ensures chapters { IfOk result.0 (IsFirstAfter 3 6 (shown run.now)) }
+    ensures audit { IfOk result.1.0 (IsAuditOf (rows_left (shown run.now))) }
+    ensures calls { IfOk result.1.1 (IsFirstInCalls (shown run.now)) }
+{
+    let in_chapters = || -> Result<Option<Unsettled>, AllocError>
+        requires { IsClean run.now.population.now
+            × (chapters.now ≡ run.now.closed.now)
+            × IsFirstChapter (IsChapterTwice chapters.now) twice
+            × ((e : ℕ) → IsMixed chapters.now e → ⊥) }
+        ensures { IfOk result (IsFirstAfter 3 6 (shown run.entry.now)) }
+    { chapter_cause(alloc, run, chapters, twice) };
+    let rest = || -> (
+        Result<Verdict, AllocError>,
+        Result<Option<Unsettled>, AllocError>,
+    )
+        requires { IsSync R.row × (chapters.now ≡ run.now.closed.now) }
+        ensures audit { IfOk result.0 (IsAuditOf (rows_left (shown run.entry.now))) }
+        ensures calls { IfOk result.1 (IsFirstInCalls (shown run.entry.now)) }
+    { audit_beside_calls(rt, alloc, run, chapters) };
+    join(rt, in_chapters, rest)
 }
 
 /// The verdict on the rows now, and the first cause that a call is, where no extent and no chapter

@@ -1,14 +1,14 @@
 //! Parts of whole logs, and whole logs joined from them.
-ghost use Rattle.std.specs.Prelude.{◌≡◌, ◌<◌, ◌≤◌, ◌++◌, [], IfSome, OnOk, length, slice_get};
+ghost use Rattle.std.specs.Prelude.{◌≡◌, ◌<◌, ◌≤◌, ◌++◌, [], IfSome, OnSome, OnOk, length, slice_get};
 ghost use Rattle.std.specs.Option.{option_copied};
 ghost use Rattle.tatp_population.specs.Logs.{IsOfCall};
 ghost use Rattle.tatp_settle.specs.WholeLogs.{entry_in_part};
 
 use std::alloc::{AllocError, Global};
 use std::marker::Model;
+use tatp_homes::Home;
 use tatp_population::Log;
 use tatp_procs::Entry;
-use tatp_tables::Home;
 
 /// A part of an extent's whole log: a chapter, or what was logged since the last of them.
 #[derive(Clone, Copy)]
@@ -86,6 +86,39 @@ impl<'a> WholeLog<'a> {
         self.parts.get(later.checked_sub(1)?)
     }
 
+    /// The part of this number, where the entry of this place, if there is one, stands in it.
+    fn part_around(&self, number: usize, index: usize) -> Option<&JoinedPart<'a>>
+        ensures first { IfSome result (λ part. part.now.first ≤ index) }
+        ensures entry { OnSome result
+            (slice_get self.now index ≡ entry_in_part (option_copied result) index) }
+    {
+        let part = self.parts.get(number)?;
+        let end = match self.parts.get(number + 1) {
+            Some(next) => next.first,
+            None => self.len,
+        };
+        if part.first <= index && index < end {
+            Some(part)
+        } else {
+            None
+        }
+    }
+
+    /// As `part_of`, looked for first where an entry was found last: who asks for one place after
+    /// another searches once a part. Where it isn't there, the next part will be looked at first.
+    fn part_near(&self, near: &mut usize, index: usize) -> Option<&JoinedPart<'a>>
+        ensures first { IfSome result (λ part. part.now.first ≤ index) }
+        ensures entry { slice_get self.now index ≡ entry_in_part (option_copied result) index }
+    {
+        match self.part_around(*near, index) {
+            Some(part) => Some(part),
+            None => {
+                *near = near.saturating_add(1);
+                self.part_of(index)
+            }
+        }
+    }
+
     /// The entry in a place, if there is one.
     pub(crate) fn get(&self, index: usize) -> Option<Entry>
         ensures { result ≡ slice_get self.now index }
@@ -94,12 +127,13 @@ impl<'a> WholeLog<'a> {
         part.entries.get(index - part.first)
     }
 
-    /// Whose call the entry in a place is: its client, and the call's number.
-    pub(crate) fn caller(&self, index: usize) -> (u64, u64)
+    /// Whose call the entry in a place is: its client, and the call's number. `near` is the number
+    /// of the part that is looked at first: 0 for the first place.
+    pub(crate) fn caller(&self, near: &mut usize, index: usize) -> (u64, u64)
         requires { index < length self.now }
         ensures { IsOfCall self.now index result.0 result.1 }
     {
-        match self.part_of(index) {
+        match self.part_near(near, index) {
             Some(part) => part.entries.caller(index - part.first),
             None => unreachable!(),
         }

@@ -83,13 +83,14 @@ impl<'a> LogTable<'a> {
         self.log(number)?.get(index)
     }
 
-    /// Whose call the entry in a place under a number is: its client, and the call's number.
-    pub(crate) fn caller(&self, number: u64, index: usize) -> (u64, u64)
+    /// Whose call the entry in a place under a number is: its client, and the call's number. `near`
+    /// is 0 for the first place, and is kept from one place to the next.
+    pub(crate) fn caller(&self, number: u64, near: &mut usize, index: usize) -> (u64, u64)
         requires { index < length (entries_numbered self.now number) }
         ensures { IsOfCall (entries_numbered self.now number) index result.0 result.1 }
     {
         match self.log(number) {
-            Some(log) => log.caller(index),
+            Some(log) => log.caller(near, index),
             None => unreachable!(),
         }
     }

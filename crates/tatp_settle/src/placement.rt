@@ -51,8 +51,9 @@ fn place_in_turn(alloc: Global, logs: &LogTable<'_>, part: &Part<'_>) -> Result<
     let mut table = Table::fresh(alloc, part.receipts)?;
     let mut extra: Option<CallPlace> = None;
     'logs: for extent in 0..logs.count() {
+        let mut near = 0;
         'entries: for index in 0..logs.len(extent) {
-            let (client, number) = logs.caller(extent, index);
+            let (client, number) = logs.caller(extent, &mut near, index);
             if belongs(client, part.first, count, part.last)
                 && !table.put(client - part.first, number, LogPlace { extent, index })
             {

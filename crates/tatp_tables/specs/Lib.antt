@@ -3,10 +3,5 @@ pub mod Columns
 pub mod Domains
 pub mod Keys
 pub mod Database
-pub mod Changes
-pub mod Home
 pub mod Clean
 pub mod Rows
-pub mod Cells
-pub mod Loading
-pub mod Text

@@ -119,31 +119,6 @@ impl Rows {
         }
     }
 
-    /// How many rows a table has.
-    pub(crate) fn count(&self, table: Table) -> usize
-        ensures { result ≡ length (rows_in table self.now) }
-    {
-        match table {
-            Table::Subscriber => self.subscribers.len(),
-            Table::AccessInfo => self.accesses.len(),
-            Table::SpecialFacility => self.facilities.len(),
-            Table::CallForwarding => self.forwardings.len(),
-        }
-    }
-
-    /// A row of a table.
-    pub(crate) fn row(&self, table: Table, i: usize) -> &[u64]
-        requires { i < length (rows_in table self.now) }
-        ensures { result.now ≡ slice_index_or (rows_in table self.now) i [] }
-    {
-        match table {
-            Table::Subscriber => &self.subscribers.as_slice()[i],
-            Table::AccessInfo => &self.accesses.as_slice()[i],
-            Table::SpecialFacility => &self.facilities.as_slice()[i],
-            Table::CallForwarding => &self.forwardings.as_slice()[i],
-        }
-    }
-
     /// Appends a row to its table. An error leaves the rows as they were.
     pub fn push(&mut self, row: Row) -> Result<(), AllocError>
         ensures ok { OnOk result (self.new ≡ with_row self.old row) }

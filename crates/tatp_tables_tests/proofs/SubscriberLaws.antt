@@ -6,7 +6,7 @@ use Rattle.tatp_tables.specs.Tuples.{Tuple}
 use Rattle.tatp_tables.specs.Keys.{has_key, has_number}
 use Rattle.tatp_tables.specs.Domains.{is_in_domain, is_row}
 use Rattle.tatp_tables.specs.Clean.{IsClean, IdsRunFromOne, IsCountWithin, count_of_key}
-use Rattle.tatp_tables.proofs.CleanLaws.{count_by-cons}
+use Rattle.tatp_tables.proofs.CountLaws.{count_by-cons}
 use Rattle.tatp_tables.specs.declared.row.Rows.{Rows}
 use Rattle.tatp_tables.specs.declared.table.Table.TheVariants.{Subscriber, AccessInfo, SpecialFacility, CallForwarding}
 

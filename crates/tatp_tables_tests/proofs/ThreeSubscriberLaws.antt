@@ -4,7 +4,7 @@ use Rattle.std.proofs.Common.{ap, arith}
 use Rattle.std.proofs.lemmas.Bool.Decides.{nat_tests}
 use Rattle.tatp_tables.specs.Tuples.{Tuple}
 use Rattle.tatp_tables.specs.Keys.{has_key}
-use Rattle.tatp_tables.proofs.CleanLaws.{count_by-cons}
+use Rattle.tatp_tables.proofs.CountLaws.{count_by-cons}
 use Rattle.tatp_numbers.specs.Lists.{IdsRunToLength}
 
 abbrev pub HasSId : ℕ → Tuple → Type 0

@@ -3,6 +3,7 @@
 use crate::admission::Arities;
 use crate::shared::Shared;
 use std::sync::Wait;
+use tatp_debug::look;
 use tatp_partition::{SiteRefusal, Stepped};
 use tatp_slices::Gate;
 use tatp_workers::{Answering, Debugging, Delivery, debug_run};
@@ -34,7 +35,7 @@ impl<R: Wait, G: Gate, A: Arities> Debugging for Inspector<'_, '_, '_, R, G, A> 
 
     fn look(&mut self, partition: u8) {
         if let Some(partition) = self.shared.partition(partition) {
-            let _snapshot = partition.look(self.rt);
+            let _snapshot = partition.read(self.rt, |site| look(site));
         }
     }
 

@@ -1,7 +1,7 @@
 -- What is told of a site: docs/FORMATS.md. Each line is ended by a line feed.
 use Rattle.std.specs.Prelude.{◌≡◌, ℕ, List, [], ◌∷◌, ◌++◌, Option, Some, None, Result, Ok, Err, MatchOption, slice_get}
 use Rattle.std.specs.Option.{option_map_or}
-use Rattle.tatp_tables.specs.Home.{SubscriberRows}
+use Rattle.tatp_homes.specs.Home.{SubscriberRows}
 use Rattle.tatp_partition.specs.declared.refusal.SiteRefusal.{SiteRefusal}
 use Rattle.tatp_partition.specs.declared.refusal.SiteRefusal.TheVariants.{NotHere}
 use Rattle.tatp_partition.specs.Sites.{SiteState, home_here}

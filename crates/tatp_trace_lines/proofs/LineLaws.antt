@@ -11,9 +11,9 @@ use Rattle.std.specs.List.{All, list_all, join_with_byte, onto_first}
 use Rattle.std.specs.Option.{IfSome, option_map, option_and_then}
 use Rattle.tatp_lines.specs.Numbers.{number_of}
 use Rattle.tatp_lines.proofs.NumberLaws.{number_of-decimal, decimal-number_of}
-use Rattle.tatp_tables.specs.Text.{fields_of, value_of}
-use Rattle.tatp_tables.proofs.FieldLaws.{is_space}
-use Rattle.tatp_tables.proofs.ValueLaws.{HasNoSpace, value_text-value_of}
+use Rattle.tatp_texts.specs.Text.{fields_of, value_of}
+use Rattle.tatp_texts.proofs.FieldLaws.{is_space}
+use Rattle.tatp_texts.proofs.ValueLaws.{HasNoSpace, value_text-value_of}
 use Rattle.tatp_numbers.specs.declared.key.Key.{Key}
 use Rattle.tatp_numbers.specs.declared.key.Key.TheVariants.{Id, Number}
 use Rattle.tatp_procs.specs.declared.call.Call.{Call}

@@ -1,7 +1,7 @@
 -- The rows of a home as lines of a population text: docs/FORMATS.md.
 use Rattle.std.specs.Prelude.{List, [], ◌∷◌, ◌++◌, ℕ}
 use Rattle.tatp_tables.specs.Database.{Database}
-use Rattle.tatp_tables.specs.Text.{text_of}
+use Rattle.tatp_texts.specs.Text.{text_of}
 use Rattle.tatp_tables.specs.Tuples.{Tuple, rows_of}
 use Rattle.tatp_tables.specs.declared.row.Row.{Row}
 use Rattle.tatp_tables.specs.declared.row.Row.TheVariants.{S, A, F, C}

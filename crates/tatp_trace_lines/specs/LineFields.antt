@@ -2,7 +2,7 @@
 use Rattle.std.specs.Prelude.{ℕ, suc, zero, List, [], ◌∷◌, Option, Some, None, nat_le, ◌&&◌, codes, bytes_eq, if◌then◌else◌}
 use Rattle.std.specs.Option.{option_map, option_and_then}
 use Rattle.tatp_lines.specs.Numbers.{number_of}
-use Rattle.tatp_tables.specs.Text.{fields_of}
+use Rattle.tatp_texts.specs.Text.{fields_of}
 use Rattle.tatp_numbers.specs.declared.key.Key.{Key}
 use Rattle.tatp_numbers.specs.declared.key.Key.TheVariants.{Id, Number}
 use Rattle.tatp_procs.specs.declared.ask.Ask.TheVariants.{Txn, Raw}

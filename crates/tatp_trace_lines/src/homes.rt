@@ -1,12 +1,14 @@
 //! The rows of a home as lines.
 ghost use Rattle.std.specs.Prelude.{◌≡◌, ◌∷◌, ◌++◌, [], IfOk, OnOk};
 ghost use Rattle.std.specs.String.{string_bytes};
-ghost use Rattle.tatp_tables.specs.Text.{text_of};
+ghost use Rattle.tatp_texts.specs.Text.{text_of};
 ghost use Rattle.tatp_tables.specs.declared.row.Row.TheVariants.{S, A, F, C};
 ghost use Rattle.tatp_trace_lines.specs.HomeText.{home_text, rows_text};
 
 use std::alloc::{AllocError, Global};
-use tatp_tables::{Home, Row, Rows, row_text};
+use tatp_homes::Home;
+use tatp_tables::{Row, Rows};
+use tatp_texts::row_text;
 
 /// The rows of a home, each a line: table by table, each by key.
 #[tactic(auto, using(crate::proofs::HomeTextLaws::four_tables))]

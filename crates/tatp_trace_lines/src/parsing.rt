@@ -10,7 +10,7 @@ use crate::TraceLine;
 use calls::{raw, submitted};
 use numbers::{one_number, three_numbers, two_numbers};
 use tatp_events::Event;
-use tatp_tables::Fields;
+use tatp_texts::Fields;
 
 /// The line that a text is, exactly where it is one.
 pub fn read_trace_line(text: &str) -> Option<TraceLine>

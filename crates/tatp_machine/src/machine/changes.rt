@@ -1,6 +1,6 @@
 //! The rows of the table that change a row of the home, FAIL, and traps.
 ghost use Rattle.std.specs.Prelude.{◌≡◌, ◌+◌, ◌<◌, Some};
-ghost use Rattle.tatp_tables.specs.Home.{IsHome};
+ghost use Rattle.tatp_homes.specs.Home.{IsHome};
 ghost use Rattle.tatp_machine.specs.Instructions.{Stops, IsNext};
 ghost use Rattle.tatp_machine.specs.Machines.{Turns, Performs, told};
 ghost use Rattle.tatp_machine.specs.Sound.{FitsAt};
@@ -9,9 +9,10 @@ use super::Machine;
 use crate::change::{Change, byte};
 use crate::progress::Write;
 use crate::{End, MAX_STEPS, Progress, Trap};
+use tatp_homes::{Home, Refusal, what_holds_of_every_home};
 use tatp_instr::{Instr, Register, RowRegisters};
 use tatp_loader::MAX_WRITES;
-use tatp_tables::{Home, Refusal, Table, what_holds_of_every_home};
+use tatp_tables::Table;
 
 impl<'m> Machine<'m> {
     /// Ends the call with a failure.

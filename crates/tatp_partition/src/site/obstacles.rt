@@ -5,10 +5,10 @@ ghost use Rattle.tatp_procs.specs.Asked.{Fits, arities_of, key_asked};
 
 use super::Site;
 use crate::{Item, SiteRefusal};
+use tatp_homes::{Home, what_holds_of_every_home};
 use tatp_numbers::Key;
 use tatp_population::extent_of;
 use tatp_procs::Ask;
-use tatp_tables::{Home, what_holds_of_every_home};
 
 impl<'m> Site<'m> {
     ghost use Rattle.tatp_partition.specs.Obstacles.{begin_obstacle, greater_stamp, unless};

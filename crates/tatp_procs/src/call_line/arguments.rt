@@ -8,7 +8,7 @@ use crate::columns::{
     INSERT_CALL_FORWARDING, UPDATE_LOCATION, UPDATE_SUBSCRIBER_DATA,
 };
 use crate::values::read_values;
-use tatp_tables::Fields;
+use tatp_texts::Fields;
 
 pub(super) fn get_subscriber_data(fields: &mut Fields) -> Option<Call>
     ensures { result ≡ get_subscriber_data_of fields.old }

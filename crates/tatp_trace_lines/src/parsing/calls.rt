@@ -1,6 +1,6 @@
 //! Calls in lines.
 ghost use Rattle.std.specs.Prelude.{◌≡◌, [], ◌∷◌, drop, MatchOption};
-ghost use Rattle.tatp_tables.specs.Text.{fields_of};
+ghost use Rattle.tatp_texts.specs.Text.{fields_of};
 ghost use Rattle.tatp_trace_lines.specs.LineFields.{submit_of, key_of, raw_of};
 
 use super::numbers::eight_numbers;
@@ -9,10 +9,10 @@ use tatp_events::Event;
 use tatp_lines::read_number;
 use tatp_numbers::Key;
 use tatp_procs::{Ask, Raw, read_call};
-use tatp_tables::Fields;
+use tatp_texts::Fields;
 
 /// The first field of a text and what follows its space, where there is one.
-#[tactic(auto, using(tatp_tables::proofs::FieldLaws::fields_first, tatp_tables::proofs::FieldLaws::fields_last))]
+#[tactic(auto, using(tatp_texts::proofs::FieldLaws::fields_first, tatp_texts::proofs::FieldLaws::fields_last))]
 fn split_field(text: &str) -> Option<(&str, &str)>
     ensures { MatchOption result (fields_of text.now ≡ text.now ∷ [])
         (λ parts. fields_of text.now ≡ parts.0.now ∷ fields_of parts.1.now) }

@@ -4,7 +4,7 @@ ghost use Rattle.tatp_trace_lines.specs.LineFields.{one_number, two_numbers, thr
 
 use arrayvec::ArrayVec;
 use tatp_lines::read_number;
-use tatp_tables::Fields;
+use tatp_texts::Fields;
 
 /// Exactly one.
 pub(super) fn one_number(fields: &mut Fields) -> Option<u64>

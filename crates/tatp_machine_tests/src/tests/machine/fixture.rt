@@ -6,10 +6,11 @@ ghost use Rattle.tatp_tables.specs.Clean.{IsClean};
 use super::{Case, Run};
 use std::alloc::{AllocError, Global};
 use std::test::Fail;
+use tatp_homes::Home;
 use tatp_instr::Instr;
 use tatp_loader::{Loaded, load};
 use tatp_machine::{End, MAX_STEPS, Machine, Progress};
-use tatp_tables::{Home, Row, Rows, Table};
+use tatp_tables::{Row, Rows, Table};
 
 /// The front of a module's magic, before its version.
 const MAGIC: [u8; 3] = [0x54, 0x50, 0x4D];

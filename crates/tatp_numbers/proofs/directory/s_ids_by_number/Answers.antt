@@ -28,3 +28,6 @@ loop-row-preserved c =
 
 pub returns-clause-once : goal.returns-clause-once
 returns-clause-once c = subst NumbersStandOnce (take_all c.loop-row.row-index c.args.rows.now c.loop-row-test.false) c.loop-row.invariant.differ
+
+pub returns-clause-found : goal.returns-clause-found
+returns-clause-found c = λ n. c.loop-row.invariant.found n ∙ ap (λ xs. s_id_at xs n) (take_all c.loop-row.row-index c.args.rows.now c.loop-row-test.false)

@@ -8,7 +8,8 @@ use rand_pcg::Pcg64;
 use std::alloc::{AllocError, Global};
 use std::test::Fail;
 use tatp_population::generate;
-use tatp_tables::{Row, Rows, row_text};
+use tatp_tables::{Row, Rows};
+use tatp_texts::row_text;
 
 /// What words that are all 0 draw.
 const ALL_ZERO: &str = "\

@@ -3,8 +3,8 @@ use Rattle.std.specs.Option.{option_copied, option_map}
 use Rattle.std.proofs.lemmas.Bool.Decides.{Decides-like}
 use Rattle.std.proofs.lemmas.Option.{same_Some}
 use Rattle.std.proofs.lemmas.Slice.Eq.{slice_eq-Decides}
-use Rattle.tatp_tables.specs.Home.{SubscriberRows}
-use Rattle.tatp_tables.proofs.EqualityLaws.{Decides-same_home}
+use Rattle.tatp_homes.specs.Home.{SubscriberRows}
+use Rattle.tatp_homes.proofs.EqualityLaws.{Decides-same_home}
 use Rattle.tatp_settle.specs.declared.log_parts.LogPart.{LogPart}
 use Rattle.tatp_settle.proofs.joins.goes_on_from.Goals as goal
 

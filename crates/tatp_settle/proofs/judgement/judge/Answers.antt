@@ -7,47 +7,47 @@ use Rattle.tatp_settle.specs.Causes.{IsMixed}
 use Rattle.tatp_settle.specs.Closings.{ClosedState}
 use Rattle.tatp_settle.specs.Runs.{Run, rows_left, shown}
 use Rattle.tatp_settle.specs.Placing.{ArePlaced}
-use Rattle.tatp_settle.specs.CauseOrder.{NoneOfFirst, IsFirstInCalls}
+use Rattle.tatp_settle.specs.CauseOrder.{NoneOfFirst, IsFirstAfter, IsFirstInCalls}
 use Rattle.tatp_settle.specs.Settlements.{IsOneHistory, IsAuditOf}
 use Rattle.tatp_settle.proofs.CauseLaws.{first_audit}
 use Rattle.tatp_settle.proofs.MovesLaws.{moves_by_number}
 use Rattle.tatp_settle.proofs.JudgeLaws.{as_many_receipts, matched_of, judged, judged_in_any_order, none_found, cause_found}
 use Rattle.tatp_settle.proofs.judgement.judge.Goals as goal
 
-pub chapter_cause-requires-clause-unmixed : goal.chapter_cause-requires-clause-unmixed
-chapter_cause-requires-clause-unmixed g c = λ e h. c.in_default.ensures (Mixed e) (omega arith) (subst (λ (closed : ClosedState). IsMixed closed e) c.in_ok-chapters.ensures.chapters h)
+pub judge_apart-in_chapters-requires-clause-unmixed : goal.judge_apart-in_chapters-requires-clause-unmixed
+judge_apart-in_chapters-requires-clause-unmixed g c = λ _ _ e h. c.in_default.ensures (Mixed e) (omega arith) (subst (λ (closed : ClosedState). IsMixed closed e) c.in_ok-chapters.ensures.chapters h)
 
 pub returns-in-Some-2-clause-refusal : goal.returns-in-Some-2-clause-refusal
 returns-in-Some-2-clause-refusal g c =
     let run : Run = shown c.args.run.now in
-    cause_found 6 run c.in_ok-cause.field-0 c.in-Some-2.cause c.in-Some-2.is (c.in_ok-cause.ensures c.in_default.ensures)
+    cause_found 6 run c.in_ok-cause.field-0 c.in-Some-2.cause c.in-Some-2.is (IfOk-at_ok (IsFirstAfter 3 6 run) c.in_ok-cause.was c.judge_apart-in_chapters.ensures.chapters c.in_default.ensures)
 
 pub returns-in-Some-3-clause-refusal : goal.returns-in-Some-3-clause-refusal
 returns-in-Some-3-clause-refusal g c =
     let run : Run = shown c.args.run.now in
-    let none6 : NoneOfFirst 6 run = none_found 6 run c.in_ok-cause.field-0 c.in_default-2.is (c.in_ok-cause.ensures c.in_default.ensures) in
-    cause_found 10 run c.in_ok-cause-2.field-0 c.in-Some-3.cause c.in-Some-3.is ((IfOk-at_ok (IsFirstInCalls run) c.in_ok-cause-2.was c.audit_beside_calls-audited.ensures.calls).first none6)
+    let none6 : NoneOfFirst 6 run = none_found 6 run c.in_ok-cause.field-0 c.in_default-2.is (IfOk-at_ok (IsFirstAfter 3 6 run) c.in_ok-cause.was c.judge_apart-in_chapters.ensures.chapters c.in_default.ensures) in
+    cause_found 10 run c.in_ok-cause-2.field-0 c.in-Some-3.cause c.in-Some-3.is ((IfOk-at_ok (IsFirstInCalls run) c.in_ok-cause-2.was c.judge_apart-in_chapters.ensures.calls).first none6)
 
 pub returns-in-Some-4-clause-refusal : goal.returns-in-Some-4-clause-refusal
 returns-in-Some-4-clause-refusal g c =
     let run : Run = shown c.args.run.now in
-    let none6 : NoneOfFirst 6 run = none_found 6 run c.in_ok-cause.field-0 c.in_default-2.is (c.in_ok-cause.ensures c.in_default.ensures) in
-    let none10 : NoneOfFirst 10 run = none_found 10 run c.in_ok-cause-2.field-0 c.in_default-3.is ((IfOk-at_ok (IsFirstInCalls run) c.in_ok-cause-2.was c.audit_beside_calls-audited.ensures.calls).first none6) in
+    let none6 : NoneOfFirst 6 run = none_found 6 run c.in_ok-cause.field-0 c.in_default-2.is (IfOk-at_ok (IsFirstAfter 3 6 run) c.in_ok-cause.was c.judge_apart-in_chapters.ensures.chapters c.in_default.ensures) in
+    let none10 : NoneOfFirst 10 run = none_found 10 run c.in_ok-cause-2.field-0 c.in_default-3.is ((IfOk-at_ok (IsFirstInCalls run) c.in_ok-cause-2.was c.judge_apart-in_chapters.ensures.calls).first none6) in
     cause_found 11 run c.in_ok-cause-3.field-0 c.in-Some-4.cause c.in-Some-4.is (c.in_ok-cause-3.ensures none10)
 
 pub returns-then-not-is_clean-clause-refusal : goal.returns-then-not-is_clean-clause-refusal
 returns-then-not-is_clean-clause-refusal g c =
     let run : Run = shown c.args.run.now in
-    let none6 : NoneOfFirst 6 run = none_found 6 run c.in_ok-cause.field-0 c.in_default-2.is (c.in_ok-cause.ensures c.in_default.ensures) in
-    let none10 : NoneOfFirst 10 run = none_found 10 run c.in_ok-cause-2.field-0 c.in_default-3.is ((IfOk-at_ok (IsFirstInCalls run) c.in_ok-cause-2.was c.audit_beside_calls-audited.ensures.calls).first none6) in
+    let none6 : NoneOfFirst 6 run = none_found 6 run c.in_ok-cause.field-0 c.in_default-2.is (IfOk-at_ok (IsFirstAfter 3 6 run) c.in_ok-cause.was c.judge_apart-in_chapters.ensures.chapters c.in_default.ensures) in
+    let none10 : NoneOfFirst 10 run = none_found 10 run c.in_ok-cause-2.field-0 c.in_default-3.is ((IfOk-at_ok (IsFirstInCalls run) c.in_ok-cause-2.was c.judge_apart-in_chapters.ensures.calls).first none6) in
     let none11 : NoneOfFirst 11 run = none_found 11 run c.in_ok-cause-3.field-0 c.in_default-4.is (c.in_ok-cause-3.ensures none10) in
-    first_audit run c.in_ok-verdict.verdict none11 ((IfOk-at_ok (IsAuditOf (rows_left run)) c.in_ok-verdict.was c.audit_beside_calls-audited.ensures.audit).told, sym c.is_clean.ensures ∙ c.if-not-is_clean.true)
+    first_audit run c.in_ok-verdict.verdict none11 ((IfOk-at_ok (IsAuditOf (rows_left run)) c.in_ok-verdict.was c.judge_apart-in_chapters.ensures.audit).told, sym c.is_clean.ensures ∙ c.if-not-is_clean.true)
 
 pub count_receipts-completed-requires : goal.count_receipts-completed-requires
 count_receipts-completed-requires g c =
     let run : Run = shown c.args.run.now in
-    let none6 : NoneOfFirst 6 run = none_found 6 run c.in_ok-cause.field-0 c.in_default-2.is (c.in_ok-cause.ensures c.in_default.ensures) in
-    let none10 : NoneOfFirst 10 run = none_found 10 run c.in_ok-cause-2.field-0 c.in_default-3.is ((IfOk-at_ok (IsFirstInCalls run) c.in_ok-cause-2.was c.audit_beside_calls-audited.ensures.calls).first none6) in
+    let none6 : NoneOfFirst 6 run = none_found 6 run c.in_ok-cause.field-0 c.in_default-2.is (IfOk-at_ok (IsFirstAfter 3 6 run) c.in_ok-cause.was c.judge_apart-in_chapters.ensures.chapters c.in_default.ensures) in
+    let none10 : NoneOfFirst 10 run = none_found 10 run c.in_ok-cause-2.field-0 c.in_default-3.is ((IfOk-at_ok (IsFirstInCalls run) c.in_ok-cause-2.was c.judge_apart-in_chapters.ensures.calls).first none6) in
     let many = as_many_receipts run.calls run.receipts (matched_of run none10) in
     let few = c.requires.few in
     record { few = omega (arith, many, few) }
@@ -55,12 +55,12 @@ count_receipts-completed-requires g c =
 pub returns-clause-settled : goal.returns-clause-settled
 returns-clause-settled g c =
     let run : Run = shown c.args.run.now in
-    let none6 : NoneOfFirst 6 run = none_found 6 run c.in_ok-cause.field-0 c.in_default-2.is (c.in_ok-cause.ensures c.in_default.ensures) in
-    let calls : IsFirstInCalls run c.in_ok-cause-2.field-0 = IfOk-at_ok (IsFirstInCalls run) c.in_ok-cause-2.was c.audit_beside_calls-audited.ensures.calls in
+    let none6 : NoneOfFirst 6 run = none_found 6 run c.in_ok-cause.field-0 c.in_default-2.is (IfOk-at_ok (IsFirstAfter 3 6 run) c.in_ok-cause.was c.judge_apart-in_chapters.ensures.chapters c.in_default.ensures) in
+    let calls : IsFirstInCalls run c.in_ok-cause-2.field-0 = IfOk-at_ok (IsFirstInCalls run) c.in_ok-cause-2.was c.judge_apart-in_chapters.ensures.calls in
     let none10 : NoneOfFirst 10 run = none_found 10 run c.in_ok-cause-2.field-0 c.in_default-3.is (calls.first none6) in
     let none11 : NoneOfFirst 11 run = none_found 11 run c.in_ok-cause-3.field-0 c.in_default-4.is (c.in_ok-cause-3.ensures none10) in
     let placed : ArePlaced run.closed run.receipts = subst (λ (v : Option Unsettled). IfNone v (ArePlaced run.closed run.receipts)) c.in_default-3.is calls.placed in
-    let audit : IsAuditOf (rows_left run) c.in_ok-verdict.verdict = IfOk-at_ok (IsAuditOf (rows_left run)) c.in_ok-verdict.was c.audit_beside_calls-audited.ensures.audit in
+    let audit : IsAuditOf (rows_left run) c.in_ok-verdict.verdict = IfOk-at_ok (IsAuditOf (rows_left run)) c.in_ok-verdict.was c.judge_apart-in_chapters.ensures.audit in
     let clean : IsClean (rows_left run) = audit.clean (sym c.is_clean.ensures ∙ c.if-not-is_clean.false) in
     let one : IsOneHistory run = judged run c.requires.clean c.what_holds.ensures none11 placed clean in
     record {
@@ -75,7 +75,7 @@ returns-clause-settled g c =
 pub returns-clause-any_order : goal.returns-clause-any_order
 returns-clause-any_order g c =
     let run : Run = shown c.args.run.now in
-    let none6 : NoneOfFirst 6 run = none_found 6 run c.in_ok-cause.field-0 c.in_default-2.is (c.in_ok-cause.ensures c.in_default.ensures) in
-    let none10 : NoneOfFirst 10 run = none_found 10 run c.in_ok-cause-2.field-0 c.in_default-3.is ((IfOk-at_ok (IsFirstInCalls run) c.in_ok-cause-2.was c.audit_beside_calls-audited.ensures.calls).first none6) in
+    let none6 : NoneOfFirst 6 run = none_found 6 run c.in_ok-cause.field-0 c.in_default-2.is (IfOk-at_ok (IsFirstAfter 3 6 run) c.in_ok-cause.was c.judge_apart-in_chapters.ensures.chapters c.in_default.ensures) in
+    let none10 : NoneOfFirst 10 run = none_found 10 run c.in_ok-cause-2.field-0 c.in_default-3.is ((IfOk-at_ok (IsFirstInCalls run) c.in_ok-cause-2.was c.judge_apart-in_chapters.ensures.calls).first none6) in
     let none11 : NoneOfFirst 11 run = none_found 11 run c.in_ok-cause-3.field-0 c.in_default-4.is (c.in_ok-cause-3.ensures none10) in
     judged_in_any_order run c.requires.clean c.what_holds.ensures none11

@@ -7,7 +7,8 @@ use std::alloc::{AllocError, Global};
 use std::mem::size_of;
 use std::process::Abort;
 use std::test::Fail;
-use tatp_tables::{Home, Refusal, Row, Rows, homes, is_fixed};
+use tatp_homes::{Home, Refusal, homes};
+use tatp_tables::{Row, Rows, is_fixed};
 
 /// Subscriber 1 with one row in each table.
 fn one_subscriber(alloc: Global) -> Result<Rows, AllocError>

@@ -3,7 +3,8 @@ use super::numbers;
 use std::alloc::{AllocError, Global};
 use std::process::Abort;
 use std::test::Fail;
-use tatp_tables::{Row, push_value, read_row, read_value, row_text};
+use tatp_tables::Row;
+use tatp_texts::{push_value, read_row, read_value, row_text};
 
 /// Lines, and the columns of the row that each is: of each kind of row the least values, the
 /// greatest values and others; decimals outside their domain.

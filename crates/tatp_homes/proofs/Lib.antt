@@ -1,0 +1,15 @@
+pub mod HomeLaws
+pub mod ChangeLaws
+pub mod UndoLaws
+pub mod SubscriberLaws
+pub mod PrefixLaws
+pub mod CleanLaws
+pub mod CellLaws
+pub mod PlaceLaws
+pub mod StorageLaws
+pub mod StoredLaws
+pub mod LoadingLaws
+pub mod HoldLaws
+pub mod ListLaws
+pub mod ListingLaws
+pub mod EqualityLaws

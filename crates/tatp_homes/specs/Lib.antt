@@ -1,0 +1,4 @@
+pub mod Changes
+pub mod Home
+pub mod Cells
+pub mod Loading

@@ -1,6 +1,0 @@
-use Rattle.std.proofs.Common.{◌≡◌, ◌++◌, take}
-use Rattle.tatp_tables.specs.Cells.{present}
-use Rattle.tatp_tables.proofs.home.listing.append_cells.Given as goal
-
-abbrev pub invariant-loop-cell : goal.invariant-loop-cell
-invariant-loop-cell g l = l.rows ≡ l.fn.rows ++ present (take l.cell-index l.cells)

@@ -1,6 +1,0 @@
-use Rattle.std.proofs.Common.{◌+◌, slice_index}
-use Rattle.tatp_tables.proofs.StoredLaws.{AreFirst}
-use Rattle.tatp_tables.proofs.stored.subscriber.StoredSubscriber.of.Given as goal
-
-abbrev pub invariant-loop-place : goal.invariant-loop-place
-invariant-loop-place l = AreFirst 0 30 l.place (λ k. slice_index l.row (k + 2)) l.small

@@ -1,5 +1,0 @@
-use Rattle.tatp_tables.proofs.ColumnLaws.{IsReadUpTo}
-use Rattle.tatp_tables.proofs.text.read_columns.Given as goal
-
-abbrev pub invariant-loop-place : goal.invariant-loop-place
-invariant-loop-place g l = IsReadUpTo g.row.N l.first l.fn.fields l.place l.columns l.fields

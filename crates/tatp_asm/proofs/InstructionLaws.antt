@@ -32,7 +32,7 @@ mnemonic (Facc d a b) = codes "FACC"
 mnemonic (Ffac d a b) = codes "FFAC"
 mnemonic (Fcfw d a) = codes "FCFW"
 mnemonic (Get d c) = codes "GET"
-mnemonic (Put c a) = codes "PUT"
+mnemonic (Put a c) = codes "PUT"
 mnemonic (Ins d a) = codes "INS"
 mnemonic Del = codes "DEL"
 mnemonic (Out a) = codes "OUT"
@@ -56,7 +56,7 @@ operands (Facc d a b) label = Register d ∷ Register a ∷ Register b ∷ []
 operands (Ffac d a b) label = Register d ∷ Register a ∷ Register b ∷ []
 operands (Fcfw d a) label = Register d ∷ Register a ∷ []
 operands (Get d c) label = Register d ∷ Number c ∷ []
-operands (Put c a) label = Number c ∷ Register a ∷ []
+operands (Put a c) label = Number c ∷ Register a ∷ []
 operands (Ins d a) label = Register d ∷ Register a ∷ []
 operands Del label = []
 operands (Out a) label = Register a ∷ []
@@ -97,7 +97,7 @@ text_is (Facc d a b) label = ap (λ (x : List ℕ). codes "FACC r" ++ x) (three_
 text_is (Ffac d a b) label = ap (λ (x : List ℕ). codes "FFAC r" ++ x) (three_parts (decimal d) (decimal a) (decimal b))
 text_is (Fcfw d a) label = ap (λ (x : List ℕ). codes "FCFW r" ++ x) (two_parts (decimal d) (decimal a) 114)
 text_is (Get d c) label = ap (λ (x : List ℕ). codes "GET r" ++ x) (two_marks (decimal d) (decimal c) 35)
-text_is (Put c a) label = ap (λ (x : List ℕ). codes "PUT #" ++ x) (two_parts (decimal c) (decimal a) 114)
+text_is (Put a c) label = ap (λ (x : List ℕ). codes "PUT #" ++ x) (two_parts (decimal c) (decimal a) 114)
 text_is (Ins d a) label = ap (λ (x : List ℕ). codes "INS r" ++ x) (two_parts (decimal d) (decimal a) 114)
 text_is Del label = refl
 text_is (Out a) label = refl
@@ -158,7 +158,7 @@ each_makes_its_own =
     ⨾ (λ d a b g i h l e. made _ _ _ (Ffac d a b) i g.label e refl refl (λ t. ((h.0, h.1.0, h.1.1.0), refl, l)))
     ⨾ (λ d a b g i h l e. made _ _ _ (Fcfw d a) i g.label e refl refl (λ t. ((h.0, leb-false 14 a (key_within _ _ t)), refl, l)))
     ⨾ (λ d a b g i h l e. made _ _ _ (Get d g.number) i g.label e refl refl (λ t. ((h.0, h.1.0), refl, l)))
-    ⨾ (λ d a b g i h l e. made _ _ _ (Put g.number d) i g.label e refl refl (λ t. ((h.0, h.1.0), refl, l)))
+    ⨾ (λ d a b g i h l e. made _ _ _ (Put d g.number) i g.label e refl refl (λ t. ((h.1.0, h.0), refl, l)))
     ⨾ (λ d a b g i h l e. made _ _ _ (Ins d a) i g.label e refl refl (λ t. ((h.0, leb-false 12 a (row_within _ _ t)), refl, l)))
     ⨾ (λ d a b g i h l e. made _ _ false Del i g.label e refl refl (λ t. (tt, refl, l)))
     ⨾ (λ d a b g i h l e. made _ _ _ (Out d) i g.label e refl refl (λ t. (h.0, refl, l)))
@@ -202,7 +202,7 @@ operands_are (Facc d a b) label (h, t, l) = (h.0, (h.1, (h.2, tt)))
 operands_are (Ffac d a b) label (h, t, l) = (h.0, (h.1, (h.2, tt)))
 operands_are (Fcfw d a) label (h, t, l) = (h.0, (omega (arith, h.1), tt))
 operands_are (Get d c) label (h, t, l) = (h.0, (h.1, tt))
-operands_are (Put c a) label (h, t, l) = (h.0, (h.1, tt))
+operands_are (Put a c) label (h, t, l) = (h.1, (h.0, tt))
 operands_are (Ins d a) label (h, t, l) = (h.0, (omega (arith, h.1), tt))
 operands_are Del label h = tt
 operands_are (Out a) label (h, t, l) = (h, tt)
@@ -226,7 +226,7 @@ mnemonic_plain (Facc d a b) = refl
 mnemonic_plain (Ffac d a b) = refl
 mnemonic_plain (Fcfw d a) = refl
 mnemonic_plain (Get d c) = refl
-mnemonic_plain (Put c a) = refl
+mnemonic_plain (Put a c) = refl
 mnemonic_plain (Ins d a) = refl
 mnemonic_plain Del = refl
 mnemonic_plain (Out a) = refl
@@ -274,7 +274,7 @@ with_again (Facc d a b) label (h, t, l) = rw (low d h.0, low a h.1, low b h.2) (
 with_again (Ffac d a b) label (h, t, l) = rw (low d h.0, low a h.1, low b h.2) (ap Some (bare_line (Ffac d a b) label l))
 with_again (Fcfw d a) label (h, t, l) = rw (low d h.0, low a (omega arith), lt-leb 14 a h.1) (ap Some (bare_line (Fcfw d a) label l))
 with_again (Get d c) label (h, t, l) = rw (low d h.0) (ap Some (bare_line (Get d c) label l))
-with_again (Put c a) label (h, t, l) = rw (low a h.1) (ap Some (bare_line (Put c a) label l))
+with_again (Put a c) label (h, t, l) = rw (low a h.0) (ap Some (bare_line (Put a c) label l))
 with_again (Ins d a) label (h, t, l) = rw (low d h.0, low a (omega arith), lt-leb 12 a h.1) (ap Some (bare_line (Ins d a) label l))
 with_again Del label (h, t, l) = ap Some (bare_line Del label l)
 with_again (Out a) label (h, t, l) = rw (low a h) (ap Some (bare_line (Out a) label l))

@@ -20,7 +20,6 @@ use crate::stored::{
 };
 pub use loading::{homes, homes_in_lists};
 use std::marker::Model;
-use tatp_tables::Table;
 
 /// The rows of one s_id: at most one Subscriber row, four Access_Info and four Special_Facility
 /// rows by type, and three Call_Forwarding rows a facility by start time. It takes no memory of its
@@ -199,16 +198,12 @@ impl Home {
     pub fn get(&self, column: u8, key: [u64; 3]) -> Option<u64>
         ensures { result ≡ cell self.now.tables column key }
     {
-        if column > 50 {
-            return None;
-        }
-        let table = Table::of_column(column);
-        let place = usize::from(column - table.first_column());
-        match table {
-            Table::Subscriber => Some(self.subscriber(key[0])?.get(place)),
-            Table::AccessInfo => Some(self.access(key[0], key[1])?.get(place)),
-            Table::SpecialFacility => Some(self.facility(key[0], key[1])?.get(place)),
-            Table::CallForwarding => Some(self.forwarding(key)?.get(place)),
+        match column {
+            0..=33 => Some(self.subscriber(key[0])?.get(usize::from(column))),
+            34..=39 => Some(self.access(key[0], key[1])?.get(usize::from(column - 34))),
+            40..=45 => Some(self.facility(key[0], key[1])?.get(usize::from(column - 40))),
+            46..=50 => Some(self.forwarding(key)?.get(usize::from(column - 46))),
+            _ => None,
         }
     }
 }

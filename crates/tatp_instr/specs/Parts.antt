@@ -66,7 +66,7 @@ instr_with op d a b n =
     if op == 0x0D then Ffac d a b else
     if op == 0x0E then Fcfw d a else
     if op == 0x0F then Get d n else
-    if op == 0x10 then Put n d else
+    if op == 0x10 then Put d n else
     if op == 0x11 then Ins d a else
     if op == 0x12 then Del else
     if op == 0x13 then Out d else

@@ -6,7 +6,8 @@ ghost use Rattle.tatp_instr.specs.Shapes.{shape_at, HasShape};
 
 use crate::registers::{KeyRegisters, Register, RowRegisters};
 
-/// One instruction; one variant per row of the table, in its order.
+/// One instruction; one variant per row of the table, in its order. The registers stand before the
+/// u32, as in the encoding: so an instruction takes 8 bytes.
 #[derive(Clone, Copy, Debug, PartialEq, Eq)]
 pub enum Instr {
     /// (d, n): r[d] = n.
@@ -39,8 +40,8 @@ pub enum Instr {
     Fcfw(Register, KeyRegisters),
     /// (d, c): r[d] = the column c of its table's current row.
     Get(Register, u32),
-    /// (c, a): Sets the column c of its table's current row to r[a].
-    Put(u32, Register),
+    /// (a, c): Sets the column c of its table's current row to r[a].
+    Put(Register, u32),
     /// (d, a): Inserts the Call_Forwarding row r[a] to r[a+4].
     Ins(Register, RowRegisters),
     /// Deletes the current Call_Forwarding row.
@@ -93,7 +94,7 @@ impl Instr {
             Instr::Ffac(d, a, b) => (0x0D, [d.number(), a.number(), b.number()], 0),
             Instr::Fcfw(d, a) => (0x0E, [d.number(), a.number(), 0], 0),
             Instr::Get(d, c) => (0x0F, [d.number(), 0, 0], c),
-            Instr::Put(c, a) => (0x10, [a.number(), 0, 0], c),
+            Instr::Put(a, c) => (0x10, [a.number(), 0, 0], c),
             Instr::Ins(d, a) => (0x11, [d.number(), a.number(), 0], 0),
             Instr::Del => (0x12, [0, 0, 0], 0),
             Instr::Out(a) => (0x13, [a.number(), 0, 0], 0),
@@ -155,7 +156,7 @@ fn instr_of(op: u8, first: u8, second: u8, third: u8, word: u32) -> Option<Instr
         0x0D => Instr::Ffac(first, second, third),
         0x0E => Instr::Fcfw(first, KeyRegisters::new(key)?),
         0x0F => Instr::Get(first, word),
-        0x10 => Instr::Put(word, first),
+        0x10 => Instr::Put(first, word),
         0x11 => Instr::Ins(first, RowRegisters::new(key)?),
         0x12 => Instr::Del,
         0x13 => Instr::Out(first),

@@ -53,7 +53,7 @@ fn instr_misfit(procedure: &Proc, position: usize, instr: &Instr) -> Option<Load
             Some(LoadFaultKind::NoSuchArgument)
         }
         Instr::Get(_, column) if column > 50 => Some(LoadFaultKind::FixedColumn),
-        Instr::Put(column, _) if !is_settable(column) => Some(LoadFaultKind::FixedColumn),
+        Instr::Put(_, column) if !is_settable(column) => Some(LoadFaultKind::FixedColumn),
         Instr::Jmp(target) | Instr::Jz(_, target) => {
             if target as usize <= position {
                 Some(LoadFaultKind::BackwardJump)

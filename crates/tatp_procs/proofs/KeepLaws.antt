@@ -22,7 +22,7 @@ use Rattle.tatp_machine.specs.declared.progress.Trap.{Trap}
 
 -- PUT is on no fixed column
 abbrev pub puts_free : Instr → Bool
-puts_free (Put c a) = not (is_fixed c)
+puts_free (Put a c) = not (is_fixed c)
 puts_free i = true
 
 -- the rows of a home
@@ -81,7 +81,7 @@ act_keeps (Facc d a b) s q v f is = (refl, refl, is)
 act_keeps (Ffac d a b) s q v f is = (refl, refl, is)
 act_keeps (Fcfw d a) s q v f is = (refl, refl, is)
 act_keeps (Get d c) s q v f is = got_keeps s q d v (option_and_then (cell v c) (key_in (table_of c) q.current)) is
-act_keeps (Put c a) s q v f is = put_current_keeps s q v c (value q a) (key_in (table_of c) q.current) (free (is_fixed c) f) is
+act_keeps (Put a c) s q v f is = put_current_keeps s q v c (value q a) (key_in (table_of c) q.current) (free (is_fixed c) f) is
 act_keeps (Ins d a) s q v f is = inserted_keeps s q d (insert_tables v (five_values q a)) (insert_answer v (five_values q a)) (IsHome-insert (record { s_id = s; tables = v }) (five_values q a) refl is)
 act_keeps Del s q v f is = delete_current_keeps s q v (key_in CallForwarding q.current) is
 act_keeps (Out a) s q v f is = (refl, refl, is)

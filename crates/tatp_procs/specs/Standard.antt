@@ -36,12 +36,12 @@ get_access_data_code =
 abbrev pub update_subscriber_data_code : List Instr
 update_subscriber_data_code =
     Arg 0 0 ∷ Fsub 1 0 ∷ Jz 1 11 ∷ Arg 2 1 ∷ Put 2 2
-    ∷ Arg 3 2 ∷ Ffac 1 0 3 ∷ Jz 1 11 ∷ Arg 4 3 ∷ Put 44 4
+    ∷ Arg 3 2 ∷ Ffac 1 0 3 ∷ Jz 1 11 ∷ Arg 4 3 ∷ Put 4 44
     ∷ Done ∷ Fail 1 ∷ []
 
 -- none: 6
 abbrev pub update_location_code : List Instr
-update_location_code = Arg 0 0 ∷ Fnum 1 0 ∷ Jz 1 6 ∷ Arg 2 1 ∷ Put 33 2 ∷ Done ∷ Fail 1 ∷ []
+update_location_code = Arg 0 0 ∷ Fnum 1 0 ∷ Jz 1 6 ∷ Arg 2 1 ∷ Put 2 33 ∷ Done ∷ Fail 1 ∷ []
 
 -- bad: 13, parent: 17, none: 18
 abbrev pub insert_call_forwarding_code : List Instr

@@ -119,11 +119,21 @@ impl<'a> WholeLog<'a> {
         }
     }
 
+    /// The number of the part in which the entry of this place stands, if all parts are as long as
+    /// the first: those that executors hand out are, the last one aside.
+    fn likely_part(&self, index: usize) -> usize {
+        match self.parts.get(1) {
+            Some(second) => index.checked_div(second.first).unwrap_or(0),
+            None => 0,
+        }
+    }
+
     /// The entry in a place, if there is one.
     pub(crate) fn get(&self, index: usize) -> Option<Entry>
         ensures { result ≡ slice_get self.now index }
     {
-        let part = self.part_of(index)?;
+        let mut near = self.likely_part(index);
+        let part = self.part_near(&mut near, index)?;
         part.entries.get(index - part.first)
     }
 

@@ -44,11 +44,11 @@ impl<'m> Machine<'m> {
     #[inline(never)]
     pub(super) fn put(&mut self, home: &mut Home, column: u32, a: Register) -> Write
         requires home { self.old.frame.home ≡ Some home.old.s_id }
-        requires here { IsNext self.old.frame (Instr.Put column a) }
-        requires fits { FitsAt self.old.frame (Instr.Put column a) }
+        requires here { IsNext self.old.frame (Instr.Put a column) }
+        requires fits { FitsAt self.old.frame (Instr.Put a column) }
         requires more { self.old.frame.steps + 1 < MAX_STEPS }
         requires room { self.old.frame.writes < MAX_WRITES }
-        ensures performs { Performs (Instr.Put column a)
+        ensures performs { Performs (Instr.Put a column)
             self.old home.old.tables (told result) self.new home.new.tables }
         ensures same { home.new.s_id ≡ home.old.s_id }
         ensures rows { IsHome home.new }

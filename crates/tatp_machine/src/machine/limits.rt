@@ -15,7 +15,7 @@ impl<'m> Machine<'m> {
     pub(super) fn is_last_step(&self) -> bool
         ensures { result ≡ is_last_step self.now.frame }
     {
-        self.steps + 1 >= MAX_STEPS
+        self.steps >= MAX_STEPS - 1
     }
 
     /// Whether the call may put out one value more.

@@ -44,7 +44,7 @@ fn one_spelling_of_each_op(rt: HostRuntime) -> Result<(), Fail> {
     expect_spelling(rt, Instr::Ffac(a, b, c), [13, 1, 7, 15, 0, 0, 0, 0]);
     expect_spelling(rt, Instr::Fcfw(c, key), [14, 15, 13, 0, 0, 0, 0, 0]);
     expect_spelling(rt, Instr::Get(b, 44), [15, 7, 0, 0, 0, 0, 0, 44]);
-    expect_spelling(rt, Instr::Put(44, register(4)?), [16, 4, 0, 0, 0, 0, 0, 44]);
+    expect_spelling(rt, Instr::Put(register(4)?, 44), [16, 4, 0, 0, 0, 0, 0, 44]);
     expect_spelling(rt, Instr::Ins(c, row), [17, 15, 11, 0, 0, 0, 0, 0]);
     expect_spelling(rt, Instr::Del, [18, 0, 0, 0, 0, 0, 0, 0]);
     expect_spelling(rt, Instr::Out(b), [19, 7, 0, 0, 0, 0, 0, 0]);

@@ -41,7 +41,7 @@ fn each_row_of_the_table(rt: HostRuntime) -> Result<(), Fail> {
     expect_row(rt, Instr::Ffac(a, b, c), "FFAC r0,r7,r15", 0x0D, 3, Nothing);
     expect_row(rt, Instr::Fcfw(a, key), "FCFW r0,r13", 0x0E, 2, Nothing);
     expect_row(rt, Instr::Get(b, 44), "GET r7,#44", 0x0F, 1, Column);
-    expect_row(rt, Instr::Put(44, b), "PUT #44,r7", 0x10, 1, Column);
+    expect_row(rt, Instr::Put(b, 44), "PUT #44,r7", 0x10, 1, Column);
     expect_row(rt, Instr::Ins(b, row), "INS r7,r11", 0x11, 2, Nothing);
     expect_row(rt, Instr::Del, "DEL", 0x12, 0, Nothing);
     expect_row(rt, Instr::Out(b), "OUT r7", 0x13, 1, Nothing);
@@ -58,7 +58,7 @@ fn longest_texts(rt: HostRuntime) -> Result<(), Fail> {
     assert_eq!(rt; ldi.as_str(), "LDI r15,#4294967295");
     let jz = text(&Instr::Jz(last, 4294967295));
     assert_eq!(rt; jz.as_str(), "JZ r15,@L4294967295");
-    let put = text(&Instr::Put(4294967295, last));
+    let put = text(&Instr::Put(last, 4294967295));
     assert_eq!(rt; put.as_str(), "PUT #4294967295,r15");
     let back = text(&Instr::Loop(last, 4294967295));
     assert_eq!(rt; back.as_str(), "LOOP r15,@L4294967295");
@@ -89,7 +89,7 @@ fn ops_of_the_book(rt: HostRuntime) {
 
 #[test]
 fn operands_in_the_order_of_the_text(rt: HostRuntime) -> Result<(), Fail> {
-    let put = Instr::Put(44, register(4)?).parts();
+    let put = Instr::Put(register(4)?, 44).parts();
     let expected = Parts {
         op: 0x10,
         registers: [4, 0, 0],

@@ -16,12 +16,12 @@ pub(super) fn update_subscriber_data() -> [Instr; 12]
         Instr::Fsub(r1, r0),
         Instr::Jz(r1, none),
         Instr::Arg(r2, 1),
-        Instr::Put(2, r2),
+        Instr::Put(r2, 2),
         Instr::Arg(r3, 2),
         Instr::Ffac(r1, r0, r3),
         Instr::Jz(r1, none),
         Instr::Arg(r4, 3),
-        Instr::Put(44, r4),
+        Instr::Put(r4, 44),
         Instr::Done,
         Instr::Fail(1),
     ]
@@ -38,7 +38,7 @@ pub(super) fn update_location() -> [Instr; 7]
         Instr::Fnum(r1, r0),
         Instr::Jz(r1, none),
         Instr::Arg(r2, 1),
-        Instr::Put(33, r2),
+        Instr::Put(r2, 33),
         Instr::Done,
         Instr::Fail(1),
     ]

@@ -1,7 +1,6 @@
 -- What is written of explanations, and what each fault leaves: docs/FORMATS.md, "Refusals".
-use Rattle.std.specs.Prelude.{◌≡◌, ℕ, List, [], ◌++◌, map, codes, decimal, Option}
+use Rattle.std.specs.Prelude.{◌≡◌, ℕ, List, ◌++◌, map, codes, decimal, Option}
 use Rattle.std.specs.List.{flat_map}
-use Rattle.std.specs.Io.KnownBytes.{Appends}
 use Rattle.tatp_streams.specs.declared.fault.StreamFault.{StreamFault}
 use Rattle.tatp_streams.specs.declared.fault.StreamFault.TheVariants.{ReadFault}
 use Rattle.tatp_streams.specs.Writing.{LeavesText}

@@ -1,13 +1,9 @@
 -- What clean lists say of the row at a place: it fits, its key is new, its parent is there.
-use Rattle.std.specs.Prelude.{◌≡◌, ℕ, zero, suc, ◌+◌, ◌≤◌, ◌<◌, max, Bool, true, false, cond, nat_lt, nat_le, ◌&&◌, ◌||◌, ◌==◌, List, [], ◌∷◌, ◌++◌, take, drop, length, None, is_some, slice_index, slice_index_or, count_by}
-use Rattle.std.specs.List.{list_any}
-use Rattle.std.proofs.Common.{refl, sym, ap, subst, ◌∙◌, arith, inl, inr}
-use Rattle.std.proofs.lemmas.Bool.Decides.{nat_tests}
-use Rattle.std.proofs.lemmas.Bool.{and_parts, and_from, cases_lt, cond-true}
-use Rattle.std.proofs.lemmas.List.Sums.{sum_by-cons, sum_by-append}
-use Rattle.std.proofs.Math.Seq.{split_at}
-use Rattle.tatp_tables.specs.Tuples.{Tuple, same, has, set_of, insert_row}
-use Rattle.tatp_tables.proofs.TupleLaws.{same_is, same_itself, has-set_of}
+use Rattle.std.specs.Prelude.{◌≡◌, ℕ, ◌≤◌, ◌<◌, true, List, [], ◌∷◌, take, length, None, is_some, slice_index, slice_index_or}
+use Rattle.std.proofs.Common.{sym, ap, ◌∙◌, arith}
+use Rattle.std.proofs.lemmas.Bool.{and_parts, and_from}
+use Rattle.tatp_tables.specs.Tuples.{Tuple, has, set_of, insert_row}
+use Rattle.tatp_tables.proofs.TupleLaws.{has-set_of}
 use Rattle.tatp_tables.proofs.FindLaws.{none_in}
 use Rattle.tatp_tables.proofs.CountLaws.{none_counted, one_counted, none_before, ids_stand_once}
 use Rattle.tatp_tables.specs.Keys.{has_key, row_at}

@@ -7,7 +7,7 @@ abbrev pub chapter_of_parts : ChapterParts → ChapterState
 chapter_of_parts parts = record {
   extent = parts.extent;
   index = parts.index;
-  before = parts.before.items;
+  before = parts.before;
   entries = parts.entries.entries;
-  after = parts.after.items;
+  after = parts.after;
 }

@@ -4,7 +4,7 @@ ghost use Rattle.tatp_population.specs.declared.chapter.CheckpointError.TheVaria
 ghost use Rattle.tatp_population.specs.Chapters.{IsChapter};
 ghost use Rattle.tatp_population.specs.ChapterParts.{chapter_of_parts};
 
-use crate::Log;
+use crate::{Log, SharedHomes};
 use std::alloc::AllocError;
 use std::marker::Model;
 use tatp_homes::Home;
@@ -40,9 +40,9 @@ impl From<AllocError> for CheckpointError {
 pub(crate) struct ChapterParts {
     pub(crate) extent: u32,
     pub(crate) index: u16,
-    pub(crate) before: Vec<Home>,
+    pub(crate) before: SharedHomes,
     pub(crate) entries: Log,
-    pub(crate) after: Vec<Home>,
+    pub(crate) after: SharedHomes,
 }
 
 /// What the log of an extent was between two checkpoints: its homes at the first, the calls that
@@ -92,7 +92,7 @@ impl Chapter {
     pub fn before(&self) -> &[Home]
         ensures { result.now ≡ self.now.before }
     {
-        &self.parts.before
+        self.parts.before.as_slice()
     }
 
     /// Its calls, in the order of their stamps.
@@ -106,7 +106,7 @@ impl Chapter {
     pub fn after(&self) -> &[Home]
         ensures { result.now ≡ self.now.after }
     {
-        &self.parts.after
+        self.parts.after.as_slice()
     }
 
     /// Spends it.

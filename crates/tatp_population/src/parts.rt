@@ -1,6 +1,6 @@
 //! The parts of an extent, and of the log of calls without a home.
 
-use crate::Log;
+use crate::{Log, SharedHomes};
 use tatp_homes::Home;
 
 /// What an extent is made of. They tell nothing of each other: an [`crate::Extent`] does.
@@ -15,7 +15,7 @@ pub struct ExtentParts {
     /// How many chapters it handed out.
     pub chapters: u16,
     /// Its homes at the last checkpoint.
-    pub opening: Vec<Home>,
+    pub opening: SharedHomes,
     /// Its homes now.
     pub homes: Vec<Home>,
     /// The calls that were logged since the last checkpoint, in the order of their stamps.

@@ -120,7 +120,7 @@ impl<'a> WholeLog<'a> {
     }
 
     /// The number of the part in which the entry of this place stands, if all parts are as long as
-    /// the first: those that executors hand out are, the last one aside.
+    /// the first, as most often they are.
     fn likely_part(&self, index: usize) -> usize {
         match self.parts.get(1) {
             Some(second) => index.checked_div(second.first).unwrap_or(0),

@@ -195,14 +195,18 @@ fn expect_third(rt: &impl Abort, parts: &ExtentParts) {
 fn expect_first(rt: &impl Abort, parts: &ExtentParts) {
     assert_eq!(rt; (parts.number, parts.moves, parts.mixed), (1, 0, false));
     assert_eq!(rt;
-        (parts.log.len(), parts.opening.len(), parts.homes.len()),
+        (
+            parts.log.len(),
+            parts.opening.as_slice().len(),
+            parts.homes.len()
+        ),
         (1, 64, 64)
     );
     match parts.log.get(0) {
         Some(entry) => assert_eq!(rt; (entry.ask, entry.stamp), (Ask::Txn(ASK), 1)),
         None => panic!(rt; "no entry"),
     }
-    let before = parts.opening[0].get(33, [1, 0, 0]);
+    let before = parts.opening.as_slice()[0].get(33, [1, 0, 0]);
     let after = parts.homes[0].get(33, [1, 0, 0]);
     assert_eq!(rt; (before, after), (Some(1), Some(7)));
 }

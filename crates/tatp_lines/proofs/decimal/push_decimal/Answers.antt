@@ -1,4 +1,3 @@
-use Rattle.std.proofs.Common.{◌∙◌, ap, sym, arith}
 use Rattle.std.specs.String.{string_bytes}
 use Rattle.tatp_lines.proofs.NumberLaws.{digit_pushed}
 use Rattle.tatp_lines.proofs.decimal.push_decimal.Goals as goal

@@ -1,4 +1,4 @@
-use Rattle.std.proofs.Common.{◌≡◌, ℕ, Some, slice_set, ◌∙◌}
+use Rattle.std.proofs.Common.{Some, slice_set, ◌∙◌}
 use Rattle.tatp_partition.proofs.RunnerLaws.{given_back}
 use Rattle.tatp_partition.proofs.runner.Runner.set_back.Goals as goal
 

@@ -12,7 +12,7 @@ use Rattle.tatp_procs.specs.declared.ask.Ask.TheVariants.{Txn}
 use Rattle.tatp_procs.specs.declared.call.Call.{Call}
 use Rattle.tatp_population.specs.Drawn.{choice, choices}
 use Rattle.tatp_population.specs.DrawnRows.{population}
-use Rattle.tatp_population.specs.Opening.{extent_count}
+use Rattle.tatp_extents.specs.Opening.{extent_count}
 use Rattle.tatp_driver.specs.declared.distribution.Distribution.{Distribution}
 use Rattle.tatp_driver.specs.DrawnCall.{drawn_call}
 use Rattle.tatp_driver.specs.DrawnWords.{next_words, words_of, client_generator}

@@ -3,8 +3,8 @@ ghost use Rattle.std.specs.Prelude.{◌≡◌, ◌++◌, IfOk};
 ghost use Rattle.tatp_settle.specs.Runs.{joined, lists_of};
 
 use std::alloc::{AllocError, Global};
+use tatp_extents::Chapter;
 use tatp_partition::discard_all;
-use tatp_population::Chapter;
 use tatp_threads::discard_chapters;
 
 /// Two lists in one. Without memory for it they are spent.

@@ -7,8 +7,9 @@ use Rattle.tatp_lines.specs.Lines.{lines_of}
 use Rattle.tatp_tables.specs.Clean.{IsClean}
 use Rattle.tatp_tables.specs.declared.row.Rows.{Rows}
 use Rattle.tatp_encoding.specs.Modules.{ModuleState}
-use Rattle.tatp_population.specs.declared.open_error.OpenError.{OpenError}
-use Rattle.tatp_population.specs.Opening.{most_subscribers, RefusesRows}
+use Rattle.tatp_extents.specs.declared.open_error.OpenError.{OpenError}
+use Rattle.tatp_tables.specs.Database.{most_subscribers}
+use Rattle.tatp_extents.specs.Opening.{RefusesRows}
 use Rattle.tatp_dispatch.specs.Opened.{IsOpened}
 use Rattle.tatp_dispatch.specs.Serving.{IsWorld}
 use Rattle.tatp_dispatch.specs.Worlds.{WorldState}

@@ -3,7 +3,7 @@ use Rattle.std.specs.Prelude.{◌≡◌, ℕ, ◌≤◌, List, [], ◌∷◌, �
 use Rattle.std.specs.Io.KnownBytes.{Appends}
 use Rattle.tatp_tables.specs.Clean.{IsClean}
 use Rattle.tatp_encoding.specs.Modules.{ModuleState}
-use Rattle.tatp_population.specs.Opening.{most_subscribers}
+use Rattle.tatp_tables.specs.Database.{most_subscribers}
 use Rattle.tatp_dispatch.specs.Opened.{IsOpened}
 use Rattle.tatp_dispatch.specs.Serving.{IsWorld}
 use Rattle.tatp_dispatch.specs.Worlds.{WorldState}

@@ -2,9 +2,8 @@
 -- database that the lines before it left.
 use Rattle.std.specs.Prelude.{◌≡◌, ℕ, ◌≤◌, Bool, true, false, List, [], ◌∷◌, ◌++◌, length, Option, Some, None, Result, Ok, Err, codes, decimal, if◌then◌else◌}
 use Rattle.std.specs.Str.{is_utf8}
-use Rattle.tatp_tables.specs.Database.{Database, database_of}
+use Rattle.tatp_tables.specs.Database.{Database, database_of, most_subscribers}
 use Rattle.tatp_tables.specs.Clean.{IsClean}
-use Rattle.tatp_population.specs.Opening.{most_subscribers}
 use Rattle.tatp_procs.specs.declared.call.Call.{Call}
 use Rattle.tatp_procs.specs.declared.ask.Ask.TheVariants.{Txn}
 use Rattle.tatp_procs.specs.declared.reply.Reply.TheVariants.{Refused}

@@ -4,7 +4,7 @@ use Rattle.std.specs.Prelude.{◌≡◌, ℕ, ◌≤◌, List, ◌++◌, length,
 use Rattle.tatp_tables.specs.Clean.{IsClean}
 use Rattle.tatp_tables.specs.declared.row.Rows.{Rows}
 use Rattle.tatp_encoding.specs.Modules.{ModuleState}
-use Rattle.tatp_population.specs.Opening.{most_subscribers}
+use Rattle.tatp_tables.specs.Database.{most_subscribers}
 use Rattle.tatp_events.specs.declared.event.Answer.{Answer}
 use Rattle.tatp_events.specs.declared.refusal.Refusal.{Refusal}
 use Rattle.tatp_dispatch.specs.Benchmark.{IsTheBenchmark}

@@ -4,7 +4,7 @@ use Rattle.std.specs.Prelude.{ℕ, ◌⊎◌, List, [], Option}
 use Rattle.std.specs.Io.KnownBytes.{Appends}
 use Rattle.tatp_lines.specs.Lines.{lines_of}
 use Rattle.tatp_encoding.specs.Modules.{ModuleState}
-use Rattle.tatp_population.specs.Opening.{RefusesRows}
+use Rattle.tatp_extents.specs.Opening.{RefusesRows}
 use Rattle.tatp_tasks.specs.declared.population.Population.{Population}
 use Rattle.tatp_tasks.specs.declared.procedures.Procedures.{Procedures}
 use Rattle.tatp_inputs.specs.declared.fault.InputFault.TheVariants.{Stream}

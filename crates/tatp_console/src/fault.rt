@@ -8,9 +8,9 @@ ghost use Rattle.tatp_console.specs.Brought.{module_fault};
 use std::alloc::AllocError;
 use tatp_asm::AsmFault;
 use tatp_assembly::AssemblyFault;
+use tatp_extents::OpenError;
 use tatp_inputs::InputFault;
 use tatp_loader::LoadFault;
-use tatp_population::OpenError;
 use tatp_streams::StreamFault;
 use thiserror::Error;
 

@@ -1,7 +1,8 @@
 //! The whole over which lines are answered.
 ghost use Rattle.std.specs.Prelude.{◌≤◌, IfOk, IfErr, OnOk, length};
+ghost use Rattle.tatp_tables.specs.Database.{most_subscribers};
 ghost use Rattle.tatp_tables.specs.Clean.{IsClean};
-ghost use Rattle.tatp_population.specs.Opening.{most_subscribers, RefusesRows};
+ghost use Rattle.tatp_extents.specs.Opening.{RefusesRows};
 ghost use Rattle.tatp_dispatch.specs.Opened.{IsOpened};
 ghost use Rattle.tatp_dispatch.specs.Serving.{IsWorld};
 ghost use Rattle.tatp_tasks.specs.Populations.{IsSetup};
@@ -9,8 +10,8 @@ ghost use Rattle.tatp_inputs.specs.Work.{AreCleanWhereDrawn};
 
 use std::alloc::Global;
 use tatp_dispatch::World;
+use tatp_extents::OpenError;
 use tatp_loader::Loaded;
-use tatp_population::OpenError;
 use tatp_tables::Rows;
 use tatp_tasks::{Population, Setup};
 

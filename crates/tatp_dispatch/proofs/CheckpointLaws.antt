@@ -4,8 +4,8 @@ use Rattle.std.specs.Option.{option_flatten, option_map}
 use Rattle.std.proofs.Math.ListN.{set}
 use Rattle.std.proofs.lemmas.Bool.{cases_lt}
 use Rattle.std.proofs.lemmas.Option.{slice_get_past}
-use Rattle.tatp_population.specs.Extents.{ExtentState}
-use Rattle.tatp_population.specs.Chapters.{ChapterState, after_checkpoint}
+use Rattle.tatp_extents.specs.Extents.{ExtentState}
+use Rattle.tatp_extents.specs.Chapters.{ChapterState, after_checkpoint}
 use Rattle.tatp_partition.specs.declared.refusal.SiteRefusal.{SiteRefusal}
 use Rattle.tatp_partition.specs.declared.refusal.SiteRefusal.TheVariants.{NoMemory}
 use Rattle.tatp_partition.specs.Checkpointing.{log_of, log_here, log_obstacle, checkpoint_obstacle, HandsOut, Checkpoints}

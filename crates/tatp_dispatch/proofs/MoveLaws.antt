@@ -3,7 +3,7 @@ use Rattle.std.proofs.Common.{◌≡◌, ◌≢◌, inl, inr, ℕ, ◌<◌, true
 use Rattle.std.specs.Prelude.{remove}
 use Rattle.std.specs.Option.{option_flatten, option_and_then, option_map}
 use Rattle.std.proofs.Math.ListN.{set, length-set}
-use Rattle.tatp_population.specs.Extents.{ExtentState, extent_of, home_at}
+use Rattle.tatp_extents.specs.Extents.{ExtentState, extent_of, home_at}
 use Rattle.std.proofs.lemmas.Option.{slice_get_within}
 use Rattle.tatp_partition.specs.Moving.{LandedState, moved, with_extent, Gives}
 use Rattle.tatp_partition.specs.Sites.{SiteState, slot}

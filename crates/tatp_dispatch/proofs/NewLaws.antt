@@ -10,7 +10,7 @@ use Rattle.tatp_loader.specs.Lawful.{IsLawful}
 use Rattle.tatp_tables.specs.Tuples.{Tuple, has, set_of}
 use Rattle.tatp_tables.specs.Keys.{has_key}
 use Rattle.tatp_tables.specs.Clean.{IsClean}
-use Rattle.tatp_tables.specs.Database.{Database, database_of, in_table, of_subscriber}
+use Rattle.tatp_tables.specs.Database.{Database, database_of, in_table, of_subscriber, most_subscribers}
 use Rattle.tatp_homes.specs.Home.{SubscriberRows, home_in as home_in_database}
 use Rattle.tatp_tables.specs.declared.row.Rows.{Rows}
 use Rattle.tatp_tables.specs.declared.table.Table.{Table}
@@ -20,9 +20,9 @@ use Rattle.tatp_numbers.specs.Homes.{home_of_key}
 use Rattle.tatp_numbers.specs.Listing.{Listing, answer}
 use Rattle.tatp_procs.specs.Consistent.{IsConsistent}
 use Rattle.tatp_procs.proofs.ConsistentLaws.{IsConsistent-clean}
-use Rattle.tatp_population.specs.Extents.{ExtentState, first_subscriber, extent_of, home_at}
-use Rattle.tatp_population.specs.Opening.{extent_count, last_subscriber, most_subscribers, homes_of_extent, opened_extent, opened_extents}
-use Rattle.tatp_population.proofs.CleanRowsLaws.{rows_of_clean}
+use Rattle.tatp_extents.specs.Extents.{ExtentState, first_subscriber, extent_of, home_at}
+use Rattle.tatp_extents.specs.Opening.{extent_count, last_subscriber, homes_of_extent, opened_extent, opened_extents}
+use Rattle.tatp_extents.proofs.CleanRowsLaws.{rows_of_clean}
 use Rattle.tatp_partition.specs.declared.item.Item.{Item}
 use Rattle.tatp_partition.specs.Opening.{extent_numbered}
 use Rattle.tatp_partition.specs.Sites.{SiteState, RunningCall, slot}

@@ -1,6 +1,6 @@
 -- An extent that hands out a chapter at one of many sites.
 use Rattle.std.specs.Prelude.{◌≡◌, ℕ, List, Some, Result, slice_get, slice_set}
-use Rattle.tatp_population.specs.Chapters.{ChapterState}
+use Rattle.tatp_extents.specs.Chapters.{ChapterState}
 use Rattle.tatp_partition.specs.declared.refusal.SiteRefusal.{SiteRefusal}
 use Rattle.tatp_partition.specs.declared.refusal.SiteRefusal.TheVariants as site
 use Rattle.tatp_partition.specs.Checkpointing.{Checkpoints}

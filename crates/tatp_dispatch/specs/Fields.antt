@@ -1,7 +1,7 @@
 -- How the fields of the whole show it, and what holds of them.
 use Rattle.std.specs.Prelude.{◌≡◌, ℕ, ◌+◌, ◌≤◌, List, Option, length, vec_len, None}
 use Rattle.std.specs.Vec.{vec_capacity}
-use Rattle.tatp_population.specs.Extents.{ExtentState}
+use Rattle.tatp_extents.specs.Extents.{ExtentState}
 use Rattle.tatp_partition.specs.Sites.{SiteState}
 use Rattle.tatp_dispatch.specs.declared.world.World.TheInside.{Inside}
 use Rattle.tatp_dispatch.specs.Queues.{most_clients}

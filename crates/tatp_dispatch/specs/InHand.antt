@@ -1,6 +1,6 @@
 -- What is in hand: parcels until they land, and landings until they are told to the routes.
 use Rattle.std.specs.Prelude.{◌≡◌, ◌≢◌, ◌⊎◌, ℕ, Some, None, Ok, slice_get}
-use Rattle.tatp_population.specs.Extents.{ExtentState}
+use Rattle.tatp_extents.specs.Extents.{ExtentState}
 use Rattle.tatp_partition.specs.Moving.{LandedState}
 use Rattle.tatp_partition.specs.Sites.{SiteState, slot}
 use Rattle.tatp_move.specs.declared.route.Route.{Route}

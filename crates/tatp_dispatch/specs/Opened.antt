@@ -4,8 +4,8 @@ use Rattle.std.specs.Prelude.{◌≡◌, ℕ, ◌+◌, false, List, [], length, 
 use Rattle.tatp_encoding.specs.Modules.{ModuleState}
 use Rattle.tatp_tables.specs.Database.{Database, database_of}
 use Rattle.tatp_tables.specs.declared.row.Rows.{Rows}
-use Rattle.tatp_population.specs.Extents.{ExtentState}
-use Rattle.tatp_population.specs.Opening.{opened_extents, extent_count}
+use Rattle.tatp_extents.specs.Extents.{ExtentState}
+use Rattle.tatp_extents.specs.Opening.{opened_extents, extent_count}
 use Rattle.tatp_partition.specs.Dealing.{AreSitesOpened}
 use Rattle.tatp_move.specs.Routing.{opened_routes}
 use Rattle.tatp_dispatch.specs.declared.client.Client.{Client}

@@ -21,11 +21,11 @@ use crate::client::Client;
 use crate::queue::Queue;
 pub use getters::what_holds_of_every_world;
 use std::marker::Model;
+use tatp_extents::Chapter;
 use tatp_loader::Loaded;
 use tatp_move::Routes;
 use tatp_numbers::Directory;
 use tatp_partition::{CompletionPlace, Landed, Parcel, Site, Slots};
-use tatp_population::Chapter;
 use tatp_procs::Entry;
 
 /// All sites, with what is under way between them. It can be neither copied nor dropped.

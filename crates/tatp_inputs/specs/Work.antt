@@ -8,7 +8,7 @@ use Rattle.tatp_streams.specs.LineReading.{LinesLeft}
 use Rattle.tatp_tables.specs.Clean.{IsClean}
 use Rattle.tatp_tables.specs.declared.row.Rows.{Rows}
 use Rattle.tatp_population.specs.DrawnRows as drawn
-use Rattle.tatp_population.specs.Opening.{most_subscribers}
+use Rattle.tatp_tables.specs.Database.{most_subscribers}
 use Rattle.tatp_tasks.specs.declared.population.Population.{Population}
 use Rattle.tatp_tasks.specs.declared.population.Population.TheVariants.{Read, Generated}
 use Rattle.tatp_inputs.specs.Parts.{before_dot, after_dot}

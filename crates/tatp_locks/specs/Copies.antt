@@ -1,8 +1,8 @@
 -- What is copied out of a locked site.
 use Rattle.std.specs.Prelude.{◌≡◌, ℕ}
-use Rattle.tatp_population.specs.Extents.{IsExtent}
-use Rattle.tatp_population.specs.Parts.{state_of}
-use Rattle.tatp_population.specs.declared.parts.ExtentParts.{ExtentParts}
+use Rattle.tatp_extents.specs.Extents.{IsExtent}
+use Rattle.tatp_extents.specs.Parts.{state_of}
+use Rattle.tatp_extents.specs.declared.parts.ExtentParts.{ExtentParts}
 
 -- these are the parts of extent e: it has the homes of its subscribers, and where it isn't mixed
 -- its log is the history that leads from those at the last checkpoint to those now

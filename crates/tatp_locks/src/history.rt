@@ -1,14 +1,14 @@
 //! What holds of a site each time its lock is got, copied out of it.
 ghost use Rattle.std.specs.Prelude.{◌≡◌, IfOk, IfSome};
 ghost use Rattle.std.specs.Option.{option_map};
-ghost use Rattle.tatp_population.specs.Parts.{state_of};
+ghost use Rattle.tatp_extents.specs.Parts.{state_of};
 ghost use Rattle.tatp_partition.specs.Obstacles.{extent_at_rest};
 ghost use Rattle.tatp_locks.specs.Copies.{ArePartsOf};
 
 use std::alloc::{AllocError, Global};
 use std::sync::{Mutex, Wait};
+use tatp_extents::ExtentParts;
 use tatp_partition::{Site, what_holds_of_every_site};
-use tatp_population::ExtentParts;
 
 /// A copy of the parts of an extent, where it is here and no call runs on one of its homes.
 fn copy_of(alloc: Global, site: &Site<'_>, extent: u32) -> Result<Option<ExtentParts>, AllocError>

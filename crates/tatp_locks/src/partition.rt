@@ -3,7 +3,7 @@
 ghost use Rattle.std.specs.Fn.{FnOnceReturnsAt};
 ghost use Rattle.std.specs.Prelude.{◌≡◌, ◌<◌, List, None, Ok, IfOk, IfErr, vec_len, vec_capacity};
 ghost use Rattle.std.specs.Result.{result_and};
-ghost use Rattle.tatp_population.specs.Extents.{ExtentState};
+ghost use Rattle.tatp_extents.specs.Extents.{ExtentState};
 ghost use Rattle.tatp_partition.specs.Moving.{LandedState, Takes, Gives};
 ghost use Rattle.tatp_partition.specs.declared.refusal.NotGiven.{NotGiven};
 ghost use Rattle.tatp_partition.specs.Obstacles.{one_obstacle};
@@ -19,11 +19,11 @@ use std::alloc::Global;
 use std::sync::atomic::{AtomicU64, Ordering};
 use std::sync::{Mutex, Wait};
 use std::{mem, thread};
+use tatp_extents::Chapter;
 use tatp_partition::{
     CompletionPlace, Item, Landed, NotGiven, Parcel, Site, SiteRefusal, Stepped, discard_all,
     what_holds_of_every_site,
 };
-use tatp_population::Chapter;
 use tatp_slices::{Checkpointed, Gate, Gated, Offered, checkpoint_full, is_wanted, offer, slice};
 
 /// One partition: its site under its lock, how many other threads want that lock, and where its

@@ -1,7 +1,7 @@
 -- A plan moves the extents in which the subscribers of its range lie.
 use Rattle.std.proofs.Common.{◌≡◌, ◌↔◌, ℕ, ◌*◌, ◌-◌, ◌≤◌, ◌<◌, ◌==◌, ◌||◌, nat_lt, nat_le, Bool, true, false, if◌then◌else◌, Ok, Err, refl, subst, arith}
 use Rattle.std.proofs.lemmas.Bool.Decides.{nat_tests}
-use Rattle.tatp_population.specs.Extents.{extent_of}
+use Rattle.tatp_extents.specs.Extents.{extent_of}
 use Rattle.tatp_move.specs.declared.plan.Plan.{Plan}
 use Rattle.tatp_move.specs.declared.plan.MoveRefusal.TheVariants.{NoExtent, NoPartition, SamePartition}
 use Rattle.tatp_move.specs.Ranges.{Range, plan_of, Moves, Meets}

@@ -1,9 +1,9 @@
 -- Routes: at which site an extent was last known to have landed, and after how many moves.
 use Rattle.std.specs.Prelude.{◌≡◌, ℕ, ◌+◌, ◌<◌, ◌≤◌, ◌&&◌, nat_le, if◌then◌else◌, List, Option, Some, None, map, slice_get, slice_set}
 use Rattle.std.specs.List.{range_with_len}
-use Rattle.tatp_population.specs.Opening.{extent_count}
+use Rattle.tatp_extents.specs.Opening.{extent_count}
 use Rattle.std.specs.Option.{option_map_or}
-use Rattle.tatp_population.specs.Extents.{extent_of}
+use Rattle.tatp_extents.specs.Extents.{extent_of}
 use Rattle.tatp_partition.specs.Dealing.{opening_partition}
 use Rattle.tatp_partition.specs.Moving.{LandedState}
 use Rattle.tatp_move.specs.declared.route.Route.{Route}

@@ -1,13 +1,13 @@
 //! The routes to extents.
 ghost use Rattle.std.specs.Prelude.{◌≡◌, ◌≤◌, ◌<◌, ◌+◌, ◌-◌, ◌%◌, ℕ, IfOk, IsSome, length, map, Some, slice_get};
 ghost use Rattle.std.specs.List.{range_with_len};
-ghost use Rattle.tatp_population.specs.Opening.{extent_count};
+ghost use Rattle.tatp_extents.specs.Opening.{extent_count};
 
 use crate::{MoveRefusal, Plan};
 use std::alloc::{AllocError, Global};
 use std::marker::Model;
+use tatp_extents::{extent_count, extent_of};
 use tatp_partition::Landed;
-use tatp_population::{extent_count, extent_of};
 
 /// Where an extent was last known to have landed, and after how many moves.
 #[derive(Clone, Copy, Debug, PartialEq, Eq)]
@@ -37,7 +37,7 @@ pub struct Routes {
 
 impl Model for Routes {
     ghost use Rattle.std.specs.Prelude.{◌≡◌, ◌+◌, ◌≤◌, vec_len};
-    ghost use Rattle.tatp_population.specs.Opening.{extent_count};
+    ghost use Rattle.tatp_extents.specs.Opening.{extent_count};
     ghost use Rattle.tatp_move.specs.Routing.{RoutesState};
 
     ghost Value = { RoutesState };

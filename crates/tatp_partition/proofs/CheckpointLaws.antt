@@ -3,10 +3,10 @@ use Rattle.std.proofs.Common.{◌≡◌, ◌≢◌, inl, inr, ℕ, zero, suc, �
 use Rattle.std.specs.Option.{option_flatten, option_map, option_map_or}
 use Rattle.std.proofs.Math.ListN.{set}
 use Rattle.std.proofs.lemmas.Bool.{ne_eqb, eq-eqb}
-use Rattle.tatp_population.specs.Extents.{ExtentState, IsExtent, last_stamp_of, extent_of}
-use Rattle.tatp_population.specs.declared.chapter.CheckpointError.{CheckpointError}
-use Rattle.tatp_population.specs.declared.chapter.CheckpointError.TheVariants as error
-use Rattle.tatp_population.specs.Chapters.{ChapterState, CheckpointsExtent, after_checkpoint}
+use Rattle.tatp_extents.specs.Extents.{ExtentState, IsExtent, last_stamp_of, extent_of}
+use Rattle.tatp_extents.specs.declared.chapter.CheckpointError.{CheckpointError}
+use Rattle.tatp_extents.specs.declared.chapter.CheckpointError.TheVariants as error
+use Rattle.tatp_extents.specs.Chapters.{ChapterState, CheckpointsExtent, after_checkpoint}
 use Rattle.tatp_partition.specs.declared.refusal.SiteRefusal.{SiteRefusal}
 use Rattle.tatp_partition.specs.declared.refusal.SiteRefusal.TheVariants.{LogEnded, ChapterCountFull}
 use Rattle.tatp_partition.specs.RunnerStates.{RunnerState}

@@ -2,10 +2,10 @@
 use Rattle.std.specs.Prelude.{◌≡◌, ℕ, zero, suc, ◌+◌, ◌==◌, Bool, false, if◌then◌else◌, List, [], ◌∷◌, is_some, is_none, Option, Some, None, Result, Ok, Err}
 use Rattle.std.specs.Option.{option_map, option_map_or}
 use Rattle.tatp_procs.specs.declared.entry.Entry.{Entry}
-use Rattle.tatp_population.specs.Extents.{ExtentState, last_stamp_from}
-use Rattle.tatp_population.specs.declared.chapter.CheckpointError.{CheckpointError}
-use Rattle.tatp_population.specs.declared.chapter.CheckpointError.TheVariants as error
-use Rattle.tatp_population.specs.Chapters.{ChapterState, most_chapters, chapter_of, after_checkpoint}
+use Rattle.tatp_extents.specs.Extents.{ExtentState, last_stamp_from}
+use Rattle.tatp_extents.specs.declared.chapter.CheckpointError.{CheckpointError}
+use Rattle.tatp_extents.specs.declared.chapter.CheckpointError.TheVariants as error
+use Rattle.tatp_extents.specs.Chapters.{ChapterState, most_chapters, chapter_of, after_checkpoint}
 use Rattle.tatp_partition.specs.declared.refusal.SiteRefusal.{SiteRefusal}
 use Rattle.tatp_partition.specs.declared.refusal.SiteRefusal.TheVariants.{Running, NotHere, LogEnded, ChapterCountFull, NoMemory}
 use Rattle.tatp_partition.specs.Sites.{SiteState, HomelessCalls, slot, last_stamp_here}

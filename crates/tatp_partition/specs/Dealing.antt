@@ -1,7 +1,7 @@
 -- The extents of a database are dealt to its partitions.
 use Rattle.std.specs.Prelude.{◌≡◌, ◌==◌, ◌-◌, ◌%◌, ℕ, Bool, List, length, filter, Some, slice_get, slice_set}
 use Rattle.tatp_encoding.specs.Modules.{ModuleState}
-use Rattle.tatp_population.specs.Extents.{ExtentState}
+use Rattle.tatp_extents.specs.Extents.{ExtentState}
 use Rattle.tatp_partition.specs.Opening.{opened_site}
 use Rattle.tatp_partition.specs.Moving.{with_extent}
 use Rattle.tatp_partition.specs.Sites.{SiteState}

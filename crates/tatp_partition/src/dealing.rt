@@ -1,7 +1,7 @@
 //! The sites of all partitions: opened with the extents that are dealt to them, and spent.
 ghost use Rattle.std.specs.Prelude.{◌≡◌, ℕ, [], ◌≤◌, ◌<◌, ◌^◌, IfOk, Some, length, slice_get};
 ghost use Rattle.tatp_tables.specs.Database.{Database};
-ghost use Rattle.tatp_population.specs.Opening.{opened_extents};
+ghost use Rattle.tatp_extents.specs.Opening.{opened_extents};
 ghost use Rattle.tatp_partition.specs.Opening.{AreNumbered};
 ghost use Rattle.tatp_partition.specs.Sites.{SiteState};
 ghost use Rattle.tatp_partition.specs.Moving.{HasPlaceFor};
@@ -9,8 +9,8 @@ ghost use Rattle.tatp_partition.specs.Dealing.{AreSitesDealt, AreSitesOpened, La
 
 use crate::{Parcel, Site, discard_all};
 use std::alloc::{AllocError, Global};
+use tatp_extents::Extent;
 use tatp_loader::Loaded;
-use tatp_population::Extent;
 
 /// The sites of all partitions, for so many extents, none of which is there yet.
 fn open_without_extents<'m>(

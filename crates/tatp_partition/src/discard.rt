@@ -1,5 +1,5 @@
 //! What can be neither copied nor dropped comes to nothing.
-use tatp_population::{Chapter, Extent};
+use tatp_extents::{Chapter, Extent};
 
 /// A value that can be neither copied nor dropped, but spent.
 pub trait Discard {

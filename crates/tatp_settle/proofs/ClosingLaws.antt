@@ -5,7 +5,7 @@ use Rattle.std.specs.List.{All}
 use Rattle.std.proofs.lemmas.List.Elements.{All-map, All-weaker}
 use Rattle.std.proofs.lemmas.List.{map-append, append_assoc, reverse-append}
 use Rattle.tatp_tables.specs.Database.{Database}
-use Rattle.tatp_population.specs.Extents.{ExtentState, IsExtent, extent_of, with_home_at}
+use Rattle.tatp_extents.specs.Extents.{ExtentState, IsExtent, extent_of, with_home_at}
 use Rattle.tatp_partition.specs.Sites.{SiteState, RunningCall}
 use Rattle.tatp_partition.specs.Sound.{IsSite, extent_set_back, with_entry_rows}
 use Rattle.tatp_settle.specs.Closings.{closed_site, IsClosedSite}

@@ -3,10 +3,10 @@ use Rattle.std.proofs.Common.{◌≡◌, ℕ, zero, suc, ◌+◌, ◌≤◌, ◌
 use Rattle.std.specs.Option.{option_map_or, option_to_list}
 use Rattle.std.proofs.lemmas.Bool.{eqb-true, and_parts, false_from_ne_true}
 use Rattle.std.proofs.lemmas.List.Elements.{All-nil, All-cons, All-head, All-tail, All-append, All-map, All-weaker, All-filter, All-contains}
-use Rattle.tatp_population.specs.Histories.{StampsRise}
-use Rattle.tatp_population.specs.Extents.{ExtentState, IsExtent}
-use Rattle.tatp_population.specs.Chapters.{ChapterState, IsChapter, IsChapterOf, chapters_listed}
-use Rattle.tatp_population.proofs.ChapterLaws.{rise_from_less}
+use Rattle.tatp_extents.specs.Histories.{StampsRise}
+use Rattle.tatp_extents.specs.Extents.{ExtentState, IsExtent}
+use Rattle.tatp_extents.specs.Chapters.{ChapterState, IsChapter, IsChapterOf, chapters_listed}
+use Rattle.tatp_extents.proofs.ChapterLaws.{rise_from_less}
 use Rattle.tatp_settle.specs.Closings.{ClosedSiteState, ClosedState, ExtentLog, extents_in_slots, extents_at, extents_of, logs_of, log_of_homeless, log_of_extent, log_numbered, entries_since, is_chapter, chapter_numbered, IsClosedSite, IsClosed}
 use Rattle.tatp_settle.specs.Causes.{IsMixed}
 use Rattle.tatp_settle.proofs.StandingLaws.{count_cons}

@@ -4,8 +4,8 @@ use Rattle.std.specs.Option.{option_map, option_and_then, option_copied, is_some
 use Rattle.std.proofs.lemmas.List.{length-set}
 use Rattle.std.proofs.lemmas.Bool.{ne_eqb}
 use Rattle.tatp_tables.specs.Database.{Database}
-use Rattle.tatp_population.specs.Extents.{ExtentState, LiesIn, extent_of, home_at, with_home_at, place_in}
-use Rattle.tatp_population.proofs.PlaceLaws.{some_home}
+use Rattle.tatp_extents.specs.Extents.{ExtentState, LiesIn, extent_of, home_at, with_home_at, place_in}
+use Rattle.tatp_extents.proofs.PlaceLaws.{some_home}
 use Rattle.tatp_partition.specs.Sites.{SiteState, RunningCall, slot, home_here}
 use Rattle.tatp_partition.specs.Sound.{IsSite, extent_set_back, with_entry_rows}
 use Rattle.tatp_settle.specs.Closings.{closed_site, is_here}

@@ -6,10 +6,10 @@ use Rattle.std.proofs.lemmas.Bool.{lt-ltb, le-ltb, ltb-true, cases_lt}
 use Rattle.tatp_homes.specs.Home.{SubscriberRows, subscriber_rows_code}
 use Rattle.tatp_tables.specs.declared.row.Rows.{Rows}
 use Rattle.tatp_procs.specs.declared.entry.Entry.{Entry}
-use Rattle.tatp_population.specs.Histories.{StampsRise}
-use Rattle.tatp_population.specs.Extents.{ExtentState, last_stamp_from}
-use Rattle.tatp_population.specs.Chapters.{ChapterState, Joins, EachRises, chapters_listed, homes_due_from}
-use Rattle.tatp_population.proofs.ChapterLaws.{joined_rise, parts_join}
+use Rattle.tatp_extents.specs.Histories.{StampsRise}
+use Rattle.tatp_extents.specs.Extents.{ExtentState, last_stamp_from}
+use Rattle.tatp_extents.specs.Chapters.{ChapterState, Joins, EachRises, chapters_listed, homes_due_from}
+use Rattle.tatp_extents.proofs.ChapterLaws.{joined_rise, parts_join}
 use Rattle.tatp_settle.specs.declared.cause.Unsettled.TheVariants.{Mixed, ParcelLeft, Doubled, ChapterMissing, ChapterTwice, ChapterDiffers}
 use Rattle.tatp_settle.specs.Closings.{ClosedState, ExtentLog, log_numbered, chapter_count, entries_since, is_chapter, times_come, chapter_numbered, chapters_numbered, entries_numbered, times_standing, IsClosed}
 use Rattle.tatp_settle.specs.Runs.{Run, homes_at_first}

@@ -6,7 +6,7 @@ use Rattle.std.proofs.lemmas.Bool.{ne_eqb}
 use Rattle.std.proofs.lemmas.List.Elements.{All-nil, All-cons, All-head, All-tail, All-get_or}
 use Rattle.std.proofs.lemmas.List.{at_drop_more}
 use Rattle.std.proofs.lemmas.List.Folds.{find-append}
-use Rattle.tatp_population.specs.Extents.{ExtentState, IsExtent}
+use Rattle.tatp_extents.specs.Extents.{ExtentState, IsExtent}
 use Rattle.tatp_partition.specs.Sites.{slot}
 use Rattle.tatp_settle.specs.Closings.{ClosedSiteState, ClosedState, ExtentLog, extents_in_slots, extents_numbered, extent_numbered, most_places, above_all, log_of_homeless, log_of_extent, IsClosedSite, IsClosed, extents_at}
 use Rattle.tatp_settle.proofs.StandingLaws.{has_number, here, in_site, in_sites, none_at_zero}

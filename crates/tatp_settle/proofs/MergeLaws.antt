@@ -15,7 +15,7 @@ use Rattle.tatp_procs.specs.Consistent.{IsConsistent}
 use Rattle.tatp_procs.specs.Locality.{with_answer}
 use Rattle.tatp_procs.proofs.ConsistentAfterLaws.{consistent_after, keys_after}
 use Rattle.tatp_procs.proofs.LocalityLaws.{transactions_are_local, rows_stay_own, fails_without_home, named_anywhere}
-use Rattle.tatp_population.specs.Histories.{with_tables, Records, Leads}
+use Rattle.tatp_extents.specs.Histories.{with_tables, Records, Leads}
 use Rattle.tatp_settle.specs.Merging.{PlacedEntry, Begins, AllAreEmpty, without_first, Merges}
 use Rattle.tatp_settle.specs.Interleaving.{Interleaves}
 use Rattle.tatp_settle.specs.Separate.{Parts, AreSeparate, homes_at, FindsNone, AllFindNone, LogAt, LogsAt, LeadsToLast}

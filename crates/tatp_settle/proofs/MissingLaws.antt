@@ -2,8 +2,8 @@
 use Rattle.std.proofs.Common.{◌≡◌, ℕ, ◌+◌, ◌<◌, ◌≤◌, List, [], Option, Some, None, arith}
 use Rattle.std.specs.Option.{IfNone, IfSome, MatchOption}
 use Rattle.tatp_settle.specs.CallPlaces.{IsFirstNumber}
-use Rattle.tatp_population.specs.Extents.{ExtentState}
-use Rattle.tatp_population.specs.Chapters.{ChapterState}
+use Rattle.tatp_extents.specs.Extents.{ExtentState}
+use Rattle.tatp_extents.specs.Chapters.{ChapterState}
 use Rattle.tatp_partition.specs.Sites.{SiteState}
 use Rattle.tatp_settle.specs.Closings.{ClosedState, closed_of, greatest_place, times_standing, IsMissing}
 use Rattle.tatp_settle.specs.Settlements.{IsLeastMissing}

@@ -7,8 +7,8 @@ use Rattle.std.proofs.lemmas.Bool.Decides.{nat_tests}
 use Rattle.std.proofs.lemmas.List.Elements.{All-head, All-tail, Contains-get_or}
 use Rattle.std.proofs.lemmas.List.Sums.{sum_by-cons}
 use Rattle.tatp_tables.specs.declared.row.Rows.{Rows}
-use Rattle.tatp_population.specs.Extents.{ExtentState, IsExtent}
-use Rattle.tatp_population.specs.Opening.{homes_of_extent}
+use Rattle.tatp_extents.specs.Extents.{ExtentState, IsExtent}
+use Rattle.tatp_extents.specs.Opening.{homes_of_extent}
 use Rattle.tatp_tables.specs.Database.{database_of}
 use Rattle.tatp_settle.specs.Closings.{ClosedSiteState, ClosedState, extents_of, log_of_homeless, log_of_extent, log_numbered, extents_numbered, moves_numbered, IsClosed}
 use Rattle.tatp_settle.specs.Runs.{Run, extents_populated, homes_at_first, moves_left}

@@ -9,8 +9,8 @@ use Rattle.std.proofs.lemmas.Grind.{flat_map-append}
 use Rattle.tatp_homes.specs.Home.{SubscriberRows}
 use Rattle.tatp_tables.specs.Rows.{with_home}
 use Rattle.tatp_tables.specs.declared.row.Rows.{Rows}
-use Rattle.tatp_population.specs.Extents.{ExtentState}
-use Rattle.tatp_population.specs.HomeRows.{rows_of_homes, with_homes}
+use Rattle.tatp_extents.specs.Extents.{ExtentState}
+use Rattle.tatp_extents.specs.HomeRows.{rows_of_homes, with_homes}
 use Rattle.tatp_settle.specs.Closings.{ClosedState, extents_of, extent_numbered}
 use Rattle.tatp_settle.proofs.StandingLaws.{has_number}
 

@@ -2,7 +2,7 @@
 use Rattle.std.proofs.Common.{◌≡◌, ◌≢◌, ℕ, ◌≤◌, ◌==◌, Bool, List, [], ◌∷◌, map, filter, find, Option, Some, None, slice_get, refl, sym, ◌∙◌, ap, arith}
 use Rattle.std.specs.Option.{option_map, option_or}
 use Rattle.std.proofs.lemmas.List.Folds.{find-append}
-use Rattle.tatp_population.specs.Extents.{ExtentState}
+use Rattle.tatp_extents.specs.Extents.{ExtentState}
 use Rattle.tatp_settle.specs.Closings.{ClosedSiteState, ClosedState, extents_of, extents_numbered, extent_numbered, log_numbered, log_of_homeless, log_of_extent, most_places, above_all, least_above, IsClosed}
 use Rattle.tatp_settle.proofs.StandingLaws.{has_number}
 use Rattle.tatp_settle.proofs.LogLaws.{find_filtered, log_has, log_found, log_of_number, no_extent_zero, no_extent_above, places_within, numbers_within}

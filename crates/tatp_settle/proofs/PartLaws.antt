@@ -17,10 +17,10 @@ use Rattle.tatp_numbers.specs.declared.key.Key.TheVariants.{Id}
 use Rattle.tatp_numbers.specs.Homes.{s_id_of, home_of_key}
 use Rattle.tatp_procs.specs.Consistent.{IsConsistent}
 use Rattle.tatp_procs.proofs.HomeRowLaws.{row_length}
-use Rattle.tatp_population.specs.Extents.{first_subscriber}
-use Rattle.tatp_population.specs.Opening.{extent_count, last_subscriber, homes_of_extent, opened_extent}
-use Rattle.tatp_population.specs.HomeRows.{AreRowsOf}
-use Rattle.tatp_population.proofs.OpeningLaws.{homes_of_all}
+use Rattle.tatp_extents.specs.Extents.{first_subscriber}
+use Rattle.tatp_extents.specs.Opening.{extent_count, last_subscriber, homes_of_extent, opened_extent}
+use Rattle.tatp_extents.specs.HomeRows.{AreRowsOf}
+use Rattle.tatp_extents.proofs.OpeningLaws.{homes_of_all}
 
 -- ---- ranges
 pub range_got : (a n i x : ℕ) → slice_get (range_with_len a n) i ≡ Some x → (i < n) × (x ≡ a + i)

@@ -8,7 +8,7 @@ use Rattle.tatp_partition.specs.declared.receipt.Receipt.{Receipt}
 use Rattle.tatp_settle.specs.declared.places.LogPlace.{LogPlace}
 use Rattle.tatp_settle.specs.declared.places.CallPlace.{CallPlace}
 use Rattle.tatp_settle.specs.declared.placement.Placed.{Placed}
-use Rattle.tatp_population.specs.Logs.{IsOfCall}
+use Rattle.tatp_extents.specs.Logs.{IsOfCall}
 use Rattle.tatp_settle.specs.Closings.{ClosedState, entries_numbered, StandsAt}
 use Rattle.tatp_settle.specs.Runs.{at_call}
 use Rattle.tatp_settle.specs.Answering.{EntryFound}

@@ -8,9 +8,9 @@ use Rattle.tatp_homes.specs.Home.{SubscriberRows, home_in}
 use Rattle.tatp_homes.specs.Loading.{homes_in}
 use Rattle.tatp_tables.specs.declared.row.Rows.{Rows}
 use Rattle.tatp_homes.proofs.LoadingLaws.{length-homes_in}
-use Rattle.tatp_population.specs.Extents.{first_subscriber}
-use Rattle.tatp_population.specs.Opening.{homes_of_extent, last_subscriber}
-use Rattle.tatp_population.proofs.CutLaws.{drop-range, take-range}
+use Rattle.tatp_extents.specs.Extents.{first_subscriber}
+use Rattle.tatp_extents.specs.Opening.{homes_of_extent, last_subscriber}
+use Rattle.tatp_extents.proofs.CutLaws.{drop-range, take-range}
 use Rattle.tatp_settle.specs.Runs.{AreHomesOf, extents_populated, homes_populated, homes_at_first}
 
 pub populated : (p : Rows) (e : ℕ) → 1 ≤ e → e ≤ extents_populated p → homes_populated p e ≡ Some (homes_of_extent (database_of p) (length p.subscribers) e)

@@ -2,10 +2,10 @@
 use Rattle.std.proofs.Common.{◌≡◌, ℕ, zero, suc, ◌<◌, ◌⊎◌, inl, inr, nat_lt, Bool, true, false, if◌then◌else◌, List, [], ◌∷◌, length, Contains, Option, Some, None, slice_index_or, refl, sym, ◌∙◌, subst, arith}
 use Rattle.std.specs.Option.{option_map_or}
 use Rattle.tatp_procs.specs.declared.entry.Entry.{Entry}
-use Rattle.tatp_population.specs.Histories.{StampsRise}
-use Rattle.tatp_population.specs.Extents.{last_stamp_from}
-use Rattle.tatp_population.specs.Chapters.{ChapterState}
-use Rattle.tatp_population.proofs.HistoryLaws.{last_of_more}
+use Rattle.tatp_extents.specs.Histories.{StampsRise}
+use Rattle.tatp_extents.specs.Extents.{last_stamp_from}
+use Rattle.tatp_extents.specs.Chapters.{ChapterState}
+use Rattle.tatp_extents.proofs.HistoryLaws.{last_of_more}
 use Rattle.tatp_settle.specs.Closings.{ClosedState, chapter_count, entries_since, chapter_numbered, IsClosed}
 use Rattle.tatp_settle.specs.Causes.{IsMixed, entries_of_part}
 use Rattle.tatp_settle.proofs.FoundLaws.{log_rises, chapter_found, chapter_rises}

@@ -24,15 +24,15 @@ use Rattle.tatp_procs.specs.declared.reply.Reply.TheVariants.{Failed}
 use Rattle.tatp_procs.specs.Transactions.{Answer, transaction}
 use Rattle.tatp_procs.proofs.ConsistentLaws.{IsConsistent-home, IsConsistent-clean}
 use Rattle.tatp_procs.proofs.LocalityLaws.{fails_without_home}
-use Rattle.tatp_population.specs.Histories.{Leads}
-use Rattle.tatp_population.specs.Extents.{ExtentState, IsExtent}
-use Rattle.tatp_population.specs.HomelessLog.{RecordsHomeless}
-use Rattle.tatp_population.specs.Chapters.{ChapterState, IsChapterOfHomes, IsChapterWithoutHomes, Joins, EachLeads, entries_joined}
-use Rattle.tatp_population.specs.Opening.{homes_of_extent}
-use Rattle.tatp_population.specs.HomeRows.{database_of_homes, AreRowsOf}
-use Rattle.tatp_population.proofs.HomeRowsLaws.{rows_are_the_database}
-use Rattle.tatp_population.proofs.CleanRowsLaws.{rows_of_clean}
-use Rattle.tatp_population.proofs.ChapterLaws.{joined_lead, joined_homeless}
+use Rattle.tatp_extents.specs.Histories.{Leads}
+use Rattle.tatp_extents.specs.Extents.{ExtentState, IsExtent}
+use Rattle.tatp_extents.specs.HomelessLog.{RecordsHomeless}
+use Rattle.tatp_extents.specs.Chapters.{ChapterState, IsChapterOfHomes, IsChapterWithoutHomes, Joins, EachLeads, entries_joined}
+use Rattle.tatp_extents.specs.Opening.{homes_of_extent}
+use Rattle.tatp_extents.specs.HomeRows.{database_of_homes, AreRowsOf}
+use Rattle.tatp_extents.proofs.HomeRowsLaws.{rows_are_the_database}
+use Rattle.tatp_extents.proofs.CleanRowsLaws.{rows_of_clean}
+use Rattle.tatp_extents.proofs.ChapterLaws.{joined_lead, joined_homeless}
 use Rattle.tatp_procs.specs.Asked.{key_asked}
 use Rattle.tatp_settle.specs.Closings.{ClosedSiteState, ClosedState, ExtentLog, extents_of, logs_of, log_of_homeless, log_of_extent, log_numbered, extent_numbered, homes_numbered, chapter_numbered, chapter_count, chapters_numbered, entries_since, entries_numbered, IsClosedSite, IsClosed}
 use Rattle.tatp_settle.specs.Merging.{PlacedEntry, IsMergeable, IsAnsweredInOrder, OneHistory}

@@ -7,8 +7,8 @@ use Rattle.std.proofs.lemmas.List.{append_assoc, length-append}
 use Rattle.std.proofs.lemmas.List.Elements.{filter-append, All-head, All-tail}
 use Rattle.std.proofs.lemmas.List.Sums.{length-filter, sum_by-cons}
 use Rattle.std.proofs.lemmas.List.Concat.{length-flat_map}
-use Rattle.tatp_population.specs.Extents.{ExtentState}
-use Rattle.tatp_population.specs.Chapters.{ChapterState}
+use Rattle.tatp_extents.specs.Extents.{ExtentState}
+use Rattle.tatp_extents.specs.Chapters.{ChapterState}
 use Rattle.tatp_partition.specs.Sites.{SiteState, slot}
 use Rattle.tatp_partition.specs.Sound.{IsSite}
 use Rattle.tatp_settle.specs.Closings.{ClosedSiteState, ClosedState, ExtentLog, extents_in_slots, extents_of, log_of_homeless, log_of_extent, times_standing, is_here, closed_site, closed_of, IsClosedSite, extents_at}

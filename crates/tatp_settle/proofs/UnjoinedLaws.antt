@@ -6,10 +6,10 @@ use Rattle.std.proofs.lemmas.Bool.Decides.{Decides-like}
 use Rattle.tatp_homes.specs.Home.{SubscriberRows}
 use Rattle.tatp_tables.specs.declared.row.Rows.{Rows}
 use Rattle.tatp_procs.specs.declared.entry.Entry.{Entry}
-use Rattle.tatp_population.specs.Histories.{StampsRise}
-use Rattle.tatp_population.specs.Extents.{last_stamp_from}
-use Rattle.tatp_population.specs.Chapters.{ChapterState}
-use Rattle.tatp_population.proofs.HistoryLaws.{last_of_more}
+use Rattle.tatp_extents.specs.Histories.{StampsRise}
+use Rattle.tatp_extents.specs.Extents.{last_stamp_from}
+use Rattle.tatp_extents.specs.Chapters.{ChapterState}
+use Rattle.tatp_extents.proofs.HistoryLaws.{last_of_more}
 use Rattle.tatp_settle.specs.Closings.{ClosedState, ExtentLog, log_numbered, chapter_count, chapter_numbered}
 use Rattle.tatp_settle.specs.Runs.{homes_at_first}
 use Rattle.tatp_settle.specs.Causes.{IsUnjoined, PartStampFalls, homes_before, homes_due, entries_of_part}

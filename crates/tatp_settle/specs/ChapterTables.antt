@@ -4,7 +4,7 @@ use Rattle.std.specs.Borrow.{Bor}
 use Rattle.std.specs.List.{range_with_len}
 use Rattle.std.specs.Option.{option_copied, option_map_or}
 use Rattle.tatp_procs.specs.declared.entry.Entry.{Entry}
-use Rattle.tatp_population.specs.Chapters.{ChapterState}
+use Rattle.tatp_extents.specs.Chapters.{ChapterState}
 use Rattle.tatp_settle.specs.declared.places.ChapterPlace.{ChapterPlace}
 use Rattle.tatp_settle.specs.declared.log_parts.LogPart.{LogPart}
 use Rattle.tatp_settle.specs.Closings.{ClosedState, chapter_count, chapter_numbered, least_above}

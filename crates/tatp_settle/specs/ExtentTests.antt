@@ -1,7 +1,7 @@
 -- The causes that an extent is, as tests.
 use Rattle.std.specs.Prelude.{ℕ, ◌==◌, ◌&&◌, ◌||◌, ◌≤◌, Bool, false}
 use Rattle.std.specs.Option.{option_map_or}
-use Rattle.tatp_population.specs.Extents.{ExtentState}
+use Rattle.tatp_extents.specs.Extents.{ExtentState}
 use Rattle.tatp_partition.specs.Sites.{slot}
 use Rattle.tatp_settle.specs.declared.extents.ExtentCause.{ExtentCause}
 use Rattle.tatp_settle.specs.declared.extents.ExtentCause.TheVariants.{IsAsMixed, InParcel, StandsTwice}

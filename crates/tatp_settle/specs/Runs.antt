@@ -9,8 +9,8 @@ use Rattle.tatp_homes.specs.Loading.{homes_in}
 use Rattle.tatp_tables.specs.declared.row.Rows.{Rows}
 use Rattle.tatp_procs.specs.declared.ask.Ask.{Ask}
 use Rattle.tatp_procs.specs.declared.entry.Entry.{Entry}
-use Rattle.tatp_population.specs.Opening.{extent_count, homes_of_extent}
-use Rattle.tatp_population.specs.HomeRows.{rows_of_homes}
+use Rattle.tatp_extents.specs.Opening.{extent_count, homes_of_extent}
+use Rattle.tatp_extents.specs.HomeRows.{rows_of_homes}
 use Rattle.tatp_partition.specs.declared.receipt.Receipt.{Receipt}
 use Rattle.tatp_settle.specs.declared.run.Run.{Run as HeldRun}
 use Rattle.tatp_settle.specs.Closings.{ClosedState, entries_numbered, homes_numbered, moves_numbered}

@@ -10,7 +10,7 @@ use Rattle.tatp_procs.specs.declared.entry.Entry.{Entry}
 use Rattle.tatp_procs.specs.declared.reply.Reply.TheVariants.{Failed}
 use Rattle.tatp_procs.specs.Calls.{key_of_call}
 use Rattle.tatp_procs.specs.Consistent.{IsConsistent}
-use Rattle.tatp_population.specs.Histories.{Leads}
+use Rattle.tatp_extents.specs.Histories.{Leads}
 use Rattle.tatp_settle.specs.Merging.{PlacedEntry, IsAnsweredInOrder}
 
 -- whose homes stand in each extent, and its last homes; extent 0 has none

@@ -11,9 +11,9 @@ use Rattle.tatp_audits.specs.Audits.{IsVerdict, clean_of, says_clean}
 use Rattle.tatp_tables.specs.declared.row.Rows.{Rows}
 use Rattle.tatp_procs.specs.declared.ask.Ask.{Ask}
 use Rattle.tatp_procs.specs.declared.entry.Entry.{Entry}
-use Rattle.tatp_population.specs.Histories.{StampsRise}
-use Rattle.tatp_population.specs.Extents.{ExtentState}
-use Rattle.tatp_population.specs.Chapters.{Joins}
+use Rattle.tatp_extents.specs.Histories.{StampsRise}
+use Rattle.tatp_extents.specs.Extents.{ExtentState}
+use Rattle.tatp_extents.specs.Chapters.{Joins}
 use Rattle.tatp_partition.specs.declared.receipt.Receipt.{Receipt}
 use Rattle.tatp_settle.specs.declared.settled.Settled.{Settled}
 use Rattle.tatp_settle.specs.declared.refusals.GatherError.{GatherError}

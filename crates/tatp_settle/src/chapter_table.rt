@@ -1,7 +1,7 @@
 //! The chapters that came, each at its extent and index.
 ghost use Rattle.std.specs.Prelude.{◌≡◌, ◌≤◌, ◌↔◌, ℕ, None, IfOk, IsTrue};
 ghost use Rattle.std.specs.Option.{option_copied, option_map};
-ghost use Rattle.tatp_population.specs.Chapters.{ChapterState};
+ghost use Rattle.tatp_extents.specs.Chapters.{ChapterState};
 ghost use Rattle.tatp_settle.specs.Closings.{chapter_count, entries_numbered, least_above, log_numbered};
 ghost use Rattle.tatp_settle.specs.Causes.{homes_before, entries_of_part, IsChapterMissing, IsChapterTwice};
 ghost use Rattle.tatp_settle.specs.CallPlaces.{IsFirstNumber};
@@ -14,8 +14,8 @@ use crate::places::{ChapterPlace, lesser_chapter};
 use crate::table::Table;
 use std::alloc::{AllocError, Global};
 use std::marker::Model;
+use tatp_extents::Chapter;
 use tatp_homes::Home;
-use tatp_population::Chapter;
 
 /// What was gathered, with each chapter at hand that its extent handed out and that came.
 #[derive(Drop)]

@@ -1,7 +1,7 @@
 //! The causes that an extent is.
 ghost use Rattle.std.specs.Prelude.{◌≡◌, ◌≤◌, ◌==◌, ◌↔◌, IsTrue, count_by};
 ghost use Rattle.std.specs.List.{list_any};
-ghost use Rattle.tatp_population.specs.Extents.{ExtentState};
+ghost use Rattle.tatp_extents.specs.Extents.{ExtentState};
 ghost use Rattle.tatp_settle.specs.Closings.{ClosedSiteState, is_here, times_standing};
 ghost use Rattle.tatp_settle.specs.Causes.{IsMixed};
 ghost use Rattle.tatp_settle.specs.CallPlaces.{IsFirstNumber};
@@ -11,7 +11,7 @@ ghost use Rattle.tatp_settle.specs.ExtentTests.{mixed_here, mixed_as, IsExtentCa
 use crate::logs::log_count;
 use crate::run::Run;
 use crate::{Closed, ClosedSite};
-use tatp_population::Extent;
+use tatp_extents::Extent;
 
 /// The causes that an extent is.
 #[derive(Clone, Copy)]

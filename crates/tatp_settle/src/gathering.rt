@@ -2,8 +2,8 @@
 ghost use Rattle.std.specs.Prelude.{◌≡◌, ◌+◌, ◌<◌, ◌≤◌, ◌^◌, ◌==◌, ◌||◌, ◌↔◌, IsTrue, ℕ, IfOk, IfErr, IfSome, IfNone, [], All, List, length, map, vec_len};
 ghost use Rattle.std.specs.Vec.{vec_capacity};
 ghost use Rattle.std.specs.List.{list_any};
-ghost use Rattle.tatp_population.specs.Extents.{ExtentState, IsExtent};
-ghost use Rattle.tatp_population.specs.Chapters.{ChapterState, IsChapter};
+ghost use Rattle.tatp_extents.specs.Extents.{ExtentState, IsExtent};
+ghost use Rattle.tatp_extents.specs.Chapters.{ChapterState, IsChapter};
 ghost use Rattle.tatp_partition.specs.Sites.{SiteState};
 ghost use Rattle.tatp_partition.specs.Sound.{IsSite};
 ghost use Rattle.tatp_settle.specs.Closings.{closed_of, closed_site, greatest_place, is_here, times_standing, IsClosedSite, IsMissing, IsClosed};
@@ -11,8 +11,8 @@ ghost use Rattle.tatp_settle.specs.Settlements.{IsLeastMissing, RefusesToGather}
 
 use crate::{Closed, ClosedSite, GatherError, NotGathered};
 use std::alloc::Global;
+use tatp_extents::{Chapter, Extent, first_subscriber, what_holds_of_every_chapter};
 use tatp_partition::{Parcel, Site, what_holds_of_every_parcel, what_holds_of_every_site};
-use tatp_population::{Chapter, Extent, first_subscriber, what_holds_of_every_chapter};
 
 /// What these sites, parcels and chapters leave: each extent and each log in its place, running
 /// calls set back. Refused, they come back.

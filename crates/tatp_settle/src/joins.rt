@@ -8,13 +8,13 @@ ghost use Rattle.tatp_settle.specs.Causes.{IsMixed, IsUnjoined};
 ghost use Rattle.tatp_settle.specs.CallPlaces.{IsFirstNumber};
 ghost use Rattle.tatp_settle.specs.ChapterTables.{IsFirstChapter, entries_of_some};
 ghost use Rattle.tatp_settle.specs.Stamping.{first_is_above};
-ghost use Rattle.tatp_population.specs.Extents.{last_stamp_from};
+ghost use Rattle.tatp_extents.specs.Extents.{last_stamp_from};
 
 use crate::chapter_table::ChapterTable;
 use crate::log_parts::LogPart;
 use crate::places::ChapterPlace;
+use tatp_extents::{EXTENT_SIZE, extent_count};
 use tatp_homes::Home;
-use tatp_population::{EXTENT_SIZE, extent_count};
 
 /// The homes from which the whole log of a number goes on, of those of the population.
 fn homes_at_first(homes: &[Home], number: u64) -> Option<&[Home]>

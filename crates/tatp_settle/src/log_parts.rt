@@ -1,13 +1,13 @@
 //! Parts of whole logs, and whole logs joined from them.
 ghost use Rattle.std.specs.Prelude.{◌≡◌, ◌<◌, ◌≤◌, ◌++◌, [], IfSome, OnSome, OnOk, length, slice_get};
 ghost use Rattle.std.specs.Option.{option_copied};
-ghost use Rattle.tatp_population.specs.Logs.{IsOfCall};
+ghost use Rattle.tatp_extents.specs.Logs.{IsOfCall};
 ghost use Rattle.tatp_settle.specs.WholeLogs.{entry_in_part};
 
 use std::alloc::{AllocError, Global};
 use std::marker::Model;
+use tatp_extents::Log;
 use tatp_homes::Home;
-use tatp_population::Log;
 use tatp_procs::Entry;
 
 /// A part of an extent's whole log: a chapter, or what was logged since the last of them.

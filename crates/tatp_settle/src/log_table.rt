@@ -2,7 +2,7 @@
 ghost use Rattle.std.specs.Prelude.{◌≡◌, ◌<◌, ◌≤◌, ℕ, List, [], IfOk, length, slice_get};
 ghost use Rattle.std.specs.Option.{option_copied, option_map_or};
 ghost use Rattle.tatp_procs.specs.declared.entry.Entry.{Entry};
-ghost use Rattle.tatp_population.specs.Logs.{IsOfCall};
+ghost use Rattle.tatp_extents.specs.Logs.{IsOfCall};
 ghost use Rattle.tatp_settle.specs.Closings.{entries_numbered, least_above};
 
 use crate::Closed;

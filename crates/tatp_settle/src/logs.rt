@@ -1,13 +1,13 @@
 //! What sites and parcels have under a number: extents and logs.
 ghost use Rattle.std.specs.Prelude.{◌≡◌, ◌≤◌, ◌^◌, ◌==◌, ℕ, find, [], None, All};
 ghost use Rattle.std.specs.Option.{option_copied, option_map};
-ghost use Rattle.tatp_population.specs.Extents.{ExtentState};
+ghost use Rattle.tatp_extents.specs.Extents.{ExtentState};
 ghost use Rattle.tatp_settle.specs.ChapterTables.{entries_of_some};
 ghost use Rattle.tatp_settle.specs.Closings.{ClosedSiteState, ExtentLog, extents_at, extents_numbered, extent_numbered, log_numbered, entries_since, chapter_count, most_places, above_all, least_above, IsClosedSite};
 
 use crate::log_parts::LogPart;
 use crate::{Closed, ClosedSite};
-use tatp_population::Extent;
+use tatp_extents::Extent;
 
 /// The first of these extents that has a number.
 fn first_of(extents: &[Extent], number: u64) -> Option<&Extent>

@@ -1,6 +1,6 @@
 //! The rows now, and how often extents were moved.
 ghost use Rattle.std.specs.Prelude.{◌≡◌, ◌≤◌, ◌^◌, IfOk, OnOk};
-ghost use Rattle.tatp_population.specs.HomeRows.{with_homes};
+ghost use Rattle.tatp_extents.specs.HomeRows.{with_homes};
 ghost use Rattle.tatp_settle.specs.Closings.{homes_numbered, moves_numbered};
 ghost use Rattle.tatp_settle.specs.Runs.{extents_populated, moves_left, rows_left, shown};
 
@@ -8,7 +8,7 @@ use crate::Closed;
 use crate::logs::extent_numbered;
 use crate::run::Run;
 use std::alloc::{AllocError, Global};
-use tatp_population::extent_count;
+use tatp_extents::extent_count;
 use tatp_tables::Rows;
 
 /// How many extents the population makes.

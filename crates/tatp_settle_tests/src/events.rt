@@ -4,10 +4,10 @@ ghost use Rattle.tatp_settle.specs.Runs.{joined, lists_of};
 
 use crate::sites::{begins, ended, lands, opened, spend_parcels, spend_site};
 use std::alloc::{AllocError, Global};
+use tatp_extents::Chapter;
 use tatp_loader::Loaded;
 use tatp_numbers::Key;
 use tatp_partition::{Item, Parcel, Receipt, Site, close_sites, discard_all};
-use tatp_population::Chapter;
 use tatp_procs::{Ask, Call, Raw, Reply};
 
 /// What happens at a site.

@@ -2,12 +2,12 @@
 
 use crate::rows::clean_rows;
 use std::alloc::{AllocError, Global};
+use tatp_extents::{discard, open};
 use tatp_loader::Loaded;
 use tatp_partition::{
     Completion, Item, NotGiven, Offer, Parcel, Site, SiteRefusal, Stepped,
     opened_extents_are_numbered,
 };
-use tatp_population::{discard, open};
 use tatp_procs::standard;
 
 /// The standard module, of which no test here has to know more.

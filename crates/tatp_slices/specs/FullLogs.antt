@@ -1,6 +1,6 @@
 -- A log at a site whose lock is held, and what an executor does about it.
 use Rattle.std.specs.Prelude.{◌≡◌, ℕ, ◌<◌, ◌≤◌, List, [], ◌∷◌, ◌++◌, length, Ok, Err}
-use Rattle.tatp_population.specs.Chapters.{ChapterState}
+use Rattle.tatp_extents.specs.Chapters.{ChapterState}
 use Rattle.tatp_partition.specs.Checkpointing.{Checkpoints, entries_here}
 use Rattle.tatp_partition.specs.Sites.{SiteState}
 use Rattle.tatp_slices.specs.declared.checkpoints.Checkpointed.{Checkpointed}

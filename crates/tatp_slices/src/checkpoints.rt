@@ -3,8 +3,8 @@ ghost use Rattle.std.specs.Prelude.{◌≡◌, ◌<◌, vec_len, vec_capacity};
 ghost use Rattle.tatp_slices.specs.FullLogs.{ChecksLog};
 
 use std::alloc::Global;
+use tatp_extents::Chapter;
 use tatp_partition::{Site, SiteRefusal};
-use tatp_population::Chapter;
 
 /// What became of a log that may be full.
 #[derive(Clone, Copy, Debug)]

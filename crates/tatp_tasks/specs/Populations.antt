@@ -1,6 +1,6 @@
 -- Populations that can be drawn, and runs that can be opened.
 use Rattle.std.specs.Prelude.{◌≤◌}
-use Rattle.tatp_population.specs.Opening.{most_subscribers}
+use Rattle.tatp_tables.specs.Database.{most_subscribers}
 use Rattle.tatp_tasks.specs.declared.population.Population.{Population}
 use Rattle.tatp_tasks.specs.declared.population.Population.TheVariants.{Read, Generated}
 use Rattle.tatp_tasks.specs.declared.setup.Setup.{Setup}

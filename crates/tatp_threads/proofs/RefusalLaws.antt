@@ -7,9 +7,9 @@ use Rattle.tatp_tables.specs.declared.row.Rows.{Rows}
 use Rattle.tatp_procs.specs.declared.ask.Ask.{Ask}
 use Rattle.tatp_procs.specs.declared.domains.BadArgument.{BadArgument as Bad}
 use Rattle.tatp_procs.specs.Asked.{has_procedure, bad_argument}
-use Rattle.tatp_population.specs.Opening.{RefusesRows}
-use Rattle.tatp_population.specs.declared.open_error.OpenError.{OpenError}
-use Rattle.tatp_population.specs.declared.open_error.OpenError.TheVariants as opening
+use Rattle.tatp_extents.specs.Opening.{RefusesRows}
+use Rattle.tatp_extents.specs.declared.open_error.OpenError.{OpenError}
+use Rattle.tatp_extents.specs.declared.open_error.OpenError.TheVariants as opening
 use Rattle.tatp_threads.specs.declared.refusal.RunRefusal.{RunRefusal}
 use Rattle.tatp_threads.specs.declared.refusal.RunRefusal.TheVariants.{TooMany, NotClean, NoProcedure, BadArgument, NoMemory, NoThread}
 use Rattle.tatp_threads.specs.Calls.{obstacle_to, first_of, obstacle_in, obstacle_among, opening_refusal, AreOpened, RefusesRun}

@@ -2,7 +2,7 @@
 use Rattle.std.proofs.Common.{◌≡◌, ℕ, List, Some, Result, Ok, Err, ap, ◌∙◌}
 use Rattle.std.specs.Prelude.{slice_get, slice_set}
 use Rattle.std.specs.Result.{is_ok}
-use Rattle.tatp_population.proofs.ListLaws.{set_same}
+use Rattle.tatp_extents.proofs.ListLaws.{set_same}
 use Rattle.tatp_partition.specs.declared.item.Item.{Item}
 use Rattle.tatp_inboxes.specs.Inboxes.{End}
 use Rattle.tatp_workers.specs.declared.message.Message.{Message}

@@ -4,9 +4,9 @@ use crate::admission::{Arities, Port, Reader};
 use crate::reserved::ExecutorSeat;
 use crate::shared::Shared;
 use std::sync::Wait;
+use tatp_extents::Chapter;
 use tatp_locks::Partition;
 use tatp_partition::{CompletionPlace, Item, SiteRefusal};
-use tatp_population::Chapter;
 use tatp_slices::{Checkpointed, Gate, Offered};
 use tatp_workers::{Answering, Delivery, Executing, Message, take_calls};
 

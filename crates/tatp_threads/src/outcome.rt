@@ -1,8 +1,8 @@
 //! What a run leaves.
 ghost use Rattle.std.specs.Prelude.{◌≡◌};
 
+use tatp_extents::Chapter;
 use tatp_partition::{Landed, Parcel, Receipt, Site, discard_all};
-use tatp_population::Chapter;
 
 /// What a run leaves. It can be neither copied nor dropped: [`Ran::parts`] spends it.
 pub struct Ran<'m> {

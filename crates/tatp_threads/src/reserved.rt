@@ -7,11 +7,11 @@ ghost use Rattle.tatp_threads.specs.Seats.{AreExecutors, AreClients};
 use crate::admission::{Admission, Arities, Port, Reader};
 use crate::calls::arities_of;
 use std::alloc::{AllocError, Global};
+use tatp_extents::Chapter;
 use tatp_inboxes::{Mailbox, ends_of, open_inboxes};
 use tatp_loader::Loaded;
 use tatp_locks::Partition;
 use tatp_partition::{Parcel, Receipt, Site};
-use tatp_population::Chapter;
 use tatp_procs::Ask;
 use tatp_workers::Delivery;
 

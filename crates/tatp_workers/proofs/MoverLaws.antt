@@ -2,7 +2,7 @@
 use Rattle.std.proofs.Common.{◌≡◌, ℕ, ◌≤◌, ◌==◌, ◌||◌, nat_lt, nat_le, Bool, true, false, if◌then◌else◌, List, [], ◌∷◌, ◌++◌, Option, Some, None, Result, Ok, Err, IfOk, length, slice_get, refl, sym, ◌∙◌, subst, inl, inr, arith}
 use Rattle.std.proofs.lemmas.Bool.Decides.{nat_tests}
 use Rattle.std.proofs.lemmas.List.{append-nil}
-use Rattle.tatp_population.specs.Extents.{ExtentState, first_subscriber, extent_of}
+use Rattle.tatp_extents.specs.Extents.{ExtentState, first_subscriber, extent_of}
 use Rattle.tatp_partition.specs.declared.refusal.SiteRefusal.{SiteRefusal}
 use Rattle.tatp_move.specs.declared.plan.Plan.{Plan}
 use Rattle.tatp_move.specs.declared.plan.MoveRefusal.{MoveRefusal}

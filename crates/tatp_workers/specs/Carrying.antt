@@ -1,6 +1,6 @@
 -- What the mover does, one thing after another.
 use Rattle.std.specs.Prelude.{◌≡◌, ◌⊎◌, ℕ, List, [], ◌∷◌, ◌++◌, length, Bool, true, false, ◌==◌, if◌then◌else◌, Option, Some, None, Result, Ok, Err, slice_get}
-use Rattle.tatp_population.specs.Extents.{ExtentState, first_subscriber}
+use Rattle.tatp_extents.specs.Extents.{ExtentState, first_subscriber}
 use Rattle.tatp_partition.specs.declared.refusal.SiteRefusal.{SiteRefusal}
 use Rattle.tatp_partition.specs.Moving.{LandedState}
 use Rattle.tatp_move.specs.declared.plan.Plan.{Plan}

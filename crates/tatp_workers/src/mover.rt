@@ -1,6 +1,6 @@
 //! What the mover does: it moves one extent after another.
 ghost use Rattle.std.specs.Prelude.{◌≡◌, ◌<◌, ◌∷◌, [], List, Option, None, IfOk, IfErr, vec_len, vec_capacity};
-ghost use Rattle.tatp_population.specs.Extents.{ExtentState};
+ghost use Rattle.tatp_extents.specs.Extents.{ExtentState};
 ghost use Rattle.tatp_partition.specs.Moving.{LandedState};
 ghost use Rattle.tatp_slices.specs.Growing.{Grows, Does};
 ghost use Rattle.tatp_workers.specs.Carrying.{refusal_in, is_landed, plan_to, IsPlanOf, Delivers, MakesMove, MovesAll};
@@ -8,9 +8,9 @@ ghost use Rattle.tatp_workers.specs.declared.mover.MoveEffect.{MoveEffect};
 ghost use Rattle.tatp_workers.specs.declared.mover.MoveEffect.TheVariants.{Plans, Takes, Gives, Settles};
 
 use crate::Moves;
+use tatp_extents::first_subscriber;
 use tatp_move::{MoveRefusal, Plan, Routes};
 use tatp_partition::{Landed, Parcel, SiteRefusal};
-use tatp_population::first_subscriber;
 
 /// What the mover did.
 #[derive(Clone, Copy)]

@@ -2,7 +2,7 @@
 //! locks, where nothing is known of what is done; here it is known, so that the contracts of the
 //! workers say something, and are shown to be met.
 ghost use Rattle.std.specs.Prelude.{◌≡◌, [], ◌∷◌, List, None, Ok, false, length, vec_len, vec_capacity, ◌<◌, ◌≤◌, ◌+◌, ◌++◌};
-ghost use Rattle.tatp_population.specs.Extents.{ExtentState};
+ghost use Rattle.tatp_extents.specs.Extents.{ExtentState};
 ghost use Rattle.tatp_slices.specs.Growing.{Grows, InTurn, known_unless};
 ghost use Rattle.tatp_workers.specs.Asking.{Conversation, Converses};
 ghost use Rattle.tatp_workers.specs.Carrying.{MakesMoves};

@@ -5,8 +5,8 @@ ghost use Rattle.tatp_dispatch.specs.Checkpointing.{CheckpointsIn, refusal_told}
 use super::{World, check_partition};
 use crate::{Answer, Refusal};
 use std::alloc::Global;
+use tatp_extents::Chapter;
 use tatp_partition::{Site, SiteRefusal};
-use tatp_population::Chapter;
 
 /// The number of an extent as a site takes it, which tells what comes first where there is no such
 /// extent: the first number past the extents stands for every greater one.

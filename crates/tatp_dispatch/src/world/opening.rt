@@ -1,7 +1,8 @@
 //! A whole that is opened.
 ghost use Rattle.std.specs.Prelude.{◌≡◌, ◌≤◌, [], IfOk, IfErr, OnOk, length, replicate};
+ghost use Rattle.tatp_tables.specs.Database.{most_subscribers};
 ghost use Rattle.tatp_tables.specs.Clean.{IsClean};
-ghost use Rattle.tatp_population.specs.Opening.{most_subscribers, RefusesRows};
+ghost use Rattle.tatp_extents.specs.Opening.{RefusesRows};
 ghost use Rattle.tatp_move.specs.Routing.{opened_routes};
 ghost use Rattle.tatp_dispatch.specs.Opened.{new_client};
 
@@ -9,10 +10,10 @@ use super::World;
 use crate::client::Client;
 use crate::queue::Queue;
 use std::alloc::{AllocError, Global};
+use tatp_extents::{OpenError, admit, discard, open_clean};
 use tatp_loader::Loaded;
 use tatp_move::Routes;
 use tatp_partition::{CompletionPlace, Slots, open_sites};
-use tatp_population::{OpenError, admit, discard, open_clean};
 use tatp_tables::Rows;
 
 /// Queues for so many partitions, all empty.

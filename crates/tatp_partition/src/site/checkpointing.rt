@@ -1,12 +1,12 @@
 //! Extents, and the log of calls without a home, hand out chapters.
 ghost use Rattle.std.specs.Prelude.{◌≡◌, IfOk, length};
-ghost use Rattle.tatp_population.specs.Chapters.{IsChapter};
+ghost use Rattle.tatp_extents.specs.Chapters.{IsChapter};
 
 use super::Site;
 use crate::SiteRefusal;
 use crate::runner::pinned_extent;
 use std::alloc::Global;
-use tatp_population::Chapter;
+use tatp_extents::Chapter;
 
 impl<'m> Site<'m> {
     ghost use Rattle.tatp_partition.specs.Checkpointing.{Checkpoints, KeepsLastStamps, entries_here};

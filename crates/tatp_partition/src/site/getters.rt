@@ -4,10 +4,10 @@ ghost use Rattle.std.specs.Option.{option_copied, option_map};
 
 use super::Site;
 use crate::runner::{is_pinned, pinned_extent};
+use tatp_extents::{Extent, extent_of};
 use tatp_homes::Home;
 use tatp_loader::Loaded;
 use tatp_machine::Machine;
-use tatp_population::{Extent, extent_of};
 
 impl<'m> Site<'m> {
     ghost use Rattle.tatp_machine.specs.Machines.{MachineState};

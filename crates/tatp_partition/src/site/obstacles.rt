@@ -5,9 +5,9 @@ ghost use Rattle.tatp_procs.specs.Asked.{Fits, arities_of, key_asked};
 
 use super::Site;
 use crate::{Item, SiteRefusal};
+use tatp_extents::extent_of;
 use tatp_homes::{Home, what_holds_of_every_home};
 use tatp_numbers::Key;
-use tatp_population::extent_of;
 use tatp_procs::Ask;
 
 impl<'m> Site<'m> {

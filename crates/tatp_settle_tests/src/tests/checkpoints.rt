@@ -4,9 +4,9 @@ use super::calls::told;
 use crate::sites::{begins, module, opened, spend_site};
 use std::alloc::Global;
 use std::test::Fail;
+use tatp_extents::Chapter;
 use tatp_numbers::Key;
 use tatp_partition::{Item, Site, SiteRefusal};
-use tatp_population::Chapter;
 use tatp_procs::{Ask, Call, Outputs, Raw, Reply};
 
 /// A call on subscriber 129, of a client that has seen this stamp.

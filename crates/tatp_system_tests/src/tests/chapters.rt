@@ -6,7 +6,7 @@ use std::test::*;
 use std::thread::Threads;
 use tatp_audits::audit;
 use tatp_bench::settle_run;
-use tatp_population::Chapter;
+use tatp_extents::Chapter;
 use tatp_settle_tests::events::{are_few, readings};
 use tatp_settle_tests::rows::clean_rows;
 use tatp_settle_tests::sites::module;

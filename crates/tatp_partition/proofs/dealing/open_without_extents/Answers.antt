@@ -1,5 +1,5 @@
 use Rattle.std.proofs.Common.{ℕ, ◌≡◌, ◌+◌, [], List, Some, length, slice_get, rules, arith, sym, ◌∙◌, ap, subst}
-use Rattle.tatp_population.specs.Extents.{ExtentState}
+use Rattle.tatp_extents.specs.Extents.{ExtentState}
 use Rattle.tatp_partition.specs.Opening.{AreNumbered, opened_site}
 use Rattle.tatp_partition.specs.Sites.{SiteState}
 use Rattle.tatp_partition.proofs.DealLaws.{no_extents}

@@ -3,7 +3,7 @@
 use super::extents::clean_rows;
 use std::alloc::Global;
 use std::test::Fail;
-use tatp_population::{Chapter, CheckpointError, Extent, Homeless, discard, open};
+use tatp_extents::{Chapter, CheckpointError, Extent, Homeless, discard, open};
 
 /// Why no chapter was handed out; one that was is discarded.
 fn refused(handed_out: Result<Chapter, CheckpointError>) -> Option<CheckpointError> {

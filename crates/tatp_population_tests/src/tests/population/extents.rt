@@ -2,7 +2,7 @@
 
 use std::alloc::{AllocError, Global};
 use std::test::Fail;
-use tatp_population::{Extent, Homeless, discard, open};
+use tatp_extents::{Extent, Homeless, discard, open};
 use tatp_tables::{Row, Rows};
 
 /// Rows of this many subscribers, the last first, each with one row in Access_Info and one in

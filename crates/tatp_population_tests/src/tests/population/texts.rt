@@ -2,7 +2,8 @@
 
 use std::test::Fail;
 use tatp_audits::Verdict;
-use tatp_population::{CheckpointError, OpenError, ReadError};
+use tatp_extents::{CheckpointError, OpenError};
+use tatp_population::ReadError;
 
 #[test]
 fn texts_of_errors(rt: HostRuntime) -> Result<(), Fail> {

@@ -1,7 +1,7 @@
 use Rattle.std.proofs.Common.{List, ◌==◌, ◌∙◌, ap, sym, subst}
 use Rattle.std.specs.Bool.{Decides}
 use Rattle.std.specs.List.{list_any}
-use Rattle.tatp_population.specs.Extents.{ExtentState}
+use Rattle.tatp_extents.specs.Extents.{ExtentState}
 use Rattle.tatp_settle.specs.declared.extents.ExtentCause.{ExtentCause}
 use Rattle.tatp_settle.specs.Causes.{IsInParcel}
 use Rattle.tatp_settle.specs.Closings.{ClosedState}

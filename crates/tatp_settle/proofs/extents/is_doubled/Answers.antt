@@ -1,6 +1,6 @@
 use Rattle.std.proofs.Common.{◌≡◌, ◌+◌, List, ◌==◌, count_by, ◌∙◌, ap, sym, arith}
 use Rattle.std.proofs.lemmas.Bool.Decides.{nat_tests}
-use Rattle.tatp_population.specs.Extents.{ExtentState}
+use Rattle.tatp_extents.specs.Extents.{ExtentState}
 use Rattle.tatp_settle.specs.Closings.{ClosedSiteState, is_here, times_standing}
 use Rattle.tatp_settle.proofs.StandingLaws.{times_standing_is}
 use Rattle.tatp_settle.proofs.extents.is_doubled.Goals as goal

@@ -1,7 +1,7 @@
 use Rattle.std.proofs.Common.{List, true, refl, ◌∙◌, ap, sym, subst}
 use Rattle.std.specs.Bool.{Decides}
 use Rattle.std.specs.List.{list_any}
-use Rattle.tatp_population.specs.Extents.{ExtentState}
+use Rattle.tatp_extents.specs.Extents.{ExtentState}
 use Rattle.tatp_settle.specs.Closings.{ClosedSiteState}
 use Rattle.tatp_settle.specs.Causes.{IsMixed}
 use Rattle.tatp_settle.specs.ExtentTests.{mixed_here, mixed_as}

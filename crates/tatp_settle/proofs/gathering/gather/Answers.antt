@@ -1,5 +1,5 @@
 use Rattle.std.proofs.Common.{◌≡◌, ℕ, Option, IfNone, [], All, sym, subst}
-use Rattle.tatp_population.specs.Chapters.{IsChapter}
+use Rattle.tatp_extents.specs.Chapters.{IsChapter}
 use Rattle.tatp_settle.specs.Closings.{ClosedState, closed_of, IsMissing, IsClosed}
 use Rattle.tatp_settle.specs.Settlements.{IsLeastMissing}
 use Rattle.tatp_settle.proofs.MissingLaws.{missing_without, least_with}

@@ -1,7 +1,7 @@
 use Rattle.std.proofs.Common.{◌≡◌, ◌∙◌, ◌++◌, ◌∷◌, [], List, reverse, sym, ap, arith, append_assoc}
 use Rattle.std.proofs.lemmas.List.{reverse-append}
 use Rattle.std.proofs.lemmas.List.Elements.{All-push, All-same}
-use Rattle.tatp_population.specs.Extents.{ExtentState, IsExtent}
+use Rattle.tatp_extents.specs.Extents.{ExtentState, IsExtent}
 use Rattle.tatp_settle.proofs.gathering.unpack_all.Goals as goal
 
 pub loop-parcel-preserved : goal.loop-parcel-preserved

@@ -1,6 +1,6 @@
 use Rattle.std.proofs.Common.{◌≡◌, ◌+◌, ◌≤◌, ◌++◌, All, reverse, vec_len}
 use Rattle.std.specs.Vec.{vec_capacity}
-use Rattle.tatp_population.specs.Extents.{IsExtent}
+use Rattle.tatp_extents.specs.Extents.{IsExtent}
 use Rattle.tatp_settle.proofs.gathering.unpack_all.Given as goal
 
 abbrev pub invariant-loop-parcel : goal.invariant-loop-parcel

@@ -1,7 +1,7 @@
 use Rattle.std.proofs.Common.{All, subst}
 use Rattle.std.proofs.lemmas.List.{take_all}
 use Rattle.std.proofs.lemmas.List.Elements.{All-more}
-use Rattle.tatp_population.specs.Chapters.{IsChapter}
+use Rattle.tatp_extents.specs.Chapters.{IsChapter}
 use Rattle.tatp_settle.proofs.gathering.what_holds_of_these_chapters.Goals as goal
 
 pub chapters-preserved : goal.chapters-preserved

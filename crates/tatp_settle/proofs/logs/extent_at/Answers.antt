@@ -1,6 +1,6 @@
 use Rattle.std.proofs.Common.{◌≡◌, ◌+◌, Some, None, Option, drop, sym, ◌∙◌, ap}
 use Rattle.std.specs.Option.{option_or, option_copied}
-use Rattle.tatp_population.specs.Extents.{ExtentState}
+use Rattle.tatp_extents.specs.Extents.{ExtentState}
 use Rattle.tatp_partition.specs.Sites.{slot}
 use Rattle.tatp_settle.proofs.LogLaws.{found_in, found_step}
 use Rattle.tatp_settle.proofs.logs.extent_at.Goals as goal

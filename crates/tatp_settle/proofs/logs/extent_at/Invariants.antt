@@ -1,5 +1,5 @@
 use Rattle.std.proofs.Common.{◌≡◌, ◌==◌, drop, find}
-use Rattle.tatp_population.specs.Extents.{ExtentState}
+use Rattle.tatp_extents.specs.Extents.{ExtentState}
 use Rattle.tatp_settle.specs.Closings.{extents_at}
 use Rattle.tatp_settle.proofs.logs.extent_at.Given as goal
 

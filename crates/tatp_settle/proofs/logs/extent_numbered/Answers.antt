@@ -1,6 +1,6 @@
 use Rattle.std.proofs.Common.{◌≡◌, ◌∙◌, Option, List, Some, None, sym, ap, find, ◌==◌}
 use Rattle.std.specs.Option.{option_or, option_copied}
-use Rattle.tatp_population.specs.Extents.{ExtentState}
+use Rattle.tatp_extents.specs.Extents.{ExtentState}
 use Rattle.tatp_settle.specs.Closings.{ClosedSiteState}
 use Rattle.tatp_settle.proofs.LogLaws.{found_in, found_anywhere}
 use Rattle.tatp_settle.proofs.logs.extent_numbered.Goals as goal

@@ -1,6 +1,6 @@
 use Rattle.std.proofs.Common.{◌≡◌, ◌+◌, ◌≤◌, ◌^◌, drop, max}
 use Rattle.std.specs.List.{fold}
-use Rattle.tatp_population.specs.Extents.{ExtentState}
+use Rattle.tatp_extents.specs.Extents.{ExtentState}
 use Rattle.tatp_settle.specs.Closings.{above_all}
 use Rattle.tatp_settle.proofs.logs.numbers_of.Given as goal
 

@@ -1,6 +1,6 @@
 use Rattle.std.proofs.Common.{◌≡◌}
 use Rattle.std.specs.List.{flat_map, range_with_len}
-use Rattle.tatp_population.specs.HomeRows.{rows_of_homes}
+use Rattle.tatp_extents.specs.HomeRows.{rows_of_homes}
 use Rattle.tatp_settle.specs.Closings.{homes_numbered}
 use Rattle.tatp_settle.proofs.rows.rows_now.Given as goal
 

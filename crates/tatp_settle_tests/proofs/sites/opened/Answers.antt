@@ -1,6 +1,6 @@
 use Rattle.std.proofs.Common.{length, rules, arith}
 use Rattle.tatp_tables.specs.Database.{database_of}
-use Rattle.tatp_population.proofs.OpeningLaws.{few_extents}
+use Rattle.tatp_extents.proofs.OpeningLaws.{few_extents}
 use Rattle.tatp_settle_tests.proofs.sites.opened.Goals as goal
 
 pub overflow_cast-count : goal.overflow_cast-count

@@ -1,9 +1,9 @@
 use Rattle.std.proofs.Common.{◌≡◌, ◌≤◌, List, None, length, sym, ◌∙◌, subst, rules}
 use Rattle.std.proofs.lemmas.Result.{IfErr-weaker}
 use Rattle.tatp_tables.specs.Database.{database_of}
-use Rattle.tatp_population.specs.Extents.{ExtentState}
-use Rattle.tatp_population.specs.Opening.{opened_extents}
-use Rattle.tatp_population.proofs.OpeningLaws.{few_extents}
+use Rattle.tatp_extents.specs.Extents.{ExtentState}
+use Rattle.tatp_extents.specs.Opening.{opened_extents}
+use Rattle.tatp_extents.proofs.OpeningLaws.{few_extents}
 use Rattle.tatp_partition.specs.Opening.{AreNumbered}
 use Rattle.tatp_partition.proofs.NumberLaws.{opened_are_numbered}
 use Rattle.tatp_threads.specs.Calls.{AreOpened, RefusesRun, obstacle_among}

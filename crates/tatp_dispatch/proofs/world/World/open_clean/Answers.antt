@@ -2,8 +2,8 @@ use Rattle.std.proofs.Common.{ℕ, ◌≡◌, ◌+◌, ◌<◌, List, Option, No
 use Rattle.std.proofs.lemmas.List.{length-replicate}
 use Rattle.tatp_tables.specs.Database.{database_of}
 use Rattle.tatp_tables.specs.declared.row.Rows.{Rows}
-use Rattle.tatp_population.specs.Extents.{ExtentState}
-use Rattle.tatp_population.specs.Opening.{extent_count, opened_extents}
+use Rattle.tatp_extents.specs.Extents.{ExtentState}
+use Rattle.tatp_extents.specs.Opening.{extent_count, opened_extents}
 use Rattle.tatp_partition.specs.Opening.{AreNumbered}
 use Rattle.tatp_move.specs.Routing.{opened_routes}
 use Rattle.tatp_dispatch.specs.Counts.{one, total}

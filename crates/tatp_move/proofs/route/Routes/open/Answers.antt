@@ -1,6 +1,6 @@
 use Rattle.std.proofs.Common.{ℕ, List, rules, arith, ◌≡◌, ◌+◌, ◌∙◌, ap, map}
 use Rattle.std.specs.List.{range_with_len}
-use Rattle.tatp_population.specs.Opening.{extent_count}
+use Rattle.tatp_extents.specs.Opening.{extent_count}
 use Rattle.tatp_move.specs.declared.route.Route.{Route}
 use Rattle.tatp_move.specs.Routing.{opening_route}
 use Rattle.tatp_move.proofs.RouteLaws.{one_more, count_of_routes}

@@ -1,6 +1,6 @@
 use Rattle.std.proofs.Common.{Result, Ok, Err, ap, sym, ◌∙◌, subst}
 use Rattle.std.proofs.lemmas.Result.{err_from_is_err_and}
-use Rattle.tatp_population.specs.Chapters.{ChapterState}
+use Rattle.tatp_extents.specs.Chapters.{ChapterState}
 use Rattle.tatp_partition.specs.declared.refusal.SiteRefusal.{SiteRefusal}
 use Rattle.tatp_partition.specs.Sites.{SiteState}
 use Rattle.tatp_partition.specs.Checkpointing.{Checkpoints, KeepsLastStamps}

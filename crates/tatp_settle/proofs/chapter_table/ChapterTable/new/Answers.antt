@@ -1,6 +1,6 @@
 use Rattle.std.proofs.Common.{◌≡◌, ◌+◌, ◌∷◌, ◌++◌, [], Bor, List, Option, None, get_or, length, take, refl, sym, ◌∙◌, ap, subst, arith}
 use Rattle.std.proofs.lemmas.List.{take_more, take_all}
-use Rattle.tatp_population.specs.Chapters.{ChapterState}
+use Rattle.tatp_extents.specs.Chapters.{ChapterState}
 use Rattle.tatp_settle.proofs.ChapterTableLaws.{AreListed, none_listed, put_listed, left_listed, all_listed, first_twice}
 use Rattle.tatp_settle.proofs.chapter_table.ChapterTable.new.Goals as goal
 use Rattle.tatp_settle.proofs.chapter_table.ChapterTable.new.Goals.{then-not-put, else-not-put}

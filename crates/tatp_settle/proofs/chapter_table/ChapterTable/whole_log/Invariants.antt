@@ -1,5 +1,5 @@
 use Rattle.std.proofs.Common.{◌≡◌}
-use Rattle.tatp_population.specs.Chapters.{chapters_listed, entries_joined}
+use Rattle.tatp_extents.specs.Chapters.{chapters_listed, entries_joined}
 use Rattle.tatp_settle.specs.Closings.{chapter_numbered}
 use Rattle.tatp_settle.proofs.chapter_table.ChapterTable.whole_log.Given as goal
 

@@ -1,0 +1,10 @@
+pub mod CutLaws
+pub mod ListLaws
+pub mod ExtentLaws
+pub mod HistoryLaws
+pub mod ChapterLaws
+pub mod LogLaws
+pub mod OpeningLaws
+pub mod HomeRowsLaws
+pub mod CleanRowsLaws
+pub mod PlaceLaws

@@ -1,0 +1,13 @@
+pub mod Logs
+pub mod LoggedCalls
+pub mod Histories
+pub mod Extents
+pub mod Pinning
+pub mod Lending
+pub mod HomelessLog
+pub mod Chapters
+pub mod ChapterParts
+pub mod Opening
+pub mod Parts
+pub mod SharedHomes
+pub mod HomeRows

@@ -1,0 +1,29 @@
+//! Which subscribers lie in which extent: 64 in a row, and the first of them in extent 1.
+ghost use Rattle.std.specs.Prelude.{◌≡◌, ◌≤◌};
+ghost use Rattle.tatp_extents.specs.Extents.{extent_of, first_subscriber};
+ghost use Rattle.tatp_extents.specs.Opening.{extent_count};
+
+/// The most subscribers of one extent.
+pub const EXTENT_SIZE: u64 = 64;
+
+/// The number of the extent in which a subscriber lies, 0 for 0.
+pub fn extent_of(s_id: u64) -> u64
+    ensures { result ≡ extent_of s_id }
+{
+    s_id.div_ceil(EXTENT_SIZE)
+}
+
+/// Into how many extents so many subscribers are divided.
+pub fn extent_count(subscribers: u64) -> u64
+    ensures { result ≡ extent_count subscribers }
+{
+    subscribers.div_ceil(EXTENT_SIZE)
+}
+
+/// The first subscriber of an extent.
+pub fn first_subscriber(extent: u32) -> u64
+    requires { 1 ≤ extent }
+    ensures { result ≡ first_subscriber extent }
+{
+    EXTENT_SIZE * (extent as u64 - 1) + 1
+}

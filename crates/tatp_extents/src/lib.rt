@@ -1,0 +1,31 @@
+//! Extents: the homes of up to 64 subscribers in a row, with the log of their calls and its
+//! chapters; and clean rows opened into extents.
+#![tactic(auto)]
+
+mod chapter;
+mod extent;
+mod extent_numbers;
+mod homeless;
+mod homes;
+mod log;
+mod open_error;
+mod opening;
+mod parts;
+mod pinned;
+mod shared_homes;
+mod theorems;
+
+pub use chapter::{Chapter, CheckpointError, what_holds_of_every_chapter};
+pub use extent::{Extent, what_holds_of_every_extent};
+pub use extent_numbers::{EXTENT_SIZE, extent_count, extent_of, first_subscriber};
+pub use homeless::{Homeless, what_holds_of_every_homeless_log};
+pub use log::Log;
+pub use open_error::OpenError;
+pub use opening::{admit, discard, open, open_clean};
+pub use parts::{ExtentParts, HomelessParts};
+pub use pinned::{Pinned, what_holds_of_every_pinned_extent};
+pub use shared_homes::SharedHomes;
+pub use theorems::{
+    homes_are_parts_of_their_database, homes_are_put_in_their_places, homes_stand_in_their_places,
+    joined_chapters_are_one_history, rows_of_all_homes_are_the_database,
+};

@@ -1,6 +1,0 @@
-use Rattle.tatp_population.proofs.HomeRowsLaws.{rows_are_the_database}
-use Rattle.tatp_population.proofs.CleanRowsLaws.{rows_of_clean}
-use Rattle.tatp_population.proofs.theorems.rows_of_all_homes_are_the_database.Goals as goal
-
-pub returns : goal.returns
-returns c = record { database = rows_are_the_database; clean = rows_of_clean }

@@ -25,7 +25,7 @@ use Rattle.tatp_settle.specs.Runs.{joined, lists_of}
 use Rattle.tatp_threads.specs.declared.refusal.RunRefusal.{RunRefusal}
 use Rattle.tatp_threads.specs.declared.refusal.RunRefusal.TheVariants.{NoProcedure, BadArgument}
 use Rattle.tatp_threads.specs.Calls.{obstacle_to, first_of, obstacle_in, obstacle_among}
-use Rattle.tatp_bench.specs.Drawing.{next_calls}
+use Rattle.tatp_drawing.specs.Drawing.{next_calls}
 
 -- ---- how many
 pub count_of_calls : (distribution : Distribution) (subscribers n : ℕ) (stream : Stream) → length (next_calls distribution subscribers n stream).0 ≡ n

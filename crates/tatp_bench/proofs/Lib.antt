@@ -1,4 +1,3 @@
-pub mod DrawingLaws
 pub mod CallLaws
 pub mod ChapterLaws
 pub mod PlanLaws

@@ -19,7 +19,7 @@ use Rattle.tatp_threads.specs.declared.refusal.RunRefusal.TheVariants.{TooMany, 
 use Rattle.tatp_threads.specs.Calls.{obstacle_among, AreOpened, RefusesRun}
 use Rattle.tatp_tasks.specs.declared.plan.BenchPlan.{BenchPlan}
 use Rattle.tatp_tasks.specs.Plans.{IsPlan}
-use Rattle.tatp_bench.specs.Drawing.{stream_numbered, rows_drawn, next_calls, client_calls, calls_drawn}
+use Rattle.tatp_drawing.specs.Drawing.{stream_numbered, rows_drawn, next_calls, client_calls, calls_drawn}
 use Rattle.tatp_bench.proofs.CallLaws.{count_of_calls, count_joined, has_standard, calls_run, lists_run}
 
 -- ---- the calls

@@ -19,7 +19,7 @@ use Rattle.tatp_tasks.specs.declared.plan.BenchPlan.{BenchPlan}
 use Rattle.tatp_threads.specs.declared.outcome.RanParts.{RanParts}
 use Rattle.tatp_bench.specs.declared.fault.BenchFault.{BenchFault}
 use Rattle.tatp_bench.specs.declared.fault.BenchFault.TheVariants.{ExtentMissing, Unsettled, NoMemory, NoThread}
-use Rattle.tatp_bench.specs.Drawing.{rows_drawn, calls_drawn}
+use Rattle.tatp_drawing.specs.Drawing.{rows_drawn, calls_drawn}
 use Rattle.tatp_bench.specs.SettledRuns.{run_left, SettlesRun, RefusesToSettleRun}
 use Rattle.tatp_bench.specs.Benching.{IsRunOf, SettlesPlan, RefusesBench, kinds_drawn}
 use Rattle.tatp_bench.proofs.PlanLaws.{calls_counted}

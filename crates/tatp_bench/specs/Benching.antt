@@ -1,25 +1,14 @@
 -- What a run of the benchmark is of, and why it isn't settled.
 use Rattle.std.specs.Prelude.{◌≡◌, ℕ, List, map, count_by, length}
 use Rattle.std.specs.List.{range_with_len}
-use Rattle.tatp_tables.specs.Clean.{IsClean}
 use Rattle.tatp_settle.specs.declared.settled.Settled.{Settled}
 use Rattle.tatp_settle.specs.Answering.{is_of_kind}
-use Rattle.tatp_settle.specs.Runs.{Run, joined, lists_of}
-use Rattle.tatp_bench.specs.declared.drawing.Drawn.{Drawn}
+use Rattle.tatp_settle.specs.Runs.{Run, joined}
 use Rattle.tatp_bench.specs.declared.fault.BenchFault.{BenchFault}
 use Rattle.tatp_bench.specs.declared.fault.BenchFault.TheVariants.{ExtentMissing, Unsettled, NoMemory, NoThread}
 use Rattle.tatp_tasks.specs.declared.plan.BenchPlan.{BenchPlan}
-use Rattle.tatp_bench.specs.Drawing.{rows_drawn, calls_drawn, moves_drawn, stops_drawn}
+use Rattle.tatp_drawing.specs.Drawing.{rows_drawn, calls_drawn}
 use Rattle.tatp_bench.specs.SettledRuns.{SettlesRun, RefusesToSettleRun}
-
--- what is drawn for a plan: its population twice, which is clean, and all that the threads do
-pub record IsDrawn (plan : BenchPlan) (drawn : Drawn) : Type 0 where
-  pub population : drawn.population ≡ rows_drawn plan
-  pub rows : drawn.rows ≡ rows_drawn plan
-  pub clean : IsClean (rows_drawn plan)
-  pub calls : lists_of drawn.lists.items ≡ calls_drawn plan
-  pub moves : drawn.moves.moves.items ≡ moves_drawn plan
-  pub stops : drawn.moves.stops.items ≡ stops_drawn plan
 
 -- a run of the plan: its calls on its population, which left a site for each partition, and a list
 -- of receipts for each client

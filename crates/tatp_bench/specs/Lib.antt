@@ -1,3 +1,2 @@
-pub mod Drawing
 pub mod SettledRuns
 pub mod Benching

@@ -1,12 +1,14 @@
 //! A run of the benchmark.
 ghost use Rattle.std.specs.Prelude.{◌≡◌, ◌+◌, ◌*◌, ◌⊎◌, IfOk, IfErr};
 ghost use Rattle.tatp_tasks.specs.Plans.{IsPlan};
-ghost use Rattle.tatp_bench.specs.Benching.{IsDrawn, SettlesPlan, RefusesBench, kinds_drawn};
+ghost use Rattle.tatp_drawing.specs.DrawnRuns.{IsDrawn};
+ghost use Rattle.tatp_bench.specs.Benching.{SettlesPlan, RefusesBench, kinds_drawn};
 
-use crate::{BenchFault, BenchPlan, Drawn, draw, settle_run};
+use crate::{BenchFault, BenchPlan, settle_run};
 use std::alloc::Global;
 use std::sync::Wait;
 use std::thread::Threads;
+use tatp_drawing::{Drawn, draw};
 use tatp_procs::standard;
 use tatp_settle::Settled;
 use tatp_threads::{Gate, RunRefusal, run_calls};
@@ -63,7 +65,7 @@ pub fn run_drawn<R: Threads + Wait + Sync, G: Gate + Sync>(
 
 /// Runs the benchmark: draws the population and each client's calls from the plan's seed, runs the
 /// calls by threads while extents move and partitions stop, and settles what the run left. All
-/// draws are made before the first thread starts.
+/// draws are made before the threads of the run start.
 pub fn run_bench<R: Threads + Wait + Sync, G: Gate + Sync>(
     rt: &R,
     alloc: Global,
@@ -77,6 +79,6 @@ pub fn run_bench<R: Threads + Wait + Sync, G: Gate + Sync>(
         (λ settled. settled.completed + settled.refused ≡ plan.now.clients * plan.now.calls) }
     ensures refusal { IfErr result (RefusesBench plan.now) }
 {
-    let drawn = draw(alloc, plan)?;
+    let drawn = draw(rt, alloc, plan)?;
     run_drawn(rt, alloc, plan, drawn, gate)
 }

@@ -63,7 +63,7 @@ pub fn run_bench<R: Threads + Wait + Sync, P: Progress + Sync, W: Write>(
     ensures faults { IfErr result
         (LeavesSettled plan.now (W.contents writer.old) (W.contents writer.new)) }
 {
-    let drawn = draw(alloc, plan)?;
+    let drawn = draw(rt, alloc, plan)?;
     progress.tell("rows drawn");
     let settled = run_drawn(rt, alloc, plan, drawn, progress)?;
     progress.tell("settled");

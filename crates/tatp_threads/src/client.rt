@@ -10,13 +10,15 @@ use tatp_partition::{Item, Receipt};
 use tatp_procs::Ask;
 use tatp_workers::{Delivery, Requester, ask_all};
 
-/// A client's ends at the inboxes, and its mailbox, with what the threads share.
+/// A client's ends at the inboxes, its mailbox and what came of its last call, with what the
+/// threads share.
 #[derive(Drop)]
 struct ClientEnds<'c, 'f, 'a, 'm, R, G, A: Arities> {
     rt: &'c R,
     shared: &'c Shared<'a, 'm, G, A>,
     ports: &'f mut [Port<A>],
     mailbox: &'c Mailbox<Delivery>,
+    delivery: Delivery,
 }
 
 impl<R: Wait, G, A: Arities> Requester for ClientEnds<'_, '_, '_, '_, R, G, A> {
@@ -24,8 +26,9 @@ impl<R: Wait, G, A: Arities> Requester for ClientEnds<'_, '_, '_, '_, R, G, A> {
         if !self.shared.send(self.rt, self.ports, item) {
             return None;
         }
-        match self.mailbox.take(self.rt) {
-            Delivery::Got(receipt) => Some(receipt),
+        self.mailbox.take(self.rt, &mut self.delivery);
+        match &self.delivery {
+            Delivery::Got(receipt) => Some(*receipt),
             Delivery::Dropped => None,
         }
     }
@@ -48,6 +51,7 @@ pub(crate) fn run_client<'t, R: Wait, G, A: Arities>(
             shared,
             ports: seat.ports.as_mut_slice(),
             mailbox,
+            delivery: Delivery::Dropped,
         };
         ask_all(
             &mut requester,

@@ -16,7 +16,7 @@ struct Inspector<'c, 'a, 'm, R, G, A: Arities> {
 }
 
 impl<R: Wait, G: Gate, A: Arities> Answering for Inspector<'_, '_, '_, R, G, A> {
-    fn answer(&mut self, client: u64, delivery: Delivery) {
+    fn answer(&mut self, client: u64, delivery: &Delivery) {
         self.shared.answer(self.rt, client, delivery);
     }
 

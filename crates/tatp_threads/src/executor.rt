@@ -23,7 +23,7 @@ struct ExecutorEnds<'c, 'f, 'a, 'm, R, G, A: Arities> {
 }
 
 impl<R: Wait, G: Gate, A: Arities> Answering for ExecutorEnds<'_, '_, '_, '_, R, G, A> {
-    fn answer(&mut self, client: u64, delivery: Delivery) {
+    fn answer(&mut self, client: u64, delivery: &Delivery) {
         self.shared.answer(self.rt, client, delivery);
     }
 

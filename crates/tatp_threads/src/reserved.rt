@@ -108,7 +108,7 @@ fn make_mailboxes(alloc: Global, count: usize) -> Result<Vec<Mailbox<Delivery>>,
 {
     let mut mailboxes = Vec::with_capacity(alloc, count)?;
     for _ in 0..count {
-        mailboxes.push(Mailbox::new())?;
+        mailboxes.push(Mailbox::new(Delivery::Dropped))?;
     }
     Ok(mailboxes)
 }

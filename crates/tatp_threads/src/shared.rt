@@ -46,7 +46,7 @@ impl<'a, 'm, G, A: Arities> Shared<'a, 'm, G, A> {
     }
 
     /// Puts into a client's mailbox what it waits for.
-    pub(crate) fn answer<R: Wait>(&self, rt: &R, client: u64, delivery: Delivery) {
+    pub(crate) fn answer<R: Wait>(&self, rt: &R, client: u64, delivery: &Delivery) {
         if let Some(mailbox) = self.mailboxes.get(client as usize) {
             mailbox.put(rt, delivery);
         }

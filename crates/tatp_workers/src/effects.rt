@@ -47,8 +47,8 @@ pub trait Answering {
     ghost effects: { Self → Option (List Effect) } = { λ _. None };
 
     /// Hands to a client what it waits for.
-    fn answer(&mut self, client: u64, delivery: Delivery)
-        ensures { Grows (effects self.old) (effects self.new) (Answers client delivery ∷ []) };
+    fn answer(&mut self, client: u64, delivery: &Delivery)
+        ensures { Grows (effects self.old) (effects self.new) (Answers client delivery.now ∷ []) };
 
     /// Tells the gate that a client's call has ended.
     fn tell(&mut self, partition: u8, client: u64)
@@ -105,7 +105,7 @@ pub(crate) fn conclude<A: Answering>(answering: &mut A, partition: u8, completio
         (concluding partition completion.now) }
 {
     let client = completion.entry.client;
-    answering.answer(client, Delivery::Got(receipt_of(completion)));
+    answering.answer(client, &Delivery::Got(receipt_of(completion)));
     answering.tell(partition, client);
 }
 
@@ -133,7 +133,7 @@ pub(crate) fn follow<E: Executing>(executing: &mut E, offered: &Offered)
             let item = *item;
             let client = item.client;
             if !executing.send(item) {
-                executing.answer(client, Delivery::Dropped);
+                executing.answer(client, &Delivery::Dropped);
             }
         }
         Offered::Denied(item) => {
@@ -141,8 +141,8 @@ pub(crate) fn follow<E: Executing>(executing: &mut E, offered: &Offered)
                 client: item.client,
                 number: item.number,
             };
-            executing.answer(item.client, Delivery::Got(receipt));
+            executing.answer(item.client, &Delivery::Got(receipt));
         }
-        Offered::Dropped(item) => executing.answer(item.client, Delivery::Dropped),
+        Offered::Dropped(item) => executing.answer(item.client, &Delivery::Dropped),
     }
 }

@@ -115,8 +115,8 @@ impl Carrying for Record<MoveEffect> {
 impl Answering for Record<Effect> {
     ghost effects = { λ r. known_unless r.is_lost r.kept.items };
 
-    fn answer(&mut self, client: u64, delivery: Delivery) {
-        self.keep(Effect::Answers(client, delivery));
+    fn answer(&mut self, client: u64, delivery: &Delivery) {
+        self.keep(Effect::Answers(client, *delivery));
     }
 
     fn tell(&mut self, partition: u8, client: u64) {

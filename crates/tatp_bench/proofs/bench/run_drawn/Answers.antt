@@ -6,7 +6,7 @@ use Rattle.tatp_threads.specs.Calls.{obstacle_among}
 use Rattle.tatp_threads.specs.declared.outcome.RanParts.{RanParts}
 use Rattle.tatp_bench.specs.Benching.{IsRunOf, SettlesPlan, RefusesBench}
 use Rattle.tatp_bench.specs.SettledRuns.{run_left, SettlesRun, RefusesToSettleRun}
-use Rattle.tatp_bench.specs.Drawing.{rows_drawn, calls_drawn}
+use Rattle.tatp_drawing.specs.Drawing.{rows_drawn, calls_drawn}
 use Rattle.tatp_bench.proofs.PlanLaws.{few_calls, calls_are_run, rows_are_opened, run_refused, clients_listed}
 use Rattle.tatp_bench.proofs.SettlingLaws.{left_of_plan, plan_settled, plan_refused, plan_counted}
 use Rattle.tatp_bench.proofs.bench.run_drawn.Given as given

@@ -1,7 +1,7 @@
 use Rattle.std.proofs.Common.{◌≡◌, ◌≤◌, vec_len, vec_capacity}
 use Rattle.tatp_driver.specs.DrawnWords.{words_of}
-use Rattle.tatp_bench.proofs.DrawingLaws.{CallsAreListed}
-use Rattle.tatp_bench.proofs.calls.draw_list.Given as goal
+use Rattle.tatp_drawing.proofs.DrawingLaws.{CallsAreListed}
+use Rattle.tatp_drawing.proofs.calls.draw_list.Given as goal
 
 abbrev pub invariant-loop : goal.invariant-loop
 invariant-loop l = record {

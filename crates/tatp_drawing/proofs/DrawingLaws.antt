@@ -1,5 +1,5 @@
 -- Calls, moves and stops that are drawn one after another.
-use Rattle.std.specs.Prelude.{◌≡◌, ℕ, ◌+◌, ◌-◌, List, [], ◌∷◌, ◌++◌, map}
+use Rattle.std.specs.Prelude.{◌≡◌, ℕ, zero, suc, ◌+◌, ◌-◌, ◌≤◌, List, [], ◌∷◌, ◌++◌, map}
 use Rattle.std.proofs.Common.{refl, sym, ap, ◌∙◌, arith, add-one}
 use Rattle.std.specs.Prelude.{Vec}
 use Rattle.std.specs.declared.alloc.Global.{Global}
@@ -15,7 +15,7 @@ use Rattle.tatp_driver.specs.declared.distribution.Distribution.{Distribution}
 use Rattle.tatp_driver.specs.DrawnCall.{drawn_call}
 use Rattle.tatp_driver.specs.DrawnWords.{next_words}
 use Rattle.tatp_settle.specs.Runs.{lists_of}
-use Rattle.tatp_bench.specs.Drawing.{next_calls, next_moves}
+use Rattle.tatp_drawing.specs.Drawing.{next_calls, next_moves}
 
 -- ---- calls
 -- the first i calls are listed, and this stream is left
@@ -84,8 +84,28 @@ one_stop partitions before i stops left partition after so_far is =
     })
 
 -- ---- the lists of clients
-pub one_list : {A : Type 0} (list_of : ℕ → List A) (client : ℕ) (lists : List (Vec A Global)) (list : Vec A Global)
-    → lists_of lists ≡ map list_of (range_with_len 0 client) → list.items ≡ list_of client
-    → lists_of (lists ++ list ∷ []) ≡ map list_of (range_with_len 0 (client + 1))
-one_list {A} list_of client lists list so_far is =
-    map-append (λ (l : Vec A Global). l.items) lists (list ∷ []) ∙ ((λ j. so_far j ++ is j ∷ []) ∙ sym (map-range_with_len_more list_of 0 client client (omega arith)))
+pub one_list : {A : Type 0} (list_of : ℕ → List A) (from client : ℕ) (lists : List (Vec A Global)) (list : Vec A Global) → from ≤ client
+    → lists_of lists ≡ map list_of (range_with_len from (client - from)) → list.items ≡ list_of client
+    → lists_of (lists ++ list ∷ []) ≡ map list_of (range_with_len from (client + 1 - from))
+one_list {A} list_of from client lists list low so_far is =
+    let one_more : client - from + 1 ≡ client + 1 - from = omega (arith, low) in
+    map-append (λ (l : Vec A Global). l.items) lists (list ∷ [])
+    ∙ ((λ j. so_far j ++ is j ∷ []) ∙ sym (map-range_with_len_more list_of from (client - from) client (omega (arith, low)))
+    ∙ ap (λ n. map list_of (range_with_len from n)) one_more)
+
+-- two ranges, one behind the other
+joined_ranges : {A : Type 0} (f : ℕ → A) (a m b n all : ℕ) → a + m ≡ b → m + n ≡ all → map f (range_with_len a m) ++ map f (range_with_len b n) ≡ map f (range_with_len a all)
+joined_ranges f a zero b n all is sum =
+    let from : b ≡ a = omega (arith, is) in
+    let length : n ≡ all = omega (arith, sum) in
+    λ i. map f (range_with_len (from i) (length i))
+joined_ranges f a (suc m) b n all is sum =
+    let length : suc (m + n) ≡ all = omega (arith, sum) in
+    (λ i. f a ∷ joined_ranges f (a + 1) m b n (m + n) (omega (arith, is)) refl i) ∙ ap (λ n. map f (range_with_len a n)) length
+
+pub both_halves : {A : Type 0} (list_of : ℕ → List A) (from middle to : ℕ) (front back both : List (Vec A Global)) → from ≤ middle → middle ≤ to
+    → lists_of front ≡ map list_of (range_with_len from (middle - from)) → lists_of back ≡ map list_of (range_with_len middle (to - middle))
+    → both ≡ front ++ back → lists_of both ≡ map list_of (range_with_len from (to - from))
+both_halves {A} list_of from middle to front back both low high first second is =
+    ap lists_of is ∙ map-append (λ (l : Vec A Global). l.items) front back ∙ (λ j. first j ++ second j)
+    ∙ joined_ranges list_of from (middle - from) middle (to - middle) (to - from) (omega (arith, low)) (omega (arith, low, high))

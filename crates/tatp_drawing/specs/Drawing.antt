@@ -42,6 +42,10 @@ client_calls plan client =
     let words = words_of (client_generator plan.seed client) in
     map Txn (next_calls plan.distribution plan.subscribers plan.calls words).0
 
+-- what each of these clients asks, from one up to another
+abbrev pub calls_of_clients : BenchPlan → ℕ → ℕ → List (List Ask)
+calls_of_clients plan from to = map (client_calls plan) (range_with_len from (to - from))
+
 -- what each client asks: whatever the partitions, the moves and the stops
 abbrev pub calls_drawn : BenchPlan → List (List Ask)
 calls_drawn plan = map (client_calls plan) (range_with_len 0 plan.clients)

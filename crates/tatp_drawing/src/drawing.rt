@@ -2,19 +2,20 @@
 ghost use Rattle.std.specs.Prelude.{◌≡◌, IfOk};
 ghost use Rattle.tatp_tables.specs.Clean.{IsClean};
 ghost use Rattle.tatp_tasks.specs.Plans.{IsPlan};
-ghost use Rattle.tatp_bench.specs.Drawing.{rows_drawn, moves_drawn, stops_drawn};
-ghost use Rattle.tatp_bench.specs.Benching.{IsDrawn};
+ghost use Rattle.tatp_drawing.specs.Drawing.{rows_drawn, moves_drawn, stops_drawn};
+ghost use Rattle.tatp_drawing.specs.DrawnRuns.{IsDrawn};
 
-use crate::BenchPlan;
 use crate::calls::draw_calls;
 use crate::moves::{draw_moves, draw_stops};
 use rand_pcg::Pcg64;
 use std::alloc::{AllocError, Global};
+use std::thread::Threads;
 use tatp_extents::extent_count;
 use tatp_population::generate;
 use tatp_procs::Ask;
 use tatp_tables::Rows;
-use tatp_threads::Moves;
+use tatp_tasks::BenchPlan;
+use tatp_workers::Moves;
 
 /// What is drawn for a run: all that depends on its seed. [`draw`] makes it.
 #[derive(Drop)]
@@ -60,14 +61,14 @@ fn draw_work(alloc: Global, plan: &BenchPlan) -> Result<Moves, AllocError>
 /// Draws the population, the calls of the clients, the moves and the stops of a plan, each from a
 /// stream of words of its own. The calls are the same whatever the partitions, the moves and the
 /// stops.
-pub fn draw(alloc: Global, plan: &BenchPlan) -> Result<Drawn, AllocError>
+pub fn draw<R: Threads + Sync>(rt: &R, alloc: Global, plan: &BenchPlan) -> Result<Drawn, AllocError>
     requires { IsPlan plan.now }
     ensures { IfOk result (IsDrawn plan.now) }
 {
     Ok(Drawn {
         population: draw_rows(alloc, plan)?,
         rows: draw_rows(alloc, plan)?,
-        lists: draw_calls(alloc, plan)?,
+        lists: draw_calls(rt, alloc, plan)?,
         moves: draw_work(alloc, plan)?,
     })
 }
@@ -75,7 +76,7 @@ pub fn draw(alloc: Global, plan: &BenchPlan) -> Result<Drawn, AllocError>
 impl Drawn {
     /// Its parts: the population, the rows of the run, what the clients ask, and what the mover and
     /// the debugger do.
-    pub(crate) fn parts(self) -> (Rows, Rows, Vec<Vec<Ask>>, Moves)
+    pub fn parts(self) -> (Rows, Rows, Vec<Vec<Ask>>, Moves)
         ensures { result ≡ (self.population, self.rows, self.lists, self.moves) }
     {
         let Drawn {

@@ -2,7 +2,7 @@
 ghost use Rattle.std.specs.Prelude.{◌≡◌, ◌-◌, ◌≤◌, IfOk};
 ghost use Rattle.rand_core.specs.Stream.{next_u64};
 ghost use Rattle.tatp_population.specs.Drawn.{choices};
-ghost use Rattle.tatp_bench.specs.Drawing.{next_moves};
+ghost use Rattle.tatp_drawing.specs.Drawing.{next_moves};
 
 use rand_core::Rng;
 use std::alloc::{AllocError, Global};

@@ -1,6 +1,6 @@
 use Rattle.std.proofs.Common.{◌+◌, sym, subst, arith}
-use Rattle.tatp_bench.proofs.DrawingLaws.{StopsAreListed, no_stops, one_stop}
-use Rattle.tatp_bench.proofs.moves.draw_stops.Goals as goal
+use Rattle.tatp_drawing.proofs.DrawingLaws.{StopsAreListed, no_stops, one_stop}
+use Rattle.tatp_drawing.proofs.moves.draw_stops.Goals as goal
 
 pub loop-init : goal.loop-init
 loop-init g c = record {

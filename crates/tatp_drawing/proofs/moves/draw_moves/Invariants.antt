@@ -1,6 +1,6 @@
 use Rattle.std.proofs.Common.{◌≡◌, ◌≤◌, vec_len, vec_capacity}
-use Rattle.tatp_bench.proofs.DrawingLaws.{MovesAreListed}
-use Rattle.tatp_bench.proofs.moves.draw_moves.Given as goal
+use Rattle.tatp_drawing.proofs.DrawingLaws.{MovesAreListed}
+use Rattle.tatp_drawing.proofs.moves.draw_moves.Given as goal
 
 abbrev pub invariant-loop : goal.invariant-loop
 invariant-loop g l = record {

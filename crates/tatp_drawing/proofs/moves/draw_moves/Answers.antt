@@ -1,6 +1,6 @@
 use Rattle.std.proofs.Common.{◌+◌, sym, subst, arith}
-use Rattle.tatp_bench.proofs.DrawingLaws.{MovesAreListed, no_moves, one_move}
-use Rattle.tatp_bench.proofs.moves.draw_moves.Goals as goal
+use Rattle.tatp_drawing.proofs.DrawingLaws.{MovesAreListed, no_moves, one_move}
+use Rattle.tatp_drawing.proofs.moves.draw_moves.Goals as goal
 
 pub loop-init : goal.loop-init
 loop-init g c = record {

@@ -1,8 +1,8 @@
 use Rattle.std.proofs.Common.{◌≡◌, ◌+◌, refl, sym, ◌∙◌, subst, arith}
 use Rattle.tatp_driver.specs.DrawnCall.{drawn_call}
 use Rattle.tatp_driver.specs.DrawnWords.{words_of, next_words}
-use Rattle.tatp_bench.proofs.DrawingLaws.{CallsAreListed, no_calls, one_call}
-use Rattle.tatp_bench.proofs.calls.draw_list.Goals as goal
+use Rattle.tatp_drawing.proofs.DrawingLaws.{CallsAreListed, no_calls, one_call}
+use Rattle.tatp_drawing.proofs.calls.draw_list.Goals as goal
 
 pub loop-init : goal.loop-init
 loop-init c = record {

@@ -1,9 +1,9 @@
 //! Logs: completed transactions, kept with as many outputs as each has.
-ghost use Rattle.std.specs.Prelude.{◌≡◌, ◌+◌, ◌<◌, ◌≤◌, ℕ, List, [], ◌∷◌, ◌++◌, ◌==◌, IfOk, OnOk, length, slice_get, vec_len};
+ghost use Rattle.std.specs.Prelude.{◌≡◌, ◌+◌, ◌<◌, ◌≤◌, ◌↔◌, IsTrue, Some, ℕ, List, [], ◌∷◌, ◌++◌, ◌==◌, IfOk, OnOk, length, slice_get, vec_len};
 ghost use Rattle.std.specs.Vec.{vec_capacity};
 ghost use Rattle.tatp_extents.specs.Extents.{last_stamp_from};
-ghost use Rattle.tatp_extents.specs.Logs.{AsksTransaction, IsOfCall};
-ghost use Rattle.tatp_extents.specs.LoggedCalls.{StandsIn, reply_in, most_outputs};
+ghost use Rattle.tatp_extents.specs.Logs.{AsksTransaction, HasSaid, IsOfCall};
+ghost use Rattle.tatp_extents.specs.LoggedCalls.{StandsIn, entry_in, reply_in, most_outputs};
 
 use std::alloc::{AllocError, Global};
 use std::marker::Model;
@@ -73,6 +73,42 @@ fn reply_in(outputs: &[u64], reply: &LoggedReply) -> Reply
         LoggedReply::Trapped(trap) => Reply::Trapped(trap),
         LoggedReply::Refused => Reply::Refused,
     }
+}
+
+/// Whether a logged reply is this one.
+fn is_reply_in(outputs: &[u64], logged: &LoggedReply, reply: &Reply) -> bool
+    requires { StandsIn outputs.now logged.now }
+    ensures { IsTrue result ↔ (reply_in outputs.now logged.now ≡ reply.now) }
+{
+    match (logged, reply) {
+        (LoggedReply::Values { first, count }, Reply::Values(values)) => {
+            let kept = &outputs[*first..*first + *count as usize];
+            kept == values.as_slice()
+        }
+        (LoggedReply::Failed(number), Reply::Failed(other)) => number == other,
+        (LoggedReply::Trapped(trap), Reply::Trapped(other)) => trap == other,
+        (LoggedReply::Refused, Reply::Refused) => true,
+        _ => false,
+    }
+}
+
+/// Whether what was asked is this transaction.
+fn asks(ask: &Ask, call: &Call) -> bool
+    ensures { IsTrue result ↔ (Ask.Txn call.now ≡ ask.now) }
+{
+    match ask {
+        Ask::Txn(asked) => asked == call,
+        Ask::Raw(_) => false,
+    }
+}
+
+/// Whether a logged call has this ask, this reply and this stamp.
+fn has_said(outputs: &[u64], logged: &LoggedCall, ask: &Ask, reply: &Reply, stamp: u64) -> bool
+    requires { StandsIn outputs.now logged.now.reply }
+    ensures { IsTrue result
+        ↔ HasSaid (Some (entry_in outputs.now logged.now)) ask.now reply.now stamp }
+{
+    logged.stamp == stamp && asks(ask, &logged.call) && is_reply_in(outputs, &logged.reply, reply)
 }
 
 /// Puts the outputs of a reply behind all others, where there is room for them.
@@ -157,6 +193,18 @@ impl Log {
             reply: reply_in(&self.outputs, &logged.reply),
             stamp: logged.stamp,
         })
+    }
+
+    /// Whether there is an entry in a place, counted from 0, with this ask, this reply and this
+    /// stamp. It is compared where it stands, since an [`Entry`] is large.
+    pub fn has_said(&self, index: usize, ask: &Ask, reply: &Reply, stamp: u64) -> bool
+        ensures { IsTrue result
+            ↔ HasSaid (slice_get self.now.entries index) ask.now reply.now stamp }
+    {
+        match self.calls.get(index) {
+            Some(logged) => has_said(&self.outputs, logged, ask, reply, stamp),
+            None => false,
+        }
     }
 
     /// Whose call an entry is: its client, and how many calls of that client were accepted before

@@ -13,6 +13,7 @@ use Rattle.tatp_settle.specs.Answering.{AreMatched, EntryFound}
 use Rattle.tatp_settle.specs.CallPlaces.{HoldsNowhere}
 use Rattle.tatp_settle.specs.Causes.{IsUnmatched, IsOtherThanLogged, Differs}
 use Rattle.tatp_settle.specs.Placing.{AllPlaced, Cells}
+use Rattle.tatp_extents.specs.Logs.{HasSaid}
 use Rattle.tatp_settle.specs.Agreeing.{Agrees}
 use Rattle.tatp_settle.proofs.StableLaws.{equal_or_not}
 use Rattle.tatp_settle.proofs.ReceivedLaws.{matched_unless, in_cell, one_entry, is_of, differs_from_entry, differs_without}
@@ -44,25 +45,24 @@ module _ (closed : ClosedState) (calls : List (List Ask)) (receipts : List (List
       → Agrees closed cell a r → IsOtherThanLogged closed client number r → ⊥
   agreeing client number None a (Done c n reply extent stamp) is asked got agrees other = agrees
   agreeing client number None a (Refused c n) is asked got agrees other = nothing_in client number is other
-  agreeing client number (Some place) a (Refused c n) is asked got agrees other = agrees.says
+  agreeing client number (Some place) a (Refused c n) is asked got agrees other = agrees
   agreeing client number (Some place) a (Done c n reply extent stamp) is asked got agrees other =
       let p = all.points client number place is in
-      let same : p.entry ≡ agrees.entry = same_Some p.entry agrees.entry (sym p.stands ∙ agrees.stands) in
+      let said : HasSaid (Some p.entry) a reply stamp = subst (λ (e : Option Entry). HasSaid e a reply stamp) p.stands agrees.1 in
       let own = is_of closed receipts cells all calls matched client number (Done c n reply extent stamp) got in
-      let client_is : agrees.entry.client ≡ c = ap (λ (e : Entry). e.client) (sym same) ∙ p.own.client ∙ sym own.0 in
-      let number_is : agrees.entry.number ≡ n = ap (λ (e : Entry). e.number) (sym same) ∙ p.own.number ∙ sym own.1 in
-      let says = agrees.says in
-      other place.index agrees.entry ((λ i. slice_get (entries_numbered closed (sym says.1 i)) place.index) ∙ agrees.stands)
-      (λ i. Done (client_is i) (number_is i) (says.3 i) extent (says.0 i))
+      let client_is : p.entry.client ≡ c = p.own.client ∙ sym own.0 in
+      let number_is : p.entry.number ≡ n = p.own.number ∙ sym own.1 in
+      other place.index p.entry ((λ i. slice_get (entries_numbered closed (sym agrees.0 i)) place.index) ∙ p.stands)
+      (λ i. Done (client_is i) (number_is i) (said.2 i) extent (said.0 i))
 
   asks_same : (client number : ℕ) (cell : Option LogPlace) (a : Ask) (r : Receipt) (f : EntryFound closed client number) → cells client number ≡ Some cell → Agrees closed cell a r → a ≡ f.entry.ask
   unfolding pointed
   asks_same client number None a r f is agrees = absurd (nothing_in client number is f)
-  asks_same client number (Some place) a (Refused c n) f is agrees = absurd agrees.says
+  asks_same client number (Some place) a (Refused c n) f is agrees = absurd agrees
   asks_same client number (Some place) a (Done c n reply extent stamp) f is agrees =
       let p = all.points client number place is in
-      let same : p.entry ≡ agrees.entry = same_Some p.entry agrees.entry (sym p.stands ∙ agrees.stands) in
-      sym agrees.says.2 ∙ ap (λ (e : Entry). e.ask) (sym same ∙ one_entry closed receipts cells all client number (pointed client number place is) f)
+      let said : HasSaid (Some p.entry) a reply stamp = subst (λ (e : Option Entry). HasSaid e a reply stamp) p.stands agrees.1 in
+      sym said.1 ∙ ap (λ (e : Entry). e.ask) (one_entry closed receipts cells all client number (pointed client number place is) f)
 
   pub agrees_not : (client number : ℕ) (cell : Option LogPlace) (a : Ask) (r : Receipt) → cells client number ≡ Some cell → at_call calls client number ≡ Some a → at_call receipts client number ≡ Some r
       → Agrees closed cell a r → Differs closed calls receipts client number → ⊥
@@ -85,5 +85,6 @@ module _ (closed : ClosedState) (calls : List (List Ask)) (receipts : List (List
             let stamp_is : p.entry.stamp ≡ stamp = cc in
             let extent_is : place.extent ≡ extent = cc in
             let reply_is : p.entry.reply ≡ reply = cc in
-            not (record { entry = p.entry; stands = p.stands; says = (stamp_is, extent_is, same, reply_is) })))
+            let said : HasSaid (slice_get (entries_numbered closed place.extent) place.index) a reply stamp = subst (λ (e : Option Entry). HasSaid e a reply stamp) (sym p.stands) (stamp_is, same, reply_is) in
+            not (extent_is, said)))
       ]

@@ -1,37 +1,32 @@
 //! Calls whose receipt or ask differs from their entry.
-ghost use Rattle.std.specs.Prelude.{◌↔◌, IsTrue};
+ghost use Rattle.std.specs.Prelude.{◌↔◌, IsTrue, Some};
 ghost use Rattle.tatp_settle.specs.CallPlaces.{IsFirstCall, IsFirstNumber};
-ghost use Rattle.tatp_settle.specs.Agreeing.{Says, Agrees};
+ghost use Rattle.tatp_settle.specs.Agreeing.{Agrees};
 ghost use Rattle.tatp_settle.specs.Comparing.{DiffersIn, IsReady};
 
 use crate::Receipt;
-use crate::equality::{is_same_ask, is_same_reply};
 use crate::lists::{at, count_of, len_of};
 use crate::log_table::LogTable;
 use crate::places::{CallPlace, LogPlace};
 use crate::searches::{Search, first_call};
 use crate::table::Table;
 use std::thread::Threads;
-use tatp_procs::{Ask, Entry};
+use tatp_procs::Ask;
 
-/// Whether the entry of a call is what its receipt and its client say.
-fn says(extent: u64, entry: &Entry, ask: &Ask, receipt: &Receipt) -> bool
-    ensures { IsTrue result ↔ Says extent entry.now ask.now receipt.now }
+/// Whether the entry in a place is what a call's receipt and its client say.
+fn says(logs: &LogTable<'_>, place: LogPlace, ask: &Ask, receipt: &Receipt) -> bool
+    ensures { IsTrue result ↔ Agrees logs.now (Some place) ask.now receipt.now }
 {
     match receipt {
         Receipt::Refused { .. } => false,
         Receipt::Done {
             reply,
-            extent: of_extent,
+            extent,
             stamp,
             ..
         } => {
-            // The client's own words come first, and so decide the branches: an entry may stand
-            // anywhere in memory, and is waited for.
-            entry.stamp == *stamp
-                && extent == *of_extent as u64
-                && is_same_ask(ask, &entry.ask)
-                && is_same_reply(reply, &entry.reply)
+            place.extent == *extent as u64
+                && logs.has_said(place.extent, place.index, ask, reply, *stamp)
         }
     }
 }
@@ -46,10 +41,7 @@ fn agrees(logs: &LogTable<'_>, cell: Option<LogPlace>, ask: &Ask, receipt: &Rece
             Receipt::Refused { .. } => true,
             Receipt::Done { .. } => false,
         },
-        Some(place) => match logs.entry(place.extent, place.index) {
-            Some(entry) => says(place.extent, &entry, ask, receipt),
-            None => false,
-        },
+        Some(place) => says(logs, place, ask, receipt),
     }
 }
 

@@ -7,7 +7,6 @@ mod chapter_table;
 mod closed;
 mod counts;
 mod differences;
-mod equality;
 mod extents;
 mod gathering;
 mod joins;

@@ -1,14 +1,14 @@
 //! Parts of whole logs, and whole logs joined from them.
-ghost use Rattle.std.specs.Prelude.{◌≡◌, ◌<◌, ◌≤◌, ◌++◌, [], IfSome, OnSome, OnOk, length, slice_get};
+ghost use Rattle.std.specs.Prelude.{◌≡◌, ◌<◌, ◌≤◌, ◌↔◌, ◌++◌, [], IsTrue, IfSome, OnSome, OnOk, length, slice_get};
 ghost use Rattle.std.specs.Option.{option_copied};
-ghost use Rattle.tatp_extents.specs.Logs.{IsOfCall};
+ghost use Rattle.tatp_extents.specs.Logs.{HasSaid, IsOfCall};
 ghost use Rattle.tatp_settle.specs.WholeLogs.{entry_in_part};
 
 use std::alloc::{AllocError, Global};
 use std::marker::Model;
 use tatp_extents::Log;
 use tatp_homes::Home;
-use tatp_procs::Entry;
+use tatp_procs::{Ask, Entry, Reply};
 
 /// A part of an extent's whole log: a chapter, or what was logged since the last of them.
 #[derive(Clone, Copy)]
@@ -135,6 +135,17 @@ impl<'a> WholeLog<'a> {
         let mut near = self.likely_part(index);
         let part = self.part_near(&mut near, index)?;
         part.entries.get(index - part.first)
+    }
+
+    /// Whether there is an entry in a place with this ask, this reply and this stamp.
+    pub(crate) fn has_said(&self, index: usize, ask: &Ask, reply: &Reply, stamp: u64) -> bool
+        ensures { IsTrue result ↔ HasSaid (slice_get self.now index) ask.now reply.now stamp }
+    {
+        let mut near = self.likely_part(index);
+        match self.part_near(&mut near, index) {
+            Some(part) => part.entries.has_said(index - part.first, ask, reply, stamp),
+            None => false,
+        }
     }
 
     /// Whose call the entry in a place is: its client, and the call's number. `near` is the number

@@ -1,8 +1,8 @@
 //! The whole logs of all numbers, each put together once.
-ghost use Rattle.std.specs.Prelude.{◌≡◌, ◌<◌, ◌≤◌, ℕ, List, [], IfOk, length, slice_get};
+ghost use Rattle.std.specs.Prelude.{◌≡◌, ◌<◌, ◌≤◌, ◌↔◌, ℕ, List, [], IsTrue, IfOk, length, slice_get};
 ghost use Rattle.std.specs.Option.{option_copied, option_map_or};
 ghost use Rattle.tatp_procs.specs.declared.entry.Entry.{Entry};
-ghost use Rattle.tatp_extents.specs.Logs.{IsOfCall};
+ghost use Rattle.tatp_extents.specs.Logs.{HasSaid, IsOfCall};
 ghost use Rattle.tatp_settle.specs.Closings.{entries_numbered, least_above};
 
 use crate::Closed;
@@ -10,7 +10,7 @@ use crate::chapter_table::ChapterTable;
 use crate::log_parts::WholeLog;
 use std::alloc::{AllocError, Global};
 use std::marker::Model;
-use tatp_procs::Entry;
+use tatp_procs::{Ask, Reply};
 
 /// What was gathered, with the whole log of each number at hand.
 #[derive(Drop)]
@@ -76,11 +76,24 @@ impl<'a> LogTable<'a> {
         }
     }
 
-    /// The entry in a place under a number, if there is one.
-    pub(crate) fn entry(&self, number: u64, index: usize) -> Option<Entry>
-        ensures { result ≡ slice_get (entries_numbered self.now number) index }
+    /// Whether there is an entry in a place under a number with this ask, this reply and this
+    /// stamp.
+    pub(crate) fn has_said(
+        &self,
+        number: u64,
+        index: usize,
+        ask: &Ask,
+        reply: &Reply,
+        stamp: u64,
+    ) -> bool
+        ensures { IsTrue result
+            ↔ HasSaid (slice_get (entries_numbered self.now number) index) ask.now reply.now
+            stamp }
     {
-        self.log(number)?.get(index)
+        match self.log(number) {
+            Some(log) => log.has_said(index, ask, reply, stamp),
+            None => false,
+        }
     }
 
     /// Whose call the entry in a place under a number is: its client, and the call's number. `near`

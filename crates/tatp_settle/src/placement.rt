@@ -8,10 +8,13 @@ ghost use Rattle.tatp_settle.specs.Placing.{ArePlacedOrExtra, IsTableOf, IsTable
 use crate::Receipt;
 use crate::log_table::LogTable;
 use crate::places::{CallPlace, LogPlace, lesser};
-use crate::searches::HALVINGS;
 use crate::table::Table;
 use std::alloc::{AllocError, Global};
 use std::thread::{Threads, join};
+
+/// How often the clients are halved, where each half is seen to by a thread of its own, where one
+/// can be made. Each thread reads all logs: more of them than processors would read in vain.
+const HALVINGS: u32 = 2;
 
 /// Some clients that follow one another, with their receipts.
 #[derive(Clone, Copy)]

@@ -22,7 +22,7 @@ pub(crate) trait Search {
 
 /// How often the clients are halved, where each half is seen to by a thread of its own, where one
 /// can be made.
-pub(crate) const HALVINGS: u32 = 3;
+const HALVINGS: u32 = 3;
 
 /// The first call that is sought, where none of a later client is than of the first so many.
 pub(crate) fn first_call<R: Threads + Sync, S: Search + Sync>(

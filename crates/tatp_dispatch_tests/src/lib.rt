@@ -1,4 +1,4 @@
-//! Tests of the whole, running threads, `bench` and lines of `trace`, through their public calls.
+//! Tests of the whole, step by step, and of lines of `trace`, through their public calls.
 //!
 //! They stand in a crate of their own, since a crate with tests is proved a second time with them.
 #![tactic(auto)]

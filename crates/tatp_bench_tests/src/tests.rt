@@ -1,0 +1,5 @@
+//! Tests.
+mod chapters;
+mod held_step;
+mod runs;
+mod unsettled;

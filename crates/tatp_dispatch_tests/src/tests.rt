@@ -1,0 +1,4 @@
+//! Tests.
+mod trace_lines;
+mod versions;
+mod world;

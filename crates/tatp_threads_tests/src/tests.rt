@@ -1,0 +1,4 @@
+//! Tests.
+mod gates;
+mod real_time;
+mod threads;

@@ -6,6 +6,7 @@ ghost use Rattle.tatp_bench.specs.SettledRuns.{run_left, SettlesRun, RefusesToSe
 
 use crate::BenchFault;
 use crate::chapters::join_chapters;
+use crate::freeing::free_receipts;
 use std::alloc::Global;
 use std::thread::Threads;
 use tatp_partition::{close_sites, discard_all, discard_parcels};
@@ -62,7 +63,9 @@ pub fn settle_run<R: Threads + Sync>(
             return Err(BenchFault::from(error));
         }
     };
-    match settle(rt, alloc, population, closed, receipts.as_slice(), lists) {
+    let judged = settle(rt, alloc, population, closed, receipts.as_slice(), lists);
+    free_receipts(rt, alloc, receipts);
+    match judged {
         Ok(settled) => Ok(settled),
         Err(NotSettled { error, closed }) => {
             closed.discard();

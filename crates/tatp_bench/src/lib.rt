@@ -5,6 +5,7 @@ mod bench;
 mod chapters;
 mod closing;
 mod fault;
+mod freeing;
 
 pub use bench::{run_bench, run_drawn};
 pub use closing::settle_run;

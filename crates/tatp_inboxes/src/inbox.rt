@@ -2,7 +2,6 @@
 ghost use Rattle.std.specs.Prelude.{◌≡◌, ◌<◌, ◌++◌, List, [], ◌∷◌, All, IfOk, IfSome, map, vec_len};
 ghost use Rattle.tatp_inboxes.specs.Inboxes.{IsRuled, IsNew, Puts, Takes, end_beside};
 
-use crate::mailbox::TRIES;
 use crossbeam_channel::protocol::{Lesson, Outcome, Protocol, Split};
 use crossbeam_channel::{Pass, RuledReceiver, RuledSender, bounded_with};
 use std::alloc::{AllocError, Global};
@@ -10,6 +9,7 @@ use std::collections::LinkedList;
 use std::marker::{Model, PhantomData};
 use std::sync::Wait;
 use std::thread;
+use tatp_waiting::LOOKS;
 
 /// What each message of an inbox meets. Whoever takes one knows it, whatever other threads do.
 pub trait MessageRule<M> {
@@ -130,13 +130,13 @@ impl<M: Drop, L: MessageRule<M>> Model for Reader<M, L> {
 }
 
 impl<M: Drop, L: MessageRule<M>> Reader<M, L> {
-    /// Takes the message at the front: looks for it a few times, and then sleeps until one comes.
+    /// Takes the message at the front: looks for it many times, and then sleeps until one comes.
     /// None where no end that puts is left; that none is left no contract of a channel says.
     pub fn take<R: Wait>(&mut self, rt: &R) -> Option<M>
         ensures allowed { IfSome result L.allows }
         ensures taken { Takes self.old result self.new }
     {
-        for _ in 0..TRIES {
+        for _ in 0..LOOKS {
             if let Some(message) = self.try_take(rt) {
                 return Some(message);
             }

@@ -1,10 +1,10 @@
 //! Where a thread waits for what others hand to it.
+ghost use Rattle.std.specs.Mem.{FitsInMemory};
 
+use crossbeam_utils::CachePadded;
 use std::sync::{Condvar, Mutex, Wait};
-use std::thread;
-
-/// How often a thread looks for what it waits for before it sleeps.
-pub(crate) const TRIES: u32 = 20;
+use std::{slice, thread};
+use tatp_waiting::lock;
 
 /// The place of a message, which stays when it is taken: messages may be large, and are copied from
 /// place to place.
@@ -17,32 +17,41 @@ struct Place<T> {
 /// Where the messages to one thread come, one after another.
 #[derive(Drop)]
 pub struct Mailbox<T> {
-    place: Mutex<Place<T>>,
+    /// Apart from all else: its thread looks at it while others look at theirs.
+    place: CachePadded<Mutex<Place<T>>>,
     filled: Condvar,
+    /// How often its thread looks before it sleeps.
+    looks: usize,
 }
 
 impl<T: Copy> Mailbox<T> {
-    /// An empty one. The message, which may be any, is never taken: it makes the place.
-    pub fn new(message: T) -> Mailbox<T> {
+    /// An empty one, whose thread looks so often before it sleeps. The message, which may be any,
+    /// is never taken: it makes the place.
+    pub fn new(message: T, looks: usize) -> Mailbox<T> {
         Mailbox {
-            place: Mutex::new(Place {
+            place: CachePadded::new(Mutex::new(Place {
                 is_filled: false,
                 message,
-            }),
+            })),
             filled: Condvar::new(),
+            looks,
         }
     }
 
-    /// Puts a message there.
-    pub fn put(&self, rt: &impl Wait, message: &T) {
-        fill(&mut self.place.lock(rt), message);
+    /// Puts a message there, which is written where it stands.
+    pub fn put<R: Wait, F: FnOnce(&mut T)>(&self, rt: &R, writing: F)
+        requires { F.IsAlwaysCallable writing }
+    {
+        fill(&mut lock(rt, &self.place), writing);
         self.filled.notify_one();
     }
 
-    /// Takes the next message: looks for it a few times, and then sleeps until it comes.
-    pub fn take<R: Wait>(&self, rt: &R, message: &mut T) {
-        for _ in 0..TRIES {
-            if empty(&mut self.place.lock(rt), message) {
+    /// Takes the next message: looks for it, and then sleeps until it comes.
+    pub fn take<R: Wait>(&self, rt: &R, message: &mut T)
+        requires { FitsInMemory T.row }
+    {
+        for _ in 0..self.looks {
+            if empty(&mut lock(rt, &self.place), message) {
                 return;
             }
             thread::yield_now();
@@ -55,17 +64,22 @@ impl<T: Copy> Mailbox<T> {
 }
 
 /// Fills a place.
-fn fill<T: Copy>(place: &mut Place<T>, message: &T) {
-    place.message = *message;
+fn fill<T: Copy, F: FnOnce(&mut T)>(place: &mut Place<T>, writing: F)
+    requires { F.IsAlwaysCallable writing }
+{
+    writing(&mut place.message);
     place.is_filled = true;
 }
 
 /// Empties a place where it is filled, into another. Whether it was.
-fn empty<T: Copy>(place: &mut Place<T>, message: &mut T) -> bool {
+fn empty<T: Copy>(place: &mut Place<T>, message: &mut T) -> bool
+    requires { FitsInMemory T.row }
+{
     if !place.is_filled {
         return false;
     }
-    *message = place.message;
+    // Copied once, where an assignment would copy it twice.
+    slice::from_mut(message).copy_from_slice(slice::from_ref(&place.message));
     place.is_filled = false;
     true
 }

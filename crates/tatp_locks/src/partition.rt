@@ -15,6 +15,7 @@ ghost use Rattle.tatp_slices.specs.Slices.{IsSlice, logged_at};
 ghost use Rattle.tatp_slices.specs.declared.observer.StepAhead.{StepAhead};
 ghost use Rattle.tatp_locks.specs.Locked.{OfSomeSite};
 
+use crossbeam_utils::CachePadded;
 use std::alloc::Global;
 use std::sync::atomic::{AtomicU64, Ordering};
 use std::sync::{Mutex, Wait};
@@ -25,6 +26,7 @@ use tatp_partition::{
     what_holds_of_every_site,
 };
 use tatp_slices::{Checkpointed, Gate, Gated, Offered, checkpoint_full, is_wanted, offer, slice};
+use tatp_waiting::lock;
 
 /// One partition: its site under its lock, how many other threads want that lock, and where its
 /// executor leaves its chapters at the end.
@@ -32,7 +34,8 @@ pub struct Partition<'m> {
     /// Its number.
     pub number: u8,
     site: Mutex<Site<'m>>,
-    wanted: AtomicU64,
+    /// Apart from all else: its executor reads it before each step.
+    wanted: CachePadded<AtomicU64>,
     chapters: Mutex<Vec<Chapter>>,
 }
 
@@ -42,7 +45,7 @@ impl<'m> Partition<'m> {
         Partition {
             number: site.partition(),
             site: Mutex::new(site),
-            wanted: AtomicU64::new(0),
+            wanted: CachePadded::new(AtomicU64::new(0)),
             chapters: Mutex::new(Vec::new(alloc)),
         }
     }
@@ -68,7 +71,7 @@ impl<'m> Partition<'m> {
     pub fn offer<R: Wait>(&self, rt: &R, alloc: Global, item: &Item) -> Offered
         ensures { OfSomeSite (λ s s'. Offers s item.now result s') }
     {
-        let mut locked = self.site.lock(rt);
+        let mut locked = lock(rt, &self.site);
         let site = &mut *locked;
         what_holds_of_every_site(site);
         let offered = offer(site, alloc, item);
@@ -92,7 +95,7 @@ impl<'m> Partition<'m> {
     {
         let mut observer = Gated { gate };
         let made = {
-            let mut locked = self.site.lock(rt);
+            let mut locked = lock(rt, &self.site);
             let site = &mut *locked;
             what_holds_of_every_site(site);
             let made = slice(site, &mut observer, client, &self.wanted, ended);
@@ -124,7 +127,7 @@ impl<'m> Partition<'m> {
         ensures { OfSomeSite (λ s s'.
             ChecksLog s extent chapter chapters.old.items result s' chapters.new.items) }
     {
-        let mut locked = self.site.lock(rt);
+        let mut locked = lock(rt, &self.site);
         let site = &mut *locked;
         what_holds_of_every_site(site);
         let checkpointed = checkpoint_full(site, alloc, extent, chapter, chapters);
@@ -139,7 +142,7 @@ impl<'m> Partition<'m> {
     {
         self.want();
         let taken = {
-            let mut locked = self.site.lock(rt);
+            let mut locked = lock(rt, &self.site);
             let site = &mut *locked;
             what_holds_of_every_site(site);
             site.take(extent)
@@ -156,7 +159,7 @@ impl<'m> Partition<'m> {
     {
         self.want();
         let given = {
-            let mut locked = self.site.lock(rt);
+            let mut locked = lock(rt, &self.site);
             let site = &mut *locked;
             what_holds_of_every_site(site);
             site.give(parcel)
@@ -171,7 +174,7 @@ impl<'m> Partition<'m> {
     {
         self.want();
         let stopped = {
-            let mut locked = self.site.lock(rt);
+            let mut locked = lock(rt, &self.site);
             let site = &mut *locked;
             what_holds_of_every_site(site);
             site.stop()
@@ -185,7 +188,7 @@ impl<'m> Partition<'m> {
         requires { F.IsAlwaysCallable reading }
         ensures { OfSomeSite (λ s s'. FnOnceReturnsAt F.FnOnce reading s result × (s' ≡ s)) }
     {
-        let locked = self.site.lock(rt);
+        let locked = lock(rt, &self.site);
         let site = &*locked;
         what_holds_of_every_site(site);
         reading(site)
@@ -195,7 +198,7 @@ impl<'m> Partition<'m> {
     pub fn one<R: Wait>(&self, rt: &R) -> Result<Stepped, SiteRefusal>
         ensures { OfSomeSite (λ s s'. AdvancesUnless (one_obstacle s) s result s') }
     {
-        let mut locked = self.site.lock(rt);
+        let mut locked = lock(rt, &self.site);
         let site = &mut *locked;
         what_holds_of_every_site(site);
         site.one()
@@ -205,7 +208,7 @@ impl<'m> Partition<'m> {
     pub fn resume<R: Wait>(&self, rt: &R) -> Result<(), SiteRefusal>
         ensures { OfSomeSite (λ s s'. Resumes s result s') }
     {
-        let mut locked = self.site.lock(rt);
+        let mut locked = lock(rt, &self.site);
         let site = &mut *locked;
         what_holds_of_every_site(site);
         site.resume()

@@ -6,10 +6,43 @@ ghost use Rattle.tatp_settle.specs.Receipts.{is_done};
 ghost use Rattle.tatp_settle.specs.Answering.{is_of_kind};
 
 use crate::Receipt;
+use std::thread::{Threads, join};
 use tatp_procs::Ask;
 
+/// How many calls were completed, to how many memory was refused, and how many there are of each
+/// kind, in the order of the mix. Receipts and calls are counted by a thread of their own each,
+/// where one can be made.
+pub(crate) fn count_all<R: Threads + Sync>(
+    rt: &R,
+    receipts: &[Vec<Receipt>],
+    calls: &[Vec<Ask>],
+) -> ((u64, u64), [u64; 7])
+    requires receipts { length (joined (lists_of receipts.now)) < 2 ^ 64 }
+    requires calls { length (joined (lists_of calls.now)) < 2 ^ 64 }
+    ensures completed { result.0.0 ≡ count_by is_done (joined (lists_of receipts.now)) }
+    ensures refused { result.0.1
+        ≡ count_by (λ receipt. not (is_done receipt)) (joined (lists_of receipts.now)) }
+    ensures kinds { result.1
+        ≡ map (λ kind. count_by (is_of_kind kind) (joined (lists_of calls.now)))
+        (range_with_len 0 7) }
+{
+    let received = || -> (u64, u64)
+        requires { length (joined (lists_of receipts.now)) < 2 ^ 64 }
+        ensures completed { result.0 ≡ count_by is_done (joined (lists_of receipts.entry.now)) }
+        ensures refused { result.1
+            ≡ count_by (λ receipt. not (is_done receipt)) (joined (lists_of receipts.entry.now)) }
+    { count_receipts(receipts) };
+    let asked = || -> [u64; 7]
+        requires { length (joined (lists_of calls.now)) < 2 ^ 64 }
+        ensures { result
+            ≡ map (λ kind. count_by (is_of_kind kind) (joined (lists_of calls.entry.now)))
+            (range_with_len 0 7) }
+    { count_kinds(calls) };
+    join(rt, received, asked)
+}
+
 /// How many calls were completed, and to how many memory was refused.
-pub(crate) fn count_receipts(receipts: &[Vec<Receipt>]) -> (u64, u64)
+fn count_receipts(receipts: &[Vec<Receipt>]) -> (u64, u64)
     requires few { length (joined (lists_of receipts.now)) < 2 ^ 64 }
     ensures completed { result.0 ≡ count_by is_done (joined (lists_of receipts.now)) }
     ensures refused { result.1
@@ -29,7 +62,7 @@ pub(crate) fn count_receipts(receipts: &[Vec<Receipt>]) -> (u64, u64)
 }
 
 /// How many calls there are of each kind, in the order of the mix.
-pub(crate) fn count_kinds(calls: &[Vec<Ask>]) -> [u64; 7]
+fn count_kinds(calls: &[Vec<Ask>]) -> [u64; 7]
     requires few { length (joined (lists_of calls.now)) < 2 ^ 64 }
     ensures { result
         ≡ map (λ kind. count_by (is_of_kind kind) (joined (lists_of calls.now)))

@@ -11,7 +11,7 @@ ghost use Rattle.tatp_settle.specs.Interleaving.{IsOneHistoryInAnyOrder};
 ghost use Rattle.tatp_settle.specs.Settlements.{IsAuditOf, IsSettled, RefusesToSettle};
 
 use crate::chapter_table::{ChapterTable, Listed};
-use crate::counts::{count_kinds, count_receipts};
+use crate::counts::count_all;
 use crate::differences::{Differing, first_differing};
 use crate::extents::{ExtentCause, first_extent};
 use crate::joins::first_unjoined;
@@ -61,11 +61,11 @@ pub(crate) fn judge<R: Threads + Sync>(
     if !verdict.is_clean() {
         return Err(SettleError::Because(Unsettled::Audit(verdict)));
     }
-    let (completed, refused) = count_receipts(run.receipts);
+    let ((completed, refused), kinds) = count_all(rt, run.receipts, run.calls);
     Ok(Settled {
         completed,
         refused,
-        kinds: count_kinds(run.calls),
+        kinds,
         verdict,
         moves: count_moves(run),
     })

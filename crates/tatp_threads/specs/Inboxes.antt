@@ -1,5 +1,5 @@
 -- The inboxes of a run: their rule, and what is put into them.
-use Rattle.std.specs.Prelude.{◌≡◌, ℕ, List, Bool, true, false, Some, Result, Ok, Err, slice_get, slice_set}
+use Rattle.std.specs.Prelude.{◌≡◌, ℕ, List, Bool, true, false, Some, slice_get, slice_set}
 use Rattle.tatp_procs.specs.Asked.{Fits}
 use Rattle.tatp_partition.specs.declared.item.Item.{Item}
 use Rattle.tatp_inboxes.specs.Inboxes.{End, with_message}
@@ -11,10 +11,10 @@ abbrev pub IsMessage : List ℕ → Message → Type 0
 IsMessage arities Quit = Unit {0}
 IsMessage arities (Call item) = Fits arities item.ask
 
--- a call is put into an inbox; or it comes back, and none was put
-abbrev pub PutsCall : End Message → Item → Result (Unit {0}) Item → End Message → Type 0
-PutsCall port item (Ok done) port' = port' ≡ with_message port (Call item)
-PutsCall port item (Err back) port' = (back ≡ item) × (port' ≡ port)
+-- a call is put into an inbox, or it isn't
+abbrev pub PutsCall : End Message → Item → Bool → End Message → Type 0
+PutsCall port item true port' = port' ≡ with_message port (Call item)
+PutsCall port item false port' = port' ≡ port
 
 -- a call is put into one of the inboxes, or into none
 abbrev pub SendsCall : List (End Message) → Item → Bool → List (End Message) → Type 0

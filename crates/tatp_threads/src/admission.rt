@@ -53,16 +53,13 @@ impl<A: Arities> Admission<A> {
         }
     }
 
-    /// Puts a call where it fits. It comes back where it doesn't, and where there is no room.
-    pub(crate) fn put<R: Wait>(&self, rt: &R, port: &mut Port<A>, item: Item) -> Result<(), Item>
-        ensures { PutsCall port.old item result port.new }
+    /// Puts a call where it fits. False where it doesn't, and where there is no room.
+    pub(crate) fn put<R: Wait>(&self, rt: &R, port: &mut Port<A>, item: &Item) -> bool
+        ensures { PutsCall port.old item.now result port.new }
     {
-        if !item_ok(&item, self.arities.as_slice()) {
-            return Err(item);
+        if !item_ok(item, self.arities.as_slice()) {
+            return false;
         }
-        match port.put(rt, Message::Call(item)) {
-            Ok(()) => Ok(()),
-            Err(_) => Err(item),
-        }
+        port.put(rt, Message::Call(*item)).is_ok()
     }
 }

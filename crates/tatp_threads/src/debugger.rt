@@ -4,7 +4,7 @@ use crate::admission::Arities;
 use crate::shared::Shared;
 use std::sync::Wait;
 use tatp_debug::look;
-use tatp_partition::{SiteRefusal, Stepped};
+use tatp_partition::{Completion, SiteRefusal, Stepped};
 use tatp_slices::Gate;
 use tatp_workers::{Answering, Debugging, Delivery, debug_run};
 
@@ -18,6 +18,10 @@ struct Inspector<'c, 'a, 'm, R, G, A: Arities> {
 impl<R: Wait, G: Gate, A: Arities> Answering for Inspector<'_, '_, '_, R, G, A> {
     fn answer(&mut self, client: u64, delivery: &Delivery) {
         self.shared.answer(self.rt, client, delivery);
+    }
+
+    fn complete(&mut self, completion: &Completion) {
+        self.shared.complete(self.rt, completion);
     }
 
     fn tell(&mut self, partition: u8, client: u64) {
@@ -55,6 +59,7 @@ impl<R: Wait, G: Gate, A: Arities> Debugging for Inspector<'_, '_, '_, R, G, A> 
 
 /// Makes the stops of a run at the sites under their locks.
 pub(crate) fn debug_partitions<R: Wait, G: Gate, A: Arities>(rt: &R, shared: &Shared<G, A>) {
+    shared.start.wait(rt);
     let mut debugging = Inspector { rt, shared };
     debug_run(&mut debugging, shared.moves);
 }

@@ -6,7 +6,7 @@ use crate::shared::Shared;
 use std::sync::Wait;
 use tatp_extents::Chapter;
 use tatp_locks::Partition;
-use tatp_partition::{CompletionPlace, Item, SiteRefusal};
+use tatp_partition::{Completion, CompletionPlace, Item, SiteRefusal};
 use tatp_slices::{Checkpointed, Gate, Offered};
 use tatp_workers::{Answering, Delivery, Executing, Message, take_calls};
 
@@ -25,6 +25,10 @@ struct ExecutorEnds<'c, 'f, 'a, 'm, R, G, A: Arities> {
 impl<R: Wait, G: Gate, A: Arities> Answering for ExecutorEnds<'_, '_, '_, '_, R, G, A> {
     fn answer(&mut self, client: u64, delivery: &Delivery) {
         self.shared.answer(self.rt, client, delivery);
+    }
+
+    fn complete(&mut self, completion: &Completion) {
+        self.shared.complete(self.rt, completion);
     }
 
     fn tell(&mut self, partition: u8, client: u64) {
@@ -56,7 +60,7 @@ impl<R: Wait, G: Gate, A: Arities> Executing for ExecutorEnds<'_, '_, '_, '_, R,
     }
 
     fn send(&mut self, item: Item) -> bool {
-        self.shared.send(self.rt, self.ports, item)
+        self.shared.send(self.rt, self.ports, &item)
     }
 }
 

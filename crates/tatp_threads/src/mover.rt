@@ -5,6 +5,7 @@ use crate::shared::Shared;
 use std::sync::Wait;
 use tatp_move::{MoveRefusal, Plan};
 use tatp_partition::{Landed, NotGiven, Parcel, SiteRefusal};
+use tatp_waiting::lock;
 use tatp_workers::{Carrying, move_run, plan};
 
 /// The sites and the routes under their locks.
@@ -16,7 +17,7 @@ struct Carrier<'c, 'a, 'm, R, G, A: Arities> {
 
 impl<R: Wait, G, A: Arities> Carrying for Carrier<'_, '_, '_, R, G, A> {
     fn plan(&mut self, extent: u32, to: u8) -> Result<Plan, MoveRefusal> {
-        plan(&*self.shared.routes.lock(self.rt), extent, to)
+        plan(&*lock(self.rt, self.shared.routes), extent, to)
     }
 
     fn take(&mut self, from: u8, extent: u32) -> Result<Parcel, SiteRefusal> {
@@ -40,7 +41,7 @@ impl<R: Wait, G, A: Arities> Carrying for Carrier<'_, '_, '_, R, G, A> {
     }
 
     fn settle(&mut self, landed: Landed) {
-        let _update = self.shared.routes.lock(self.rt).settle_route(landed);
+        let _update = lock(self.rt, self.shared.routes).settle_route(landed);
     }
 }
 
@@ -51,6 +52,7 @@ pub(crate) fn move_extents<R: Wait, G, A: Arities>(
     shared: &Shared<G, A>,
     hand: &mut Vec<Parcel>,
 ) {
+    shared.start.wait(rt);
     if hand.len() < hand.capacity() {
         let mut carrying = Carrier { rt, shared };
         move_run(&mut carrying, shared.moves, hand);

@@ -102,13 +102,20 @@ fn seat_clients<A: Arities>(
     Ok(seats)
 }
 
+/// How often all clients together look into their mailboxes before one sleeps. Between two looks
+/// the other threads of the processor go on, so the more clients there are, the longer that takes.
+/// While clients sleep, the system sees which processors have nothing to do, and moves executors
+/// there; where each client looks again and again, all processors seem to have as much to do.
+const LOOKS: usize = 400;
+
 /// So many empty mailboxes.
 fn make_mailboxes(alloc: Global, count: usize) -> Result<Vec<Mailbox<Delivery>>, AllocError>
     ensures { IfOk result (λ mailboxes. vec_len mailboxes ≡ count) }
 {
     let mut mailboxes = Vec::with_capacity(alloc, count)?;
+    let looks = LOOKS / count.max(1);
     for _ in 0..count {
-        mailboxes.push(Mailbox::new(Delivery::Dropped))?;
+        mailboxes.push(Mailbox::new(Delivery::Dropped, looks))?;
     }
     Ok(mailboxes)
 }

@@ -22,6 +22,7 @@ use tatp_partition::{Receipt, Site, close_sites, discard_parcels, open_sites};
 use tatp_procs::Ask;
 use tatp_slices::Gate;
 use tatp_tables::Rows;
+use tatp_waiting::Start;
 use tatp_workers::Moves;
 
 /// Why a run is refused whose rows aren't opened.
@@ -148,6 +149,7 @@ fn run_ruled<'m, R: Threads + Wait + Sync, G: Gate + Sync, A: Arities + Send + S
     let routes = Mutex::new(routes);
     let partitions = lock_all(alloc, sites, partitions.into_vec());
     let mut hand = hand.into_vec();
+    let start = Start::new();
     let shared = Shared {
         alloc,
         partitions: partitions.as_slice(),
@@ -158,6 +160,7 @@ fn run_ruled<'m, R: Threads + Wait + Sync, G: Gate + Sync, A: Arities + Send + S
         moves,
         chapter,
         gate,
+        start: &start,
     };
     let crew = Crew {
         quit,

@@ -8,7 +8,8 @@ use tatp_inboxes::Mailbox;
 use tatp_locks::Partition;
 use tatp_move::Routes;
 use tatp_numbers::Directory;
-use tatp_partition::Item;
+use tatp_partition::{Completion, Item};
+use tatp_waiting::{Start, lock};
 use tatp_workers::{Delivery, Moves};
 
 /// What the threads share.
@@ -26,6 +27,8 @@ pub(crate) struct Shared<'a, 'm, G, A: Arities> {
     /// How many entries a log has when it is handed out.
     pub(crate) chapter: u64,
     pub(crate) gate: &'a G,
+    /// Where clients, mover and debugger wait until all of them may begin.
+    pub(crate) start: &'a Start,
 }
 
 impl<'a, 'm, G, A: Arities> Shared<'a, 'm, G, A> {
@@ -35,20 +38,27 @@ impl<'a, 'm, G, A: Arities> Shared<'a, 'm, G, A> {
     }
 
     /// Puts a call into the inbox that the route of its home names. Whether it was put there.
-    pub(crate) fn send<R: Wait>(&self, rt: &R, ports: &mut [Port<A>], item: Item) -> bool
-        ensures { SendsCall ports.old item result ports.new }
+    pub(crate) fn send<R: Wait>(&self, rt: &R, ports: &mut [Port<A>], item: &Item) -> bool
+        ensures { SendsCall ports.old item.now result ports.new }
     {
-        let partition = self.routes.lock(rt).route(item.home) as usize;
+        let partition = lock(rt, self.routes).route(item.home) as usize;
         if partition >= ports.len() {
             return false;
         }
-        self.admission.put(rt, &mut ports[partition], item).is_ok()
+        self.admission.put(rt, &mut ports[partition], item)
     }
 
     /// Puts into a client's mailbox what it waits for.
     pub(crate) fn answer<R: Wait>(&self, rt: &R, client: u64, delivery: &Delivery) {
         if let Some(mailbox) = self.mailboxes.get(client as usize) {
-            mailbox.put(rt, delivery);
+            mailbox.put(rt, |place| *place = *delivery);
+        }
+    }
+
+    /// Puts its receipt into the mailbox of a completed call's client.
+    pub(crate) fn complete<R: Wait>(&self, rt: &R, completion: &Completion) {
+        if let Some(mailbox) = self.mailboxes.get(completion.entry.client as usize) {
+            mailbox.put(rt, |place| place.complete(completion));
         }
     }
 }

@@ -13,10 +13,16 @@ use crate::shared::Shared;
 use std::sync::Wait;
 use std::thread;
 use std::thread::Threads;
+use std::time::Duration;
 use tatp_partition::Parcel;
 use tatp_procs::Ask;
 use tatp_slices::Gate;
+use tatp_waiting::pause;
 use tatp_workers::Message;
+
+/// For how many milliseconds the executors are alone. Where there are enough processors, the system
+/// then has each of them on its own, and leaves it there as long as it doesn't sleep.
+const ALONE: u64 = 20;
 
 /// What the threads start with: an end at each inbox, by which it gets Quit, the executors' seats,
 /// and what each client asks.
@@ -65,6 +71,7 @@ pub(crate) fn run_threads<R: Threads + Wait + Sync, G: Gate + Sync, A: Arities +
                 }
             }
             if started {
+                pause(rt, Duration::from_millis(ALONE));
                 started = run_clients(rt, shared, lists, clients, hand);
             }
             for port in quit.iter_mut() {
@@ -75,7 +82,8 @@ pub(crate) fn run_threads<R: Threads + Wait + Sync, G: Gate + Sync, A: Arities +
     )
 }
 
-/// Runs the clients, the mover and the debugger to their ends. Whether each could be started.
+/// Runs the clients, the mover and the debugger to their ends. They begin together, when all are
+/// started or one couldn't be. Whether each could.
 fn run_clients<R: Threads + Wait + Sync, G: Gate + Sync, A: Arities + Send + Sync>(
     rt: &R,
     shared: &Shared<G, A>,
@@ -84,21 +92,19 @@ fn run_clients<R: Threads + Wait + Sync, G: Gate + Sync, A: Arities + Send + Syn
     hand: &mut Vec<Parcel>,
 ) -> bool {
     thread::scope(thread::scope_env(), rt, |inner| -> bool {
-        if inner.spawn(move || move_extents(rt, shared, hand)).is_err() {
-            return false;
-        }
-        if inner.spawn(move || debug_partitions(rt, shared)).is_err() {
-            return false;
-        }
+        let mut started = inner.spawn(move || move_extents(rt, shared, hand)).is_ok()
+            && inner.spawn(move || debug_partitions(rt, shared)).is_ok();
         for ((list, mailbox), seat) in lists.iter().zip(shared.mailboxes).zip(clients.iter_mut()) {
             let asks = list.as_slice();
-            if inner
-                .spawn(move || run_client(rt, shared, mailbox, asks, seat))
-                .is_err()
+            if started
+                && inner
+                    .spawn(move || run_client(rt, shared, mailbox, asks, seat))
+                    .is_err()
             {
-                return false;
+                started = false;
             }
         }
-        true
+        shared.start.open(rt);
+        started
     })
 }

@@ -1,5 +1,6 @@
 -- What a client asks, and what it gets.
-use Rattle.std.specs.Prelude.{◌≡◌, ◌⊎◌, ℕ, zero, suc, List, [], ◌∷◌, ◌++◌, length, Some, None, slice_get}
+use Rattle.std.specs.Prelude.{◌≡◌, ◌⊎◌, ℕ, zero, suc, List, [], ◌∷◌, ◌++◌, length, Option, Some, None, slice_get, Bool, true, false, ◌+◌, Vec, vec_len, vec_capacity}
+use Rattle.std.specs.declared.alloc.Global.{Global}
 use Rattle.tatp_procs.specs.declared.ask.Ask.{Ask}
 use Rattle.tatp_numbers.specs.Listing.{Listing, answer}
 use Rattle.tatp_partition.specs.declared.item.Item.{Item}
@@ -27,6 +28,15 @@ item_of listing client session ask = record {
 abbrev pub seen_after : ℕ → Receipt → ℕ
 seen_after seen (Done client number reply extent stamp) = stamp
 seen_after seen (Refused client number) = seen
+
+-- the receipt that a call got stands behind the others; or it got none, and the others are kept
+abbrev pub Receives : Option Receipt → Bool → Vec Receipt Global → Vec Receipt Global → Type 0
+Receives None is_got before after = (is_got ≡ false) × (after.items ≡ before.items)
+Receives (Some receipt) is_got before after =
+    (is_got ≡ true)
+    × (after.items ≡ before.items ++ receipt ∷ [])
+    × (vec_len after ≡ vec_len before + 1)
+    × (vec_capacity after ≡ vec_capacity before)
 
 -- what a client exchanged, and the receipts that it keeps
 pub record Conversation : Type 0 where

@@ -1,8 +1,8 @@
 //! What a client does: it asks its calls one after another.
-ghost use Rattle.std.specs.Prelude.{◌≡◌, ◌+◌, ◌++◌, ◌∷◌, [], ◌≤◌, List, Option, None, length, vec_len, vec_capacity};
+ghost use Rattle.std.specs.Prelude.{◌≡◌, ◌+◌, ◌++◌, ◌∷◌, [], ◌≤◌, ◌<◌, List, Option, None, length, vec_len, vec_capacity};
 ghost use Rattle.tatp_slices.specs.Growing.{Grows};
 ghost use Rattle.tatp_workers.specs.declared.client.Exchange.{Exchange};
-ghost use Rattle.tatp_workers.specs.Asking.{Converses, Conversation, item_of, seen_after};
+ghost use Rattle.tatp_workers.specs.Asking.{Converses, Conversation, Receives, item_of, seen_after};
 
 use tatp_numbers::Directory;
 use tatp_partition::{Item, Receipt};
@@ -22,11 +22,14 @@ pub trait Requester {
     /// What was exchanged, where that is known.
     ghost exchanges: { Self → Option (List Exchange) } = { λ _. None };
 
-    /// Puts a call into the inbox that its route names, and waits for its receipt. None where the
-    /// call came to nothing.
-    fn ask(&mut self, item: Item) -> Option<Receipt>
-        ensures { Grows (exchanges self.old) (exchanges self.new)
-            (record { item = item; receipt = result } ∷ []) };
+    /// Puts a call into the inbox that its route names, waits for its receipt, and puts that behind
+    /// the others, where there is room for it. False where the call came to nothing.
+    fn ask(&mut self, item: &Item, receipts: &mut Vec<Receipt>) -> bool
+        requires room { vec_len receipts.old < vec_capacity receipts.old }
+        ensures { (receipt : Option Receipt)
+            × Grows (exchanges self.old) (exchanges self.new)
+            (record { item = item.now; receipt = receipt } ∷ [])
+            × Receives receipt result receipts.old receipts.new };
 }
 
 /// A client's next call.
@@ -43,11 +46,13 @@ fn item_of(directory: &Directory, client: u64, number: u64, seen: u64, ask: &Ask
     }
 }
 
-/// The last stamp that a client has seen, after one more receipt.
-fn seen_after(seen: u64, receipt: &Receipt) -> u64
-    ensures { result ≡ seen_after seen receipt.now }
+/// The last stamp that a client has seen, after the last of these receipts.
+fn seen_after(seen: u64, receipts: &Vec<Receipt>) -> u64
+    requires some { 0 < vec_len receipts.now }
+    ensures { (before : List Receipt) (receipt : Receipt)
+        → receipts.now.items ≡ before ++ receipt ∷ [] → result ≡ seen_after seen receipt }
 {
-    match receipt {
+    match &receipts[receipts.len() - 1] {
         Receipt::Done { stamp, .. } => *stamp,
         Receipt::Refused { .. } => seen,
     }
@@ -70,12 +75,9 @@ pub fn ask_all<D: Requester>(
     let mut seen = 0;
     for number in 0..asks.len() {
         let item = item_of(directory, client, number as u64, seen, &asks[number]);
-        match requester.ask(item) {
-            None => return,
-            Some(receipt) => {
-                receipts.push_reserved(receipt);
-                seen = seen_after(seen, &receipt);
-            }
+        if !requester.ask(&item, receipts) {
+            return;
         }
+        seen = seen_after(seen, receipts);
     }
 }

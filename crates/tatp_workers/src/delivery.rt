@@ -1,5 +1,9 @@
 //! What comes of a call that a client asked.
-use tatp_partition::Receipt;
+ghost use Rattle.std.specs.Prelude.{◌≡◌};
+ghost use Rattle.tatp_workers.specs.Effects.{receipt_of};
+
+use std::slice;
+use tatp_partition::{Completion, Receipt};
 
 /// What a client waits for.
 #[derive(Clone, Copy, Debug)]
@@ -8,4 +12,67 @@ pub enum Delivery {
     Got(Receipt),
     /// Its call was dropped.
     Dropped,
+}
+
+impl Delivery {
+    /// The receipt of a completed call, in place of this one: it is written once, where it is to
+    /// stand.
+    pub fn complete(&mut self, completion: &Completion)
+        ensures { self.new ≡ Delivery.Got (receipt_of completion.now) }
+    {
+        match self {
+            Delivery::Got(receipt) => fill(receipt, completion),
+            Delivery::Dropped => self.become_receipt(completion),
+        }
+    }
+
+    #[inline(never)]
+    fn become_receipt(&mut self, completion: &Completion)
+        ensures { self.new ≡ Delivery.Got (receipt_of completion.now) }
+    {
+        *self = Delivery::Got(receipt_of(completion));
+    }
+}
+
+/// The receipt of a completed call.
+fn receipt_of(completion: &Completion) -> Receipt
+    ensures { result ≡ receipt_of completion.now }
+{
+    Receipt::Done {
+        client: completion.entry.client,
+        number: completion.entry.number,
+        reply: completion.entry.reply,
+        extent: completion.extent,
+        stamp: completion.entry.stamp,
+    }
+}
+
+/// As `receipt_of`, in place of another receipt.
+fn fill(receipt: &mut Receipt, completion: &Completion)
+    ensures { receipt.new ≡ receipt_of completion.now }
+{
+    match receipt {
+        Receipt::Done {
+            client,
+            number,
+            reply,
+            extent,
+            stamp,
+        } => {
+            *client = completion.entry.client;
+            *number = completion.entry.number;
+            // Copied once, where an assignment would copy it twice.
+            slice::from_mut(reply).copy_from_slice(slice::from_ref(&completion.entry.reply));
+            *extent = completion.extent;
+            *stamp = completion.entry.stamp;
+        }
+        Receipt::Refused { .. } => become_done(receipt, completion),
+    }
+}
+
+#[inline(never)]
+fn become_done(receipt: &mut Receipt, completion: &Completion)
+    ensures { receipt.new ≡ receipt_of completion.now }
+{
+    *receipt = receipt_of(completion);
 }

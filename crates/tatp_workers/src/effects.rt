@@ -5,6 +5,7 @@ ghost use Rattle.tatp_partition.specs.Running.{stepped_of};
 ghost use Rattle.tatp_slices.specs.Growing.{Grows, Does};
 ghost use Rattle.tatp_workers.specs.Effects.{Follows, receipt_of, concluding, effects_of_step};
 ghost use Rattle.tatp_slices.specs.Slices.{logged_by};
+ghost use Rattle.tatp_workers.specs.declared.delivery.Delivery.TheVariants.{Got};
 ghost use Rattle.tatp_workers.specs.declared.effects.Effect.{Effect};
 ghost use Rattle.tatp_workers.specs.declared.effects.Effect.TheVariants.{Sends, Answers, Tells, Receives, Offers, Slices, Checkpoints};
 
@@ -50,6 +51,11 @@ pub trait Answering {
     fn answer(&mut self, client: u64, delivery: &Delivery)
         ensures { Grows (effects self.old) (effects self.new) (Answers client delivery.now ∷ []) };
 
+    /// Hands its receipt to the client of a completed call.
+    fn complete(&mut self, completion: &Completion)
+        ensures { Grows (effects self.old) (effects self.new)
+            (Answers completion.now.entry.client (Got (receipt_of completion.now)) ∷ []) };
+
     /// Tells the gate that a client's call has ended.
     fn tell(&mut self, partition: u8, client: u64)
         ensures { Grows (effects self.old) (effects self.new) (Tells partition client ∷ []) };
@@ -85,28 +91,14 @@ pub trait Executing: Answering {
         ensures { Grows (Self.effects self.old) (Self.effects self.new) (Sends item result ∷ []) };
 }
 
-/// The receipt of a completed call.
-fn receipt_of(completion: &Completion) -> Receipt
-    ensures { result ≡ receipt_of completion.now }
-{
-    Receipt::Done {
-        client: completion.entry.client,
-        number: completion.entry.number,
-        reply: completion.entry.reply,
-        extent: completion.extent,
-        stamp: completion.entry.stamp,
-    }
-}
-
 /// Gives a completed call's receipt to its client, and then tells the gate.
 #[tactic(auto, using(tatp_slices::proofs::GrowthLaws::grown_by_two))]
 pub(crate) fn conclude<A: Answering>(answering: &mut A, partition: u8, completion: &Completion)
     ensures { Grows (A.effects answering.old) (A.effects answering.new)
         (concluding partition completion.now) }
 {
-    let client = completion.entry.client;
-    answering.answer(client, &Delivery::Got(receipt_of(completion)));
-    answering.tell(partition, client);
+    answering.complete(completion);
+    answering.tell(partition, completion.entry.client);
 }
 
 /// Concludes the call where a step has ended it.

@@ -21,7 +21,9 @@ use std::sync::Wait;
 use std::sync::atomic::AtomicU64;
 use tatp_move::{MoveRefusal, Plan};
 use tatp_numbers::Directory;
-use tatp_partition::{CompletionPlace, Item, Landed, Parcel, Receipt, Site, SiteRefusal, Stepped};
+use tatp_partition::{
+    Completion, CompletionPlace, Item, Landed, Parcel, Receipt, Site, SiteRefusal, Stepped,
+};
 use tatp_procs::Ask;
 use tatp_slices::{Checkpointed, Observer, Offered, StepAhead, slice};
 
@@ -70,12 +72,12 @@ impl Requester for Record<Exchange> {
     ghost exchanges = { λ r. known_unless r.is_lost r.kept.items };
 
     /// Each call comes to nothing.
-    fn ask(&mut self, item: Item) -> Option<Receipt> {
+    fn ask(&mut self, item: &Item, _receipts: &mut Vec<Receipt>) -> bool {
         self.keep(Exchange {
-            item,
+            item: *item,
             receipt: None,
         });
-        None
+        false
     }
 }
 
@@ -117,6 +119,12 @@ impl Answering for Record<Effect> {
 
     fn answer(&mut self, client: u64, delivery: &Delivery) {
         self.keep(Effect::Answers(client, *delivery));
+    }
+
+    fn complete(&mut self, completion: &Completion) {
+        let mut delivery = Delivery::Dropped;
+        delivery.complete(completion);
+        self.keep(Effect::Answers(completion.entry.client, delivery));
     }
 
     fn tell(&mut self, partition: u8, client: u64) {

@@ -43,14 +43,14 @@ returns-then-not-is_clean-clause-refusal g c =
     let none11 : NoneOfFirst 11 run = none_found 11 run c.in_ok-cause-3.field-0 c.in_default-4.is (c.in_ok-cause-3.ensures none10) in
     first_audit run c.in_ok-verdict.verdict none11 ((IfOk-at_ok (IsAuditOf (rows_left run)) c.in_ok-verdict.was c.judge_apart-in_chapters.ensures.audit).told, sym c.is_clean.ensures ∙ c.if-not-is_clean.true)
 
-pub count_receipts-completed-requires : goal.count_receipts-completed-requires
-count_receipts-completed-requires g c =
+pub count_all-completed-requires-clause-receipts : goal.count_all-completed-requires-clause-receipts
+count_all-completed-requires-clause-receipts g c =
     let run : Run = shown c.args.run.now in
     let none6 : NoneOfFirst 6 run = none_found 6 run c.in_ok-cause.field-0 c.in_default-2.is (IfOk-at_ok (IsFirstAfter 3 6 run) c.in_ok-cause.was c.judge_apart-in_chapters.ensures.chapters c.in_default.ensures) in
     let none10 : NoneOfFirst 10 run = none_found 10 run c.in_ok-cause-2.field-0 c.in_default-3.is ((IfOk-at_ok (IsFirstInCalls run) c.in_ok-cause-2.was c.judge_apart-in_chapters.ensures.calls).first none6) in
     let many = as_many_receipts run.calls run.receipts (matched_of run none10) in
     let few = c.requires.few in
-    record { few = omega (arith, many, few) }
+    omega (arith, many, few)
 
 pub returns-clause-settled : goal.returns-clause-settled
 returns-clause-settled g c =
@@ -65,9 +65,9 @@ returns-clause-settled g c =
     let one : IsOneHistory run = judged run c.requires.clean c.what_holds.ensures none11 placed clean in
     record {
       one_history = one;
-      completed = c.count_receipts-completed.ensures.completed;
-      refused = c.count_receipts-completed.ensures.refused;
-      kinds = c.count_kinds.ensures;
+      completed = c.count_all-completed.ensures.completed;
+      refused = c.count_all-completed.ensures.refused;
+      kinds = c.count_all-completed.ensures.kinds;
       verdict = audit.counts clean;
       moves = c.count_moves.ensures ∙ moves_by_number run c.what_holds.ensures one.extents;
     }

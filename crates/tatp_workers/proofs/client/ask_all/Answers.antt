@@ -1,21 +1,24 @@
-use Rattle.std.proofs.Common.{◌≡◌, ℕ, ◌+◌, [], ◌∷◌, Option, Some, None, length, slice_get, refl, sym, subst, arith, rules}
+use Rattle.std.proofs.Common.{◌≡◌, ℕ, ◌+◌, ◌≤◌, [], ◌∷◌, List, Option, Some, None, length, slice_get, vec_len, refl, sym, subst, arith, rules}
 use Rattle.std.proofs.lemmas.Option.{slice_get_read}
 use Rattle.tatp_partition.specs.declared.item.Item.{Item}
 use Rattle.tatp_partition.specs.declared.receipt.Receipt.{Receipt}
 use Rattle.tatp_slices.specs.Growing.{Grows}
-use Rattle.tatp_workers.proofs.ConversationLaws.{Conversed, none_asked, one_more_asked, all_asked, last_unanswered}
+use Rattle.tatp_workers.proofs.ConversationLaws.{Conversed, Says, none_asked, one_more_asked, all_asked, last_unanswered, none_got, one_got}
 use Rattle.tatp_workers.proofs.client.ask_all.Goals as goal
 
-pub returns-in-None : goal.returns-in-None
-returns-in-None g c =
+pub returns-then-not-ask : goal.returns-then-not-ask
+returns-then-not-ask g c =
     let asks = c.args.asks.now in
     let ask = c.index-asks-number.result in
     let at : slice_get asks c.loop-number.number ≡ Some ask = slice_get_read asks (length asks) c.loop-number.number ask refl (omega arith) c.index-asks-number.is in
     let mid = g.D.Requester.exchanges c.loop-number.requester in
+    let known = g.D.Requester.exchanges c.args.requester.now in
     let known' = g.D.Requester.exchanges c.ask.new.self in
-    let unanswered = subst (λ (r : Option Receipt). Grows mid known' (record { item = c.item_of-item.result; receipt = r } ∷ [])) c.in-None.is c.ask.ensures in
+    let none = none_got c.ask.ensures.0 c.ask.result c.loop-number.receipts c.ask.new.receipts c.ask.ensures.2 (search rules) in
+    let unanswered = subst (λ (r : Option Receipt). Grows mid known' (record { item = c.item_of-item.result; receipt = r } ∷ [])) none.0 c.ask.ensures.1 in
     let grows = subst (λ (i : Item). Grows mid known' (record { item = i; receipt = None } ∷ [])) c.item_of-item.ensures unanswered in
-    last_unanswered c.args.directory.now c.args.client asks c.loop-number.number c.loop-number.seen (g.D.Requester.exchanges c.args.requester.now) mid known' c.args.receipts.now.items c.loop-number.receipts.items ask c.loop-number.invariant.conversed at grows
+    let says = last_unanswered c.args.directory.now c.args.client asks c.loop-number.number c.loop-number.seen known mid known' c.args.receipts.now.items c.loop-number.receipts.items ask c.loop-number.invariant.conversed at grows in
+    subst (λ (kept : List Receipt). Says c.args.directory.now c.args.client asks known known' c.args.receipts.now.items kept) (sym none.1) says
 
 pub loop-number-init : goal.loop-number-init
 loop-number-init g c = record {
@@ -28,18 +31,19 @@ pub loop-number-preserved : goal.loop-number-preserved
 loop-number-preserved g c =
     let asks = c.args.asks.now in
     let ask = c.index-asks-number.result in
-    let receipt = c.in-Some.receipt in
     let at : slice_get asks c.loop-number.number ≡ Some ask = slice_get_read asks (length asks) c.loop-number.number ask refl (omega arith) c.index-asks-number.is in
     let mid = g.D.Requester.exchanges c.loop-number.requester in
     let known = g.D.Requester.exchanges c.args.requester.now in
     let known' = g.D.Requester.exchanges c.ask.new.self in
-    let answered = subst (λ (r : Option Receipt). Grows mid known' (record { item = c.item_of-item.result; receipt = r } ∷ [])) c.in-Some.is c.ask.ensures in
-    let grows = subst (λ (i : Item). Grows mid known' (record { item = i; receipt = Some receipt } ∷ [])) c.item_of-item.ensures answered in
-    let more = one_more_asked c.args.directory.now c.args.client asks c.loop-number.number c.loop-number.seen known mid known' c.args.receipts.now.items c.loop-number.receipts.items c.push_reserved.new.self.items ask receipt c.loop-number.invariant.conversed at grows c.push_reserved.ensures.items in
+    let got = one_got c.ask.ensures.0 c.ask.result c.loop-number.receipts c.ask.new.receipts c.ask.ensures.2 (search rules) in
+    let len : vec_len c.ask.new.receipts ≡ vec_len c.loop-number.receipts + 1 = got.3 in
+    let answered = subst (λ (r : Option Receipt). Grows mid known' (record { item = c.item_of-item.result; receipt = r } ∷ [])) got.1 c.ask.ensures.1 in
+    let grows = subst (λ (i : Item). Grows mid known' (record { item = i; receipt = Some got.0 } ∷ [])) c.item_of-item.ensures answered in
+    let more = one_more_asked c.args.directory.now c.args.client asks c.loop-number.number c.loop-number.seen known mid known' c.args.receipts.now.items c.loop-number.receipts.items c.ask.new.receipts.items ask got.0 c.loop-number.invariant.conversed at grows got.2 in
     record {
-      conversed = subst (λ (s : ℕ). Conversed c.args.directory.now c.args.client asks (c.loop-number.number + 1) s known known' c.args.receipts.now.items c.push_reserved.new.self.items) (sym c.seen_after-seen.ensures) more;
-      room = search rules;
-      count = search rules;
+      conversed = subst (λ (s : ℕ). Conversed c.args.directory.now c.args.client asks (c.loop-number.number + 1) s known known' c.args.receipts.now.items c.ask.new.receipts.items) (sym (c.seen_after-seen.ensures c.loop-number.receipts.items got.0 got.2)) more;
+      room = subst (λ (k : ℕ). vec_len c.args.receipts.now + length asks ≤ k) (sym got.4) c.loop-number.invariant.room;
+      count = omega (arith, len, c.loop-number.invariant.count);
     }
 
 pub returns : goal.returns

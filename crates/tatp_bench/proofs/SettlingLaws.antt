@@ -7,7 +7,7 @@ use Rattle.std.proofs.lemmas.List.{length-map}
 use Rattle.std.proofs.lemmas.List.Sums.{sum_by-cons}
 use Rattle.tatp_tables.specs.declared.row.Rows.{Rows}
 use Rattle.tatp_procs.specs.declared.ask.Ask.{Ask}
-use Rattle.tatp_partition.specs.declared.receipt.Receipt.{Receipt}
+use Rattle.tatp_receipts.specs.Receipts.{ReceiptsState}
 use Rattle.tatp_settle.specs.declared.settled.Settled.{Settled}
 use Rattle.tatp_settle.specs.Closings.{closed_site}
 use Rattle.tatp_settle.specs.Receipts.{is_done}
@@ -60,7 +60,7 @@ left_of_plan plan population parts lists same asked sites clients = record {
   population = same;
   calls = asked;
   sites = length-map parts.sites.items closed_site ∙ (sym parts.sites.ok.0 ∙ sites);
-  clients = length-map parts.receipts.items (λ (list : Vec Receipt Global). list.items) ∙ (sym parts.receipts.ok.0 ∙ clients);
+  clients = length-map parts.receipts.items (λ (client : ReceiptsState). client.receipts) ∙ (sym parts.receipts.ok.0 ∙ clients);
 }
 
 pub plan_settled : (plan : BenchPlan) (run : Run) → IsRunOf plan run → (settled : Settled) → SettlesRun run settled → SettlesPlan plan settled

@@ -12,6 +12,7 @@ use Rattle.tatp_settle.specs.declared.refusals.SettleError.{SettleError}
 use Rattle.tatp_settle.specs.declared.refusals.SettleError.TheVariants.{Because, NoMemory as NoMemoryToSettle}
 use Rattle.tatp_settle.specs.Causes.{IsFirstCause}
 use Rattle.tatp_settle.specs.Closings.{closed_of, IsClosedSite, IsClosed}
+use Rattle.tatp_receipts.specs.Receipts.{receipts_of}
 use Rattle.tatp_settle.specs.Runs.{Run, joined, lists_of}
 use Rattle.tatp_settle.specs.Settlements.{IsSettled, IsLeastMissing}
 use Rattle.tatp_threads.specs.declared.outcome.RanParts.{RanParts}
@@ -24,7 +25,7 @@ run_left population parts calls = record {
   population = population;
   closed = closed_of parts.sites.items parts.parcels.items
       (joined (lists_of parts.chapters.items));
-  receipts = lists_of parts.receipts.items;
+  receipts = receipts_of parts.receipts.items;
   calls = lists_of calls;
 }
 

@@ -17,7 +17,7 @@ the rows are opened changes no byte of the replies. A call is answered when its 
 calls at a terminal, or let a program send each after the reply to the last. Ctrl-D ends the input.
 
 A completed call is kept to the end, in the log of its subscriber's extent and among all completed
-calls: about 720 bytes of memory, so 1.5 million calls a GiB, besides the rows. Nothing else grows.
+calls: about 460 bytes of memory, so 2.3 million calls a GiB, besides the rows. Nothing else grows.
 
 Examples:
   tatp call < examples/first-run.txt

@@ -19,7 +19,7 @@ world_of a = record {
   parcels = a.parcels;
   landings = a.landings.items;
   clients = a.clients.items;
-  completions = a.completions.items;
+  completions = a.completions.entries;
   chapters = a.chapters.items;
 }
 
@@ -34,7 +34,7 @@ parcel_count parcels = total (λ x. one x) parcels
 -- there is room for the completion of each running call, for the landing of each parcel in hand,
 -- and in each queue for a call of each client
 pub record HasRoom (a : Inside) : Type 0 where
-  pub completions : vec_len a.completions + running_count a.sites.items ≤ vec_capacity a.completions
+  pub completions : running_count a.sites.items ≤ a.completions.room
   pub landings : vec_len a.landings + parcel_count a.parcels ≤ vec_capacity a.landings
   pub clients : length a.clients.items ≤ most_clients
 

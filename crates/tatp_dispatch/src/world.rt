@@ -21,12 +21,12 @@ use crate::client::Client;
 use crate::queue::Queue;
 pub use getters::what_holds_of_every_world;
 use std::marker::Model;
+use tatp_completions::Completions;
 use tatp_extents::Chapter;
 use tatp_loader::Loaded;
 use tatp_move::Routes;
 use tatp_numbers::Directory;
 use tatp_partition::{CompletionPlace, Landed, Parcel, Site, Slots};
-use tatp_procs::Entry;
 
 /// All sites, with what is under way between them. It can be neither copied nor dropped.
 pub struct World<'m> {
@@ -38,7 +38,7 @@ pub struct World<'m> {
     parcels: Slots<Parcel>,
     landings: Vec<Landed>,
     clients: Vec<Client>,
-    completions: Vec<Entry>,
+    completions: Completions,
     chapters: Vec<Chapter>,
     /// Where a site leaves the completion of a call that ends: empty between events.
     /// [`CompletionPlace`] says why.

@@ -1,4 +1,5 @@
 //! Tests.
+mod completions;
 mod trace_lines;
 mod versions;
 mod world;

@@ -358,7 +358,7 @@ pub(crate) fn about_queues(number: u64) -> Explanation
             "  REFUSED 46 NoMemory, as the reply to a call: it was not run, and has left
   nothing. tatp: 46 NoMemory: the command ended."
             "  Make a refused call again. A command that ended needs more memory (ulimit -v
-  shows a limit) or less to do: a completed call is kept, in about 720 bytes,
+  shows a limit) or less to do: a completed call is kept, in about 460 bytes,
   and a subscriber takes about 3 KB. Split a long input of calls."
     )
 }

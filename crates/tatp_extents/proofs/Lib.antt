@@ -3,6 +3,7 @@ pub mod ListLaws
 pub mod ExtentLaws
 pub mod HistoryLaws
 pub mod ChapterLaws
+pub mod KeptReplyLaws
 pub mod LogLaws
 pub mod OpeningLaws
 pub mod HomeRowsLaws

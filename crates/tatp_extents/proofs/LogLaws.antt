@@ -1,40 +1,19 @@
 -- Logs: their entries, and how one more is kept.
-use Rattle.std.proofs.Common.{◌≡◌, ℕ, ◌+◌, ◌-◌, ◌≤◌, ◌<◌, List, [], ◌∷◌, ◌++◌, length, map, take, drop, slice_range, slice_get, slice_index_or, Some, refl, sym, ◌∙◌, ap, arith}
-use Rattle.std.proofs.lemmas.List.{drop-append-le, take-append-le, length-drop, length-append, length-map, map_push}
+use Rattle.std.proofs.Common.{◌≡◌, ℕ, ◌<◌, List, [], ◌∷◌, ◌++◌, length, map, slice_get, slice_index_or, Some, refl, sym, ◌∙◌, ap, arith}
+use Rattle.std.proofs.lemmas.List.{length-map, map_push}
 use Rattle.std.proofs.lemmas.Option.{slice_get_read, slice_get-map}
 use Rattle.std.specs.Option.{option_map}
 use Rattle.std.proofs.lemmas.List.Elements.{All-head, All-tail, All-push, All-weaker}
 use Rattle.tatp_procs.specs.declared.entry.Entry.{Entry}
 use Rattle.tatp_procs.specs.declared.reply.Reply.{Reply}
-use Rattle.tatp_procs.specs.declared.reply.Reply.TheVariants as reply
-use Rattle.tatp_extents.specs.declared.log.LoggedReply.{LoggedReply}
-use Rattle.tatp_extents.specs.declared.log.LoggedReply.TheVariants.{Values, Failed, Trapped, Refused}
 use Rattle.tatp_extents.specs.declared.log.LoggedCall.{LoggedCall}
 use Rattle.tatp_extents.specs.Logs.{IsOfCall}
-use Rattle.tatp_extents.specs.LoggedCalls.{StandsIn, AllStand, reply_in, entry_in}
-
--- a part of a list is the same part of a longer one
-part_of_more : (xs more : List ℕ) (first count : ℕ) → first + count ≤ length xs → slice_range (xs ++ more) first (first + count) ≡ slice_range xs first (first + count)
-part_of_more xs more first count within =
-    ap (take (first + count - first)) (drop-append-le first xs more (omega arith))
-    ∙ take-append-le (first + count - first) (drop first xs) more (omega (arith, length-drop first xs))
-
--- with more outputs behind them, outputs stand where they stood
-pub stands_still : (outputs more : List ℕ) (r : LoggedReply) → StandsIn outputs r → StandsIn (outputs ++ more) r
-stands_still outputs more (Values first count) h = (omega (arith, h.0, length-append outputs more), h.1)
-stands_still outputs more (Failed n) h = tt
-stands_still outputs more (Trapped trap) h = tt
-stands_still outputs more Refused h = tt
+use Rattle.tatp_extents.specs.KeptReplies.{StandsIn}
+use Rattle.tatp_extents.specs.LoggedCalls.{AllStand, entry_in}
+use Rattle.tatp_extents.proofs.KeptReplyLaws.{stands_still, same_reply}
 
 pub all_stand_still : (outputs more : List ℕ) (calls : List LoggedCall) → AllStand outputs calls → AllStand (outputs ++ more) calls
 all_stand_still outputs more calls h = All-weaker (λ (x : LoggedCall). StandsIn outputs x.reply) (λ (x : LoggedCall). StandsIn (outputs ++ more) x.reply) (λ x. stands_still outputs more x.reply) calls h
-
--- and the reply is the same
-same_reply : (outputs more : List ℕ) (r : LoggedReply) → StandsIn outputs r → reply_in (outputs ++ more) r ≡ reply_in outputs r
-same_reply outputs more (Values first count) h = ap (λ (xs : List ℕ). reply.Values xs) (part_of_more outputs more first count h.0)
-same_reply outputs more (Failed n) h = refl
-same_reply outputs more (Trapped trap) h = refl
-same_reply outputs more Refused h = refl
 
 same_entries : (outputs more : List ℕ) (calls : List LoggedCall) → AllStand outputs calls → map (entry_in (outputs ++ more)) calls ≡ map (entry_in outputs) calls
 same_entries outputs more [] h = refl

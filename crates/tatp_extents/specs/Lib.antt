@@ -1,4 +1,5 @@
 pub mod Logs
+pub mod KeptReplies
 pub mod LoggedCalls
 pub mod Histories
 pub mod Extents

@@ -148,6 +148,14 @@ impl Extent {
         add_rows(&self.parts.homes, rows)
     }
 
+    /// Makes room in its log for about so many more calls of the benchmark's mix: a log that grows
+    /// while calls run is copied, and asks for memory each time.
+    pub(crate) fn reserve_for(&mut self, calls: usize) -> Result<(), AllocError>
+        ensures { self.new ≡ self.old }
+    {
+        self.parts.log.reserve_for(calls)
+    }
+
     /// The extent after one more move.
     pub fn moved(self) -> Extent
         requires { self.moves < 65535 }

@@ -1,31 +1,20 @@
 //! Logs: completed transactions, kept with as many outputs as each has.
-ghost use Rattle.std.specs.Prelude.{◌≡◌, ◌+◌, ◌<◌, ◌≤◌, ◌↔◌, IsTrue, Some, ℕ, List, [], ◌∷◌, ◌++◌, ◌==◌, IfOk, OnOk, length, slice_get, vec_len};
+ghost use Rattle.std.specs.Prelude.{◌≡◌, ◌+◌, ◌<◌, ◌≤◌, ◌↔◌, IsTrue, Some, [], ◌∷◌, ◌++◌, ◌==◌, IfOk, OnOk, length, slice_get, vec_len};
 ghost use Rattle.std.specs.Vec.{vec_capacity};
 ghost use Rattle.tatp_extents.specs.Extents.{last_stamp_from};
 ghost use Rattle.tatp_extents.specs.Logs.{AsksTransaction, HasSaid, IsOfCall};
-ghost use Rattle.tatp_extents.specs.LoggedCalls.{StandsIn, entry_in, reply_in, most_outputs};
+ghost use Rattle.tatp_extents.specs.KeptReplies.{StandsIn, reply_seen};
+ghost use Rattle.tatp_extents.specs.LoggedCalls.{entry_in};
 
+use crate::kept_reply::{KeptReply, MOST_OUTPUTS, ReplyRef};
 use std::alloc::{AllocError, Global};
 use std::marker::Model;
 use std::mem;
-use tatp_machine::Trap;
-use tatp_procs::{Ask, Call, Entry, Outputs, Reply};
+use tatp_procs::{Ask, Call, Entry};
 
-/// The most outputs of a reply.
-const MOST_OUTPUTS: usize = 40;
-
-/// What a logged call was answered. Its outputs stand in the list of all outputs.
-#[derive(Clone, Copy, Debug)]
-pub(crate) enum LoggedReply {
-    /// It ended with so many outputs, which stand from this place on.
-    Values { first: usize, count: u8 },
-    /// It ended with a failure.
-    Failed(u32),
-    /// It was stopped.
-    Trapped(Trap),
-    /// It was not begun.
-    Refused,
-}
+/// How many outputs a call has, where room is made for many calls: one of the mix has 13 on
+/// average.
+const OUTPUTS_A_CALL: usize = 15;
 
 /// An entry whose outputs stand in the list of all outputs.
 #[derive(Clone, Copy, Debug)]
@@ -33,7 +22,7 @@ pub(crate) struct LoggedCall {
     client: u64,
     number: u64,
     call: Call,
-    reply: LoggedReply,
+    reply: KeptReply,
     stamp: u64,
 }
 
@@ -59,39 +48,6 @@ impl Model for Log {
     ghost invariant = { λ a. AllStand a.outputs.items a.calls.items };
 }
 
-/// The reply of a logged call.
-fn reply_in(outputs: &[u64], reply: &LoggedReply) -> Reply
-    requires { StandsIn outputs.now reply.now }
-    ensures { result ≡ reply_in outputs.now reply.now }
-{
-    match *reply {
-        LoggedReply::Values { first, count } => {
-            let values = &outputs[first..first + count as usize];
-            Reply::Values(Outputs::from_slice(values))
-        }
-        LoggedReply::Failed(number) => Reply::Failed(number),
-        LoggedReply::Trapped(trap) => Reply::Trapped(trap),
-        LoggedReply::Refused => Reply::Refused,
-    }
-}
-
-/// Whether a logged reply is this one.
-fn is_reply_in(outputs: &[u64], logged: &LoggedReply, reply: &Reply) -> bool
-    requires { StandsIn outputs.now logged.now }
-    ensures { IsTrue result ↔ (reply_in outputs.now logged.now ≡ reply.now) }
-{
-    match (logged, reply) {
-        (LoggedReply::Values { first, count }, Reply::Values(values)) => {
-            let kept = &outputs[*first..*first + *count as usize];
-            kept == values.as_slice()
-        }
-        (LoggedReply::Failed(number), Reply::Failed(other)) => number == other,
-        (LoggedReply::Trapped(trap), Reply::Trapped(other)) => trap == other,
-        (LoggedReply::Refused, Reply::Refused) => true,
-        _ => false,
-    }
-}
-
 /// Whether what was asked is this transaction.
 fn asks(ask: &Ask, call: &Call) -> bool
     ensures { IsTrue result ↔ (Ask.Txn call.now ≡ ask.now) }
@@ -103,35 +59,18 @@ fn asks(ask: &Ask, call: &Call) -> bool
 }
 
 /// Whether a logged call has this ask, this reply and this stamp.
-fn has_said(outputs: &[u64], logged: &LoggedCall, ask: &Ask, reply: &Reply, stamp: u64) -> bool
+fn has_said(
+    outputs: &[u64],
+    logged: &LoggedCall,
+    ask: &Ask,
+    reply: ReplyRef<'_>,
+    stamp: u64,
+) -> bool
     requires { StandsIn outputs.now logged.now.reply }
     ensures { IsTrue result
-        ↔ HasSaid (Some (entry_in outputs.now logged.now)) ask.now reply.now stamp }
+        ↔ HasSaid (Some (entry_in outputs.now logged.now)) ask.now (reply_seen reply.entry) stamp }
 {
-    logged.stamp == stamp && asks(ask, &logged.call) && is_reply_in(outputs, &logged.reply, reply)
-}
-
-/// Puts the outputs of a reply behind all others, where there is room for them.
-fn keep(outputs: &mut Vec<u64>, reply: &Reply) -> LoggedReply
-    requires { vec_len outputs.old + most_outputs ≤ vec_capacity outputs.old }
-    ensures behind { (more : List ℕ) × (outputs.new.items ≡ outputs.old.items ++ more) }
-    ensures stands { StandsIn outputs.new.items result }
-    ensures reply { reply_in outputs.new.items result ≡ reply.now }
-{
-    match reply {
-        Reply::Values(values) => {
-            let values = values.as_slice();
-            let first = outputs.len();
-            outputs.extend_from_slice(values).unwrap();
-            LoggedReply::Values {
-                first,
-                count: values.len() as u8,
-            }
-        }
-        Reply::Failed(number) => LoggedReply::Failed(*number),
-        Reply::Trapped(trap) => LoggedReply::Trapped(*trap),
-        Reply::Refused => LoggedReply::Refused,
-    }
+    logged.stamp == stamp && asks(ask, &logged.call) && logged.reply.is(outputs, reply)
 }
 
 /// Makes room for so many more values. A list that is full grows fourfold, since what it has is
@@ -190,16 +129,16 @@ impl Log {
             client: logged.client,
             number: logged.number,
             ask: Ask::Txn(logged.call),
-            reply: reply_in(&self.outputs, &logged.reply),
+            reply: logged.reply.reply(&self.outputs),
             stamp: logged.stamp,
         })
     }
 
     /// Whether there is an entry in a place, counted from 0, with this ask, this reply and this
     /// stamp. It is compared where it stands, since an [`Entry`] is large.
-    pub fn has_said(&self, index: usize, ask: &Ask, reply: &Reply, stamp: u64) -> bool
+    pub fn has_said(&self, index: usize, ask: &Ask, reply: ReplyRef<'_>, stamp: u64) -> bool
         ensures { IsTrue result
-            ↔ HasSaid (slice_get self.now.entries index) ask.now reply.now stamp }
+            ↔ HasSaid (slice_get self.now.entries index) ask.now (reply_seen reply.entry) stamp }
     {
         match self.calls.get(index) {
             Some(logged) => has_said(&self.outputs, logged, ask, reply, stamp),
@@ -267,6 +206,15 @@ impl Log {
         make_room(&mut self.outputs, MOST_OUTPUTS)
     }
 
+    /// Makes room for about so many more entries of the benchmark's mix.
+    pub(crate) fn reserve_for(&mut self, calls: usize) -> Result<(), AllocError>
+        ensures stamp { self.new.kept_stamp ≡ self.old.kept_stamp }
+        ensures entries { self.new.entries ≡ self.old.entries }
+    {
+        self.calls.reserve(calls)?;
+        self.outputs.reserve(calls.saturating_mul(OUTPUTS_A_CALL))
+    }
+
     /// Appends an entry, where there is room for it.
     pub(crate) fn push(&mut self, entry: &Entry)
         requires transaction { AsksTransaction entry.now }
@@ -277,7 +225,7 @@ impl Log {
         let Ask::Txn(call) = entry.ask else {
             unreachable!()
         };
-        let reply = keep(&mut self.outputs, &entry.reply);
+        let reply = KeptReply::keep(&mut self.outputs, &entry.reply);
         self.calls.push_reserved(LoggedCall {
             client: entry.client,
             number: entry.number,

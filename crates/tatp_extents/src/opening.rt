@@ -30,6 +30,16 @@ pub fn discard(extents: Vec<Extent>) {
     rest.destroy_empty();
 }
 
+/// Makes room in the log of each extent for about so many calls of the benchmark's mix.
+pub fn reserve_logs(extents: &mut [Extent], calls: usize) -> Result<(), AllocError>
+    ensures { extents.new ≡ extents.old }
+{
+    for extent in extents.iter_mut() {
+        extent.reserve_for(calls)?;
+    }
+    Ok(())
+}
+
 /// Refuses rows that aren't opened: too many, or not clean.
 pub fn admit(alloc: Global, rows: &Rows) -> Result<(), OpenError>
     ensures few { OnOk result (length rows.now.subscribers ≤ most_subscribers) }

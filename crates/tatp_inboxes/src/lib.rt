@@ -5,4 +5,4 @@ mod inbox;
 mod mailbox;
 
 pub use inbox::{MessageRule, Port, Reader, ends_of, open_inboxes};
-pub use mailbox::Mailbox;
+pub use mailbox::{Mailbox, Taken};

@@ -1,13 +1,12 @@
 //! Where a thread waits for what others hand to it.
-ghost use Rattle.std.specs.Mem.{FitsInMemory};
 
 use crossbeam_utils::CachePadded;
-use std::sync::{Condvar, Mutex, Wait};
-use std::{slice, thread};
-use tatp_waiting::lock;
+use std::sync::{Condvar, Mutex, MutexGuard, Wait};
+use std::thread;
+use tatp_waiting::{LOOKS, lock};
 
-/// The place of a message, which stays when it is taken: messages may be large, and are copied from
-/// place to place.
+/// The place of a message, which stays when it is taken: messages may be large, and are written and
+/// read where they stand.
 #[derive(Drop)]
 struct Place<T> {
     is_filled: bool,
@@ -20,21 +19,30 @@ pub struct Mailbox<T> {
     /// Apart from all else: its thread looks at it while others look at theirs.
     place: CachePadded<Mutex<Place<T>>>,
     filled: Condvar,
-    /// How often its thread looks before it sleeps.
-    looks: usize,
+}
+
+/// A message that was taken, in its place: the next is put there when this is dropped.
+#[derive(Drop)]
+pub struct Taken<'m, T> {
+    place: MutexGuard<'m, Place<T>>,
+}
+
+impl<T> Taken<'_, T> {
+    /// The message.
+    pub fn message(&self) -> &T {
+        &self.place.message
+    }
 }
 
 impl<T: Copy> Mailbox<T> {
-    /// An empty one, whose thread looks so often before it sleeps. The message, which may be any,
-    /// is never taken: it makes the place.
-    pub fn new(message: T, looks: usize) -> Mailbox<T> {
+    /// An empty one. The message, which may be any, is never taken: it makes the place.
+    pub fn new(message: T) -> Mailbox<T> {
         Mailbox {
             place: CachePadded::new(Mutex::new(Place {
                 is_filled: false,
                 message,
             })),
             filled: Condvar::new(),
-            looks,
         }
     }
 
@@ -47,19 +55,24 @@ impl<T: Copy> Mailbox<T> {
     }
 
     /// Takes the next message: looks for it, and then sleeps until it comes.
-    pub fn take<R: Wait>(&self, rt: &R, message: &mut T)
-        requires { FitsInMemory T.row }
-    {
-        for _ in 0..self.looks {
-            if empty(&mut lock(rt, &self.place), message) {
-                return;
+    pub fn take<R: Wait>(&self, rt: &R) -> Taken<'_, T> {
+        let mut place = self.filled_place(rt);
+        place.is_filled = false;
+        Taken { place }
+    }
+
+    /// The place, once it is filled.
+    fn filled_place<R: Wait>(&self, rt: &R) -> MutexGuard<'_, Place<T>> {
+        for _ in 0..LOOKS {
+            let place = lock(rt, &self.place);
+            if place.is_filled {
+                return place;
             }
+            drop(place);
             thread::yield_now();
         }
-        let mut place = self
-            .filled
-            .wait_while(rt, self.place.lock(rt), |place| !place.is_filled);
-        empty(&mut place, message);
+        self.filled
+            .wait_while(rt, self.place.lock(rt), |place| !place.is_filled)
     }
 }
 
@@ -69,17 +82,4 @@ fn fill<T: Copy, F: FnOnce(&mut T)>(place: &mut Place<T>, writing: F)
 {
     writing(&mut place.message);
     place.is_filled = true;
-}
-
-/// Empties a place where it is filled, into another. Whether it was.
-fn empty<T: Copy>(place: &mut Place<T>, message: &mut T) -> bool
-    requires { FitsInMemory T.row }
-{
-    if !place.is_filled {
-        return false;
-    }
-    // Copied once, where an assignment would copy it twice.
-    slice::from_mut(message).copy_from_slice(slice::from_ref(&place.message));
-    place.is_filled = false;
-    true
 }

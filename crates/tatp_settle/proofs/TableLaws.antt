@@ -103,12 +103,12 @@ take_push f [] i y here = absurd cc
 take_push f (x ∷ xs) zero y here = let e : x ≡ y = cc in ap (λ z. f z ∷ []) e
 take_push f (x ∷ xs) (suc i) y here = ap (λ t. f x ∷ t) (take_push f xs i y here)
 
-pub fresh_more : {A : Type 0} (P : Type 0) (lists : List (Vec A Global)) (table : List (List (Option P))) (i : ℕ) (list : Vec A Global) → slice_get lists i ≡ Some list
-    → table ≡ fresh_rows P (take i (lists_of lists)) → table ++ fresh_row P list.items ∷ [] ≡ fresh_rows P (take (i + 1) (lists_of lists))
-fresh_more P lists table i list here before =
-    ap (λ (t : List (List (Option P))). t ++ fresh_row P list.items ∷ []) before
-    ∙ (sym (map_push (fresh_row P) (take i (lists_of lists)) list.items)
-    ∙ ap (fresh_rows P) (sym (take_push (λ v. v.items) lists i list here) ∙ ap (λ n. take n (lists_of lists)) next))
+pub fresh_more : {V A : Type 0} (f : V → List A) (P : Type 0) (lists : List V) (table : List (List (Option P))) (i : ℕ) (list : V) → slice_get lists i ≡ Some list
+    → table ≡ fresh_rows P (take i (map f lists)) → table ++ fresh_row P (f list) ∷ [] ≡ fresh_rows P (take (i + 1) (map f lists))
+fresh_more f P lists table i list here before =
+    ap (λ (t : List (List (Option P))). t ++ fresh_row P (f list) ∷ []) before
+    ∙ (sym (map_push (fresh_row P) (take i (map f lists)) (f list))
+    ∙ ap (fresh_rows P) (sym (take_push f lists i list here) ∙ ap (λ n. take n (map f lists)) next))
   where
     next : suc i ≡ i + 1
     next = omega arith

@@ -2,8 +2,8 @@
 use Rattle.std.specs.Prelude.{◌≡◌, Option, Some, None, slice_get}
 use Rattle.tatp_procs.specs.declared.ask.Ask.{Ask}
 use Rattle.tatp_extents.specs.Logs.{HasSaid}
-use Rattle.tatp_partition.specs.declared.receipt.Receipt.{Receipt}
-use Rattle.tatp_partition.specs.declared.receipt.Receipt.TheVariants.{Done, Refused}
+use Rattle.tatp_receipts.specs.declared.receipt.Receipt.{Receipt}
+use Rattle.tatp_receipts.specs.declared.receipt.Receipt.TheVariants.{Done, Refused}
 use Rattle.tatp_settle.specs.declared.places.LogPlace.{LogPlace}
 use Rattle.tatp_settle.specs.Closings.{ClosedState, entries_numbered}
 

@@ -1,5 +1,6 @@
 -- The search for calls whose receipt or ask isn't what their entry says.
 use Rattle.std.specs.Prelude.{ℕ}
+use Rattle.tatp_receipts.specs.Receipts.{receipts_of}
 use Rattle.tatp_settle.specs.declared.differences.Differing.{Differing}
 use Rattle.tatp_settle.specs.CallPlaces.{HoldsNowhere}
 use Rattle.tatp_settle.specs.Causes.{Differs, IsUnmatched}
@@ -9,9 +10,9 @@ use Rattle.tatp_settle.specs.Runs.{lists_of}
 -- the receipt or the ask of the call isn't what its entry says
 abbrev pub DiffersIn : Differing → ℕ → ℕ → Type 0
 DiffersIn s client number =
-    Differs s.logs.now (lists_of s.calls.now) (lists_of s.receipts.now) client number
+    Differs s.logs.now (lists_of s.calls.now) (receipts_of s.receipts.now) client number
 
 -- each call has its receipt, and each entry is in the table
 pub record IsReady (s : Differing) : Type 0 where
-  pub matched : HoldsNowhere (IsUnmatched (lists_of s.calls.now) (lists_of s.receipts.now))
-  pub placed : AllPlaced s.logs.now (lists_of s.receipts.now) (cells_of s.table.now)
+  pub matched : HoldsNowhere (IsUnmatched (lists_of s.calls.now) (receipts_of s.receipts.now))
+  pub placed : AllPlaced s.logs.now (receipts_of s.receipts.now) (cells_of s.table.now)

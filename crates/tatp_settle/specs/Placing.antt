@@ -1,12 +1,13 @@
 -- A table with a cell for each call, in which the place of the call's entry is kept.
 use Rattle.std.specs.Prelude.{◌≡◌, ℕ, ◌+◌, ◌<◌, ◌⊎◌, Bool, true, false, Option, Some, None, List, length, IfNone}
 use Rattle.tatp_procs.specs.declared.entry.Entry.{Entry}
-use Rattle.tatp_partition.specs.declared.receipt.Receipt.{Receipt}
+use Rattle.tatp_receipts.specs.declared.receipt.Receipt.{Receipt}
+use Rattle.tatp_receipts.specs.Receipts.{receipts_of}
 use Rattle.tatp_settle.specs.declared.places.LogPlace.{LogPlace}
 use Rattle.tatp_settle.specs.declared.placement.Part.{Part}
 use Rattle.tatp_settle.specs.declared.placement.Placed.{Placed}
 use Rattle.tatp_settle.specs.Closings.{ClosedState, StandsAt}
-use Rattle.tatp_settle.specs.Runs.{at_call, lists_of}
+use Rattle.tatp_settle.specs.Runs.{at_call}
 use Rattle.tatp_settle.specs.Answering.{IsEntryOf, EntryFound}
 use Rattle.tatp_settle.specs.Causes.{HasEntryTooMany, HasTwoEntries}
 use Rattle.tatp_settle.specs.declared.places.CallPlace.{CallPlace}
@@ -109,7 +110,7 @@ pub record IsTableOf (closed : ClosedState) (receipts : List (List Receipt)) (fi
 -- the table of a part of the clients, and the least call of theirs with an entry too many
 abbrev pub IsTableOfPart : ClosedState → Part → Placed → Type 0
 IsTableOfPart closed part made =
-    IsTableOf closed (lists_of part.receipts.now) part.first part.last made
+    IsTableOf closed (receipts_of part.receipts.now) part.first part.last made
 
 -- the first call with an entry too many; where there is none, all entries are in the table
 pub record ArePlacedOrExtra (closed : ClosedState) (receipts : List (List Receipt))

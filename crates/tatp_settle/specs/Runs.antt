@@ -11,7 +11,8 @@ use Rattle.tatp_procs.specs.declared.ask.Ask.{Ask}
 use Rattle.tatp_procs.specs.declared.entry.Entry.{Entry}
 use Rattle.tatp_extents.specs.Opening.{extent_count, homes_of_extent}
 use Rattle.tatp_extents.specs.HomeRows.{rows_of_homes}
-use Rattle.tatp_partition.specs.declared.receipt.Receipt.{Receipt}
+use Rattle.tatp_receipts.specs.declared.receipt.Receipt.{Receipt}
+use Rattle.tatp_receipts.specs.Receipts.{ReceiptsState, receipts_of}
 use Rattle.tatp_settle.specs.declared.run.Run.{Run as HeldRun}
 use Rattle.tatp_settle.specs.Closings.{ClosedState, entries_numbered, homes_numbered, moves_numbered}
 
@@ -28,11 +29,11 @@ abbrev pub lists_of : {A : Type 0} → List (Vec A Global) → List (List A)
 lists_of lists = map (λ list. list.items) lists
 
 -- the run of these calls on this population that left this
-abbrev pub run_of : Rows → ClosedState → List (Vec Receipt Global) → List (Vec Ask Global) → Run
+abbrev pub run_of : Rows → ClosedState → List ReceiptsState → List (Vec Ask Global) → Run
 run_of population closed receipts calls = record {
   population = population;
   closed = closed;
-  receipts = lists_of receipts;
+  receipts = receipts_of receipts;
   calls = lists_of calls;
 }
 

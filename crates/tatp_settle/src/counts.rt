@@ -1,11 +1,12 @@
 //! What a settled run counts.
 ghost use Rattle.std.specs.Prelude.{◌≡◌, ◌<◌, ◌^◌, not, length, map, count_by};
 ghost use Rattle.std.specs.List.{range_with_len};
+ghost use Rattle.tatp_receipts.specs.Receipts.{receipt_seen, receipts_of};
 ghost use Rattle.tatp_settle.specs.Runs.{joined, lists_of};
 ghost use Rattle.tatp_settle.specs.Receipts.{is_done};
 ghost use Rattle.tatp_settle.specs.Answering.{is_of_kind};
 
-use crate::Receipt;
+use crate::{ReceiptRef, Receipts};
 use std::thread::{Threads, join};
 use tatp_procs::Ask;
 
@@ -14,23 +15,24 @@ use tatp_procs::Ask;
 /// where one can be made.
 pub(crate) fn count_all<R: Threads + Sync>(
     rt: &R,
-    receipts: &[Vec<Receipt>],
+    receipts: &[Receipts],
     calls: &[Vec<Ask>],
 ) -> ((u64, u64), [u64; 7])
-    requires receipts { length (joined (lists_of receipts.now)) < 2 ^ 64 }
+    requires receipts { length (joined (receipts_of receipts.now)) < 2 ^ 64 }
     requires calls { length (joined (lists_of calls.now)) < 2 ^ 64 }
-    ensures completed { result.0.0 ≡ count_by is_done (joined (lists_of receipts.now)) }
+    ensures completed { result.0.0 ≡ count_by is_done (joined (receipts_of receipts.now)) }
     ensures refused { result.0.1
-        ≡ count_by (λ receipt. not (is_done receipt)) (joined (lists_of receipts.now)) }
+        ≡ count_by (λ receipt. not (is_done receipt)) (joined (receipts_of receipts.now)) }
     ensures kinds { result.1
         ≡ map (λ kind. count_by (is_of_kind kind) (joined (lists_of calls.now)))
         (range_with_len 0 7) }
 {
     let received = || -> (u64, u64)
-        requires { length (joined (lists_of receipts.now)) < 2 ^ 64 }
-        ensures completed { result.0 ≡ count_by is_done (joined (lists_of receipts.entry.now)) }
+        requires { length (joined (receipts_of receipts.now)) < 2 ^ 64 }
+        ensures completed { result.0 ≡ count_by is_done (joined (receipts_of receipts.entry.now)) }
         ensures refused { result.1
-            ≡ count_by (λ receipt. not (is_done receipt)) (joined (lists_of receipts.entry.now)) }
+            ≡ count_by (λ receipt. not (is_done receipt))
+            (joined (receipts_of receipts.entry.now)) }
     { count_receipts(receipts) };
     let asked = || -> [u64; 7]
         requires { length (joined (lists_of calls.now)) < 2 ^ 64 }
@@ -41,20 +43,33 @@ pub(crate) fn count_all<R: Threads + Sync>(
     join(rt, received, asked)
 }
 
+/// Whether a receipt is of a completed call.
+fn is_done(receipt: ReceiptRef<'_>) -> bool
+    ensures { result ≡ is_done (receipt_seen receipt.entry) }
+{
+    matches!(receipt, ReceiptRef::Done { .. })
+}
+
 /// How many calls were completed, and to how many memory was refused.
-fn count_receipts(receipts: &[Vec<Receipt>]) -> (u64, u64)
-    requires few { length (joined (lists_of receipts.now)) < 2 ^ 64 }
-    ensures completed { result.0 ≡ count_by is_done (joined (lists_of receipts.now)) }
+fn count_receipts(receipts: &[Receipts]) -> (u64, u64)
+    requires few { length (joined (receipts_of receipts.now)) < 2 ^ 64 }
+    ensures completed { result.0 ≡ count_by is_done (joined (receipts_of receipts.now)) }
     ensures refused { result.1
-        ≡ count_by (λ receipt. not (is_done receipt)) (joined (lists_of receipts.now)) }
+        ≡ count_by (λ receipt. not (is_done receipt)) (joined (receipts_of receipts.now)) }
 {
     let mut completed = 0;
     let mut refused = 0;
     'lists: for list in receipts {
-        'receipts: for receipt in list {
-            match receipt {
-                Receipt::Done { .. } => completed += 1,
-                Receipt::Refused { .. } => refused += 1,
+        'receipts: for index in 0..list.len() {
+            match list.get(index) {
+                None => {}
+                Some(receipt) => {
+                    if is_done(receipt) {
+                        completed += 1;
+                    } else {
+                        refused += 1;
+                    }
+                }
             }
         }
     }

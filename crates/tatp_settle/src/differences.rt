@@ -1,45 +1,46 @@
 //! Calls whose receipt or ask differs from their entry.
 ghost use Rattle.std.specs.Prelude.{◌↔◌, IsTrue, Some};
+ghost use Rattle.tatp_receipts.specs.Receipts.{receipt_seen};
 ghost use Rattle.tatp_settle.specs.CallPlaces.{IsFirstCall, IsFirstNumber};
 ghost use Rattle.tatp_settle.specs.Agreeing.{Agrees};
 ghost use Rattle.tatp_settle.specs.Comparing.{DiffersIn, IsReady};
 
-use crate::Receipt;
-use crate::lists::{at, count_of, len_of};
+use crate::lists::{at, clients_of, receipt_at, receipts_len};
 use crate::log_table::LogTable;
 use crate::places::{CallPlace, LogPlace};
 use crate::searches::{Search, first_call};
 use crate::table::Table;
+use crate::{ReceiptRef, Receipts};
 use std::thread::Threads;
 use tatp_procs::Ask;
 
 /// Whether the entry in a place is what a call's receipt and its client say.
-fn says(logs: &LogTable<'_>, place: LogPlace, ask: &Ask, receipt: &Receipt) -> bool
-    ensures { IsTrue result ↔ Agrees logs.now (Some place) ask.now receipt.now }
+fn says(logs: &LogTable<'_>, place: LogPlace, ask: &Ask, receipt: ReceiptRef<'_>) -> bool
+    ensures { IsTrue result ↔ Agrees logs.now (Some place) ask.now (receipt_seen receipt.entry) }
 {
     match receipt {
-        Receipt::Refused { .. } => false,
-        Receipt::Done {
+        ReceiptRef::Refused { .. } => false,
+        ReceiptRef::Done {
             reply,
             extent,
             stamp,
             ..
         } => {
-            place.extent == *extent as u64
-                && logs.has_said(place.extent, place.index, ask, reply, *stamp)
+            place.extent == extent as u64
+                && logs.has_said(place.extent, place.index, ask, reply, stamp)
         }
     }
 }
 
 /// Whether the receipt and the ask of a call are what its entry says, or the call is refused and
 /// has none.
-fn agrees(logs: &LogTable<'_>, cell: Option<LogPlace>, ask: &Ask, receipt: &Receipt) -> bool
-    ensures { IsTrue result ↔ Agrees logs.now cell ask.now receipt.now }
+fn agrees(logs: &LogTable<'_>, cell: Option<LogPlace>, ask: &Ask, receipt: ReceiptRef<'_>) -> bool
+    ensures { IsTrue result ↔ Agrees logs.now cell ask.now (receipt_seen receipt.entry) }
 {
     match cell {
         None => match receipt {
-            Receipt::Refused { .. } => true,
-            Receipt::Done { .. } => false,
+            ReceiptRef::Refused { .. } => true,
+            ReceiptRef::Done { .. } => false,
         },
         Some(place) => says(logs, place, ask, receipt),
     }
@@ -53,7 +54,7 @@ pub(crate) struct Differing<'a, 'c> {
     /// Where the entry of each call stands.
     pub(crate) table: &'a Table<LogPlace>,
     /// What each client got for its calls.
-    pub(crate) receipts: &'a [Vec<Receipt>],
+    pub(crate) receipts: &'a [Receipts],
     /// What each client asked.
     pub(crate) calls: &'a [Vec<Ask>],
 }
@@ -64,7 +65,7 @@ impl Differing<'_, '_> {
         requires { IsReady self.now }
         ensures { IsTrue result ↔ DiffersIn self.now client number }
     {
-        let Some(receipt) = at(self.receipts, client, number) else {
+        let Some(receipt) = receipt_at(self.receipts, client, number) else {
             return false;
         };
         let Some(ask) = at(self.calls, client, number) else {
@@ -81,7 +82,7 @@ impl Differing<'_, '_> {
         requires { IsReady self.now }
         ensures { IsFirstNumber (DiffersIn self.now client) result }
     {
-        (0..len_of(self.receipts, client)).find(|number| self.differs_at(client, *number))
+        (0..receipts_len(self.receipts, client)).find(|number| self.differs_at(client, *number))
     }
 }
 
@@ -103,5 +104,5 @@ pub(crate) fn first_differing<R: Threads + Sync>(
     requires { IsReady differing.now }
     ensures { IsFirstCall (DiffersIn differing.now) result }
 {
-    first_call(rt, differing, count_of(differing.receipts))
+    first_call(rt, differing, clients_of(differing.receipts))
 }

@@ -1,14 +1,15 @@
 //! Parts of whole logs, and whole logs joined from them.
 ghost use Rattle.std.specs.Prelude.{◌≡◌, ◌<◌, ◌≤◌, ◌↔◌, ◌++◌, [], IsTrue, IfSome, OnSome, OnOk, length, slice_get};
 ghost use Rattle.std.specs.Option.{option_copied};
+ghost use Rattle.tatp_extents.specs.KeptReplies.{reply_seen};
 ghost use Rattle.tatp_extents.specs.Logs.{HasSaid, IsOfCall};
 ghost use Rattle.tatp_settle.specs.WholeLogs.{entry_in_part};
 
 use std::alloc::{AllocError, Global};
 use std::marker::Model;
-use tatp_extents::Log;
+use tatp_extents::{Log, ReplyRef};
 use tatp_homes::Home;
-use tatp_procs::{Ask, Entry, Reply};
+use tatp_procs::{Ask, Entry};
 
 /// A part of an extent's whole log: a chapter, or what was logged since the last of them.
 #[derive(Clone, Copy)]
@@ -138,8 +139,9 @@ impl<'a> WholeLog<'a> {
     }
 
     /// Whether there is an entry in a place with this ask, this reply and this stamp.
-    pub(crate) fn has_said(&self, index: usize, ask: &Ask, reply: &Reply, stamp: u64) -> bool
-        ensures { IsTrue result ↔ HasSaid (slice_get self.now index) ask.now reply.now stamp }
+    pub(crate) fn has_said(&self, index: usize, ask: &Ask, reply: ReplyRef<'_>, stamp: u64) -> bool
+        ensures { IsTrue result
+            ↔ HasSaid (slice_get self.now index) ask.now (reply_seen reply.entry) stamp }
     {
         let mut near = self.likely_part(index);
         match self.part_near(&mut near, index) {

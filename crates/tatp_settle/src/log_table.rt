@@ -2,6 +2,7 @@
 ghost use Rattle.std.specs.Prelude.{◌≡◌, ◌<◌, ◌≤◌, ◌↔◌, ℕ, List, [], IsTrue, IfOk, length, slice_get};
 ghost use Rattle.std.specs.Option.{option_copied, option_map_or};
 ghost use Rattle.tatp_procs.specs.declared.entry.Entry.{Entry};
+ghost use Rattle.tatp_extents.specs.KeptReplies.{reply_seen};
 ghost use Rattle.tatp_extents.specs.Logs.{HasSaid, IsOfCall};
 ghost use Rattle.tatp_settle.specs.Closings.{entries_numbered, least_above};
 
@@ -10,7 +11,8 @@ use crate::chapter_table::ChapterTable;
 use crate::log_parts::WholeLog;
 use std::alloc::{AllocError, Global};
 use std::marker::Model;
-use tatp_procs::{Ask, Reply};
+use tatp_extents::ReplyRef;
+use tatp_procs::Ask;
 
 /// What was gathered, with the whole log of each number at hand.
 #[derive(Drop)]
@@ -83,12 +85,12 @@ impl<'a> LogTable<'a> {
         number: u64,
         index: usize,
         ask: &Ask,
-        reply: &Reply,
+        reply: ReplyRef<'_>,
         stamp: u64,
     ) -> bool
         ensures { IsTrue result
-            ↔ HasSaid (slice_get (entries_numbered self.now number) index) ask.now reply.now
-            stamp }
+            ↔ HasSaid (slice_get (entries_numbered self.now number) index) ask.now
+            (reply_seen reply.entry) stamp }
     {
         match self.log(number) {
             Some(log) => log.has_said(index, ask, reply, stamp),

@@ -1,11 +1,12 @@
 //! The entries of all logs, put into the table of calls.
 ghost use Rattle.std.specs.Prelude.{◌≡◌, ◌⊎◌, ◌+◌, ◌<◌, ◌≤◌, ◌^◌, ◌++◌, ℕ, Bool, true, false, List, IfOk, length};
 ghost use denote.Param.Send.{IsSync};
+ghost use Rattle.tatp_receipts.specs.declared.receipt.Receipt.{Receipt};
+ghost use Rattle.tatp_receipts.specs.Receipts.{receipts_of};
 ghost use Rattle.tatp_settle.specs.Closings.{ClosedState};
-ghost use Rattle.tatp_settle.specs.Runs.{lists_of};
 ghost use Rattle.tatp_settle.specs.Placing.{ArePlacedOrExtra, IsTableOf, IsTableOfPart};
 
-use crate::Receipt;
+use crate::Receipts;
 use crate::log_table::LogTable;
 use crate::places::{CallPlace, LogPlace, lesser};
 use crate::table::Table;
@@ -19,7 +20,7 @@ const HALVINGS: u32 = 2;
 /// Some clients that follow one another, with their receipts.
 #[derive(Clone, Copy)]
 pub(crate) struct Part<'a> {
-    pub(crate) receipts: &'a [Vec<Receipt>],
+    pub(crate) receipts: &'a [Receipts],
     /// The first of them.
     pub(crate) first: u64,
     /// Whether all later clients belong to the part too.
@@ -134,9 +135,9 @@ pub(crate) fn place_entries<R: Threads + Sync>(
     rt: &R,
     alloc: Global,
     logs: &LogTable<'_>,
-    receipts: &[Vec<Receipt>],
+    receipts: &[Receipts],
 ) -> Result<Placed, AllocError>
-    ensures { IfOk result (ArePlacedOrExtra logs.now (lists_of receipts.now)) }
+    ensures { IfOk result (ArePlacedOrExtra logs.now (receipts_of receipts.now)) }
 {
     let everyone = Part {
         receipts,

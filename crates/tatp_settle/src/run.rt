@@ -1,5 +1,5 @@
 //! A run that is to be settled, as functions hand it on.
-use crate::{Closed, Receipt};
+use crate::{Closed, Receipts};
 use tatp_procs::Ask;
 use tatp_tables::Rows;
 
@@ -11,7 +11,7 @@ pub(crate) struct Run<'a> {
     /// What its sites, parcels and chapters left.
     pub(crate) closed: &'a Closed,
     /// What each client got for its calls.
-    pub(crate) receipts: &'a [Vec<Receipt>],
+    pub(crate) receipts: &'a [Receipts],
     /// What each client asked.
     pub(crate) calls: &'a [Vec<Ask>],
 }

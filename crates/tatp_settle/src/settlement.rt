@@ -7,7 +7,7 @@ ghost use Rattle.tatp_settle.specs.Settlements.{IsSettled, RefusesToSettle};
 
 use crate::judgement::judge;
 use crate::run::Run;
-use crate::{Closed, NotSettled, Receipt, SettleError, Settled};
+use crate::{Closed, NotSettled, Receipts, SettleError, Settled};
 use std::alloc::Global;
 use std::thread::Threads;
 use tatp_procs::Ask;
@@ -21,7 +21,7 @@ pub fn settle<R: Threads + Sync>(
     alloc: Global,
     population: &Rows,
     closed: Closed,
-    receipts: &[Vec<Receipt>],
+    receipts: &[Receipts],
     calls: &[Vec<Ask>],
 ) -> Result<Settled, NotSettled>
     requires clean { IsClean population.now }

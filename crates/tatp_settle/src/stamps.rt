@@ -1,14 +1,14 @@
 //! The stamps of each client's receipts.
 ghost use Rattle.std.specs.Prelude.{◌≡◌};
-ghost use Rattle.tatp_settle.specs.Runs.{lists_of};
+ghost use Rattle.tatp_receipts.specs.Receipts.{receipts_of};
 ghost use Rattle.tatp_settle.specs.CallPlaces.{IsFirstCall, IsFirstNumber};
 ghost use Rattle.tatp_settle.specs.Causes.{StampFalls};
 ghost use Rattle.tatp_settle.specs.Stamping.{is_above};
 
-use crate::Receipt;
-use crate::lists::{at, count_of, len_of};
+use crate::lists::{clients_of, receipt_at, receipts_len};
 use crate::places::CallPlace;
 use crate::searches::{Search, first_call};
+use crate::{ReceiptRef, Receipts};
 use std::thread::Threads;
 
 /// Whether the stamp is above the last one, if there is one.
@@ -22,19 +22,19 @@ fn is_above(last: Option<u64>, stamp: u64) -> bool
 }
 
 /// The number of a client's first call whose stamp isn't above that of an earlier one.
-fn falling_of(receipts: &[Vec<Receipt>], client: u64) -> Option<u64>
-    ensures { IsFirstNumber (StampFalls (lists_of receipts.now) client) result }
+fn falling_of(receipts: &[Receipts], client: u64) -> Option<u64>
+    ensures { IsFirstNumber (StampFalls (receipts_of receipts.now) client) result }
 {
     let mut last: Option<u64> = None;
-    'calls: for number in 0..len_of(receipts, client) {
-        match at(receipts, client, number) {
-            Some(Receipt::Done { stamp, .. }) => {
-                if !is_above(last, *stamp) {
+    'calls: for number in 0..receipts_len(receipts, client) {
+        match receipt_at(receipts, client, number) {
+            Some(ReceiptRef::Done { stamp, .. }) => {
+                if !is_above(last, stamp) {
                     return Some(number);
                 }
-                last = Some(*stamp);
+                last = Some(stamp);
             }
-            Some(Receipt::Refused { .. }) => {}
+            Some(ReceiptRef::Refused { .. }) => {}
             None => {}
         }
     }
@@ -44,11 +44,11 @@ fn falling_of(receipts: &[Vec<Receipt>], client: u64) -> Option<u64>
 /// The search for stamps that don't rise.
 #[derive(Drop)]
 struct Falling<'a> {
-    receipts: &'a [Vec<Receipt>],
+    receipts: &'a [Receipts],
 }
 
 impl Search for Falling<'_> {
-    ghost sought = { λ s. StampFalls (lists_of s.receipts.now) };
+    ghost sought = { λ s. StampFalls (receipts_of s.receipts.now) };
 
     fn first_of(&self, client: u64) -> Option<u64> {
         falling_of(self.receipts, client)
@@ -56,11 +56,8 @@ impl Search for Falling<'_> {
 }
 
 /// The first call whose stamp isn't above that of an earlier call of its client.
-pub(crate) fn first_falling<R: Threads + Sync>(
-    rt: &R,
-    receipts: &[Vec<Receipt>],
-) -> Option<CallPlace>
-    ensures { IsFirstCall (StampFalls (lists_of receipts.now)) result }
+pub(crate) fn first_falling<R: Threads + Sync>(rt: &R, receipts: &[Receipts]) -> Option<CallPlace>
+    ensures { IsFirstCall (StampFalls (receipts_of receipts.now)) result }
 {
-    first_call(rt, &Falling { receipts }, count_of(receipts))
+    first_call(rt, &Falling { receipts }, clients_of(receipts))
 }

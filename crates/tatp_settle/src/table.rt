@@ -1,9 +1,11 @@
 //! Tables of cells, row by row, each of which is filled at most once.
 ghost use Rattle.std.specs.Prelude.{◌≡◌, ◌++◌, ◌∷◌, [], None, IfOk, OnOk, length, replicate, slice_get};
 ghost use Rattle.std.specs.Option.{option_map_or};
-ghost use Rattle.tatp_settle.specs.Runs.{at_call, lists_of};
+ghost use Rattle.tatp_receipts.specs.Receipts.{receipts_of};
+ghost use Rattle.tatp_settle.specs.Runs.{at_call};
 ghost use Rattle.tatp_settle.specs.Placing.{cells_of, IsFresh, Puts};
 
+use crate::Receipts;
 use std::alloc::{AllocError, Global};
 use std::marker::Model;
 
@@ -32,14 +34,14 @@ impl<P: Copy> Table<P> {
         }
     }
 
-    /// An empty cell for each call that has an element in these lists.
-    pub(crate) fn fresh<T>(alloc: Global, lists: &[Vec<T>]) -> Result<Table<P>, AllocError>
+    /// An empty cell for each call that has a receipt.
+    pub(crate) fn fresh(alloc: Global, receipts: &[Receipts]) -> Result<Table<P>, AllocError>
         ensures fresh { IfOk result (λ table.
-            IsFresh (at_call (lists_of lists.now)) (cells_of table)) }
-        ensures len { IfOk result (λ table. length table ≡ length lists.now) }
+            IsFresh (at_call (receipts_of receipts.now)) (cells_of table)) }
+        ensures len { IfOk result (λ table. length table ≡ length receipts.now) }
     {
         let mut table = Table::new(alloc);
-        'lists: for list in lists {
+        'lists: for list in receipts {
             table.add_row(alloc, list.len())?;
         }
         Ok(table)

@@ -7,8 +7,9 @@ use std::alloc::{AllocError, Global};
 use tatp_extents::Chapter;
 use tatp_loader::Loaded;
 use tatp_numbers::Key;
-use tatp_partition::{Item, Parcel, Receipt, Site, close_sites, discard_all};
+use tatp_partition::{Item, Parcel, Site, close_sites, discard_all};
 use tatp_procs::{Ask, Call, Raw, Reply};
+use tatp_receipts::{Receipt, Receipts};
 
 /// What happens at a site.
 #[derive(Clone, Copy)]
@@ -270,25 +271,33 @@ pub fn readings(alloc: Global, clients: &[&[u64]]) -> Result<Vec<Vec<Ask>>, Allo
 }
 
 /// The receipts that clients got.
-pub fn receipts(alloc: Global, clients: &[&[Got]]) -> Result<Vec<Vec<Receipt>>, AllocError> {
+pub fn receipts(alloc: Global, clients: &[&[Got]]) -> Result<Vec<Receipts>, AllocError> {
     let mut lists = Vec::new(alloc);
     for all in clients {
-        let mut list = Vec::new(alloc);
-        for got in *all {
-            list.push(match *got {
-                Got::Failed(client, number, failure, extent, stamp) => Receipt::Done {
-                    client,
-                    number,
-                    reply: Reply::Failed(failure),
-                    extent,
-                    stamp,
-                },
-                Got::Refused(client, number) => Receipt::Refused { client, number },
-            })?;
-        }
-        lists.push(list)?;
+        lists.push(receipts_of(alloc, all)?)?;
     }
     Ok(lists)
+}
+
+/// The receipts that a client got.
+fn receipts_of(alloc: Global, all: &[Got]) -> Result<Receipts, AllocError> {
+    let mut receipts = Receipts::with_room(alloc, all.len())?;
+    for got in all {
+        if receipts.room() == 0 {
+            return Err(AllocError);
+        }
+        receipts.push(&match *got {
+            Got::Failed(client, number, failure, extent, stamp) => Receipt::Done {
+                client,
+                number,
+                reply: Reply::Failed(failure),
+                extent,
+                stamp,
+            },
+            Got::Refused(client, number) => Receipt::Refused { client, number },
+        });
+    }
+    Ok(receipts)
 }
 
 /// Whether the calls are few enough to be settled; of more than 100 it may say no.

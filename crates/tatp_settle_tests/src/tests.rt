@@ -6,6 +6,7 @@ mod entries;
 mod extents;
 mod gathering;
 mod moves;
+mod receipts;
 mod routes;
 mod settled;
 mod stops;

@@ -2,7 +2,8 @@
 ghost use Rattle.std.specs.Prelude.{◌≡◌};
 
 use tatp_extents::Chapter;
-use tatp_partition::{Landed, Parcel, Receipt, Site, discard_all};
+use tatp_partition::{Landed, Parcel, Site, discard_all};
+use tatp_receipts::Receipts;
 
 /// What a run leaves. It can be neither copied nor dropped: [`Ran::parts`] spends it.
 pub struct Ran<'m> {
@@ -20,7 +21,7 @@ pub struct RanParts<'m> {
     /// The chapters that each executor's site handed out, one after another.
     pub chapters: Vec<Vec<Chapter>>,
     /// The receipts of each client, in the order in which it got them.
-    pub receipts: Vec<Vec<Receipt>>,
+    pub receipts: Vec<Receipts>,
 }
 
 impl<'m> Ran<'m> {

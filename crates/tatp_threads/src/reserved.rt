@@ -11,8 +11,9 @@ use tatp_extents::Chapter;
 use tatp_inboxes::{Mailbox, ends_of, open_inboxes};
 use tatp_loader::Loaded;
 use tatp_locks::Partition;
-use tatp_partition::{Parcel, Receipt, Site};
+use tatp_partition::{Parcel, Site};
 use tatp_procs::Ask;
+use tatp_receipts::Receipts;
 use tatp_workers::Delivery;
 
 /// Room for values that must be spent, none of which is there yet.
@@ -58,7 +59,7 @@ pub(crate) struct ExecutorSeat<A: Arities> {
 pub(crate) struct ClientSeat<A: Arities> {
     pub(crate) number: u64,
     pub(crate) ports: Vec<Port<A>>,
-    pub(crate) receipts: Vec<Receipt>,
+    pub(crate) receipts: Receipts,
 }
 
 /// A seat for each reader.
@@ -96,26 +97,30 @@ fn seat_clients<A: Arities>(
         seats.push(ClientSeat {
             number: seats.len() as u64,
             ports: ends_of(alloc, ports)?,
-            receipts: Vec::with_capacity(alloc, list.len())?,
+            receipts: Receipts::with_room(alloc, list.len())?,
         })?;
     }
     Ok(seats)
 }
 
-/// How often all clients together look into their mailboxes before one sleeps. Between two looks
-/// the other threads of the processor go on, so the more clients there are, the longer that takes.
-/// While clients sleep, the system sees which processors have nothing to do, and moves executors
-/// there; where each client looks again and again, all processors seem to have as much to do.
-const LOOKS: usize = 400;
+/// For how many calls the log of each extent gets its room: for as many as there are if all extents
+/// are called about as often, and an eighth more, but for no more than a chapter has.
+pub(crate) fn calls_an_extent(lists: &[Vec<Ask>], extents: usize, chapter: u64) -> usize {
+    let mut calls: usize = 0;
+    for list in lists {
+        calls = calls.saturating_add(list.len());
+    }
+    let even = calls / extents.max(1);
+    even.saturating_add(even / 8).min(chapter as usize)
+}
 
 /// So many empty mailboxes.
 fn make_mailboxes(alloc: Global, count: usize) -> Result<Vec<Mailbox<Delivery>>, AllocError>
     ensures { IfOk result (λ mailboxes. vec_len mailboxes ≡ count) }
 {
     let mut mailboxes = Vec::with_capacity(alloc, count)?;
-    let looks = LOOKS / count.max(1);
     for _ in 0..count {
-        mailboxes.push(Mailbox::new(Delivery::Dropped, looks))?;
+        mailboxes.push(Mailbox::new(Delivery::Dropped))?;
     }
     Ok(mailboxes)
 }
@@ -130,7 +135,7 @@ pub(crate) struct Reserved<'m, A: Arities> {
     pub(crate) clients: Vec<ClientSeat<A>>,
     pub(crate) mailboxes: Vec<Mailbox<Delivery>>,
     /// Room for the receipts of each client.
-    pub(crate) receipts: Vec<Vec<Receipt>>,
+    pub(crate) receipts: Vec<Receipts>,
     pub(crate) partitions: Spare<Partition<'m>>,
     pub(crate) sites: Spare<Site<'m>>,
     pub(crate) hand: Spare<Parcel>,

@@ -5,7 +5,7 @@ ghost use Rattle.tatp_threads.specs.Calls.{obstacle_among, opening_refusal, AreO
 
 use crate::admission::Arities;
 use crate::calls::obstacle_among;
-use crate::reserved::{ClientSeat, Reserved};
+use crate::reserved::{ClientSeat, Reserved, calls_an_extent};
 use crate::shared::Shared;
 use crate::starting::{Crew, run_threads};
 use crate::{Ran, RanParts, RunRefusal, discard_chapters};
@@ -13,13 +13,14 @@ use std::alloc::{AllocError, Global};
 use std::marker::Brand;
 use std::sync::{Mutex, Wait};
 use std::thread::Threads;
-use tatp_extents::{Chapter, OpenError, discard, open};
+use tatp_extents::{Chapter, OpenError, discard, open, reserve_logs};
 use tatp_loader::Loaded;
 use tatp_locks::Partition;
 use tatp_move::Routes;
 use tatp_numbers::Directory;
-use tatp_partition::{Receipt, Site, close_sites, discard_parcels, open_sites};
+use tatp_partition::{Site, close_sites, discard_parcels, open_sites};
 use tatp_procs::Ask;
+use tatp_receipts::Receipts;
 use tatp_slices::Gate;
 use tatp_tables::Rows;
 use tatp_waiting::Start;
@@ -76,10 +77,7 @@ fn unlock_all<'m>(
 }
 
 /// The receipts of all clients.
-fn receipts_of<A: Arities>(
-    clients: Vec<ClientSeat<A>>,
-    room: Vec<Vec<Receipt>>,
-) -> Vec<Vec<Receipt>>
+fn receipts_of<A: Arities>(clients: Vec<ClientSeat<A>>, room: Vec<Receipts>) -> Vec<Receipts>
     requires { vec_len room + vec_len clients ≤ vec_capacity room }
     ensures { vec_len result ≡ vec_len room + vec_len clients }
 {
@@ -213,7 +211,7 @@ pub fn run_calls<'m, R: Threads + Wait + Sync, G: Gate + Sync>(
     ensures refusal { IfErr result (RefusesRun loaded.now rows lists.now) }
 {
     let subscribers = rows.subscribers.len() as u64;
-    let (extents, directory) = match open(alloc, rows, partitions) {
+    let (mut extents, directory) = match open(alloc, rows, partitions) {
         Ok(opened) => opened,
         Err(error) => return Err(refusal_of(error)),
     };
@@ -228,6 +226,11 @@ pub fn run_calls<'m, R: Threads + Wait + Sync, G: Gate + Sync>(
             return Err(RunRefusal::NoMemory);
         }
     };
+    let room = calls_an_extent(lists, extents.len(), chapter);
+    if reserve_logs(extents.as_mut_slice(), room).is_err() {
+        discard(extents);
+        return Err(RunRefusal::NoMemory);
+    }
     let sites = open_sites(alloc, loaded, partitions, extents)?;
     let setup = Setup {
         loaded,

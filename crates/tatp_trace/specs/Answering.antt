@@ -8,6 +8,7 @@ use Rattle.tatp_audits.specs.Printing.{verdict_text}
 use Rattle.tatp_events.specs.declared.event.Event.{Event as AnEvent}
 use Rattle.tatp_events.specs.declared.event.Event.TheVariants.{Step}
 use Rattle.tatp_events.specs.Answers.{Answered}
+use Rattle.tatp_completions.specs.Completions.{last_ask}
 use Rattle.tatp_dispatch.specs.Events.{Happens}
 use Rattle.tatp_dispatch.specs.Gathered.{gathered_rows}
 use Rattle.tatp_dispatch.specs.Serving.{Tells}
@@ -28,7 +29,7 @@ pub record TellsEvent (w : WorldState) (event : AnEvent) (answered : Answered) (
     (w' : WorldState) : Type 0 where
   pub happens : Happens w event answered w'
   pub tells : Tells w answered w'
-  pub line : told ≡ told_line (answered_text w'.completions answered)
+  pub line : told ≡ told_line (answered_text (last_ask w'.completions) answered)
 
 -- events, one after another: a line for each
 abbrev pub TellsEvents : WorldState → List AnEvent → List Answered → List ℕ → WorldState → Type 0

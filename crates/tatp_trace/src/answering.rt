@@ -28,7 +28,7 @@ fn answer_event(world: &mut World<'_>, event: Event, pending: &mut String) -> Re
         (string_bytes pending.old) (string_bytes pending.new) world.new) }
 {
     let answered = world.apply(event);
-    push_answer(pending, world.completions(), &answered)?;
+    push_answer(pending, world.completions().last_ask(), &answered)?;
     pending.push_str("\n")?;
     Ok(())
 }

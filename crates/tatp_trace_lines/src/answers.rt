@@ -8,38 +8,34 @@ use std::alloc::{AllocError, Global};
 use tatp_events::{Answer, Refusal};
 use tatp_lines::push_decimal;
 use tatp_numbers::Key;
-use tatp_procs::{Ask, Entry, Raw, push_reply};
+use tatp_procs::{Ask, Raw, push_reply};
 
-/// Appends the line of what is answered to an event, where these calls are completed. An error
-/// leaves the text as it was.
+/// Appends the line of what is answered to an event, where the last completed call asked this, if
+/// any call is completed. An error leaves the text as it was.
 pub fn push_answer(
     text: &mut String,
-    completions: &[Entry],
+    last: Option<Ask>,
     answered: &Result<Answer, Refusal>,
 ) -> Result<(), AllocError>
     ensures ok { OnOk result (string_bytes text.new
-        ≡ string_bytes text.old ++ answered_text completions.now answered.now) }
+        ≡ string_bytes text.old ++ answered_text last answered.now) }
     ensures err { OnErr result (string_bytes text.new ≡ string_bytes text.old) }
 {
     match answered {
-        Ok(answer) => push_accepted(text, completions, answer),
+        Ok(answer) => push_accepted(text, last, answer),
         Err(refusal) => push_refusal(text, refusal),
     }
 }
 
 /// Appends the line of an answer. An error leaves the text as it was.
 #[tactic(auto, using(tatp_procs::proofs::ExtendsLaws::may_be_cut, tatp_procs::proofs::ExtendsLaws::cut_back))]
-fn push_accepted(
-    text: &mut String,
-    completions: &[Entry],
-    answer: &Answer,
-) -> Result<(), AllocError>
+fn push_accepted(text: &mut String, last: Option<Ask>, answer: &Answer) -> Result<(), AllocError>
     ensures ok { OnOk result (string_bytes text.new
-        ≡ string_bytes text.old ++ answer_text completions.now answer.now) }
+        ≡ string_bytes text.old ++ answer_text last answer.now) }
     ensures err { OnErr result (string_bytes text.new ≡ string_bytes text.old) }
 {
     let before = text.len();
-    let pushed = push_pieces(text, completions, answer);
+    let pushed = push_pieces(text, last, answer);
     if pushed.is_err() {
         text.truncate(before);
     }
@@ -47,9 +43,9 @@ fn push_accepted(
 }
 
 /// Appends the pieces of that line. An error may leave the first of them.
-fn push_pieces(text: &mut String, completions: &[Entry], answer: &Answer) -> Result<(), AllocError>
+fn push_pieces(text: &mut String, last: Option<Ask>, answer: &Answer) -> Result<(), AllocError>
     ensures ok { OnOk result (string_bytes text.new
-        ≡ string_bytes text.old ++ answer_text completions.now answer.now) }
+        ≡ string_bytes text.old ++ answer_text last answer.now) }
     ensures err { OnErr result (Extends (string_bytes text.old) (string_bytes text.new)) }
 {
     match answer {
@@ -61,7 +57,7 @@ fn push_pieces(text: &mut String, completions: &[Entry], answer: &Answer) -> Res
         Answer::Ended(client, reply) => {
             push_number(text, "ENDED ", *client)?;
             text.push_str(" ")?;
-            push_reply(text, &last_asked(completions), reply)
+            push_reply(text, &last_asked(last), reply)
         }
         Answer::Parcel(extent, moves) => {
             push_numbers(text, "PARCEL ", u64::from(*extent), u64::from(*moves))
@@ -104,11 +100,11 @@ pub fn refused_text(alloc: Global, refusal: &Refusal) -> Result<String, AllocErr
 }
 
 /// What the last completed call asked; where none is completed, a call that is no transaction.
-fn last_asked(completions: &[Entry]) -> Ask
-    ensures { result ≡ last_asked completions.now }
+fn last_asked(last: Option<Ask>) -> Ask
+    ensures { result ≡ last_asked last }
 {
-    match completions.last() {
-        Some(entry) => entry.ask,
+    match last {
+        Some(ask) => ask,
         None => Ask::Raw(Raw::new(0, &[], Key::Id(0))),
     }
 }

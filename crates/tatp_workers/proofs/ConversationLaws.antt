@@ -1,10 +1,10 @@
 -- One more call of a client, and its last.
-use Rattle.std.proofs.Common.{◌≡◌, ℕ, suc, ◌+◌, Bool, true, false, List, [], ◌∷◌, ◌++◌, length, Option, Some, None, slice_get, Vec, vec_len, vec_capacity, refl, sym, ap, ◌∙◌, subst, append_assoc, arith, inl, inr}
-use Rattle.std.specs.declared.alloc.Global.{Global}
+use Rattle.std.proofs.Common.{◌≡◌, ℕ, suc, ◌+◌, Bool, true, false, List, [], ◌∷◌, ◌++◌, length, Option, Some, None, slice_get, ◌≤◌, refl, sym, ap, ◌∙◌, subst, append_assoc, arith, inl, inr}
 use Rattle.std.proofs.lemmas.List.{append-nil}
 use Rattle.tatp_procs.specs.declared.ask.Ask.{Ask}
 use Rattle.tatp_numbers.specs.Listing.{Listing}
-use Rattle.tatp_partition.specs.declared.receipt.Receipt.{Receipt}
+use Rattle.tatp_receipts.specs.declared.receipt.Receipt.{Receipt}
+use Rattle.tatp_receipts.specs.Receipts.{ReceiptsState}
 use Rattle.tatp_workers.specs.declared.client.Exchange.{Exchange}
 use Rattle.tatp_slices.specs.Growing.{Grows}
 use Rattle.tatp_workers.specs.Asking.{Conversation, Answered, Converses, Receives, item_of, seen_after, with_receipt}
@@ -57,12 +57,12 @@ last_unanswered listing client asks n seen known mid known' kept kept' ask so_fa
     )
 
 -- a call that came to nothing got no receipt
-pub none_got : (receipt : Option Receipt) (is_got : Bool) (before after : Vec Receipt Global) → Receives receipt is_got before after → is_got ≡ false → (receipt ≡ None) × (after.items ≡ before.items)
+pub none_got : (receipt : Option Receipt) (is_got : Bool) (before after : ReceiptsState) → Receives receipt is_got before after → is_got ≡ false → (receipt ≡ None) × (after.receipts ≡ before.receipts)
 none_got None is_got before after receives nothing = (refl, receives.1)
 none_got (Some receipt) is_got before after receives nothing = let got : is_got ≡ true = receives.0 in absurd cc
 
 -- any other got one
-pub one_got : (receipt : Option Receipt) (is_got : Bool) (before after : Vec Receipt Global) → Receives receipt is_got before after → is_got ≡ true
-    → (got : Receipt) × (receipt ≡ Some got) × (after.items ≡ before.items ++ got ∷ []) × (vec_len after ≡ vec_len before + 1) × (vec_capacity after ≡ vec_capacity before)
+pub one_got : (receipt : Option Receipt) (is_got : Bool) (before after : ReceiptsState) → Receives receipt is_got before after → is_got ≡ true
+    → (got : Receipt) × (receipt ≡ Some got) × (after.receipts ≡ before.receipts ++ got ∷ []) × (before.room ≤ after.room + 1)
 one_got None is_got before after receives some = let none : is_got ≡ false = receives.0 in absurd cc
-one_got (Some receipt) is_got before after receives some = (receipt, refl, receives.1, receives.2, receives.3)
+one_got (Some receipt) is_got before after receives some = (receipt, refl, receives.1, receives.2)

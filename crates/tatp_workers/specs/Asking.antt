@@ -1,12 +1,12 @@
 -- What a client asks, and what it gets.
-use Rattle.std.specs.Prelude.{◌≡◌, ◌⊎◌, ℕ, zero, suc, List, [], ◌∷◌, ◌++◌, length, Option, Some, None, slice_get, Bool, true, false, ◌+◌, Vec, vec_len, vec_capacity}
-use Rattle.std.specs.declared.alloc.Global.{Global}
+use Rattle.std.specs.Prelude.{◌≡◌, ◌⊎◌, ℕ, zero, suc, List, [], ◌∷◌, ◌++◌, length, Option, Some, None, slice_get, Bool, true, false, ◌≤◌, ◌+◌}
 use Rattle.tatp_procs.specs.declared.ask.Ask.{Ask}
 use Rattle.tatp_numbers.specs.Listing.{Listing, answer}
 use Rattle.tatp_partition.specs.declared.item.Item.{Item}
 use Rattle.tatp_procs.specs.Asked.{key_asked}
-use Rattle.tatp_partition.specs.declared.receipt.Receipt.{Receipt}
-use Rattle.tatp_partition.specs.declared.receipt.Receipt.TheVariants.{Done, Refused}
+use Rattle.tatp_receipts.specs.declared.receipt.Receipt.{Receipt}
+use Rattle.tatp_receipts.specs.declared.receipt.Receipt.TheVariants.{Done, Refused}
+use Rattle.tatp_receipts.specs.Receipts.{ReceiptsState}
 use Rattle.tatp_workers.specs.declared.client.Exchange.{Exchange}
 
 -- how many calls of a client were asked, and the last stamp that it has seen
@@ -30,13 +30,12 @@ seen_after seen (Done client number reply extent stamp) = stamp
 seen_after seen (Refused client number) = seen
 
 -- the receipt that a call got stands behind the others; or it got none, and the others are kept
-abbrev pub Receives : Option Receipt → Bool → Vec Receipt Global → Vec Receipt Global → Type 0
-Receives None is_got before after = (is_got ≡ false) × (after.items ≡ before.items)
+abbrev pub Receives : Option Receipt → Bool → ReceiptsState → ReceiptsState → Type 0
+Receives None is_got before after = (is_got ≡ false) × (after.receipts ≡ before.receipts)
 Receives (Some receipt) is_got before after =
     (is_got ≡ true)
-    × (after.items ≡ before.items ++ receipt ∷ [])
-    × (vec_len after ≡ vec_len before + 1)
-    × (vec_capacity after ≡ vec_capacity before)
+    × (after.receipts ≡ before.receipts ++ receipt ∷ [])
+    × (before.room ≤ after.room + 1)
 
 -- what a client exchanged, and the receipts that it keeps
 pub record Conversation : Type 0 where

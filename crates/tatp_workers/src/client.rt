@@ -1,12 +1,13 @@
 //! What a client does: it asks its calls one after another.
-ghost use Rattle.std.specs.Prelude.{◌≡◌, ◌+◌, ◌++◌, ◌∷◌, [], ◌≤◌, ◌<◌, List, Option, None, length, vec_len, vec_capacity};
+ghost use Rattle.std.specs.Prelude.{◌≡◌, ◌++◌, ◌∷◌, [], ◌≤◌, ◌<◌, List, Option, None, length};
 ghost use Rattle.tatp_slices.specs.Growing.{Grows};
 ghost use Rattle.tatp_workers.specs.declared.client.Exchange.{Exchange};
 ghost use Rattle.tatp_workers.specs.Asking.{Converses, Conversation, Receives, item_of, seen_after};
 
 use tatp_numbers::Directory;
-use tatp_partition::{Item, Receipt};
+use tatp_partition::Item;
 use tatp_procs::Ask;
+use tatp_receipts::{Receipt, ReceiptRef, Receipts};
 
 /// A call that was asked, and what came of it: none where it came to nothing.
 #[derive(Clone, Copy, Debug)]
@@ -24,8 +25,8 @@ pub trait Requester {
 
     /// Puts a call into the inbox that its route names, waits for its receipt, and puts that behind
     /// the others, where there is room for it. False where the call came to nothing.
-    fn ask(&mut self, item: &Item, receipts: &mut Vec<Receipt>) -> bool
-        requires room { vec_len receipts.old < vec_capacity receipts.old }
+    fn ask(&mut self, item: &Item, receipts: &mut Receipts) -> bool
+        requires room { 1 ≤ receipts.old.room }
         ensures { (receipt : Option Receipt)
             × Grows (exchanges self.old) (exchanges self.new)
             (record { item = item.now; receipt = receipt } ∷ [])
@@ -47,14 +48,15 @@ fn item_of(directory: &Directory, client: u64, number: u64, seen: u64, ask: &Ask
 }
 
 /// The last stamp that a client has seen, after the last of these receipts.
-fn seen_after(seen: u64, receipts: &Vec<Receipt>) -> u64
-    requires some { 0 < vec_len receipts.now }
+fn seen_after(seen: u64, receipts: &Receipts) -> u64
+    requires some { 0 < length receipts.now.receipts }
     ensures { (before : List Receipt) (receipt : Receipt)
-        → receipts.now.items ≡ before ++ receipt ∷ [] → result ≡ seen_after seen receipt }
+        → receipts.now.receipts ≡ before ++ receipt ∷ [] → result ≡ seen_after seen receipt }
 {
-    match &receipts[receipts.len() - 1] {
-        Receipt::Done { stamp, .. } => *stamp,
-        Receipt::Refused { .. } => seen,
+    match receipts.get(receipts.len() - 1) {
+        Some(ReceiptRef::Done { stamp, .. }) => stamp,
+        Some(ReceiptRef::Refused { .. }) => seen,
+        None => unreachable!(),
     }
 }
 
@@ -65,12 +67,12 @@ pub fn ask_all<D: Requester>(
     directory: &Directory,
     client: u64,
     asks: &[Ask],
-    receipts: &mut Vec<Receipt>,
+    receipts: &mut Receipts,
 )
-    requires room { vec_len receipts.old + length asks.now ≤ vec_capacity receipts.old }
+    requires room { length asks.now ≤ receipts.old.room }
     ensures { (conversation : Conversation) × Converses directory.now client asks.now conversation
         × Grows (D.exchanges requester.old) (D.exchanges requester.new) conversation.exchanges
-        × (receipts.new.items ≡ receipts.old.items ++ conversation.receipts) }
+        × (receipts.new.receipts ≡ receipts.old.receipts ++ conversation.receipts) }
 {
     let mut seen = 0;
     for number in 0..asks.len() {

@@ -3,7 +3,8 @@ ghost use Rattle.std.specs.Prelude.{◌≡◌};
 ghost use Rattle.tatp_workers.specs.Effects.{receipt_of};
 
 use std::slice;
-use tatp_partition::{Completion, Receipt};
+use tatp_partition::Completion;
+use tatp_receipts::Receipt;
 
 /// What a client waits for.
 #[derive(Clone, Copy, Debug)]

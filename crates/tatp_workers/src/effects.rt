@@ -10,7 +10,8 @@ ghost use Rattle.tatp_workers.specs.declared.effects.Effect.{Effect};
 ghost use Rattle.tatp_workers.specs.declared.effects.Effect.TheVariants.{Sends, Answers, Tells, Receives, Offers, Slices, Checkpoints};
 
 use crate::{Delivery, Message};
-use tatp_partition::{Completion, CompletionPlace, Item, Receipt, SiteRefusal, Stepped};
+use tatp_partition::{Completion, CompletionPlace, Item, SiteRefusal, Stepped};
+use tatp_receipts::Receipt;
 use tatp_slices::{Checkpointed, Offered};
 
 /// What an executor or the debugger did.

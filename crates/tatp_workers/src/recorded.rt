@@ -1,7 +1,7 @@
 //! Workers' surroundings that are in memory and keep what is done. Those of threads are behind
 //! locks, where nothing is known of what is done; here it is known, so that the contracts of the
 //! workers say something, and are shown to be met.
-ghost use Rattle.std.specs.Prelude.{◌≡◌, [], ◌∷◌, List, None, Ok, false, length, vec_len, vec_capacity, ◌<◌, ◌≤◌, ◌+◌, ◌++◌};
+ghost use Rattle.std.specs.Prelude.{◌≡◌, [], ◌∷◌, List, None, Ok, false, length, vec_len, vec_capacity, ◌<◌, ◌≤◌, ◌++◌};
 ghost use Rattle.tatp_extents.specs.Extents.{ExtentState};
 ghost use Rattle.tatp_slices.specs.Growing.{Grows, InTurn, known_unless};
 ghost use Rattle.tatp_workers.specs.Asking.{Conversation, Converses};
@@ -22,9 +22,10 @@ use std::sync::atomic::AtomicU64;
 use tatp_move::{MoveRefusal, Plan};
 use tatp_numbers::Directory;
 use tatp_partition::{
-    Completion, CompletionPlace, Item, Landed, Parcel, Receipt, Site, SiteRefusal, Stepped,
+    Completion, CompletionPlace, Item, Landed, Parcel, Site, SiteRefusal, Stepped,
 };
 use tatp_procs::Ask;
+use tatp_receipts::Receipts;
 use tatp_slices::{Checkpointed, Observer, Offered, StepAhead, slice};
 
 /// What was done, kept as long as there is memory for it.
@@ -72,7 +73,7 @@ impl Requester for Record<Exchange> {
     ghost exchanges = { λ r. known_unless r.is_lost r.kept.items };
 
     /// Each call comes to nothing.
-    fn ask(&mut self, item: &Item, _receipts: &mut Vec<Receipt>) -> bool {
+    fn ask(&mut self, item: &Item, _receipts: &mut Receipts) -> bool {
         self.keep(Exchange {
             item: *item,
             receipt: None,
@@ -221,12 +222,12 @@ fn ask_each(
     alloc: Global,
     directory: &Directory,
     asks: &[Ask],
-    receipts: &mut Vec<Receipt>,
+    receipts: &mut Receipts,
 ) -> Record<Exchange>
-    requires room { vec_len receipts.old + length asks.now ≤ vec_capacity receipts.old }
+    requires room { length asks.now ≤ receipts.old.room }
     ensures { (conversation : Conversation) × Converses directory.now 0 asks.now conversation
         × (result.is_lost ≡ false → result.kept.items ≡ conversation.exchanges)
-        × (receipts.new.items ≡ receipts.old.items ++ conversation.receipts) }
+        × (receipts.new.receipts ≡ receipts.old.receipts ++ conversation.receipts) }
 {
     let mut requester = Record::new(alloc);
     ask_all(&mut requester, directory, 0, asks, receipts);

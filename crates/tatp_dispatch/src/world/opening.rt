@@ -10,6 +10,7 @@ use super::World;
 use crate::client::Client;
 use crate::queue::Queue;
 use std::alloc::{AllocError, Global};
+use tatp_completions::Completions;
 use tatp_extents::{OpenError, admit, discard, open_clean};
 use tatp_loader::Loaded;
 use tatp_move::Routes;
@@ -147,7 +148,7 @@ impl<'m> World<'m> {
             parcels,
             landings: Vec::new(alloc),
             clients: front.clients,
-            completions: Vec::new(alloc),
+            completions: Completions::new(alloc),
             chapters: Vec::new(alloc),
             ended: CompletionPlace::empty(),
         })

@@ -12,8 +12,9 @@ use std::test::Fail;
 use std::thread::Threads;
 use tatp_audits::audit;
 use tatp_extents::Chapter;
-use tatp_partition::{Receipt, close_sites, discard_all};
+use tatp_partition::{close_sites, discard_all};
 use tatp_procs::Ask;
+use tatp_receipts::Receipts;
 use tatp_settle::{Closed, NotGathered, NotSettled, Settled, gather, settle};
 use tatp_tables::Rows;
 
@@ -41,7 +42,7 @@ fn told<R: Threads + Sync>(
     alloc: Global,
     population: &Rows,
     closed: Closed,
-    receipts: &[Vec<Receipt>],
+    receipts: &[Receipts],
     calls: &[Vec<Ask>],
 ) -> Result<Result<Settled, String>, AllocError>
     requires clean { IsClean population.now }

@@ -10,8 +10,10 @@ use std::sync::atomic::{AtomicU64, Ordering};
 use std::test::*;
 use std::thread::Threads;
 use tatp_dispatch::World;
-use tatp_partition::{Receipt, Site, close_sites};
-use tatp_procs::{Ask, Call};
+use tatp_extents::ReplyRef;
+use tatp_partition::{Site, close_sites};
+use tatp_procs::{Ask, Call, Reply};
+use tatp_receipts::{ReceiptRef, Receipts};
 use tatp_settle_tests::rows::clean_rows;
 use tatp_settle_tests::sites::module;
 use tatp_tables::Rows;
@@ -188,7 +190,7 @@ fn rows_at(alloc: Global, sites: &[Site<'_>]) -> Result<Rows, AllocError> {
 #[derive(Drop)]
 struct Left {
     rows: Rows,
-    receipts: Vec<Vec<Receipt>>,
+    receipts: Vec<Receipts>,
 }
 
 /// The rows and the receipts of what a run leaves. None where a parcel is left.
@@ -246,16 +248,28 @@ fn next_client(clock: &StepClock, made: &[usize; CLIENTS as usize]) -> Option<us
     next
 }
 
+/// Whether a reply is that of a receipt.
+fn is_reply(reply: &Reply, seen: ReplyRef<'_>) -> bool {
+    match (reply, seen) {
+        (Reply::Values(values), ReplyRef::Values(seen)) => values.as_slice() == seen,
+        (Reply::Failed(failure), ReplyRef::Failed(seen)) => *failure == seen,
+        _ => false,
+    }
+}
+
 /// Whether a client got the reply that its call gets when it is made again.
 fn is_same(
     world: &mut World<'_>,
     client: usize,
     ask: Option<&Ask>,
-    receipt: Option<&Receipt>,
+    receipt: Option<ReceiptRef<'_>>,
 ) -> bool {
     match (ask, receipt) {
-        (Some(ask), Some(Receipt::Done { reply, .. })) => {
-            world.call(client as u64, *ask) == Some(*reply)
+        (Some(ask), Some(ReceiptRef::Done { reply, .. })) => {
+            match world.call(client as u64, *ask) {
+                Some(again) => is_reply(&again, reply),
+                None => false,
+            }
         }
         _ => false,
     }
@@ -266,7 +280,7 @@ fn is_same(
 fn same_replies(
     world: &mut World<'_>,
     lists: &[Vec<Ask>],
-    receipts: &[Vec<Receipt>],
+    receipts: &[Receipts],
     clock: &StepClock,
 ) -> u64 {
     let mut made = [0; CLIENTS as usize];

@@ -7,16 +7,17 @@ use std::process::Abort;
 use std::sync::{Mutex, Wait};
 use std::test::*;
 use std::thread::Threads;
-use tatp_extents::ExtentParts;
-use tatp_partition::{Receipt, Site};
-use tatp_procs::{Ask, Call, Reply};
+use tatp_extents::{ExtentParts, ReplyRef};
+use tatp_partition::Site;
+use tatp_procs::{Ask, Call};
+use tatp_receipts::{ReceiptRef, Receipts};
 use tatp_settle_tests::rows::clean_rows;
 use tatp_settle_tests::sites::{module, spend_parcels};
 use tatp_threads::{Gate, Moves, NoGate, Ran, RanParts, copy_extent, discard_chapters, run_calls};
 
 /// What a run of threads leaves: its sites, how many parcels, which are spent with its chapters,
 /// and its receipts.
-pub fn unpack<'m>(ran: Ran<'m>) -> (Vec<Site<'m>>, usize, Vec<Vec<Receipt>>)
+pub fn unpack<'m>(ran: Ran<'m>) -> (Vec<Site<'m>>, usize, Vec<Receipts>)
     requires { vec_len ran.parts.landings ≡ 0 }
 {
     let RanParts {
@@ -57,7 +58,7 @@ struct Left {
     /// Copies of the extents 1 and 3 at each site, the last site first.
     copies: Vec<Option<ExtentParts>>,
     parcels: usize,
-    receipts: Vec<Vec<Receipt>>,
+    receipts: Vec<Receipts>,
 }
 
 /// Spends a site, and adds which extents at it were moved.
@@ -163,16 +164,19 @@ pub fn receipts_of_run<R: Threads + Wait + Sync, G: Gate + Sync>(
 
 /// Whether the receipt is that of the first call, which changed a row of extent 1 and puts nothing
 /// out.
-fn is_first(receipt: &Receipt) -> bool {
-    match *receipt {
-        Receipt::Done {
-            client,
-            number,
-            reply,
-            extent,
-            stamp,
-        } => matches!(reply, Reply::Values(_)) && (client, number, extent, stamp) == (0, 0, 1, 1),
-        Receipt::Refused { .. } => false,
+fn is_first(receipt: Option<ReceiptRef<'_>>) -> bool {
+    match receipt {
+        Some(
+            ReceiptRef::Done {
+                client,
+                number,
+                reply,
+                extent,
+                stamp,
+            },
+        ) => matches!(reply, ReplyRef::Values(_))
+            && (client, number, extent, stamp) == (0, 0, 1, 1),
+        _ => false,
     }
 }
 
@@ -182,7 +186,7 @@ fn expect_left(rt: &impl Abort, left: &Left) {
     assert_eq!(rt; left.moves.as_slice(), [(1, 3, 3)].as_slice());
     assert_eq!(rt; (left.parcels, left.receipts.len()), (0, 1));
     assert_eq!(rt; left.receipts[0].len(), 1);
-    assert!(rt; is_first(&left.receipts[0][0]));
+    assert!(rt; is_first(left.receipts[0].get(0)));
 }
 
 /// Extent 3 was moved three times, and no call was made there.

@@ -8,7 +8,7 @@ use Rattle.tatp_settle.proofs.KindLaws.{kinds_of, kind_at, is_a_kind}
 use Rattle.tatp_settle.proofs.counts.count_kinds.Goals as goal
 
 here : (c : goal.After-deref-ask-items) → slice_get (lists_of c.args.calls.now) c.lists.list-index ≡ Some c.deref-ask-items.result.now
-here c = list_here c.args.calls.now c.lists.list-index c.list-item.result c.lists-test.true c.list-item.is ∙ ap (λ (t : List Ask). Some t) (sym c.deref-ask-items.ensures.value)
+here c = list_here (λ v. v.items) c.args.calls.now c.lists.list-index c.list-item.result c.lists-test.true c.list-item.is ∙ ap (λ (t : List Ask). Some t) (sym c.deref-ask-items.ensures.value)
 
 pub calls-init : goal.calls-init
 calls-init c = (here c, c.lists.invariant ∙ ap kinds_of (sym (seen_start (lists_of c.args.calls.now) c.lists.list-index c.deref-ask-items.result.now)))

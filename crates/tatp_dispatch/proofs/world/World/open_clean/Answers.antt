@@ -52,7 +52,7 @@ shown_as c = record {
   parcels = c.in-Ok.parcels;
   landings = c.new.result.items;
   clients = c.in_ok-front.front.clients.items;
-  completions = c.new-2.result.items;
+  completions = c.new-2.result.entries;
   chapters = c.new-3.result.items;
 }
 
@@ -74,7 +74,7 @@ same c =
       parcels = sym (none_held c) i;
       landings = sym c.new.ensures.items i;
       clients = sym c.in_ok-front.ensures.clients i;
-      completions = sym c.new-2.ensures.items i;
+      completions = sym c.new-2.ensures i;
       chapters = sym c.new-3.ensures.items i;
     }
 
@@ -85,7 +85,7 @@ pub invariant_of-result : goal.invariant_of-result
 invariant_of-result c = record {
   world = world c;
   room = record {
-    completions = omega (arith, c.new-2.ensures.len, none_to_end c.args.loaded.now c.args.partitions (opened_extents (database_of c.args.rows) (length c.args.rows.subscribers)) c.in-Ok-open_sites.sites.items (opens c).opened);
+    completions = omega (arith, none_to_end c.args.loaded.now c.args.partitions (opened_extents (database_of c.args.rows) (length c.args.rows.subscribers)) c.in-Ok-open_sites.sites.items (opens c).opened);
     landings = let none = ap (λ (t : List (Option ExtentState)). total (λ x. one x) t) (none_held c) ∙ none_under_way (length c.args.rows.subscribers) in omega (arith, c.new.ensures.len, none);
     clients = let count = ap length c.in_ok-front.ensures.clients ∙ length-replicate c.args.clients new_client in omega (arith, count, c.requires.few_clients);
   };

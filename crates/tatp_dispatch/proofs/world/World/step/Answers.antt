@@ -14,7 +14,7 @@ use Rattle.tatp_events.specs.declared.refusal.Refusal.TheVariants.{NoPartition, 
 use Rattle.tatp_dispatch.specs.Fields.{world_of}
 use Rattle.tatp_dispatch.specs.Serving.{Tells}
 use Rattle.tatp_dispatch.specs.Worlds.{WorldState}
-use Rattle.tatp_dispatch.proofs.EventLaws.{StepsAt, no_site, told_same, with_sites, sound_with_place, sound_refused, refused_at, line_at, end_at, line_told, ending_client, room_to_end, after_end, EndedFields, end_told, end_happens}
+use Rattle.tatp_dispatch.proofs.EventLaws.{StepsAt, no_site, told_same, with_sites, sound_with_place, sound_refused, refused_at, line_at, end_at, line_told, ending_client, room_to_end, some_completed, after_end, EndedFields, end_told, end_happens}
 use Rattle.tatp_dispatch.proofs.world.World.step.Goals as goal
 
 site_steps : (v : Vec SiteState Global) (p : ℕ) (obstacle : SiteState → Option SiteRefusal) (s s' : SiteState) (stepped : Result Stepped SiteRefusal) → slice_get v.items p ≡ Some s → AdvancesUnless (obstacle s) s stepped s' → IsSite s'
@@ -68,6 +68,9 @@ complete_ended-client-requires-clause-client c = λ completion is.
     let k = ending_client (world_of c.self.inside) c.args.p x.before x.after_it completion c.self.invariant.world x.site x.steps.1 in
     slice_get_within c.self.inside.clients.items completion.entry.client k.0 k.1
 
+pub last_reply-requires : goal.last_reply-requires
+last_reply-requires c = some_completed c.complete_ended-client.new.completions.entries c.self.inside.completions.entries c.in-Some.field-0.now.entry (c.complete_ended-client.ensures.entries c.in-Some.field-0.now (sym c.get.ensures ∙ ap option_copied c.in-Some.is))
+
 ended : (c : goal.After-last_reply) → StepsAt (obstacle_to c.args.kind) c.self.inside.sites.items c.args.p (Ok (Did_end c.in-Some.field-0.now)) (with_item c.self.inside.sites c.args.p c.step_into.new.self).items
 ended c = end_told_of c.self.inside.sites c.args.p (obstacle_to c.args.kind) c.step_into.new.self c.step_into.new.ended c.in-Some.field-0.now (sym c.get.ensures ∙ ap option_copied c.in-Some.is) (site_steps c.self.inside.sites c.args.p (obstacle_to c.args.kind) c.index_mut.result.now c.step_into.new.self _ (slice_get_read c.self.inside.sites.items (length c.self.inside.sites.items) c.args.p c.index_mut.result.now refl (omega arith) c.index_mut.ensures.value) c.in-Ok.ensures.steps c.in-Ok.ensures.site)
 
@@ -75,7 +78,7 @@ fields : (c : goal.After-last_reply) → EndedFields c.self.inside (with_item c.
 fields c =
     let e = c.complete_ended-client.ensures in
     let is = sym c.get.ensures ∙ ap option_copied c.in-Some.is in
-    record { sites = (ended c).after; pushed = e.items c.in-Some.field-0.now is; len = e.len; capacity = e.capacity; freed = λ k at. e.clients c.in-Some.field-0.now k is at }
+    record { sites = (ended c).after; pushed = e.entries c.in-Some.field-0.now is; taken = e.room; freed = λ k at. e.clients c.in-Some.field-0.now k is at }
 
 pub invariant_of-self-in-Some : goal.invariant_of-self-in-Some
 invariant_of-self-in-Some c =
@@ -85,7 +88,7 @@ invariant_of-self-in-Some c =
 
 -- the reply is that of the last completion
 reply_is : (c : goal.After-last_reply) → c.last_reply.result ≡ c.in-Some.field-0.now.entry.reply
-reply_is c = c.last_reply.ensures c.self.inside.completions.items c.in-Some.field-0.now.entry (c.deref.ensures.value ∙ c.complete_ended-client.ensures.items c.in-Some.field-0.now (sym c.get.ensures ∙ ap option_copied c.in-Some.is))
+reply_is c = c.last_reply.ensures c.self.inside.completions.entries c.in-Some.field-0.now.entry (c.complete_ended-client.ensures.entries c.in-Some.field-0.now (sym c.get.ensures ∙ ap option_copied c.in-Some.is))
 
 pub returns-in-Some : goal.returns-in-Some
 returns-in-Some c =

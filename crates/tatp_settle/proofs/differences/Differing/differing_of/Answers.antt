@@ -11,5 +11,5 @@ find-requires c = record { can = tt; finite = tt; callable = serves_from_Range (
 pub returns : goal.returns
 returns c =
     let P : ℕ → Type 0 = DiffersIn c.args.self.now c.args.client in
-    first_number P c.len_of.result c.find.result (λ n l. none_differs _ _ _ _ c.requires.matched c.requires.placed _ _ (c.len_of.ensures.beyond n l))
+    first_number P c.receipts_len.result c.find.result (λ n l. none_differs _ _ _ _ c.requires.matched c.requires.placed _ _ (c.receipts_len.ensures.beyond n l))
     (first_from_Range _ _ _ _ P (λ n. P n → ⊥) c.find.ensures.ran (λ x q k. search (rules, tests)) (λ x q k. (search rules, search (rules, tests))))

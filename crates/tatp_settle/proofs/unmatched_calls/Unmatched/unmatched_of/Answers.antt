@@ -1,7 +1,8 @@
 use Rattle.std.proofs.Common.{◌≡◌, ℕ, Option, Some, None, arith, rules, tests}
 use Rattle.std.proofs.lemmas.Iterator.{first_from_Range, serves_from_Range}
 use Rattle.tatp_procs.specs.declared.ask.Ask.{Ask}
-use Rattle.tatp_partition.specs.declared.receipt.Receipt.{Receipt}
+use Rattle.tatp_receipts.specs.declared.receipt.Receipt.{Receipt}
+use Rattle.tatp_receipts.specs.Receipts.{receipts_of}
 use Rattle.tatp_settle.specs.Answering.{AreMatched}
 use Rattle.tatp_settle.specs.Causes.{IsUnmatched}
 use Rattle.tatp_settle.specs.Runs.{lists_of}
@@ -19,6 +20,6 @@ neither client number None (Some x) a r h = absurd cc
 
 pub returns : goal.returns
 returns c =
-    let P : ℕ → Type 0 = IsUnmatched (lists_of c.args.self.now.calls.now) (lists_of c.args.self.now.receipts.now) c.args.client in
-    first_number P c.max-count.result c.find.result (λ n l. neither _ _ _ _ (c.len_of-2.ensures.beyond n (omega (arith, l))) (c.len_of.ensures.beyond n (omega (arith, l))))
+    let P : ℕ → Type 0 = IsUnmatched (lists_of c.args.self.now.calls.now) (receipts_of c.args.self.now.receipts.now) c.args.client in
+    first_number P c.max-count.result c.find.result (λ n l. neither _ _ _ _ (c.len_of.ensures.beyond n (omega (arith, l))) (c.receipts_len.ensures.beyond n (omega (arith, l))))
     (first_from_Range _ _ _ _ P (λ n. P n → ⊥) c.find.ensures.ran (λ x q k. search (rules, tests)) (λ x q k. (search rules, search (rules, tests))))

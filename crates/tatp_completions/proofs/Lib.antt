@@ -1,0 +1,2 @@
+pub mod KeptAskLaws
+pub mod CompletedCallLaws

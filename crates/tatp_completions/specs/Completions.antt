@@ -1,0 +1,24 @@
+-- Completed calls, as contracts see them.
+use Rattle.std.specs.Prelude.{ℕ, ◌-◌, List, Option, length, slice_get, refl}
+use Rattle.std.specs.Option.{option_map}
+use Rattle.std.specs.Coded.{Coded, code_by, coded×, coded_ℕ, coded_list}
+use Rattle.tatp_procs.specs.declared.ask.Ask.{Ask}
+use Rattle.tatp_procs.specs.declared.entry.Entry.{Entry}
+use Rattle.tatp_procs.specs.contracts.entry.Entry as entry
+
+-- what contracts see of completed calls: those, and for how many more there is room
+pub record CompletionsState : Type 0 where
+  pub entries : List Entry
+  pub room : ℕ
+
+abbrev pub completions_state_code : Coded CompletionsState
+completions_state_code =
+    code_by (List Entry × ℕ)
+    (coded× (coded_list entry.the_row.coded) coded_ℕ)
+    (λ x. (x.entries, x.room))
+    (λ p. record { entries = p.0; room = p.1 })
+    (λ _. refl)
+
+-- what the last completed call asked, where one is completed
+abbrev pub last_ask : List Entry → Option Ask
+last_ask entries = option_map (λ (e : Entry). e.ask) (slice_get entries (length entries - 1))

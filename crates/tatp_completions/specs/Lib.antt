@@ -1,0 +1,3 @@
+pub mod KeptAsks
+pub mod Completions
+pub mod CompletedCalls

@@ -68,7 +68,7 @@ pub fn settle_run<R: Threads + Sync>(
     match judged {
         Ok(settled) => Ok(settled),
         Err(NotSettled { error, closed }) => {
-            closed.discard();
+            closed.discard(rt);
             Err(BenchFault::from(error))
         }
     }

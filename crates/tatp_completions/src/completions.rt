@@ -1,6 +1,7 @@
 //! The completed calls, kept with as many arguments and outputs as each has.
 ghost use Rattle.std.specs.Prelude.{◌≡◌, ◌+◌, ◌<◌, ◌≤◌, [], ◌∷◌, ◌++◌, List, OnOk, length, slice_get};
 ghost use Rattle.tatp_procs.specs.declared.entry.Entry.{Entry};
+ghost use Rattle.tatp_procs.specs.Replies.{reply_seen};
 ghost use Rattle.tatp_completions.specs.Completions.{last_ask};
 
 use crate::completed_call::CompletedCall;
@@ -8,7 +9,7 @@ use crate::kept_ask::KeptAsk;
 use std::alloc::{AllocError, Global};
 use std::marker::Model;
 use tatp_extents::KeptReply;
-use tatp_procs::{Ask, Entry, Reply};
+use tatp_procs::{Ask, Entry, Reply, ReplyRef};
 
 /// The most values of a call: 40 outputs and 8 arguments.
 const MOST_VALUES: usize = 48;
@@ -83,6 +84,16 @@ impl Completions {
     {
         let call = &self.calls[self.calls.len() - 1];
         call.reply.reply(&self.values)
+    }
+
+    /// What was replied to the last call, with its outputs where they stand.
+    pub fn last_reply_ref(&self) -> ReplyRef<'_>
+        requires { 0 < length self.now.entries }
+        ensures { (before : List Entry) (entry : Entry) → self.now.entries ≡ before ++ entry ∷ []
+            → reply_seen result ≡ entry.reply }
+    {
+        let call = &self.calls[self.calls.len() - 1];
+        call.reply.reply_ref(&self.values)
     }
 
     /// Makes room for so many more entries, whatever their arguments and outputs.

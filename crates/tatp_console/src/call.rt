@@ -14,7 +14,7 @@ use crate::lines::{LineCommand, answer_all};
 use std::alloc::{AllocError, Global};
 use std::io::{Read, Write};
 use tatp_dispatch::World;
-use tatp_procs::{Ask, Call, Reply, args_ok, push_reply, read_call};
+use tatp_procs::{Ask, Call, ReplyRef, args_ok, push_reply, read_call};
 use tatp_streams::{MOST_BYTES, text_of};
 use tatp_tasks::{Population, Procedures, Setup};
 
@@ -50,8 +50,8 @@ fn answer_line(world: &mut World<'_>, line: &[u8], pending: &mut String) -> Resu
     }
     let ask = Ask::Txn(call);
     match world.call(0, ask) {
-        Some(reply) => push_reply(pending, &ask, &reply)?,
-        None => push_reply(pending, &ask, &Reply::Refused)?,
+        Some(reply) => push_reply(pending, &ask, reply)?,
+        None => push_reply(pending, &ask, ReplyRef::Refused)?,
     }
     Ok(())
 }

@@ -1,5 +1,5 @@
 -- The events of a call, one after another, and their answers.
-use Rattle.std.proofs.Common.{◌≡◌, ◌≢◌, ℕ, zero, suc, Bool, true, false, List, [], ◌∷◌, ◌++◌, take, replicate, Option, Some, None, Result, Ok, slice_get, refl, sym, ◌∙◌, ap, subst, arith}
+use Rattle.std.proofs.Common.{◌≡◌, ◌≢◌, ℕ, zero, suc, Bool, true, false, List, [], ◌∷◌, ◌++◌, take, replicate, Some, None, Result, Ok, slice_get, refl, sym, ◌∙◌, ap, subst, arith}
 use Rattle.std.proofs.lemmas.Bool.{false≢true}
 use Rattle.std.proofs.lemmas.List.{append-nil, same_from_push, take-replicate}
 use Rattle.tatp_procs.specs.declared.ask.Ask.{Ask}
@@ -14,14 +14,14 @@ use Rattle.tatp_events.specs.declared.event.Answer.{Answer}
 use Rattle.tatp_events.specs.declared.event.Answer.TheVariants.{Queued, Began, Away, Denied, Moved, Ended}
 use Rattle.tatp_events.specs.declared.refusal.Refusal.{Refusal}
 use Rattle.tatp_dispatch.specs.Advancing.{AdvancesSo}
-use Rattle.tatp_dispatch.specs.Calling.{CallsBriefly, GoesUpTo, BeginsUpTo, StepsUpTo, GoesBriefly, IsLastReply, IsStopped, IsOneCall}
+use Rattle.tatp_dispatch.specs.Calling.{CallsBriefly, CallsOnce, GoesUpTo, BeginsUpTo, StepsUpTo, GoesBriefly, IsLastReply, IsStopped, IsOneCall, MakesCall}
 use Rattle.tatp_dispatch.specs.Events.{Happens, Submits, BeginsAt, BeginsFront, AdvancesAt, EndsAt}
 use Rattle.tatp_dispatch.specs.Obstacles.{step_obstacle_at}
 use Rattle.tatp_dispatch.specs.Placed.{RunsAt}
 use Rattle.tatp_dispatch.specs.Runs.{HappenAll}
 use Rattle.tatp_dispatch.specs.Serving.{IsWorld}
 use Rattle.tatp_dispatch.specs.Worlds.{WorldState}
-use Rattle.tatp_dispatch.proofs.CallingLaws.{StillRuns, same_run}
+use Rattle.tatp_dispatch.proofs.CallingLaws.{StillRuns, same_run, replied_last, transacts_once}
 use Rattle.tatp_dispatch.proofs.CountLaws.{get_set_same}
 
 -- ---- lists of one thing
@@ -105,17 +105,6 @@ begun_runs w w' p client b = (
 )
 
 -- ---- the end
--- what a step answers where the call didn't go on
-pub record IsEndAnswer (obstacle : Option Refusal) (w : WorldState) (p : ℕ) (w' : WorldState) : Type 0 where
-  pub free : obstacle ≡ None
-  pub completion : Completion
-  pub ends : EndsAt w p completion w'
-
-pub end_answered : (obstacle : Option Refusal) (w : WorldState) (p : ℕ) (answer : Answer) (w' : WorldState) → AdvancesAt obstacle w p (Ok answer) w' → (answer ≡ Moved → ⊥) → IsEndAnswer obstacle w p w'
-end_answered obstacle w p Moved w' h other = absurd (other refl)
-end_answered obstacle w p (Ended client reply) w' h other = record { free = h.0; completion = h.1.0; ends = h.1.3 }
-end_answered obstacle w p answer w' h other = absurd h
-
 -- a call that ends is its client's, and its reply is that of the last completion
 pub ends_briefly : (w mid w' : WorldState) (p k client : ℕ) (ask : Ask) (completion : Completion) → MovesFor k w p mid → StillRuns mid p client ask → step_obstacle_at mid p ≡ None → EndsAt mid p completion w' → IsWorld w' → GoesBriefly (StepsUpTo w p) client true w'
 ends_briefly w mid w' p k client ask completion moves runs free e good =
@@ -130,13 +119,35 @@ ends_briefly w mid w' p k client ask completion moves runs free e good =
     )
 
 -- with its reply told
-pub one_call : (w w' : WorldState) (client : ℕ) (ask : Ask) (done : Bool) (reply : Reply) → GoesBriefly (GoesUpTo w client ask) client done w' → CallsBriefly w client ask done w' → done ≡ true → IsLastReply w' reply → IsOneCall w client ask (Some reply) w'
+one_call : (w w' : WorldState) (client : ℕ) (ask : Ask) (done : Bool) (reply : Reply) → GoesBriefly (GoesUpTo w client ask) client done w' → CallsBriefly w client ask done w' → done ≡ true → IsLastReply w' reply → IsOneCall w client ask (Some reply) w'
 one_call w w' client ask false reply goes calls is last = absurd (false≢true is)
 one_call w w' client ask true reply (told, told_last, goes) calls is last =
     let k = calls.1 in
     let same : told ≡ reply = told_last w.completions k.entry k.completions ∙ sym (last w.completions k.entry k.completions) in
     subst (λ (r : Reply). GoesUpTo w client ask (Ok (Ended client r)) w') same goes
 
-pub no_call : (w w' : WorldState) (client : ℕ) (ask : Ask) (done : Bool) → GoesBriefly (GoesUpTo w client ask) client done w' → done ≡ false → IsOneCall w client ask None w'
+no_call : (w w' : WorldState) (client : ℕ) (ask : Ask) (done : Bool) → GoesBriefly (GoesUpTo w client ask) client done w' → done ≡ false → IsOneCall w client ask None w'
 no_call w w' client ask true goes is = absurd (false≢true (sym is))
 no_call w w' client ask false goes is = goes
+
+-- ---- with all that it does
+pub call_made : (w w' : WorldState) (client : ℕ) (ask : Ask) (done : Bool) (reply : Reply) → IsWorld w → GoesBriefly (GoesUpTo w client ask) client done w' → CallsBriefly w client ask done w' → w'.modul ≡ w.modul → IsWorld w' → done ≡ true → IsLastReply w' reply → MakesCall w client ask (Some reply) w'
+call_made w w' client ask done reply good goes calls same good' is last =
+    let once : CallsOnce w client ask (Some reply) w' = replied_last w w' client ask done reply calls is last in
+    record {
+      events = one_call w w' client ask done reply goes calls is last;
+      call = once;
+      transaction = transacts_once w w' client ask (Some reply) good once;
+      modul = same;
+      world = good';
+    }
+
+pub no_call_made : (w w' : WorldState) (client : ℕ) (ask : Ask) (done : Bool) → GoesBriefly (GoesUpTo w client ask) client done w' → CallsBriefly w client ask done w' → w'.modul ≡ w.modul → IsWorld w' → done ≡ false → MakesCall w client ask None w'
+no_call_made w w' client ask true goes calls same good' is = absurd (false≢true (sym is))
+no_call_made w w' client ask false goes calls same good' is = record {
+  events = no_call w w' client ask false goes is;
+  call = calls;
+  transaction = tt;
+  modul = same;
+  world = good';
+}

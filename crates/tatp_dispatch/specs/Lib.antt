@@ -22,3 +22,4 @@ pub mod Benchmark
 pub mod Offering
 pub mod Carrying
 pub mod Checkpointing
+pub mod Lending

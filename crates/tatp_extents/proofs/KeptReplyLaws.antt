@@ -14,14 +14,14 @@ part_of_more xs more first count within =
 
 -- with more outputs behind them, outputs stand where they stood
 pub stands_still : (outputs more : List ℕ) (r : KeptReply) → StandsIn outputs r → StandsIn (outputs ++ more) r
-stands_still outputs more (Values first count) h = (omega (arith, h.0, length-append outputs more), h.1)
+stands_still outputs more (Values count first) h = (omega (arith, h.0, length-append outputs more), h.1)
 stands_still outputs more (Failed n) h = tt
 stands_still outputs more (Trapped trap) h = tt
 stands_still outputs more Refused h = tt
 
 -- and the reply is the same
 pub same_reply : (outputs more : List ℕ) (r : KeptReply) → StandsIn outputs r → reply_in (outputs ++ more) r ≡ reply_in outputs r
-same_reply outputs more (Values first count) h = ap (λ (xs : List ℕ). reply.Values xs) (part_of_more outputs more first count h.0)
+same_reply outputs more (Values count first) h = ap (λ (xs : List ℕ). reply.Values xs) (part_of_more outputs more first count h.0)
 same_reply outputs more (Failed n) h = refl
 same_reply outputs more (Trapped trap) h = refl
 same_reply outputs more Refused h = refl

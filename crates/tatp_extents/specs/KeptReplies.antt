@@ -4,8 +4,6 @@ use Rattle.tatp_procs.specs.declared.reply.Reply.{Reply}
 use Rattle.tatp_procs.specs.declared.reply.Reply.TheVariants as reply
 use Rattle.tatp_extents.specs.declared.kept_reply.KeptReply.{KeptReply}
 use Rattle.tatp_extents.specs.declared.kept_reply.KeptReply.TheVariants.{Values, Failed, Trapped, Refused}
-use Rattle.tatp_extents.specs.declared.kept_reply.ReplyRef.{ReplyRef}
-use Rattle.tatp_extents.specs.declared.kept_reply.ReplyRef.TheVariants as seen
 
 -- how many outputs a reply has at most
 abbrev pub most_outputs : ℕ
@@ -13,24 +11,17 @@ most_outputs = 40
 
 -- the outputs of the reply stand in this list
 abbrev pub StandsIn : List ℕ → KeptReply → Type 0
-StandsIn outputs (Values first count) = (first + count ≤ length outputs) × (count ≤ most_outputs)
+StandsIn outputs (Values count first) = (first + count ≤ length outputs) × (count ≤ most_outputs)
 StandsIn outputs (Failed n) = Unit {0}
 StandsIn outputs (Trapped trap) = Unit {0}
 StandsIn outputs Refused = Unit {0}
 
 -- the reply whose outputs stand in this list
 abbrev pub reply_in : List ℕ → KeptReply → Reply
-reply_in outputs (Values first count) = reply.Values (slice_range outputs first (first + count))
+reply_in outputs (Values count first) = reply.Values (slice_range outputs first (first + count))
 reply_in outputs (Failed n) = reply.Failed n
 reply_in outputs (Trapped trap) = reply.Trapped trap
 reply_in outputs Refused = reply.Refused
-
--- the reply whose outputs stand elsewhere
-abbrev pub reply_seen : ReplyRef → Reply
-reply_seen (seen.Values outputs) = reply.Values outputs.now
-reply_seen (seen.Failed n) = reply.Failed n
-reply_seen (seen.Trapped trap) = reply.Trapped trap
-reply_seen seen.Refused = reply.Refused
 
 -- for how many more replies there is room, where there is room for so many calls and so many
 -- outputs

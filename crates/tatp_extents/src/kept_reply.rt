@@ -1,10 +1,11 @@
 //! Replies as lists of many keep them: with as many outputs as each has.
 ghost use Rattle.std.specs.Prelude.{◌≡◌, ◌+◌, ◌≤◌, ◌↔◌, ◌++◌, ℕ, List, IsTrue, vec_len};
 ghost use Rattle.std.specs.Vec.{vec_capacity};
-ghost use Rattle.tatp_extents.specs.KeptReplies.{StandsIn, reply_in, reply_seen, most_outputs};
+ghost use Rattle.tatp_procs.specs.Replies.{reply_seen};
+ghost use Rattle.tatp_extents.specs.KeptReplies.{StandsIn, reply_in, most_outputs};
 
 use tatp_machine::Trap;
-use tatp_procs::{Outputs, Reply};
+use tatp_procs::{Outputs, Reply, ReplyRef};
 
 /// The most outputs of a reply.
 pub const MOST_OUTPUTS: usize = 40;
@@ -14,20 +15,7 @@ pub const MOST_OUTPUTS: usize = 40;
 #[derive(Clone, Copy, Debug)]
 pub enum KeptReply {
     /// It ended with so many outputs, which stand from this place on.
-    Values { first: usize, count: u8 },
-    /// It ended with a failure.
-    Failed(u32),
-    /// It was stopped.
-    Trapped(Trap),
-    /// It was not begun.
-    Refused,
-}
-
-/// A reply whose outputs stand elsewhere.
-#[derive(Clone, Copy, Debug)]
-pub enum ReplyRef<'a> {
-    /// It ended with these outputs.
-    Values(&'a [u64]),
+    Values { count: u8, first: usize },
     /// It ended with a failure.
     Failed(u32),
     /// It was stopped.

@@ -20,7 +20,7 @@ pub use chapter::{Chapter, CheckpointError, what_holds_of_every_chapter};
 pub use extent::{Extent, what_holds_of_every_extent};
 pub use extent_numbers::{EXTENT_SIZE, extent_count, extent_of, first_subscriber};
 pub use homeless::{Homeless, what_holds_of_every_homeless_log};
-pub use kept_reply::{KeptReply, MOST_OUTPUTS, ReplyRef};
+pub use kept_reply::{KeptReply, MOST_OUTPUTS};
 pub use log::Log;
 pub use open_error::OpenError;
 pub use opening::{admit, discard, open, open_clean, reserve_logs};

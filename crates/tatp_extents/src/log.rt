@@ -1,16 +1,17 @@
 //! Logs: completed transactions, kept with as many outputs as each has.
 ghost use Rattle.std.specs.Prelude.{◌≡◌, ◌+◌, ◌<◌, ◌≤◌, ◌↔◌, IsTrue, Some, [], ◌∷◌, ◌++◌, ◌==◌, IfOk, OnOk, length, slice_get, vec_len};
 ghost use Rattle.std.specs.Vec.{vec_capacity};
+ghost use Rattle.tatp_procs.specs.Replies.{reply_seen};
 ghost use Rattle.tatp_extents.specs.Extents.{last_stamp_from};
 ghost use Rattle.tatp_extents.specs.Logs.{AsksTransaction, HasSaid, IsOfCall};
-ghost use Rattle.tatp_extents.specs.KeptReplies.{StandsIn, reply_seen};
+ghost use Rattle.tatp_extents.specs.KeptReplies.{StandsIn};
 ghost use Rattle.tatp_extents.specs.LoggedCalls.{entry_in};
 
-use crate::kept_reply::{KeptReply, MOST_OUTPUTS, ReplyRef};
+use crate::kept_reply::{KeptReply, MOST_OUTPUTS};
 use std::alloc::{AllocError, Global};
 use std::marker::Model;
 use std::mem;
-use tatp_procs::{Ask, Call, Entry};
+use tatp_procs::{Ask, Call, Entry, ReplyRef};
 
 /// How many outputs a call has, where room is made for many calls: one of the mix has 13 on
 /// average.

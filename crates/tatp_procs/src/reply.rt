@@ -2,7 +2,7 @@
 ghost use Rattle.std.specs.Prelude.{◌≡◌, ◌≤◌, length, nat_eq};
 ghost use Rattle.std.specs.Cmp.{partial_equiv_from_equiv};
 ghost use Rattle.std.specs.Cmp.Lexicographic.{pointwise, nat_list_eq_equiv};
-ghost use Rattle.tatp_procs.specs.Replies.{reply_to};
+ghost use Rattle.tatp_procs.specs.Replies.{reply_seen, reply_to};
 
 use std::marker::Model;
 use tatp_machine::{End, Trap};
@@ -94,7 +94,32 @@ pub enum Reply {
     Refused,
 }
 
+/// A reply whose outputs stand elsewhere.
+#[derive(Clone, Copy, Debug)]
+pub enum ReplyRef<'a> {
+    /// It ended with these outputs.
+    Values(&'a [u64]),
+    /// It ended with a failure.
+    Failed(u32),
+    /// It was stopped.
+    Trapped(Trap),
+    /// It was not begun.
+    Refused,
+}
+
 impl Reply {
+    /// The reply, with its outputs where they stand.
+    pub fn as_ref(&self) -> ReplyRef<'_>
+        ensures { reply_seen result ≡ self.now }
+    {
+        match self {
+            Reply::Values(values) => ReplyRef::Values(values.as_slice()),
+            Reply::Failed(number) => ReplyRef::Failed(*number),
+            Reply::Trapped(trap) => ReplyRef::Trapped(*trap),
+            Reply::Refused => ReplyRef::Refused,
+        }
+    }
+
     /// The reply to a call that ended so, with these outputs, in place of this one. Outputs go
     /// where outputs stand, so that only as many are copied as there are.
     ///

@@ -3,18 +3,20 @@ ghost use Rattle.std.specs.Prelude.{◌≡◌, ◌++◌, IfOk, OnErr, OnOk, code
 ghost use Rattle.std.specs.String.{string_bytes};
 ghost use Rattle.tatp_machine.specs.Traps.{trap_name};
 ghost use Rattle.tatp_procs.specs.Extends.{Extends};
+ghost use Rattle.tatp_procs.specs.Replies.{reply_seen};
 ghost use Rattle.tatp_procs.specs.ReplyText.{answer_columns, reply_columns, reply_text};
 
 use crate::columns::NUMBERX;
 use crate::values::push_values;
-use crate::{Ask, Call, Reply};
+use crate::{Ask, Call, ReplyRef};
 use std::alloc::{AllocError, Global};
 use tatp_lines::push_decimal;
 use tatp_machine::Trap;
 
 /// The line of a reply to what was asked.
-pub fn reply_text(alloc: Global, ask: &Ask, reply: &Reply) -> Result<String, AllocError>
-    ensures { IfOk result (λ text. string_bytes text ≡ reply_text ask.now reply.now) }
+pub fn reply_text(alloc: Global, ask: &Ask, reply: ReplyRef<'_>) -> Result<String, AllocError>
+    ensures { IfOk result
+        (λ text. string_bytes text ≡ reply_text ask.now (reply_seen reply.entry)) }
 {
     let mut text = String::new(alloc);
     push_reply(&mut text, ask, reply)?;
@@ -23,9 +25,9 @@ pub fn reply_text(alloc: Global, ask: &Ask, reply: &Reply) -> Result<String, All
 
 /// Appends the line of a reply to what was asked. An error leaves the text as it was.
 #[tactic(auto, using(crate::proofs::ExtendsLaws::may_be_cut, crate::proofs::ExtendsLaws::cut_back))]
-pub fn push_reply(text: &mut String, ask: &Ask, reply: &Reply) -> Result<(), AllocError>
-    ensures ok { OnOk result
-        (string_bytes text.new ≡ string_bytes text.old ++ reply_text ask.now reply.now) }
+pub fn push_reply(text: &mut String, ask: &Ask, reply: ReplyRef<'_>) -> Result<(), AllocError>
+    ensures ok { OnOk result (string_bytes text.new
+        ≡ string_bytes text.old ++ reply_text ask.now (reply_seen reply.entry)) }
     ensures err { OnErr result (string_bytes text.new ≡ string_bytes text.old) }
 {
     let before = text.len();
@@ -38,22 +40,22 @@ pub fn push_reply(text: &mut String, ask: &Ask, reply: &Reply) -> Result<(), All
 
 /// Appends the line of a reply to what was asked. An error may leave the line's beginning.
 #[tactic(auto, using(crate::proofs::PrintingLaws::words_and_values))]
-fn push_line(text: &mut String, ask: &Ask, reply: &Reply) -> Result<(), AllocError>
-    ensures ok { OnOk result
-        (string_bytes text.new ≡ string_bytes text.old ++ reply_text ask.now reply.now) }
+fn push_line(text: &mut String, ask: &Ask, reply: ReplyRef<'_>) -> Result<(), AllocError>
+    ensures ok { OnOk result (string_bytes text.new
+        ≡ string_bytes text.old ++ reply_text ask.now (reply_seen reply.entry)) }
     ensures err { OnErr result (Extends (string_bytes text.old) (string_bytes text.new)) }
 {
     match reply {
-        Reply::Values(values) => {
+        ReplyRef::Values(values) => {
             text.push_str("OK")?;
-            push_values(text, reply_columns(ask), values.as_slice())
+            push_values(text, reply_columns(ask), values)
         }
-        Reply::Failed(number) => {
+        ReplyRef::Failed(number) => {
             text.push_str("FAILED ")?;
-            push_decimal(text, u64::from(*number))
+            push_decimal(text, u64::from(number))
         }
-        Reply::Trapped(trap) => text.push_str(trapped(trap)),
-        Reply::Refused => text.push_str("REFUSED 46 NoMemory"),
+        ReplyRef::Trapped(trap) => text.push_str(trapped(&trap)),
+        ReplyRef::Refused => text.push_str("REFUSED 46 NoMemory"),
     }
 }
 

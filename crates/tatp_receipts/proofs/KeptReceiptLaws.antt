@@ -13,7 +13,7 @@ use Rattle.tatp_receipts.specs.KeptReceipts.{StandsWith, AllStand, receipt_in}
 
 -- with more outputs behind them, receipts stand where they stood
 stands_with_more : (outputs more : List ℕ) (x : KeptReceipt) → StandsWith outputs x → StandsWith (outputs ++ more) x
-stands_with_more outputs more (Done client number reply extent stamp) h = stands_still outputs more reply h
+stands_with_more outputs more (Done extent client number reply stamp) h = stands_still outputs more reply h
 stands_with_more outputs more (Refused client number) h = tt
 
 all_stand_with_more : (outputs more : List ℕ) (kept : List KeptReceipt) → AllStand outputs kept → AllStand (outputs ++ more) kept
@@ -21,7 +21,7 @@ all_stand_with_more outputs more kept h = All-weaker (StandsWith outputs) (Stand
 
 -- and are the same
 same_receipt : (outputs more : List ℕ) (x : KeptReceipt) → StandsWith outputs x → receipt_in (outputs ++ more) x ≡ receipt_in outputs x
-same_receipt outputs more (Done client number reply extent stamp) h = ap (λ (r : Reply). receipt.Done client number r extent stamp) (same_reply outputs more reply h)
+same_receipt outputs more (Done extent client number reply stamp) h = ap (λ (r : Reply). receipt.Done client number r extent stamp) (same_reply outputs more reply h)
 same_receipt outputs more (Refused client number) h = refl
 
 same_receipts : (outputs more : List ℕ) (kept : List KeptReceipt) → AllStand outputs kept → map (receipt_in (outputs ++ more)) kept ≡ map (receipt_in outputs) kept

@@ -11,7 +11,7 @@ use Rattle.tatp_receipts.specs.Receipts.{ReceiptsState}
 
 -- the outputs of the receipt stand in this list
 abbrev pub StandsWith : List ℕ → KeptReceipt → Type 0
-StandsWith outputs (Done client number reply extent stamp) = StandsIn outputs reply
+StandsWith outputs (Done extent client number reply stamp) = StandsIn outputs reply
 StandsWith outputs (Refused client number) = Unit {0}
 
 abbrev pub AllStand : List ℕ → List KeptReceipt → Type 0
@@ -19,7 +19,7 @@ AllStand outputs kept = All (StandsWith outputs) kept
 
 -- the receipt whose outputs stand in this list
 abbrev pub receipt_in : List ℕ → KeptReceipt → Receipt
-receipt_in outputs (Done client number reply extent stamp) =
+receipt_in outputs (Done extent client number reply stamp) =
     receipt.Done client number (reply_in outputs reply) extent stamp
 receipt_in outputs (Refused client number) = receipt.Refused client number
 

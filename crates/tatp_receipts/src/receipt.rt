@@ -1,6 +1,5 @@
 //! What clients get.
-use tatp_extents::ReplyRef;
-use tatp_procs::Reply;
+use tatp_procs::{Reply, ReplyRef};
 
 /// What a client got for one of its calls.
 #[derive(Clone, Copy, Debug, PartialEq, Eq)]

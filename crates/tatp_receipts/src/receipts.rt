@@ -9,14 +9,14 @@ use std::alloc::{AllocError, Global};
 use std::marker::Model;
 use tatp_extents::{KeptReply, MOST_OUTPUTS};
 
-/// A receipt whose outputs stand in the list of all outputs.
+/// A receipt whose outputs stand in the list of all outputs. In this order its fields take 48 bytes.
 #[derive(Clone, Copy, Debug)]
 pub(crate) enum KeptReceipt {
     Done {
+        extent: u32,
         client: u64,
         number: u64,
         reply: KeptReply,
-        extent: u32,
         stamp: u64,
     },
     Refused {

@@ -44,7 +44,7 @@ pub fn settle<R: Threads + Sync>(
     };
     match judge(rt, alloc, &run) {
         Ok(settled) => {
-            closed.discard();
+            closed.discard(rt);
             Ok(settled)
         }
         Err(error) => Err(NotSettled { error, closed }),

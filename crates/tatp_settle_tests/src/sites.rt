@@ -66,7 +66,7 @@ pub fn begins(site: &mut Site<'_>, alloc: Global, item: Item) -> Result<bool, Si
     if !site.fits(&item) {
         return Ok(false);
     }
-    match site.offer_begin(alloc, item) {
+    match site.offer_begin(alloc, &item) {
         Ok(Offer::Began) => Ok(true),
         Ok(_) => Ok(false),
         Err(refusal) => Err(refusal),

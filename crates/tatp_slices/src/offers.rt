@@ -43,7 +43,7 @@ pub fn offer(site: &mut Site<'_>, alloc: Global, item: &Item) -> Offered
     if !site.fits(item) {
         return Offered::Dropped(*item);
     }
-    match site.offer_begin(alloc, *item) {
+    match site.offer_begin(alloc, item) {
         Ok(Offer::Began) => Offered::Began,
         Ok(Offer::Away(back)) => Offered::Away(back),
         Ok(Offer::Denied(back)) => Offered::Denied(back),

@@ -1,3 +1,4 @@
 mod RefusalLaws
+pub mod ObstacleLaws
 pub mod SendingLaws
 pub mod SeatLaws

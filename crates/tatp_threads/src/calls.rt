@@ -1,12 +1,18 @@
 //! Whether the calls of a run can be run.
-ghost use Rattle.std.specs.Prelude.{◌≡◌, IfOk};
+ghost use Rattle.std.specs.Prelude.{◌≡◌, ◌<◌, IfOk};
+ghost use denote.Param.Send.{IsSync};
 ghost use Rattle.tatp_procs.specs.Asked.{arities_of};
 ghost use Rattle.tatp_threads.specs.Calls.{obstacle_to, obstacle_in, obstacle_among};
 
 use crate::RunRefusal;
 use std::alloc::{AllocError, Global};
+use std::thread::{Threads, join};
 use tatp_loader::Loaded;
 use tatp_procs::Ask;
+
+/// How often the clients are halved, where the calls of each half are looked through by a thread of
+/// its own, where one can be made.
+const HALVINGS: u32 = 2;
 
 /// How many arguments each procedure of a module takes.
 pub(crate) fn arities_of(alloc: Global, loaded: &Loaded) -> Result<Vec<u8>, AllocError>
@@ -45,8 +51,8 @@ fn obstacle_in(loaded: &Loaded, asks: &[Ask]) -> Option<RunRefusal>
     None
 }
 
-/// What stands against the first call of the first client that can't be run.
-pub(crate) fn obstacle_among(loaded: &Loaded, lists: &[Vec<Ask>]) -> Option<RunRefusal>
+/// What stands against the first call of the first client that can't be run, by this thread alone.
+fn obstacle_in_turn(loaded: &Loaded, lists: &[Vec<Ask>]) -> Option<RunRefusal>
     ensures { result ≡ obstacle_among loaded.now lists.now }
 {
     for list in lists {
@@ -55,4 +61,42 @@ pub(crate) fn obstacle_among(loaded: &Loaded, lists: &[Vec<Ask>]) -> Option<RunR
         }
     }
     None
+}
+
+/// As `obstacle_in_turn`, by halves of the clients, each by a thread of its own, where one can be
+/// made.
+#[cycle(halves)]
+fn obstacle_in_parts<R: Threads + Sync>(
+    rt: &R,
+    loaded: &Loaded,
+    lists: &[Vec<Ask>],
+    halvings: u32,
+) -> Option<RunRefusal>
+    ensures { result ≡ obstacle_among loaded.now lists.now }
+{
+    if halvings == 0 || lists.len() < 2 {
+        return obstacle_in_turn(loaded, lists);
+    }
+    let (low, high) = lists.split_at(lists.len() / 2);
+    let lower = || -> Option<RunRefusal>
+        requires { IsSync R.row × (0 < halvings) }
+        ensures { result ≡ obstacle_among loaded.entry.now low.entry.now }
+    { obstacle_in_parts(rt, loaded, low, halvings - 1) };
+    let upper = || -> Option<RunRefusal>
+        requires { IsSync R.row × (0 < halvings) }
+        ensures { result ≡ obstacle_among loaded.entry.now high.entry.now }
+    { obstacle_in_parts(rt, loaded, high, halvings - 1) };
+    let (front, back) = join(rt, lower, upper);
+    front.or(back)
+}
+
+/// What stands against the first call of the first client that can't be run.
+pub(crate) fn obstacle_among<R: Threads + Sync>(
+    rt: &R,
+    loaded: &Loaded,
+    lists: &[Vec<Ask>],
+) -> Option<RunRefusal>
+    ensures { result ≡ obstacle_among loaded.now lists.now }
+{
+    obstacle_in_parts(rt, loaded, lists, HALVINGS)
 }

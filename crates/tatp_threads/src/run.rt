@@ -215,7 +215,7 @@ pub fn run_calls<'m, R: Threads + Wait + Sync, G: Gate + Sync>(
         Ok(opened) => opened,
         Err(error) => return Err(refusal_of(error)),
     };
-    if let Some(refusal) = obstacle_among(loaded, lists) {
+    if let Some(refusal) = obstacle_among(rt, loaded, lists) {
         discard(extents);
         return Err(refusal);
     }

@@ -57,7 +57,7 @@ fn push_pieces(text: &mut String, last: Option<Ask>, answer: &Answer) -> Result<
         Answer::Ended(client, reply) => {
             push_number(text, "ENDED ", *client)?;
             text.push_str(" ")?;
-            push_reply(text, &last_asked(last), reply)
+            push_reply(text, &last_asked(last), reply.as_ref())
         }
         Answer::Parcel(extent, moves) => {
             push_numbers(text, "PARCEL ", u64::from(*extent), u64::from(*moves))

@@ -7,7 +7,7 @@ use tatp_dispatch::{Answer, Event, Refusal, World};
 use tatp_loader::{LoadFault, LoadFaultKind, Loaded, save};
 use tatp_numbers::Key;
 use tatp_partition::SiteRefusal;
-use tatp_procs::{Ask, Raw, Reply, STANDARD, STANDARD_1, is_standard, read_call, reply_text};
+use tatp_procs::{Ask, Raw, ReplyRef, STANDARD, STANDARD_1, is_standard, read_call, reply_text};
 use tatp_settle_tests::rows::clean_rows;
 use tatp_settle_tests::sites::module;
 use tatp_tables::{Row, Rows};
@@ -98,10 +98,10 @@ fn forwarded_rows(alloc: Global) -> Result<Rows, AllocError> {
 }
 
 /// Whether the reply's line is this; `none` is that of no reply.
-fn is_line(alloc: Global, ask: &Ask, reply: Option<Reply>, wanted: &str) -> bool {
+fn is_line(alloc: Global, ask: &Ask, reply: Option<ReplyRef<'_>>, wanted: &str) -> bool {
     match reply {
         None => wanted == "none",
-        Some(reply) => match reply_text(alloc, ask, &reply) {
+        Some(reply) => match reply_text(alloc, ask, reply) {
             Ok(text) => text.as_str() == wanted,
             Err(_) => false,
         },

@@ -4,6 +4,7 @@ use crate::events::{Event, Left, left_at};
 use crate::sites::{module, spend_parcels};
 use std::alloc::{AllocError, Global};
 use std::test::Fail;
+use std::thread::Threads;
 use tatp_partition::{close_sites, discard_all};
 use tatp_settle::{Closed, NotGathered, gather};
 
@@ -11,13 +12,14 @@ use tatp_settle::{Closed, NotGathered, gather};
 type Back = (usize, usize, usize, Option<u32>);
 
 /// The text of why nothing is gathered, and what came back. None where all was gathered.
-fn refused(
+fn refused<R: Threads + Sync>(
+    rt: &R,
     alloc: Global,
     gathered: Result<Closed, NotGathered<'_>>,
 ) -> Result<Option<(String, Back)>, AllocError> {
     match gathered {
         Ok(closed) => {
-            closed.discard();
+            closed.discard(rt);
             Ok(None)
         }
         Err(
@@ -40,7 +42,8 @@ fn refused(
 
 /// The same of what a run at the sites of these partitions leaves. None also where one of its
 /// events did not happen.
-fn refused_of(
+fn refused_of<R: Threads + Sync>(
+    rt: &R,
     alloc: Global,
     partitions: &[u8],
     events: &[Event],
@@ -54,7 +57,7 @@ fn refused_of(
                 parcels,
                 chapters,
             },
-        ) => refused(alloc, gather(alloc, sites, parcels, chapters)),
+        ) => refused(rt, alloc, gather(alloc, sites, parcels, chapters)),
     }
 }
 
@@ -88,7 +91,7 @@ static MISSING: [Case<'static>; 5] = [
 #[test]
 fn missing_extents(rt: HostRuntime) -> Result<(), Fail> {
     for (partitions, events, text, back) in &MISSING {
-        match refused_of(rt.alloc(), partitions, events)? {
+        match refused_of(&rt, rt.alloc(), partitions, events)? {
             None => return Err("an event that did not happen, or gathered".into()),
             Some((said, came)) => {
                 assert_eq!(rt; said.as_str(), *text);

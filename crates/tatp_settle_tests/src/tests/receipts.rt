@@ -1,8 +1,7 @@
 //! Receipts as a client keeps them.
 
 use std::test::Fail;
-use tatp_extents::ReplyRef;
-use tatp_procs::{Outputs, Reply};
+use tatp_procs::{Outputs, Reply, ReplyRef};
 use tatp_receipts::{Receipt, ReceiptRef, Receipts};
 
 /// What client 7 got for its call with this number.

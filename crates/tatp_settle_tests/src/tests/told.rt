@@ -51,7 +51,7 @@ fn told<R: Threads + Sync>(
     match settle(rt, alloc, population, closed, receipts, calls) {
         Ok(settled) => Ok(Ok(settled)),
         Err(NotSettled { error, closed }) => {
-            closed.discard();
+            closed.discard(rt);
             Ok(Err(format!(in alloc; "{error}")?))
         }
     }

@@ -10,9 +10,8 @@ use std::sync::atomic::{AtomicU64, Ordering};
 use std::test::*;
 use std::thread::Threads;
 use tatp_dispatch::World;
-use tatp_extents::ReplyRef;
 use tatp_partition::{Site, close_sites};
-use tatp_procs::{Ask, Call, Reply};
+use tatp_procs::{Ask, Call, ReplyRef};
 use tatp_receipts::{ReceiptRef, Receipts};
 use tatp_settle_tests::rows::clean_rows;
 use tatp_settle_tests::sites::module;
@@ -249,10 +248,10 @@ fn next_client(clock: &StepClock, made: &[usize; CLIENTS as usize]) -> Option<us
 }
 
 /// Whether a reply is that of a receipt.
-fn is_reply(reply: &Reply, seen: ReplyRef<'_>) -> bool {
+fn is_reply(reply: ReplyRef<'_>, seen: ReplyRef<'_>) -> bool {
     match (reply, seen) {
-        (Reply::Values(values), ReplyRef::Values(seen)) => values.as_slice() == seen,
-        (Reply::Failed(failure), ReplyRef::Failed(seen)) => *failure == seen,
+        (ReplyRef::Values(values), ReplyRef::Values(seen)) => values == seen,
+        (ReplyRef::Failed(failure), ReplyRef::Failed(seen)) => failure == seen,
         _ => false,
     }
 }
@@ -267,7 +266,7 @@ fn is_same(
     match (ask, receipt) {
         (Some(ask), Some(ReceiptRef::Done { reply, .. })) => {
             match world.call(client as u64, *ask) {
-                Some(again) => is_reply(&again, reply),
+                Some(again) => is_reply(again, reply),
                 None => false,
             }
         }

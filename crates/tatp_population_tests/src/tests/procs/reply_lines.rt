@@ -69,8 +69,8 @@ fn expect_line(
     line: &str,
 ) -> Result<(), AllocError> {
     let alloc = *text.allocator();
-    assert_eq!(rt; reply_text(alloc, ask, reply)?.as_str(), line);
-    push_reply(text, ask, reply)?;
+    assert_eq!(rt; reply_text(alloc, ask, reply.as_ref())?.as_str(), line);
+    push_reply(text, ask, reply.as_ref())?;
     assert!(rt; text.as_str().ends_with(line));
     text.push_str("\n")
 }

@@ -10,7 +10,7 @@ use Rattle.tatp_receipts.proofs.receipts.Receipts.push.Goals as goal
 pub returns-in-Done-clause-receipts : goal.returns-in-Done-clause-receipts
 returns-in-Done-clause-receipts c =
     pushed c.self.inside.outputs.items c.keep-reply.new.outputs.items c.self.inside.kept.items c.push_reserved.new.self.items c.args.self.now.receipts c.args.receipt.now
-    (Done c.in-Done.client c.in-Done.number c.keep-reply.result c.in-Done.extent c.in-Done.stamp)
+    (Done c.in-Done.extent c.in-Done.client c.in-Done.number c.keep-reply.result c.in-Done.stamp)
     c.self.invariant c.keep-reply.ensures.behind c.push_reserved.ensures.items (ap (λ (x : ReceiptsState). x.receipts) c.self.view_is)
     (ap (λ (r : Reply). receipt.Done c.in-Done.client c.in-Done.number r c.in-Done.extent c.in-Done.stamp) c.keep-reply.ensures.reply ∙ sym c.in-Done.is)
 

@@ -1,4 +1,4 @@
-use Rattle.std.proofs.Common.{rules, ◌≡◌, ◌+◌, ◌*◌, ◌<◌, ◌^◌, None, length, vec_len, sym, ap, ◌∙◌, subst, arith, inl, inr}
+use Rattle.std.proofs.Common.{◌≡◌, ◌+◌, ◌*◌, ◌<◌, ◌^◌, None, length, vec_len, sym, ap, ◌∙◌, subst, arith, inl, inr}
 use Rattle.std.proofs.lemmas.Result.{IfOk-weaker, IfErr-weaker}
 use Rattle.tatp_settle.specs.declared.settled.Settled.{Settled}
 use Rattle.tatp_settle.specs.Runs.{Run, joined, lists_of}
@@ -9,27 +9,28 @@ use Rattle.tatp_bench.specs.SettledRuns.{run_left, SettlesRun, RefusesToSettleRu
 use Rattle.tatp_drawing.specs.Drawing.{rows_drawn, calls_drawn}
 use Rattle.tatp_bench.proofs.PlanLaws.{few_calls, calls_are_run, rows_are_opened, run_refused, clients_listed}
 use Rattle.tatp_bench.proofs.SettlingLaws.{left_of_plan, plan_settled, plan_refused, plan_counted}
-use Rattle.tatp_bench.proofs.bench.run_drawn.Given as given
-use Rattle.tatp_bench.proofs.bench.run_drawn.Goals as goal
+use Rattle.tatp_bench.proofs.bench.run_lists.Given as given
+use Rattle.tatp_bench.proofs.bench.run_lists.Goals as goal
+use Rattle.tatp_bench.proofs.bench.run_lists.Goals.{After-settle_run}
 
 pub run_calls-requires-clause-some_clients : goal.run_calls-requires-clause-some_clients
 run_calls-requires-clause-some_clients g c κs within =
-    let same : lists_of c.as_slice-lists.result.now ≡ calls_drawn c.args.plan.now = search rules in
-    omega (arith, clients_listed c.args.plan.now c.as_slice-lists.result.now same, c.requires.plan.clients.0)
+    let same : lists_of c.args.lists.now ≡ calls_drawn c.args.plan.now = c.requires.calls in
+    omega (arith, clients_listed c.args.plan.now c.args.lists.now same, c.requires.plan.clients.0)
 
 pub run_calls-requires-clause-few_clients : goal.run_calls-requires-clause-few_clients
 run_calls-requires-clause-few_clients g c κs within =
-    let same : lists_of c.as_slice-lists.result.now ≡ calls_drawn c.args.plan.now = search rules in
-    omega (arith, clients_listed c.args.plan.now c.as_slice-lists.result.now same, c.requires.plan.clients.1)
+    let same : lists_of c.args.lists.now ≡ calls_drawn c.args.plan.now = c.requires.calls in
+    omega (arith, clients_listed c.args.plan.now c.args.lists.now same, c.requires.plan.clients.1)
 
 pub fault_of-requires : goal.fault_of-requires
 fault_of-requires g c =
     let plan = c.args.plan.now in
-    let lists = c.as_slice-lists.result.now in
-    let same : lists_of lists ≡ calls_drawn plan = search rules in
-    let drawn : c.parts-population.result.1 ≡ rows_drawn plan = search rules in
-    let none : obstacle_among c.in_ok-loaded.loaded lists ≡ None = subst (λ modul. obstacle_among modul lists ≡ None) (sym c.in_ok-loaded.ensures.value) (calls_are_run plan lists c.requires.plan same) in
-    run_refused c.in_ok-loaded.loaded c.parts-population.result.1 lists c.in-Err.refusal (rows_are_opened plan c.parts-population.result.1 c.requires.plan c.requires.drawn.clean drawn) none c.in-Err.ensures.refusal
+    let lists = c.args.lists.now in
+    let same : lists_of lists ≡ calls_drawn plan = c.requires.calls in
+    let drawn : c.args.rows ≡ rows_drawn plan = c.requires.rows in
+    let none : obstacle_among c.args.loaded.now lists ≡ None = subst (λ modul. obstacle_among modul lists ≡ None) (sym c.requires.standard) (calls_are_run plan lists c.requires.plan same) in
+    run_refused c.args.loaded.now c.args.rows lists c.in-Err.refusal (rows_are_opened plan c.args.rows c.requires.plan c.requires.clean drawn) none c.in-Err.ensures.refusal
 
 pub returns-in-Err-clause-refusal : goal.returns-in-Err-clause-refusal
 returns-in-Err-clause-refusal g c = elim c.fault_of.ensures as (λ _. RefusesBench c.args.plan.now c.fault_of.result) [
@@ -39,37 +40,37 @@ returns-in-Err-clause-refusal g c = elim c.fault_of.ensures as (λ _. RefusesBen
 
 pub settle_run-requires-clause-few : goal.settle_run-requires-clause-few
 settle_run-requires-clause-few g c κs within =
-    let same : lists_of c.as_slice-lists.result.now ≡ calls_drawn c.args.plan.now = search rules in
+    let same : lists_of c.args.lists.now ≡ calls_drawn c.args.plan.now = c.requires.calls in
     subst (λ lists. length (joined lists) < 2 ^ 64) (sym same) (few_calls c.args.plan.now c.requires.plan)
 
 -- what the threads left
-abbrev left : (g : given.Over) (c : goal.After-drop-loaded-inside-2 g) → Run
-left g c = run_left c.parts-population.result.0 c.parts.result c.as_slice-lists.result.now
+abbrev left : (g : given.Over) (c : After-settle_run g) → Run
+left g c = run_left c.args.population.now c.parts.result c.args.lists.now
 
 -- it is a run of the plan
-of_plan : (g : given.Over) (c : goal.After-drop-loaded-inside-2 g) → IsRunOf c.args.plan.now (left g c)
+of_plan : (g : given.Over) (c : After-settle_run g) → IsRunOf c.args.plan.now (left g c)
 of_plan g c =
     let plan = c.args.plan.now in
-    let lists = c.as_slice-lists.result.now in
+    let lists = c.args.lists.now in
     let parts = c.parts.result in
-    let same : lists_of lists ≡ calls_drawn plan = search rules in
-    let population : c.parts-population.result.0 ≡ rows_drawn plan = search rules in
+    let same : lists_of lists ≡ calls_drawn plan = c.requires.calls in
+    let population : c.args.population.now ≡ rows_drawn plan = c.requires.population in
     let sites : vec_len parts.sites ≡ plan.partitions = ap (λ (p : RanParts). vec_len p.sites) c.parts.ensures ∙ c.in-Ok.ensures.sites in
     let receipts : vec_len parts.receipts ≡ plan.clients = ap (λ (p : RanParts). vec_len p.receipts) c.parts.ensures ∙ (c.in-Ok.ensures.receipts ∙ clients_listed plan lists same) in
-    left_of_plan plan c.parts-population.result.0 parts lists population same sites receipts
+    left_of_plan plan c.args.population.now parts lists population same sites receipts
 
-pub returns-clause-settled : goal.returns-clause-settled
-returns-clause-settled g c =
+pub returns-in-Ok-clause-settled : goal.returns-in-Ok-clause-settled
+returns-in-Ok-clause-settled g c =
     let plan = c.args.plan.now in
     IfOk-weaker c.settle_run.result (SettlesRun (left g c)) (SettlesPlan plan) (plan_settled plan (left g c) (of_plan g c)) c.settle_run.ensures.settled
 
-pub returns-clause-calls : goal.returns-clause-calls
-returns-clause-calls g c =
+pub returns-in-Ok-clause-calls : goal.returns-in-Ok-clause-calls
+returns-in-Ok-clause-calls g c =
     let plan = c.args.plan.now in
     IfOk-weaker c.settle_run.result (SettlesRun (left g c)) (λ (settled : Settled). settled.completed + settled.refused ≡ plan.clients * plan.calls)
     (λ settled settles. plan_counted plan settled (plan_settled plan (left g c) (of_plan g c) settled settles)) c.settle_run.ensures.settled
 
-pub returns-clause-refusal : goal.returns-clause-refusal
-returns-clause-refusal g c =
+pub returns-in-Ok-clause-refusal : goal.returns-in-Ok-clause-refusal
+returns-in-Ok-clause-refusal g c =
     let plan = c.args.plan.now in
     IfErr-weaker c.settle_run.result (RefusesToSettleRun (left g c)) (RefusesBench plan) (plan_refused plan (left g c) (of_plan g c)) c.settle_run.ensures.refusal

@@ -7,7 +7,9 @@ use tatp_dispatch::{Answer, Event, Refusal, World};
 use tatp_loader::{LoadFault, LoadFaultKind, Loaded, save};
 use tatp_numbers::Key;
 use tatp_partition::SiteRefusal;
-use tatp_procs::{Ask, Raw, ReplyRef, STANDARD, STANDARD_1, is_standard, read_call, reply_text};
+use tatp_procs::{
+    Ask, Raw, Reply, ReplyRef, STANDARD, STANDARD_1, is_standard, read_call, reply_text,
+};
 use tatp_settle_tests::rows::clean_rows;
 use tatp_settle_tests::sites::module;
 use tatp_tables::{Row, Rows};
@@ -153,6 +155,14 @@ fn stepped(world: &mut World<'_>) -> (usize, Option<Reply>) {
     (5000, None)
 }
 
+/// The reply where it stands, if there is one.
+fn seen(reply: &Option<Reply>) -> Option<ReplyRef<'_>> {
+    match reply {
+        None => None,
+        Some(reply) => Some(reply.as_ref()),
+    }
+}
+
 /// Whether a call of the module's procedure 0, which takes one argument, goes on after so many
 /// steps and has this reply at the next: on the home of subscriber 1, and without a home.
 fn ends_after(
@@ -169,7 +179,8 @@ fn ends_after(
         let queued = world.apply(Event::Submit(0, ask)).is_ok();
         let began = world.apply(Event::Begin(0)).is_ok();
         let (steps, end) = stepped(&mut world);
-        all = queued && began && steps == moved && is_line(alloc, &ask, end, reply) && all;
+        let told = is_line(alloc, &ask, seen(&end), reply);
+        all = queued && began && steps == moved && told && all;
     }
     world.close();
     Ok(all)

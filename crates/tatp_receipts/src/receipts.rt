@@ -9,7 +9,7 @@ use std::alloc::{AllocError, Global};
 use std::marker::Model;
 use tatp_extents::{KeptReply, MOST_OUTPUTS};
 
-/// A receipt whose outputs stand in the list of all outputs. In this order its fields take 48 bytes.
+/// A receipt whose outputs stand in the list of all outputs. In this order it takes 48 bytes.
 #[derive(Clone, Copy, Debug)]
 pub(crate) enum KeptReceipt {
     Done {

@@ -1,11 +1,10 @@
 -- What is drawn for a plan can be run.
-use Rattle.std.specs.Prelude.{◌≡◌, ℕ, ◌*◌, ◌≤◌, ◌<◌, ◌^◌, ◌⊎◌, List, length, Some, None, Vec}
-use Rattle.std.proofs.Common.{refl, sym, ap, ◌∙◌, subst, arith, inl, inr, mul-le-mul}
+use Rattle.std.specs.Prelude.{◌≡◌, ℕ, ◌*◌, ◌≤◌, ◌<◌, ◌^◌, List, length, None, Vec}
+use Rattle.std.proofs.Common.{sym, ap, ◌∙◌, subst, arith, mul-le-mul}
 use Rattle.std.specs.declared.alloc.Global.{Global}
 use Rattle.std.proofs.lemmas.List.{length-map}
 use Rattle.std.proofs.lemmas.List.FromFn.{length-map-range_with_len}
 use Rattle.rand_core.specs.Stream.{next_u64}
-use Rattle.tatp_encoding.specs.Modules.{ModuleState}
 use Rattle.tatp_tables.specs.Clean.{IsClean}
 use Rattle.tatp_tables.specs.declared.row.Rows.{Rows}
 use Rattle.tatp_procs.specs.declared.ask.Ask.{Ask}
@@ -14,9 +13,7 @@ use Rattle.tatp_procs.specs.Standard.{standard_module}
 use Rattle.tatp_population.proofs.PopulatedLaws.{populated}
 use Rattle.tatp_driver.specs.DrawnWords.{words_of, client_generator}
 use Rattle.tatp_settle.specs.Runs.{joined, lists_of}
-use Rattle.tatp_threads.specs.declared.refusal.RunRefusal.{RunRefusal}
-use Rattle.tatp_threads.specs.declared.refusal.RunRefusal.TheVariants.{TooMany, NotClean, NoProcedure, BadArgument, NoMemory, NoThread}
-use Rattle.tatp_threads.specs.Calls.{obstacle_among, AreOpened, RefusesRun}
+use Rattle.tatp_threads.specs.Calls.{obstacle_among, AreOpened}
 use Rattle.tatp_tasks.specs.declared.plan.BenchPlan.{BenchPlan}
 use Rattle.tatp_tasks.specs.Plans.{IsPlan}
 use Rattle.tatp_drawing.specs.Drawing.{stream_numbered, rows_drawn, next_calls, client_calls, calls_drawn}
@@ -49,13 +46,3 @@ pub rows_are_opened : (plan : BenchPlan) (rows : Rows) → IsPlan plan → IsCle
 rows_are_opened plan rows is clean same =
     let size = (populated next_u64 plan.subscribers (stream_numbered plan.seed 0) (omega (arith, is.subscribers.1))).size in
     subst AreOpened (sym same) (omega (arith, size, is.subscribers.1), clean)
-
--- ---- why a run is refused whose rows are opened and whose calls can be run
-pub run_refused : (modul : ModuleState) (rows : Rows) (lists : List (Vec Ask Global)) (refusal : RunRefusal) → AreOpened rows → obstacle_among modul lists ≡ None
-    → RefusesRun modul rows lists refusal → (refusal ≡ NoMemory) ⊎ (refusal ≡ NoThread)
-run_refused modul rows lists TooMany opened none h = absurd (omega (arith, h, opened.0))
-run_refused modul rows lists (NotClean verdict) opened none h = absurd (h.2 opened.1)
-run_refused modul rows lists NoProcedure opened none h = absurd (let e : None ≡ Some NoProcedure = sym none ∙ h.1 in cc)
-run_refused modul rows lists (BadArgument bad) opened none h = absurd (let e : None ≡ Some (BadArgument bad) = sym none ∙ h.1 in cc)
-run_refused modul rows lists NoMemory opened none h = inl refl
-run_refused modul rows lists NoThread opened none h = inr refl

@@ -18,7 +18,7 @@ use tatp_loader::Loaded;
 use tatp_procs::{Ask, standard};
 use tatp_settle::Settled;
 use tatp_tables::Rows;
-use tatp_threads::{Gate, RunRefusal, run_calls};
+use tatp_threads::{Gate, RunRefusal, run_clean_calls};
 use tatp_workers::Moves;
 
 /// Why a run isn't settled whose calls aren't run: drawn rows and calls are never refused.
@@ -58,7 +58,7 @@ fn run_lists<R: Threads + Wait + Sync, G: Gate + Sync>(
         (λ settled. settled.completed + settled.refused ≡ plan.now.clients * plan.now.calls) }
     ensures refusal { IfErr result (RefusesBench plan.now) }
 {
-    match run_calls(
+    match run_clean_calls(
         rt,
         alloc,
         loaded,

@@ -1,15 +1,17 @@
 //! What is drawn for a run.
 ghost use Rattle.std.specs.Prelude.{◌≡◌, IfOk};
+ghost use denote.Param.Send.{IsSync};
 ghost use Rattle.tatp_tables.specs.Clean.{IsClean};
 ghost use Rattle.tatp_tasks.specs.Plans.{IsPlan};
-ghost use Rattle.tatp_drawing.specs.Drawing.{rows_drawn, moves_drawn, stops_drawn};
+ghost use Rattle.tatp_settle.specs.Runs.{lists_of};
+ghost use Rattle.tatp_drawing.specs.Drawing.{rows_drawn, calls_drawn, moves_drawn, stops_drawn};
 ghost use Rattle.tatp_drawing.specs.DrawnRuns.{IsDrawn};
 
 use crate::calls::draw_calls;
 use crate::moves::{draw_moves, draw_stops};
 use rand_pcg::Pcg64;
 use std::alloc::{AllocError, Global};
-use std::thread::Threads;
+use std::thread::{Threads, join};
 use tatp_extents::extent_count;
 use tatp_population::generate;
 use tatp_procs::Ask;
@@ -58,17 +60,50 @@ fn draw_work(alloc: Global, plan: &BenchPlan) -> Result<Moves, AllocError>
     })
 }
 
+/// The population, and what each client asks: each by a thread of its own, where one can be made.
+fn draw_rows_beside_calls<R: Threads + Sync>(
+    rt: &R,
+    alloc: Global,
+    plan: &BenchPlan,
+) -> (Result<Rows, AllocError>, Result<Vec<Vec<Ask>>, AllocError>)
+    requires { IsPlan plan.now }
+    ensures rows { IfOk result.0 (λ rows. rows ≡ rows_drawn plan.now) }
+    ensures calls { IfOk result.1 (λ lists. lists_of lists.items ≡ calls_drawn plan.now) }
+{
+    let rows = || -> Result<Rows, AllocError>
+        requires { IsPlan plan.now }
+        ensures { IfOk result (λ rows. rows ≡ rows_drawn plan.entry.now) }
+    { draw_rows(alloc, plan) };
+    let calls = || -> Result<Vec<Vec<Ask>>, AllocError>
+        requires { IsSync R.row × IsPlan plan.now }
+        ensures { IfOk result (λ lists. lists_of lists.items ≡ calls_drawn plan.entry.now) }
+    { draw_calls(rt, alloc, plan) };
+    join(rt, rows, calls)
+}
+
 /// Draws the population, the calls of the clients, the moves and the stops of a plan, each from a
-/// stream of words of its own. The calls are the same whatever the partitions, the moves and the
-/// stops.
+/// stream of words of its own, by several threads, where they can be made. The calls are the same
+/// whatever the partitions, the moves and the stops.
 pub fn draw<R: Threads + Sync>(rt: &R, alloc: Global, plan: &BenchPlan) -> Result<Drawn, AllocError>
     requires { IsPlan plan.now }
     ensures { IfOk result (IsDrawn plan.now) }
 {
+    let population = || -> Result<Rows, AllocError>
+        requires { IsPlan plan.now }
+        ensures drawn { IfOk result (λ rows. rows ≡ rows_drawn plan.entry.now) }
+        ensures clean { IfOk result (λ rows. IsClean rows) }
+    { draw_rows(alloc, plan) };
+    let others = || -> (Result<Rows, AllocError>, Result<Vec<Vec<Ask>>, AllocError>)
+        requires { IsSync R.row × IsPlan plan.now }
+        ensures rows { IfOk result.0 (λ rows. rows ≡ rows_drawn plan.entry.now) }
+        ensures calls { IfOk result.1
+            (λ lists. lists_of lists.items ≡ calls_drawn plan.entry.now) }
+    { draw_rows_beside_calls(rt, alloc, plan) };
+    let (population, (rows, lists)) = join(rt, population, others);
     Ok(Drawn {
-        population: draw_rows(alloc, plan)?,
-        rows: draw_rows(alloc, plan)?,
-        lists: draw_calls(rt, alloc, plan)?,
+        population: population?,
+        rows: rows?,
+        lists: lists?,
         moves: draw_work(alloc, plan)?,
     })
 }

@@ -1,7 +1,9 @@
 -- The verdict on a run, from what each pass finds.
-use Rattle.std.proofs.Common.{◌≡◌, ℕ, suc, true, false, List, [], ◌∷◌, length, Option, Some, None, slice_get, refl, sym, subst, arith}
+use Rattle.std.proofs.Common.{◌≡◌, ℕ, suc, true, false, List, [], ◌∷◌, length, Option, Some, None, Result, Ok, Err, IfOk, slice_get, refl, sym, subst, arith}
 use Rattle.std.specs.Option.{option_map, is_some}
+use Rattle.std.specs.Result.{result_err}
 use Rattle.std.proofs.lemmas.List.{length-append}
+use Rattle.std.proofs.lemmas.Result.{IfOk-at_ok}
 use Rattle.tatp_tables.specs.Clean.{IsClean}
 use Rattle.tatp_tables.specs.Database.{database_of}
 use Rattle.tatp_procs.specs.declared.ask.Ask.{Ask}
@@ -9,7 +11,7 @@ use Rattle.tatp_receipts.specs.declared.receipt.Receipt.{Receipt}
 use Rattle.tatp_settle.specs.declared.places.CallPlace.{CallPlace}
 use Rattle.tatp_settle.specs.declared.places.ChapterPlace.{ChapterPlace}
 use Rattle.tatp_settle.specs.declared.cause.Unsettled.{Unsettled}
-use Rattle.tatp_settle.specs.declared.cause.Unsettled.TheVariants.{ChapterDiffers, CallMissing, HasHome}
+use Rattle.tatp_settle.specs.declared.cause.Unsettled.TheVariants.{ChapterDiffers, HasHome}
 use Rattle.tatp_settle.specs.Closings.{IsClosed}
 use Rattle.tatp_settle.specs.Runs.{Run, at_call, joined, rows_left}
 use Rattle.tatp_settle.specs.Answering.{AreMatched}
@@ -19,7 +21,7 @@ use Rattle.tatp_settle.specs.Settlements.{IsOneHistory}
 use Rattle.tatp_settle.specs.CallPlaces.{IsFirstCall, HoldsNowhere}
 use Rattle.tatp_settle.specs.Causes.{IsUnjoined, NamesHome, IsUnmatched, IsFirstCause}
 use Rattle.tatp_settle.specs.ChapterTables.{IsFirstChapter}
-use Rattle.tatp_settle.specs.CauseOrder.{NoneOfFirst, IsFirstOf}
+use Rattle.tatp_settle.specs.CauseOrder.{NoneOfFirst, IsFirstOf, IsFirstInCalls}
 use Rattle.tatp_settle.proofs.CauseLaws.{of_fewer, none_unjoined, first_unjoined, none_named, first_named}
 use Rattle.tatp_settle.proofs.JoinLaws.{population_once}
 use Rattle.tatp_settle.proofs.RunLaws.{runs_are_one_history_in_any_order}
@@ -75,10 +77,7 @@ beside client number (Some ask) (Some receipt) h = refl
 pub as_many_receipts : (calls : List (List Ask)) (receipts : List (List Receipt)) → HoldsNowhere (IsUnmatched calls receipts) → length (joined receipts) ≡ length (joined calls)
 as_many_receipts calls receipts h = same_count receipts calls (λ c n. beside c n (at_call calls c n) (at_call receipts c n) (h c n))
 
--- ---- what kinds of causes don't hold
-pub matched_of : (run : Run) → NoneOfFirst 10 run → HoldsNowhere (IsUnmatched run.calls run.receipts)
-matched_of run none client number h = none (CallMissing client number) (omega arith) h
-
+-- ---- what is known where no cause is found
 -- a run in which no cause holds, and whose rows now are clean, is one history
 pub judged : (run : Run) → IsClean run.population → IsClosed run.closed → NoneOfFirst 11 run → ArePlaced run.closed run.receipts → IsClean (rows_left run) → IsOneHistory run
 judged run population closed none placed clean = one_history run placed.0 population closed none placed.1 clean
@@ -95,3 +94,10 @@ none_found kinds run v is first = subst (λ (w : Option Unsettled). IsFirstOf ki
 -- what a pass that found a cause says
 pub cause_found : (kinds : ℕ) (run : Run) (v : Option Unsettled) (cause : Unsettled) → v ≡ Some cause → IsFirstOf kinds run v → IsFirstCause run cause
 cause_found kinds run v cause is first = subst (λ (w : Option Unsettled). IsFirstOf kinds run w) is first
+
+-- what judging the calls says where none of them is a cause, and where one is
+pub none_in_calls : {C E : Type 0} (run : Run) {r : Result (Result C Unsettled) E} {v : Result C Unsettled} {counts : C} → r ≡ Ok v → v ≡ Ok counts → IfOk r (λ judged. IsFirstInCalls run (result_err judged)) → IsFirstInCalls run None
+none_in_calls {C} run was is h = subst (λ (w : Result C Unsettled). IsFirstInCalls run (result_err w)) is (IfOk-at_ok (λ (w : Result C Unsettled). IsFirstInCalls run (result_err w)) was h)
+
+pub one_in_calls : {C E : Type 0} (run : Run) {r : Result (Result C Unsettled) E} {v : Result C Unsettled} {cause : Unsettled} → r ≡ Ok v → v ≡ Err cause → IfOk r (λ judged. IsFirstInCalls run (result_err judged)) → IsFirstInCalls run (Some cause)
+one_in_calls {C} run was is h = subst (λ (w : Result C Unsettled). IsFirstInCalls run (result_err w)) is (IfOk-at_ok (λ (w : Result C Unsettled). IsFirstInCalls run (result_err w)) was h)

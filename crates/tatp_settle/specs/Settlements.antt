@@ -96,6 +96,13 @@ pub record IsSettled (run : Run) (settled : Settled) : Type 0 where
   pub verdict : settled.verdict ≡ clean_of (rows_left run)
   pub moves : settled.moves ≡ moves_made run
 
+-- these are the run's counts of its calls: how many were completed, to how many memory was refused,
+-- and how many there were of each kind
+pub record AreCountsOf (run : Run) (counts : (ℕ × ℕ) × List ℕ) : Type 0 where
+  pub completed : counts.0.0 ≡ completed run
+  pub refused : counts.0.1 ≡ refused run
+  pub kinds : counts.1 ≡ calls_by_kind run
+
 -- ---- what is refused
 -- the extent is missing, and none before it is
 pub record IsLeastMissing (c : ClosedState) (e : ℕ) : Type 0 where

@@ -2,31 +2,34 @@
 ghost use Rattle.std.specs.Prelude.{◌≡◌, ◌<◌, ◌^◌, not, length, map, count_by};
 ghost use Rattle.std.specs.List.{range_with_len};
 ghost use Rattle.tatp_receipts.specs.Receipts.{receipt_seen, receipts_of};
-ghost use Rattle.tatp_settle.specs.Runs.{joined, lists_of};
+ghost use Rattle.tatp_settle.specs.Runs.{joined, lists_of, shown};
 ghost use Rattle.tatp_settle.specs.Receipts.{is_done};
 ghost use Rattle.tatp_settle.specs.Answering.{is_of_kind};
+ghost use Rattle.tatp_settle.specs.Settlements.{completed, refused, calls_by_kind};
 
+use crate::run::Run;
 use crate::{ReceiptRef, Receipts};
 use std::thread::{Threads, join};
 use tatp_procs::Ask;
 
 /// How many calls were completed, to how many memory was refused, and how many there are of each
-/// kind, in the order of the mix. Receipts and calls are counted by a thread of their own each,
-/// where one can be made.
-pub(crate) fn count_all<R: Threads + Sync>(
-    rt: &R,
-    receipts: &[Receipts],
-    calls: &[Vec<Ask>],
-) -> ((u64, u64), [u64; 7])
-    requires receipts { length (joined (receipts_of receipts.now)) < 2 ^ 64 }
-    requires calls { length (joined (lists_of calls.now)) < 2 ^ 64 }
-    ensures completed { result.0.0 ≡ count_by is_done (joined (receipts_of receipts.now)) }
-    ensures refused { result.0.1
-        ≡ count_by (λ receipt. not (is_done receipt)) (joined (receipts_of receipts.now)) }
-    ensures kinds { result.1
-        ≡ map (λ kind. count_by (is_of_kind kind) (joined (lists_of calls.now)))
-        (range_with_len 0 7) }
+/// kind, in the order of the mix.
+pub(crate) type Counts = ((u64, u64), [u64; 7]);
+
+/// The counts of a run. Receipts and calls are counted by a thread of their own each, where one can
+/// be made.
+pub(crate) fn count_all<R: Threads + Sync>(rt: &R, run: &Run<'_>) -> Counts
+    requires receipts { length (joined (shown run.now).receipts) < 2 ^ 64 }
+    requires calls { length (joined (shown run.now).calls) < 2 ^ 64 }
+    ensures completed { result.0.0 ≡ completed (shown run.now) }
+    ensures refused { result.0.1 ≡ refused (shown run.now) }
+    ensures kinds { result.1 ≡ calls_by_kind (shown run.now) }
 {
+    let Run {
+        receipts,
+        calls,
+        ..
+    } = *run;
     let received = || -> (u64, u64)
         requires { length (joined (receipts_of receipts.now)) < 2 ^ 64 }
         ensures completed { result.0 ≡ count_by is_done (joined (receipts_of receipts.entry.now)) }

@@ -1,17 +1,19 @@
 //! The verdict on a run: settled, or its first cause.
-ghost use Rattle.std.specs.Prelude.{◌≡◌, ◌<◌, ◌^◌, ℕ, IfOk, IfErr, OnOk, length};
+ghost use Rattle.std.specs.Prelude.{◌≡◌, ◌<◌, ◌^◌, ℕ, IfNone, IfOk, IfErr, OnOk, length};
 ghost use Rattle.std.specs.Option.{option_map};
+ghost use Rattle.std.specs.Result.{result_err};
 ghost use denote.Param.Send.{IsSync};
 ghost use Rattle.tatp_tables.specs.Clean.{IsClean};
-ghost use Rattle.tatp_settle.specs.Causes.{IsMixed, IsChapterTwice};
+ghost use Rattle.tatp_settle.specs.Causes.{IsMixed, IsChapterTwice, IsUnmatched};
+ghost use Rattle.tatp_settle.specs.CallPlaces.{HoldsNowhere};
 ghost use Rattle.tatp_settle.specs.ChapterTables.{IsFirstChapter};
 ghost use Rattle.tatp_settle.specs.Runs.{joined, lists_of, rows_left, shown};
 ghost use Rattle.tatp_settle.specs.CauseOrder.{IsFirstOf, IsFirstAfter, IsFirstInCalls};
 ghost use Rattle.tatp_settle.specs.Interleaving.{IsOneHistoryInAnyOrder};
-ghost use Rattle.tatp_settle.specs.Settlements.{IsAuditOf, IsSettled, RefusesToSettle};
+ghost use Rattle.tatp_settle.specs.Settlements.{AreCountsOf, IsAuditOf, IsSettled, RefusesToSettle};
 
 use crate::chapter_table::{ChapterTable, Listed};
-use crate::counts::count_all;
+use crate::counts::{Counts, count_all};
 use crate::differences::{Differing, first_differing};
 use crate::extents::{ExtentCause, first_extent};
 use crate::joins::first_unjoined;
@@ -51,9 +53,10 @@ pub(crate) fn judge<R: Threads + Sync>(
     if let Some(cause) = in_chapters? {
         return Err(SettleError::Because(cause));
     }
-    if let Some(cause) = in_calls? {
-        return Err(SettleError::Because(cause));
-    }
+    let counts = match in_calls? {
+        Ok(counts) => counts,
+        Err(cause) => return Err(SettleError::Because(cause)),
+    };
     if let Some(cause) = cause_without_home(alloc, run, &chapters)? {
         return Err(SettleError::Because(cause));
     }
@@ -61,7 +64,7 @@ pub(crate) fn judge<R: Threads + Sync>(
     if !verdict.is_clean() {
         return Err(SettleError::Because(Unsettled::Audit(verdict)));
     }
-    let ((completed, refused), kinds) = count_all(rt, run.receipts, run.calls);
+    let ((completed, refused), kinds) = counts;
     Ok(Settled {
         completed,
         refused,
@@ -83,16 +86,18 @@ fn judge_apart<R: Threads + Sync>(
     Result<Option<Unsettled>, AllocError>,
     (
         Result<Verdict, AllocError>,
-        Result<Option<Unsettled>, AllocError>,
+        Result<Result<Counts, Unsettled>, AllocError>,
     ),
 )
     requires clean { IsClean run.now.population.now }
     requires gathered { chapters.now ≡ run.now.closed.now }
     requires twice { IsFirstChapter (IsChapterTwice chapters.now) twice }
     requires unmixed { (e : ℕ) → IsMixed chapters.now e → ⊥ }
+    requires few { length (joined (shown run.now).calls) < 2 ^ 64 }
     ensures chapters { IfOk result.0 (IsFirstAfter 3 6 (shown run.now)) }
     ensures audit { IfOk result.1.0 (IsAuditOf (rows_left (shown run.now))) }
-    ensures calls { IfOk result.1.1 (IsFirstInCalls (shown run.now)) }
+    ensures calls { IfOk result.1.1 (λ judged. IsFirstInCalls (shown run.now) (result_err judged)) }
+    ensures counts { IfOk result.1.1 (λ judged. IfOk judged (AreCountsOf (shown run.now))) }
 {
     let in_chapters = || -> Result<Option<Unsettled>, AllocError>
         requires { IsClean run.now.population.now
@@ -103,17 +108,22 @@ fn judge_apart<R: Threads + Sync>(
     { chapter_cause(alloc, run, chapters, twice) };
     let rest = || -> (
         Result<Verdict, AllocError>,
-        Result<Option<Unsettled>, AllocError>,
+        Result<Result<Counts, Unsettled>, AllocError>,
     )
-        requires { IsSync R.row × (chapters.now ≡ run.now.closed.now) }
+        requires { IsSync R.row
+            × (chapters.now ≡ run.now.closed.now)
+            × (length (joined (shown run.now).calls) < 2 ^ 64) }
         ensures audit { IfOk result.0 (IsAuditOf (rows_left (shown run.entry.now))) }
-        ensures calls { IfOk result.1 (IsFirstInCalls (shown run.entry.now)) }
+        ensures calls { IfOk result.1
+            (λ judged. IsFirstInCalls (shown run.entry.now) (result_err judged)) }
+        ensures counts { IfOk result.1
+            (λ judged. IfOk judged (AreCountsOf (shown run.entry.now))) }
     { audit_beside_calls(rt, alloc, run, chapters) };
     join(rt, in_chapters, rest)
 }
 
-/// The verdict on the rows now, and the first cause that a call is, where no extent and no chapter
-/// is one: each by a thread of its own, where one can be made.
+/// The verdict on the rows now, and what `judge_calls` gives: each by a thread of its own, where
+/// one can be made.
 fn audit_beside_calls<R: Threads + Sync>(
     rt: &R,
     alloc: Global,
@@ -121,19 +131,25 @@ fn audit_beside_calls<R: Threads + Sync>(
     chapters: &ChapterTable<'_>,
 ) -> (
     Result<Verdict, AllocError>,
-    Result<Option<Unsettled>, AllocError>,
+    Result<Result<Counts, Unsettled>, AllocError>,
 )
-    requires { chapters.now ≡ run.now.closed.now }
+    requires gathered { chapters.now ≡ run.now.closed.now }
+    requires few { length (joined (shown run.now).calls) < 2 ^ 64 }
     ensures audit { IfOk result.0 (IsAuditOf (rows_left (shown run.now))) }
-    ensures calls { IfOk result.1 (IsFirstInCalls (shown run.now)) }
+    ensures calls { IfOk result.1 (λ judged. IsFirstInCalls (shown run.now) (result_err judged)) }
+    ensures counts { IfOk result.1 (λ judged. IfOk judged (AreCountsOf (shown run.now))) }
 {
     let audited = || -> Result<Verdict, AllocError>
         ensures { IfOk result (IsAuditOf (rows_left (shown run.entry.now))) }
     { audit_left(alloc, run) };
-    let in_calls = || -> Result<Option<Unsettled>, AllocError>
-        requires { IsSync R.row × (chapters.now ≡ run.now.closed.now) }
-        ensures { IfOk result (IsFirstInCalls (shown run.entry.now)) }
-    { cause_in_calls(rt, alloc, run, chapters) };
+    let in_calls = || -> Result<Result<Counts, Unsettled>, AllocError>
+        requires { IsSync R.row
+            × (chapters.now ≡ run.now.closed.now)
+            × (length (joined (shown run.now).calls) < 2 ^ 64) }
+        ensures calls { IfOk result
+            (λ judged. IsFirstInCalls (shown run.entry.now) (result_err judged)) }
+        ensures counts { IfOk result (λ judged. IfOk judged (AreCountsOf (shown run.entry.now))) }
+    { judge_calls(rt, alloc, run, chapters) };
     join(rt, audited, in_calls)
 }
 
@@ -201,8 +217,27 @@ fn join_cause(place: Option<ChapterPlace>) -> Option<Unsettled>
     })
 }
 
+/// What receipts and calls count, where no call is a cause by its receipt and its entries; else the
+/// first that is, where no extent and no chapter is one.
+fn judge_calls<R: Threads + Sync>(
+    rt: &R,
+    alloc: Global,
+    run: &Run<'_>,
+    chapters: &ChapterTable<'_>,
+) -> Result<Result<Counts, Unsettled>, AllocError>
+    requires gathered { chapters.now ≡ run.now.closed.now }
+    requires few { length (joined (shown run.now).calls) < 2 ^ 64 }
+    ensures cause { IfOk result (λ judged. IsFirstInCalls (shown run.now) (result_err judged)) }
+    ensures counts { IfOk result (λ judged. IfOk judged (AreCountsOf (shown run.now))) }
+{
+    match cause_in_calls(rt, alloc, run, chapters)? {
+        Some(cause) => Ok(Err(cause)),
+        None => Ok(Ok(count_all(rt, run))),
+    }
+}
+
 /// The first cause that a call is by its receipt and its entries, where no extent and no chapter is
-/// one.
+/// one. If there is none, then each call has its receipt and each receipt its call.
 fn cause_in_calls<R: Threads + Sync>(
     rt: &R,
     alloc: Global,
@@ -210,7 +245,9 @@ fn cause_in_calls<R: Threads + Sync>(
     chapters: &ChapterTable<'_>,
 ) -> Result<Option<Unsettled>, AllocError>
     requires { chapters.now ≡ run.now.closed.now }
-    ensures { IfOk result (IsFirstInCalls (shown run.now)) }
+    ensures cause { IfOk result (IsFirstInCalls (shown run.now)) }
+    ensures matched { IfOk result (λ cause. IfNone cause
+        (HoldsNowhere (IsUnmatched (shown run.now).calls (shown run.now).receipts))) }
 {
     if let Some(place) = first_unmatched(rt, run.receipts, run.calls) {
         return Ok(Some(Unsettled::CallMissing {

@@ -27,25 +27,23 @@ IsToWait s item = (begin_obstacle s item ≡ Some Running) ⊎ (begin_obstacle s
 -- what comes of a call that is offered under the lock, and what that leaves
 abbrev pub Offers : SiteState → Item → Offered → SiteState → Type 0
 Offers s item Began s' = IsTaken s item × (begin_obstacle s item ≡ None) × (s' ≡ begun s item)
-Offers s item (Again back) s' = IsTaken s item × IsToWait s item × (back ≡ item) × (s' ≡ s)
-Offers s item (Away back) s' =
-    IsTaken s item × (begin_obstacle s item ≡ Some NotHere) × (back ≡ item) × (s' ≡ s)
-Offers s item (Denied back) s' =
-    IsTaken s item × (begin_obstacle s item ≡ None) × (back ≡ item) × (s' ≡ s)
-Offers s item (Dropped back) s' = IsDropped s item × (back ≡ item) × (s' ≡ s)
+Offers s item Again s' = IsTaken s item × IsToWait s item × (s' ≡ s)
+Offers s item Away s' = IsTaken s item × (begin_obstacle s item ≡ Some NotHere) × (s' ≡ s)
+Offers s item Denied s' = IsTaken s item × (begin_obstacle s item ≡ None) × (s' ≡ s)
+Offers s item Dropped s' = IsDropped s item × (s' ≡ s)
 
 -- the call is to be offered again
 abbrev pub is_again : Offered → Bool
 is_again Began = false
-is_again (Again item) = true
-is_again (Away item) = false
-is_again (Denied item) = false
-is_again (Dropped item) = false
+is_again Again = true
+is_again Away = false
+is_again Denied = false
+is_again Dropped = false
 
 -- the call runs
 abbrev pub has_begun : Offered → Bool
 has_begun Began = true
-has_begun (Again item) = false
-has_begun (Away item) = false
-has_begun (Denied item) = false
-has_begun (Dropped item) = false
+has_begun Again = false
+has_begun Away = false
+has_begun Denied = false
+has_begun Dropped = false

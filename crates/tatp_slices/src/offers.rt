@@ -6,18 +6,18 @@ use std::alloc::Global;
 use tatp_partition::{Item, Offer, Site, SiteRefusal};
 
 /// What became of a call that an executor offered to its site.
-#[derive(Clone, Copy, Debug)]
+#[derive(Clone, Copy, Debug, PartialEq, Eq)]
 pub enum Offered {
     /// It runs.
     Began,
     /// It is to be offered again.
-    Again(Item),
+    Again,
     /// Its home isn't here.
-    Away(Item),
+    Away,
     /// Memory was refused to it.
-    Denied(Item),
+    Denied,
     /// It can't begin.
-    Dropped(Item),
+    Dropped,
 }
 
 impl Offered {
@@ -25,7 +25,7 @@ impl Offered {
     pub fn is_again(&self) -> bool
         ensures { result ≡ is_again self.now }
     {
-        matches!(self, Offered::Again(_))
+        matches!(self, Offered::Again)
     }
 
     /// Whether the call runs.
@@ -41,14 +41,14 @@ pub fn offer(site: &mut Site<'_>, alloc: Global, item: &Item) -> Offered
     ensures { Offers site.old item.now result site.new }
 {
     if !site.fits(item) {
-        return Offered::Dropped(*item);
+        return Offered::Dropped;
     }
     match site.offer_begin(alloc, item) {
         Ok(Offer::Began) => Offered::Began,
-        Ok(Offer::Away(back)) => Offered::Away(back),
-        Ok(Offer::Denied(back)) => Offered::Denied(back),
-        Err(SiteRefusal::Running) => Offered::Again(*item),
-        Err(SiteRefusal::Stopped) => Offered::Again(*item),
-        Err(_) => Offered::Dropped(*item),
+        Ok(Offer::Away(_)) => Offered::Away,
+        Ok(Offer::Denied(_)) => Offered::Denied,
+        Err(SiteRefusal::Running) => Offered::Again,
+        Err(SiteRefusal::Stopped) => Offered::Again,
+        Err(_) => Offered::Dropped,
     }
 }

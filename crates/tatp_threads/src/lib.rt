@@ -17,7 +17,7 @@ mod starting;
 
 pub use outcome::{Ran, RanParts, discard_chapters};
 pub use refusal::RunRefusal;
-pub use run::run_calls;
+pub use run::{run_calls, run_clean_calls};
 pub use tatp_locks::copy_extent;
 pub use tatp_slices::{Gate, NoGate};
 pub use tatp_workers::Moves;

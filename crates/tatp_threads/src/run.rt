@@ -13,7 +13,7 @@ use std::alloc::{AllocError, Global};
 use std::marker::Brand;
 use std::sync::{Mutex, Wait};
 use std::thread::Threads;
-use tatp_extents::{Chapter, OpenError, discard, open, reserve_logs};
+use tatp_extents::{Chapter, OpenError, admit, discard, open_clean, reserve_logs};
 use tatp_loader::Loaded;
 use tatp_locks::Partition;
 use tatp_move::Routes;
@@ -182,6 +182,59 @@ fn run_ruled<'m, R: Threads + Wait + Sync, G: Gate + Sync, A: Arities + Send + S
     }))
 }
 
+/// As [`run_calls`], of clean rows and of calls that can all be run, as drawn ones are: neither are
+/// looked through. Memory or a thread may be refused.
+pub fn run_clean_calls<'m, R: Threads + Wait + Sync, G: Gate + Sync>(
+    rt: &R,
+    alloc: Global,
+    loaded: &'m Loaded,
+    rows: Rows,
+    partitions: u8,
+    lists: &[Vec<Ask>],
+    moves: &Moves,
+    gate: &G,
+    chapter: u64,
+) -> Result<Ran<'m>, RunRefusal>
+    requires some_partitions { 1 ≤ partitions }
+    requires few_partitions { partitions ≤ 16 }
+    requires some_clients { 1 ≤ length lists.now }
+    requires few_clients { length lists.now ≤ 64 }
+    requires rows { AreOpened rows }
+    requires calls { obstacle_among loaded.now lists.now ≡ None }
+    ensures sites { IfOk result (λ ran. vec_len ran.parts.sites ≡ partitions) }
+    ensures receipts { IfOk result (λ ran. vec_len ran.parts.receipts ≡ length lists.now) }
+    ensures landings { IfOk result (λ ran. vec_len ran.parts.landings ≡ 0) }
+    ensures chapters { IfOk result (λ ran. vec_len ran.parts.chapters ≡ partitions) }
+    ensures refusal { IfErr result
+        (λ refusal. (refusal ≡ RunRefusal.NoMemory) ⊎ (refusal ≡ RunRefusal.NoThread)) }
+{
+    let subscribers = rows.subscribers.len() as u64;
+    let (mut extents, directory) = open_clean(alloc, rows)?;
+    let routes = match Routes::open(alloc, subscribers, partitions) {
+        Ok(routes) => routes,
+        Err(_) => {
+            discard(extents);
+            return Err(RunRefusal::NoMemory);
+        }
+    };
+    let room = calls_an_extent(lists, extents.len(), chapter);
+    if reserve_logs(extents.as_mut_slice(), room).is_err() {
+        discard(extents);
+        return Err(RunRefusal::NoMemory);
+    }
+    let sites = open_sites(alloc, loaded, partitions, extents)?;
+    let setup = Setup {
+        loaded,
+        directory,
+        routes,
+        sites,
+        lists,
+        moves,
+        chapter,
+    };
+    run_ruled::<R, G, Brand>(rt, alloc, setup, gate)
+}
+
 /// Runs the clients' lists of calls on these rows, by an executor for each of so many partitions, a
 /// thread for each client, a mover and a debugger, and gives back what they leave. After the end of
 /// a call the executor hands out the log of its extent, where it has as many entries as a chapter
@@ -210,36 +263,13 @@ pub fn run_calls<'m, R: Threads + Wait + Sync, G: Gate + Sync>(
     ensures calls { OnOk result (obstacle_among loaded.now lists.now ≡ None) }
     ensures refusal { IfErr result (RefusesRun loaded.now rows lists.now) }
 {
-    let subscribers = rows.subscribers.len() as u64;
-    let (mut extents, directory) = match open(alloc, rows, partitions) {
-        Ok(opened) => opened,
-        Err(error) => return Err(refusal_of(error)),
-    };
+    if let Err(error) = admit(alloc, &rows) {
+        return Err(refusal_of(error));
+    }
     if let Some(refusal) = obstacle_among(rt, loaded, lists) {
-        discard(extents);
         return Err(refusal);
     }
-    let routes = match Routes::open(alloc, subscribers, partitions) {
-        Ok(routes) => routes,
-        Err(_) => {
-            discard(extents);
-            return Err(RunRefusal::NoMemory);
-        }
-    };
-    let room = calls_an_extent(lists, extents.len(), chapter);
-    if reserve_logs(extents.as_mut_slice(), room).is_err() {
-        discard(extents);
-        return Err(RunRefusal::NoMemory);
-    }
-    let sites = open_sites(alloc, loaded, partitions, extents)?;
-    let setup = Setup {
-        loaded,
-        directory,
-        routes,
-        sites,
-        lists,
-        moves,
-        chapter,
-    };
-    run_ruled::<R, G, Brand>(rt, alloc, setup, gate)
+    run_clean_calls(
+        rt, alloc, loaded, rows, partitions, lists, moves, gate, chapter,
+    )
 }

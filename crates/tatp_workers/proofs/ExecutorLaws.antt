@@ -36,7 +36,7 @@ pub last_offered : (item : Item) (offered : Offered) (began : Bool) (known mid o
     → is_again offered ≡ false
     → began ≡ has_begun offered
     → Grows mid offered_known (Offers item offered ∷ [])
-    → Does (Follows offered) offered_known known'
+    → Does (Follows item offered) offered_known known'
     → Does (IsOffered item began) known known'
 last_offered item offered began known mid offered_known known' before other answer grows followed = (
   before.0 ++ Offers item offered ∷ followed.0,

@@ -33,11 +33,11 @@ abbrev pub effects_of_sending : Item → Bool → List Effect
 effects_of_sending item true = Sends item true ∷ []
 effects_of_sending item false = Sends item false ∷ Answers item.client Dropped ∷ []
 
--- what follows from what became of a call
-abbrev pub Follows : Offered → List Effect → Type 0
-Follows offered.Began effects = effects ≡ []
-Follows (offered.Again item) effects = effects ≡ []
-Follows (offered.Away item) effects = (is_sent : Bool) × (effects ≡ effects_of_sending item is_sent)
-Follows (offered.Denied item) effects =
+-- what follows from what became of a call that was offered
+abbrev pub Follows : Item → Offered → List Effect → Type 0
+Follows item offered.Began effects = effects ≡ []
+Follows item offered.Again effects = effects ≡ []
+Follows item offered.Away effects = (is_sent : Bool) × (effects ≡ effects_of_sending item is_sent)
+Follows item offered.Denied effects =
     effects ≡ Answers item.client (Got (Refused item.client item.number)) ∷ []
-Follows (offered.Dropped item) effects = effects ≡ Answers item.client Dropped ∷ []
+Follows item offered.Dropped effects = effects ≡ Answers item.client Dropped ∷ []

@@ -28,7 +28,7 @@ pub record IsOffered (item : Item) (began : Bool) (effects : List Effect) : Type
   pub following : List Effect
   pub again : All (IsOfferedAgain item) before
   pub other : is_again last ≡ false
-  pub follows : Follows last following
+  pub follows : Follows item last following
   pub answer : began ≡ has_begun last
   pub all : effects ≡ before ++ Offers item last ∷ following
 

@@ -116,26 +116,24 @@ pub(crate) fn follow_step<A: Answering>(
     }
 }
 
-/// Does what follows from what became of a call.
-pub(crate) fn follow<E: Executing>(executing: &mut E, offered: &Offered)
-    ensures { Does (Follows offered.now) (E.effects executing.old) (E.effects executing.new) }
+/// Does what follows from what became of a call that was offered.
+pub(crate) fn follow<E: Executing>(executing: &mut E, item: &Item, offered: Offered)
+    ensures { Does (Follows item.now offered) (E.effects executing.old) (E.effects executing.new) }
 {
     match offered {
-        Offered::Began | Offered::Again(_) => {}
-        Offered::Away(item) => {
-            let item = *item;
-            let client = item.client;
-            if !executing.send(item) {
-                executing.answer(client, &Delivery::Dropped);
+        Offered::Began | Offered::Again => {}
+        Offered::Away => {
+            if !executing.send(*item) {
+                executing.answer(item.client, &Delivery::Dropped);
             }
         }
-        Offered::Denied(item) => {
+        Offered::Denied => {
             let receipt = Receipt::Refused {
                 client: item.client,
                 number: item.number,
             };
             executing.answer(item.client, &Delivery::Got(receipt));
         }
-        Offered::Dropped(item) => executing.answer(item.client, &Delivery::Dropped),
+        Offered::Dropped => executing.answer(item.client, &Delivery::Dropped),
     }
 }

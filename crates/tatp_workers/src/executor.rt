@@ -58,7 +58,7 @@ fn begin<R: Wait, E: Executing>(rt: &R, executing: &mut E, item: &Item) -> bool
         if offered.is_again() {
             thread::yield_now();
         } else {
-            follow(executing, &offered);
+            follow(executing, item, offered);
             return offered.has_begun();
         }
     }

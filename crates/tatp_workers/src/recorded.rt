@@ -162,8 +162,8 @@ impl Executing for Record<Effect> {
     }
 
     fn offer(&mut self, item: &Item) -> Offered {
-        self.keep(Effect::Offers(*item, Offered::Dropped(*item)));
-        Offered::Dropped(*item)
+        self.keep(Effect::Offers(*item, Offered::Dropped));
+        Offered::Dropped
     }
 
     fn slice(&mut self, client: u64, _ended: &mut CompletionPlace) -> Result<u64, SiteRefusal> {

@@ -7,30 +7,32 @@ use Rattle.tatp_threads.specs.declared.outcome.RanParts.{RanParts}
 use Rattle.tatp_bench.specs.Benching.{IsRunOf, SettlesPlan, RefusesBench}
 use Rattle.tatp_bench.specs.SettledRuns.{run_left, SettlesRun, RefusesToSettleRun}
 use Rattle.tatp_drawing.specs.Drawing.{rows_drawn, calls_drawn}
-use Rattle.tatp_bench.proofs.PlanLaws.{few_calls, calls_are_run, rows_are_opened, run_refused, clients_listed}
+use Rattle.tatp_bench.proofs.PlanLaws.{few_calls, calls_are_run, rows_are_opened, clients_listed}
 use Rattle.tatp_bench.proofs.SettlingLaws.{left_of_plan, plan_settled, plan_refused, plan_counted}
 use Rattle.tatp_bench.proofs.bench.run_lists.Given as given
 use Rattle.tatp_bench.proofs.bench.run_lists.Goals as goal
 use Rattle.tatp_bench.proofs.bench.run_lists.Goals.{After-settle_run}
 
-pub run_calls-requires-clause-some_clients : goal.run_calls-requires-clause-some_clients
-run_calls-requires-clause-some_clients g c κs within =
+pub run_clean_calls-requires-clause-some_clients : goal.run_clean_calls-requires-clause-some_clients
+run_clean_calls-requires-clause-some_clients g c κs within =
     let same : lists_of c.args.lists.now ≡ calls_drawn c.args.plan.now = c.requires.calls in
     omega (arith, clients_listed c.args.plan.now c.args.lists.now same, c.requires.plan.clients.0)
 
-pub run_calls-requires-clause-few_clients : goal.run_calls-requires-clause-few_clients
-run_calls-requires-clause-few_clients g c κs within =
+pub run_clean_calls-requires-clause-few_clients : goal.run_clean_calls-requires-clause-few_clients
+run_clean_calls-requires-clause-few_clients g c κs within =
     let same : lists_of c.args.lists.now ≡ calls_drawn c.args.plan.now = c.requires.calls in
     omega (arith, clients_listed c.args.plan.now c.args.lists.now same, c.requires.plan.clients.1)
 
-pub fault_of-requires : goal.fault_of-requires
-fault_of-requires g c =
+pub run_clean_calls-requires-clause-rows : goal.run_clean_calls-requires-clause-rows
+run_clean_calls-requires-clause-rows g c κs within =
+    rows_are_opened c.args.plan.now c.args.rows c.requires.plan c.requires.clean c.requires.rows
+
+pub run_clean_calls-requires-clause-calls : goal.run_clean_calls-requires-clause-calls
+run_clean_calls-requires-clause-calls g c κs within =
     let plan = c.args.plan.now in
     let lists = c.args.lists.now in
     let same : lists_of lists ≡ calls_drawn plan = c.requires.calls in
-    let drawn : c.args.rows ≡ rows_drawn plan = c.requires.rows in
-    let none : obstacle_among c.args.loaded.now lists ≡ None = subst (λ modul. obstacle_among modul lists ≡ None) (sym c.requires.standard) (calls_are_run plan lists c.requires.plan same) in
-    run_refused c.args.loaded.now c.args.rows lists c.in-Err.refusal (rows_are_opened plan c.args.rows c.requires.plan c.requires.clean drawn) none c.in-Err.ensures.refusal
+    subst (λ modul. obstacle_among modul lists ≡ None) (sym c.requires.standard) (calls_are_run plan lists c.requires.plan same)
 
 pub returns-in-Err-clause-refusal : goal.returns-in-Err-clause-refusal
 returns-in-Err-clause-refusal g c = elim c.fault_of.ensures as (λ _. RefusesBench c.args.plan.now c.fault_of.result) [

@@ -1,4 +1,4 @@
-use Rattle.std.proofs.Common.{◌≡◌, ℕ, ◌+◌, not, cond, true, false, List, Some, count_by, length, slice_get, sym, ◌∙◌, ap, arith}
+use Rattle.std.proofs.Common.{◌≡◌, ℕ, ◌+◌, not, cond, true, false, List, Some, count_by, slice_get, sym, ◌∙◌, ap, arith}
 use Rattle.tatp_receipts.specs.declared.receipt.Receipt.{Receipt}
 use Rattle.tatp_receipts.specs.Receipts.{ReceiptsState, receipt_seen, receipts_of}
 use Rattle.tatp_settle.specs.Receipts.{is_done}

@@ -16,14 +16,14 @@ too_many run logs extra first is found h = subst (λ (c : ClosedState). IsFirstC
 differing : (run : Run) (logs : ClosedState) (first : Option CallPlace) → logs ≡ run.closed → IsFirstCall (Differs logs run.calls run.receipts) first → IsFirstCall (Differs run.closed run.calls run.receipts) first
 differing run logs first is h = subst (λ (c : ClosedState). IsFirstCall (Differs c run.calls run.receipts) first) is h
 
-pub returns-in-Some : goal.returns-in-Some
-returns-in-Some g c = record {
+pub returns-in-Some-clause-cause : goal.returns-in-Some-clause-cause
+returns-in-Some-clause-cause g c = record {
   first = λ before. first_unmatched (shown c.args.run.now) c.in-Some.place.client c.in-Some.place.number before c.in-Some.ensures;
   placed = tt;
 }
 
-pub returns-in-Some-extra : goal.returns-in-Some-extra
-returns-in-Some-extra g c =
+pub returns-in-Some-extra-clause-cause : goal.returns-in-Some-extra-clause-cause
+returns-in-Some-extra-clause-cause g c =
     let run : Run = shown c.args.run.now in
     record {
       first = λ before. first_too_many run c.in-Some-extra.place.client c.in-Some-extra.place.number (none_unmatched run before c.in_default.ensures)
@@ -40,8 +40,8 @@ first_differing-requires g c = (
   },
 )
 
-pub returns-in-Some-first_differing : goal.returns-in-Some-first_differing
-returns-in-Some-first_differing g c =
+pub returns-in-Some-first_differing-clause-cause : goal.returns-in-Some-first_differing-clause-cause
+returns-in-Some-first_differing-clause-cause g c =
     let run : Run = shown c.args.run.now in
     record {
       first = λ before. first_differing run c.in-Some-first_differing.place.client c.in-Some-first_differing.place.number
@@ -54,8 +54,8 @@ returns-in-Some-first_differing g c =
 none9 : (run : Run) (logs : ClosedState) (extra : Option CallPlace) → logs ≡ run.closed → extra ≡ None → NoneOfFirst 7 run → IsFirstCall (HasEntryTooMany logs run.receipts) extra → IsFirstCall (Differs logs run.calls run.receipts) None → NoneOfFirst 9 run
 none9 run logs extra is none before many same = none_differing run (none_too_many run before (too_many run logs extra None is none many)) (differing run logs None is same)
 
-pub returns-in-Some-first_falling : goal.returns-in-Some-first_falling
-returns-in-Some-first_falling g c =
+pub returns-in-Some-first_falling-clause-cause : goal.returns-in-Some-first_falling-clause-cause
+returns-in-Some-first_falling-clause-cause g c =
     let run : Run = shown c.args.run.now in
     record {
       first = λ before. first_falling run c.in-Some-first_falling.place.client c.in-Some-first_falling.place.number
@@ -64,8 +64,8 @@ returns-in-Some-first_falling g c =
       placed = tt;
     }
 
-pub returns : goal.returns
-returns g c =
+pub returns-clause-cause : goal.returns-clause-cause
+returns-clause-cause g c =
     let run : Run = shown c.args.run.now in
     record {
       first = λ before. none_falling run
@@ -77,3 +77,6 @@ returns g c =
             (subst (λ (v : Option CallPlace). IfNone v (AllPlaced c.in_ok-logs.logs run.receipts (cells_of c.in_ok-table.field-0.table))) c.in_default-extra.is c.in_ok-table.ensures.all),
       );
     }
+
+pub returns-clause-matched : goal.returns-clause-matched
+returns-clause-matched g c = c.in_default.ensures

@@ -1,4 +1,4 @@
-use Rattle.std.proofs.Common.{◌≡◌, ℕ, ◌+◌, ◌≤◌, [], ◌∷◌, List, Option, Some, None, length, slice_get, refl, sym, subst, arith, rules}
+use Rattle.std.proofs.Common.{◌≡◌, ℕ, ◌+◌, [], ◌∷◌, List, Option, Some, None, length, slice_get, refl, sym, subst, arith, rules}
 use Rattle.std.proofs.lemmas.Option.{slice_get_read}
 use Rattle.tatp_partition.specs.declared.item.Item.{Item}
 use Rattle.tatp_receipts.specs.declared.receipt.Receipt.{Receipt}

@@ -5,8 +5,8 @@ use Rattle.tatp_events.specs.declared.event.Answer.{Answer}
 use Rattle.tatp_events.specs.declared.refusal.Refusal.{Refusal}
 use Rattle.tatp_dispatch.specs.Worlds.{WorldState}
 use Rattle.tatp_dispatch.proofs.BenchmarkLaws.{benchmark}
-use Rattle.tatp_trace.specs.Answering.{line_in, AppendsLine, TellsLines, events_in}
-use Rattle.tatp_trace.proofs.LinesLaws.{lines_run}
+use Rattle.tatp_console.specs.EventLines.{line_in, AppendsLine, TellsLines, events_in}
+use Rattle.tatp_console.proofs.EventRunLaws.{lines_run}
 use Rattle.tatp_tasks.specs.declared.setup.Setup.{Setup}
 use Rattle.tatp_inputs.specs.Work.{Work}
 use Rattle.tatp_console.specs.Answers.{AppendsAnswer, AnswersLines, AnswersWork, AnswersFront}

@@ -4,4 +4,6 @@ pub mod Answers
 pub mod Served
 pub mod Replying
 pub mod AnsweredCalls
+pub mod Looking
+pub mod EventLines
 pub mod Tracing

@@ -11,7 +11,7 @@ use Rattle.tatp_dispatch.specs.Benchmark.{IsTheBenchmark}
 use Rattle.tatp_dispatch.specs.Opened.{IsOpened}
 use Rattle.tatp_dispatch.specs.Runs.{Runs}
 use Rattle.tatp_dispatch.specs.Worlds.{WorldState}
-use Rattle.tatp_trace.specs.Answering.{line_in, TellsLine, TellsLines, events_in}
+use Rattle.tatp_console.specs.EventLines.{line_in, TellsLine, TellsLines, events_in}
 use Rattle.tatp_tasks.specs.declared.setup.Setup.{Setup}
 use Rattle.tatp_inputs.specs.Work.{Work}
 use Rattle.tatp_console.specs.Answers.{Answering}

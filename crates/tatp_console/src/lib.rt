@@ -3,13 +3,15 @@
 
 mod brought;
 mod call;
+mod event_line;
 mod fault;
 mod lines;
+mod looking;
 mod theorems;
 mod trace;
 mod world;
 
 pub use call::run_call;
 pub use fault::ConsoleFault;
-pub use theorems::served_calls_are_in_order;
+pub use theorems::{served_calls_are_in_order, told_lines_are_a_run};
 pub use trace::run_trace;

@@ -1,8 +1,13 @@
 //! Laws of the definitions, for who reads them. Nothing runs here: a clause is the law.
-ghost use Rattle.std.specs.Prelude.{◌≡◌, ℕ, ◌++◌, Bool, List};
+ghost use Rattle.std.specs.Prelude.{◌≡◌, ℕ, ◌++◌, ◌∷◌, [], Bool, List};
 ghost use Rattle.tatp_tables.specs.Database.{Database, database_of};
 ghost use Rattle.tatp_procs.specs.Order.{in_order};
+ghost use Rattle.tatp_events.specs.Answers.{Answered};
+ghost use Rattle.tatp_dispatch.specs.Runs.{Runs};
+ghost use Rattle.tatp_dispatch.specs.Serving.{IsWorld};
+ghost use Rattle.tatp_dispatch.specs.Worlds.{WorldState};
 ghost use Rattle.tatp_inputs.specs.Work.{Work};
+ghost use Rattle.tatp_console.specs.EventLines.{line_in, events_in, TellsLine, TellsLines};
 ghost use Rattle.tatp_console.specs.AnsweredCalls.{calls_of, told, marks_after};
 ghost use Rattle.tatp_console.specs.Served.{replies, ServesWork};
 
@@ -22,4 +27,18 @@ pub fn served_calls_are_in_order()
         → ServesWork refused work text
         → text ≡ told refused work.lines
         (in_order (database_of work.rows) (calls_of refused work.lines)).replies }
+{}
+
+/// What is told of lines of events goes on by what is told of each line after them, and the answers
+/// that are told are those of a run of the lines' events.
+pub fn told_lines_are_a_run()
+    ensures none { (w : WorldState) → TellsLines w [] [] [] w }
+    ensures more { (w before after : WorldState) (lines : List (List ℕ)) (answers : List Answered)
+        (text : List ℕ) (line : List ℕ) (here : List Answered) (first : List ℕ)
+        → TellsLines w lines answers text before → TellsLine before (line_in line) here first after
+        → TellsLines w (lines ++ line ∷ []) (answers ++ here) (text ++ first) after }
+    ensures run { (w after : WorldState) (lines : List (List ℕ)) (answers : List Answered)
+        (text : List ℕ)
+        → IsWorld w → TellsLines w lines answers text after
+        → Runs w (events_in lines) answers after }
 {}

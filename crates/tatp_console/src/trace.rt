@@ -11,7 +11,7 @@ use std::io::{Read, Write};
 use tatp_dispatch::World;
 use tatp_streams::MOST_BYTES;
 use tatp_tasks::Setup;
-use tatp_trace::answer_line;
+use crate::event_line::answer_line;
 
 /// The command `trace`.
 struct Events;

@@ -1,5 +1,5 @@
-use Rattle.tatp_trace.proofs.LinesLaws.{no_lines, lines_more, lines_run}
-use Rattle.tatp_trace.proofs.theorems.told_lines_are_a_run.Goals as goal
+use Rattle.tatp_console.proofs.EventRunLaws.{no_lines, lines_more, lines_run}
+use Rattle.tatp_console.proofs.theorems.told_lines_are_a_run.Goals as goal
 
 pub returns-clause-none : goal.returns-clause-none
 returns-clause-none c = no_lines

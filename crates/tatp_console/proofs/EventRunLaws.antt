@@ -11,7 +11,7 @@ use Rattle.tatp_dispatch.specs.Worlds.{WorldState}
 use Rattle.tatp_dispatch.proofs.RunningLaws.{runs_nothing, runs_more}
 use Rattle.tatp_trace_lines.specs.declared.line.TraceLine.{TraceLine}
 use Rattle.tatp_trace_lines.specs.declared.line.TraceLine.TheVariants.{Event, Steps, Look, Home, Audit}
-use Rattle.tatp_trace.specs.Answering.{line_in, TellsEvents, TellsLine, TellsLines, events_of, events_in}
+use Rattle.tatp_console.specs.EventLines.{line_in, TellsEvents, TellsLine, TellsLines, events_of, events_in}
 
 -- ---- one line more
 pub no_lines : (w : WorldState) → TellsLines w [] [] [] w

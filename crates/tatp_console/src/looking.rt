@@ -1,7 +1,7 @@
 //! What is told of a site.
 ghost use Rattle.std.specs.Prelude.{◌≡◌, IfOk};
 ghost use Rattle.std.specs.String.{string_bytes};
-ghost use Rattle.tatp_trace.specs.Looking.{TellsLook, TellsSeen, found_text, home_told, told_line};
+ghost use Rattle.tatp_console.specs.Looking.{TellsLook, TellsSeen, found_text, home_told, told_line};
 ghost use Rattle.tatp_partition.specs.Sites.{home_here};
 ghost use Rattle.tatp_trace_lines.specs.AnswerText.{refused_text};
 

@@ -1,7 +1,7 @@
 use Rattle.std.proofs.Common.{subst}
 use Rattle.std.proofs.lemmas.Result.{IfOk-weaker}
 use Rattle.tatp_audits.specs.Audits.{IsVerdict}
-use Rattle.tatp_trace.proofs.answering.verdict_line.Goals as goal
+use Rattle.tatp_console.proofs.event_line.verdict_line.Goals as goal
 
 pub returns : goal.returns
 returns c =

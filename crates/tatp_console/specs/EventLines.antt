@@ -17,7 +17,7 @@ use Rattle.tatp_trace_lines.specs.declared.line.TraceLine.{TraceLine}
 use Rattle.tatp_trace_lines.specs.declared.line.TraceLine.TheVariants.{Event, Steps, Look, Home, Audit}
 use Rattle.tatp_trace_lines.specs.AnswerText.{answered_text, bad_line_text}
 use Rattle.tatp_trace_lines.specs.LineFields.{line_of}
-use Rattle.tatp_trace.specs.Looking.{told_line, TellsLook, home_told}
+use Rattle.tatp_console.specs.Looking.{told_line, TellsLook, home_told}
 
 -- the line that bytes are, which have to be text
 unfoldable pub line_in : List ℕ → Option TraceLine

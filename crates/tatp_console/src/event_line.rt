@@ -1,7 +1,7 @@
 //! What is answered to a line, and what it makes of the whole.
 ghost use Rattle.std.specs.Prelude.{◌≡◌, ◌++◌, Some, IfOk, OnOk};
 ghost use Rattle.std.specs.String.{string_bytes};
-ghost use Rattle.tatp_trace.specs.Answering.{line_in, AppendsEvent, AppendsLine, AppendsSteps, TellsVerdict};
+ghost use Rattle.tatp_console.specs.EventLines.{line_in, AppendsEvent, AppendsLine, AppendsSteps, TellsVerdict};
 
 use crate::looking::{home_lines, look_text};
 use std::alloc::{AllocError, Global};
@@ -22,7 +22,7 @@ fn line_in(line: &[u8]) -> Option<TraceLine>
 }
 
 /// An event happens, and its answer's line is appended.
-#[tactic(auto, using(crate::proofs::AnsweringLaws::event_appended))]
+#[tactic(auto, using(crate::proofs::EventLineLaws::event_appended))]
 fn answer_event(world: &mut World<'_>, event: Event, pending: &mut String) -> Result<(), AllocError>
     ensures { OnOk result (AppendsEvent world.old event
         (string_bytes pending.old) (string_bytes pending.new) world.new) }
@@ -34,7 +34,7 @@ fn answer_event(world: &mut World<'_>, event: Event, pending: &mut String) -> Re
 }
 
 /// A site makes steps, and the line of each answer is appended.
-#[tactic(auto, using(crate::proofs::AnsweringLaws::no_step, crate::proofs::AnsweringLaws::one_step))]
+#[tactic(auto, using(crate::proofs::EventLineLaws::no_step, crate::proofs::EventLineLaws::one_step))]
 fn answer_steps(
     world: &mut World<'_>,
     partition: u64,
@@ -60,7 +60,7 @@ fn verdict_line(alloc: Global, world: &World<'_>) -> Result<String, AllocError>
 }
 
 /// What is told of a line is appended.
-#[tactic(auto, using(crate::proofs::AnsweringLaws::look_appended, crate::proofs::AnsweringLaws::home_appended, crate::proofs::AnsweringLaws::verdict_appended))]
+#[tactic(auto, using(crate::proofs::EventLineLaws::look_appended, crate::proofs::EventLineLaws::home_appended, crate::proofs::EventLineLaws::verdict_appended))]
 fn answer(
     alloc: Global,
     world: &mut World<'_>,
@@ -93,7 +93,7 @@ fn answer(
 
 /// Appends what is answered to a line. After an error the text is of no use, and the event of the
 /// line may have happened.
-#[tactic(auto, using(crate::proofs::AnsweringLaws::bad_appended))]
+#[tactic(auto, using(crate::proofs::EventLineLaws::bad_appended))]
 pub fn answer_line(
     alloc: Global,
     world: &mut World<'_>,

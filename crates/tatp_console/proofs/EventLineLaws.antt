@@ -14,8 +14,8 @@ use Rattle.tatp_completions.specs.Completions.{last_ask}
 use Rattle.tatp_trace_lines.specs.declared.line.TraceLine.{TraceLine}
 use Rattle.tatp_trace_lines.specs.declared.line.TraceLine.TheVariants.{Event, Steps, Look, Home, Audit}
 use Rattle.tatp_trace_lines.specs.AnswerText.{answered_text}
-use Rattle.tatp_trace.specs.Looking.{told_line, TellsLook, home_told}
-use Rattle.tatp_trace.specs.Answering.{TellsEvent, TellsEvents, TellsVerdict, AppendsEvent, AppendsSteps, AppendsLine}
+use Rattle.tatp_console.specs.Looking.{told_line, TellsLook, home_told}
+use Rattle.tatp_console.specs.EventLines.{TellsEvent, TellsEvents, TellsVerdict, AppendsEvent, AppendsSteps, AppendsLine}
 
 -- events, and one more
 pub events_more : (w b c : WorldState) (events : List AnEvent) (answers : List (Result Answer Refusal)) (told : List ℕ) (event : AnEvent) (answered : Result Answer Refusal) (first : List ℕ)

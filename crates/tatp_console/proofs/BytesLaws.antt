@@ -3,7 +3,7 @@ use Rattle.std.proofs.Common.{◌≡◌, ℕ, Bool, true, false, List, None, ref
 use Rattle.std.proofs.lemmas.Str.{IsUtf8-from_is_utf8, is_utf8-from_IsUtf8}
 use Rattle.std.specs.Str.{is_utf8, IsUtf8}
 use Rattle.tatp_trace_lines.specs.LineFields.{line_of}
-use Rattle.tatp_trace.specs.Answering.{line_in}
+use Rattle.tatp_console.specs.EventLines.{line_in}
 
 no_text : (bs : List ℕ) (t : Bool) → is_utf8 bs ≡ t → ¬ (IsUtf8 bs) → t ≡ false
 no_text bs true e u = absurd (u (IsUtf8-from_is_utf8 bs e))

@@ -1,6 +1,6 @@
 use Rattle.std.proofs.lemmas.Result.{on_ok_weaker}
-use Rattle.tatp_trace.proofs.AnsweringLaws.{line_of_event, line_of_steps}
-use Rattle.tatp_trace.proofs.answering.answer.Goals as goal
+use Rattle.tatp_console.proofs.EventLineLaws.{line_of_event, line_of_steps}
+use Rattle.tatp_console.proofs.event_line.answer.Goals as goal
 
 pub returns-in-Event : goal.returns-in-Event
 returns-in-Event c = on_ok_weaker c.answer_event.result (line_of_event _ _ _ _ _ _ c.in-Event.is) c.answer_event.ensures

@@ -5,13 +5,13 @@ ghost use Rattle.tatp_console.specs.Tracing.{answers_events, TellsWork, TellsFro
 ghost use Rattle.tatp_console.specs.Works.{WritesOfWork, Leaves};
 
 use crate::ConsoleFault;
+use crate::event_line::answer_line;
 use crate::lines::{LineCommand, answer_all};
 use std::alloc::{AllocError, Global};
 use std::io::{Read, Write};
 use tatp_dispatch::World;
 use tatp_streams::MOST_BYTES;
 use tatp_tasks::Setup;
-use crate::event_line::answer_line;
 
 /// The command `trace`.
 struct Events;

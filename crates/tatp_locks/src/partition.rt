@@ -26,7 +26,7 @@ use tatp_partition::{
     what_holds_of_every_site,
 };
 use tatp_slices::{Checkpointed, Gate, Gated, Offered, checkpoint_full, is_wanted, offer, slice};
-use tatp_waiting::lock;
+use tatp_sync::lock;
 
 /// One partition: its site under its lock, how many other threads want that lock, and where its
 /// executor leaves its chapters at the end.

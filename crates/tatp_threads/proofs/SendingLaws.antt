@@ -3,7 +3,7 @@ use Rattle.std.proofs.Common.{◌≡◌, ℕ, List, Some, Bool, true, false, ap,
 use Rattle.std.specs.Prelude.{slice_get, slice_set}
 use Rattle.tatp_extents.proofs.ListLaws.{set_same}
 use Rattle.tatp_partition.specs.declared.item.Item.{Item}
-use Rattle.tatp_inboxes.specs.Inboxes.{End}
+use Rattle.tatp_sync.specs.Inboxes.{End}
 use Rattle.tatp_workers.specs.declared.message.Message.{Message}
 use Rattle.tatp_threads.specs.Inboxes.{PutsCall, SendsCall}
 

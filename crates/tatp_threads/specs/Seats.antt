@@ -2,7 +2,7 @@
 use Rattle.std.specs.Prelude.{◌≡◌, ℕ, List, All, map, Vec}
 use Rattle.std.specs.List.{range_with_len}
 use Rattle.std.specs.declared.alloc.Global.{Global}
-use Rattle.tatp_inboxes.specs.Inboxes.{End, end_beside}
+use Rattle.tatp_sync.specs.Inboxes.{End, end_beside}
 use Rattle.tatp_workers.specs.declared.message.Message.{Message}
 use Rattle.tatp_threads.specs.declared.reserved.ExecutorSeat.{ExecutorSeat}
 use Rattle.tatp_threads.specs.declared.reserved.ClientSeat.{ClientSeat}

@@ -4,8 +4,8 @@ ghost use Rattle.tatp_threads.specs.Inboxes.{IsMessage, PutsCall};
 
 use std::marker::{Brand, PhantomData};
 use std::sync::Wait;
-use tatp_inboxes::MessageRule;
 use tatp_partition::{Item, item_ok};
+use tatp_sync::MessageRule;
 use tatp_workers::Message;
 
 /// How many arguments each procedure takes. Each run picks it.
@@ -29,10 +29,10 @@ impl<A: Arities> MessageRule<Message> for Fitting<A> {
 }
 
 /// An end of an inbox that puts.
-pub(crate) type Port<A> = tatp_inboxes::Port<Message, Fitting<A>>;
+pub(crate) type Port<A> = tatp_sync::Port<Message, Fitting<A>>;
 
 /// The end of an inbox that takes.
-pub(crate) type Reader<A> = tatp_inboxes::Reader<Message, Fitting<A>>;
+pub(crate) type Reader<A> = tatp_sync::Reader<Message, Fitting<A>>;
 
 /// Admits to inboxes the calls that fit: it has the arities of the run, by which threads test them.
 #[derive(Drop)]

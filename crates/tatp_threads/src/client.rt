@@ -8,10 +8,10 @@ use crate::reserved::ClientSeat;
 use crate::shared::Shared;
 use std::mem;
 use std::sync::Wait;
-use tatp_inboxes::Mailbox;
 use tatp_partition::Item;
 use tatp_procs::Ask;
 use tatp_receipts::Receipts;
+use tatp_sync::Mailbox;
 use tatp_workers::{Delivery, Requester, ask_all};
 
 /// A client's ends at the inboxes and its mailbox, with what the threads share.

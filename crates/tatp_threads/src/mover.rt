@@ -5,7 +5,7 @@ use crate::shared::Shared;
 use std::sync::Wait;
 use tatp_move::{MoveRefusal, Plan};
 use tatp_partition::{Landed, NotGiven, Parcel, SiteRefusal};
-use tatp_waiting::lock;
+use tatp_sync::lock;
 use tatp_workers::{Carrying, move_run, plan};
 
 /// The sites and the routes under their locks.

@@ -1,19 +1,19 @@
 //! What the threads fill and work with: all of it gets its room before they start.
 ghost use Rattle.std.specs.Prelude.{◌≡◌, ◌≤◌, ◌+◌, All, IfOk, length, vec_len, vec_capacity};
 ghost use Rattle.tatp_procs.specs.Asked.{arities_of};
-ghost use Rattle.tatp_inboxes.specs.Inboxes.{IsNew};
+ghost use Rattle.tatp_sync.specs.Inboxes.{IsNew};
 ghost use Rattle.tatp_threads.specs.Seats.{AreExecutors, AreClients};
 
 use crate::admission::{Admission, Arities, Port, Reader};
 use crate::calls::arities_of;
 use std::alloc::{AllocError, Global};
 use tatp_extents::Chapter;
-use tatp_inboxes::{Mailbox, ends_of, open_inboxes};
 use tatp_loader::Loaded;
 use tatp_locks::Partition;
 use tatp_partition::{Parcel, Site};
 use tatp_procs::Ask;
 use tatp_receipts::Receipts;
+use tatp_sync::{Mailbox, ends_of, open_inboxes};
 use tatp_workers::Delivery;
 
 /// Room for values that must be spent, none of which is there yet.

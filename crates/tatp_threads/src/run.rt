@@ -22,8 +22,8 @@ use tatp_partition::{Site, close_sites, discard_parcels, open_sites};
 use tatp_procs::Ask;
 use tatp_receipts::Receipts;
 use tatp_slices::Gate;
+use tatp_sync::Start;
 use tatp_tables::Rows;
-use tatp_waiting::Start;
 use tatp_workers::Moves;
 
 /// Why a run is refused whose rows aren't opened.

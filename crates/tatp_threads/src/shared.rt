@@ -4,12 +4,11 @@ ghost use Rattle.tatp_threads.specs.Inboxes.{SendsCall};
 use crate::admission::{Admission, Arities, Port};
 use std::alloc::Global;
 use std::sync::{Mutex, Wait};
-use tatp_inboxes::Mailbox;
 use tatp_locks::Partition;
 use tatp_move::Routes;
 use tatp_numbers::Directory;
 use tatp_partition::{Completion, Item};
-use tatp_waiting::{Start, lock};
+use tatp_sync::{Mailbox, Start, lock};
 use tatp_workers::{Delivery, Moves};
 
 /// What the threads share.

@@ -17,7 +17,7 @@ use std::time::Duration;
 use tatp_partition::Parcel;
 use tatp_procs::Ask;
 use tatp_slices::Gate;
-use tatp_waiting::pause;
+use tatp_sync::pause;
 use tatp_workers::Message;
 
 /// For how many milliseconds the executors are alone. Where there are enough processors, the system

@@ -1,5 +1,5 @@
 use Rattle.std.proofs.Common.{◌≡◌, ◌+◌, ◌++◌, List, All, length, take, drop, sym, ap, ◌∙◌, subst}
-use Rattle.tatp_inboxes.specs.Inboxes.{End, IsNew}
+use Rattle.tatp_sync.specs.Inboxes.{End, IsNew}
 use Rattle.tatp_workers.specs.declared.message.Message.{Message}
 use Rattle.tatp_threads.specs.Seats.{AreExecutors, AreClients}
 use Rattle.tatp_threads.proofs.SeatLaws.{written_back}

@@ -1,10 +1,15 @@
-//! How threads wait for each other.
+//! How threads wait for each other, and what they hand to each other: locks, a common start,
+//! inboxes each of whose messages meets a rule, and mailboxes.
 #![tactic(auto)]
 
+mod inbox;
 mod locks;
+mod mailbox;
 mod start;
 
+pub use inbox::{MessageRule, Port, Reader, ends_of, open_inboxes};
 pub use locks::lock;
+pub use mailbox::{Mailbox, Taken};
 pub use start::{Start, pause};
 
 /// How often a thread looks for what it waits for, and yields, before it sleeps.
@@ -12,4 +17,4 @@ pub use start::{Start, pause};
 /// A thread that sleeps is woken by another, which takes as long as a short call, and where it goes
 /// on depends on who woke it. So in a run that has calls no thread sleeps, and each stays on its
 /// processor; one that has nothing to do for long does sleep.
-pub const LOOKS: u32 = 100_000;
+const LOOKS: u32 = 100_000;

@@ -1,9 +1,10 @@
 //! Where a thread waits for what others hand to it.
 
+use crate::LOOKS;
+use crate::locks::lock;
 use crossbeam_utils::CachePadded;
 use std::sync::{Condvar, Mutex, MutexGuard, Wait};
 use std::thread;
-use tatp_waiting::{LOOKS, lock};
 
 /// The place of a message, which stays when it is taken: messages may be large, and are written and
 /// read where they stand.

@@ -1,6 +1,6 @@
 use Rattle.std.proofs.Common.{◌≡◌, map, take}
-use Rattle.tatp_inboxes.specs.Inboxes.{end_beside}
-use Rattle.tatp_inboxes.proofs.inbox.ends_of.Given as goal
+use Rattle.tatp_sync.specs.Inboxes.{end_beside}
+use Rattle.tatp_sync.proofs.inbox.ends_of.Given as goal
 
 abbrev pub invariant-loop-port : goal.invariant-loop-port
 invariant-loop-port g l = record {

@@ -1,5 +1,5 @@
-use Rattle.tatp_inboxes.proofs.InboxLaws.{forks}
-use Rattle.tatp_inboxes.proofs.inbox.open_inbox.Goals as goal
+use Rattle.tatp_sync.proofs.InboxLaws.{forks}
+use Rattle.tatp_sync.proofs.inbox.open_inbox.Goals as goal
 
 pub another-second-requires-clause-rule : goal.another-second-requires-clause-rule
 another-second-requires-clause-rule g c = forks g.L.MessageRule.allows _ _

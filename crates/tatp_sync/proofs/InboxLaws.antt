@@ -2,7 +2,7 @@
 use Rattle.std.proofs.Common.{◌≡◌, ℕ, List, [], ◌∷◌, ◌++◌, refl}
 use Rattle.std.proofs.lemmas.List.Elements.{All-push, All-head, All-tail}
 use Rattle.crossbeam_channel.specs.Fifo.{Pushes, Pops, Forks}
-use Rattle.tatp_inboxes.specs.Inboxes.{IsRuled}
+use Rattle.tatp_sync.specs.Inboxes.{IsRuled}
 
 module _ {M : Type 0} (allows : M → Type 0) (port : ℕ) (history : List M) where
   -- an allowed message joins at the back

@@ -1,6 +1,6 @@
 use Rattle.std.proofs.Common.{◌≡◌, length, All}
-use Rattle.tatp_inboxes.specs.Inboxes.{IsNew}
-use Rattle.tatp_inboxes.proofs.inbox.open_inboxes.Given as goal
+use Rattle.tatp_sync.specs.Inboxes.{IsNew}
+use Rattle.tatp_sync.proofs.inbox.open_inboxes.Given as goal
 
 abbrev pub invariant-loop : goal.invariant-loop
 invariant-loop g l = record {

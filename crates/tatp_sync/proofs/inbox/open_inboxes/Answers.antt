@@ -1,8 +1,8 @@
 use Rattle.std.proofs.Common.{◌++◌, [], ◌∷◌, ◌+◌, length, All, ap, sym, subst, ◌∙◌}
 use Rattle.std.proofs.lemmas.List.{length_push}
 use Rattle.std.proofs.lemmas.List.Elements.{All-push}
-use Rattle.tatp_inboxes.specs.Inboxes.{IsNew}
-use Rattle.tatp_inboxes.proofs.inbox.open_inboxes.Goals as goal
+use Rattle.tatp_sync.specs.Inboxes.{IsNew}
+use Rattle.tatp_sync.proofs.inbox.open_inboxes.Goals as goal
 
 pub loop-preserved : goal.loop-preserved
 loop-preserved g c = record {

@@ -1,7 +1,8 @@
 //! Inboxes: bounded channels, each of whose messages meets a rule.
 ghost use Rattle.std.specs.Prelude.{◌≡◌, ◌<◌, ◌++◌, List, [], ◌∷◌, All, IfOk, IfSome, map, vec_len};
-ghost use Rattle.tatp_inboxes.specs.Inboxes.{IsRuled, IsNew, Puts, Takes, end_beside};
+ghost use Rattle.tatp_sync.specs.Inboxes.{IsRuled, IsNew, Puts, Takes, end_beside};
 
+use crate::LOOKS;
 use crossbeam_channel::protocol::{Lesson, Outcome, Protocol, Split};
 use crossbeam_channel::{Pass, RuledReceiver, RuledSender, bounded_with};
 use std::alloc::{AllocError, Global};
@@ -9,7 +10,6 @@ use std::collections::LinkedList;
 use std::marker::{Model, PhantomData};
 use std::sync::Wait;
 use std::thread;
-use tatp_waiting::LOOKS;
 
 /// What each message of an inbox meets. Whoever takes one knows it, whatever other threads do.
 pub trait MessageRule<M> {
@@ -78,7 +78,7 @@ pub struct Port<M: Drop, L: MessageRule<M>> {
 impl<M: Drop, L: MessageRule<M>> Model for Port<M, L> {
     ghost use Rattle.crossbeam_channel.specs.Claims.{IsSeatAt};
     ghost use Rattle.crossbeam_channel.specs.Ends.{sends_on, ruled_capacity};
-    ghost use Rattle.tatp_inboxes.specs.Inboxes.{End, end_by};
+    ghost use Rattle.tatp_sync.specs.Inboxes.{End, end_by};
 
     ghost Value = { End M };
 
@@ -120,7 +120,7 @@ pub struct Reader<M: Drop, L: MessageRule<M>> {
 impl<M: Drop, L: MessageRule<M>> Model for Reader<M, L> {
     ghost use Rattle.crossbeam_channel.specs.Claims.{IsSeatAt};
     ghost use Rattle.crossbeam_channel.specs.Ends.{receives_on, ruled_capacity};
-    ghost use Rattle.tatp_inboxes.specs.Inboxes.{End, end_by};
+    ghost use Rattle.tatp_sync.specs.Inboxes.{End, end_by};
 
     ghost Value = { End M };
 

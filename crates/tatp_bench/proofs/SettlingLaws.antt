@@ -7,7 +7,7 @@ use Rattle.std.proofs.lemmas.List.{length-map}
 use Rattle.std.proofs.lemmas.List.Sums.{sum_by-cons}
 use Rattle.tatp_tables.specs.declared.row.Rows.{Rows}
 use Rattle.tatp_procs.specs.declared.ask.Ask.{Ask}
-use Rattle.tatp_receipts.specs.Receipts.{ReceiptsState}
+use Rattle.tatp_logs.specs.Receipts.{ReceiptsState}
 use Rattle.tatp_settle.specs.declared.settled.Settled.{Settled}
 use Rattle.tatp_settle.specs.Closings.{closed_site}
 use Rattle.tatp_settle.specs.Receipts.{is_done}

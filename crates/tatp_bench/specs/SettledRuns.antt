@@ -12,7 +12,7 @@ use Rattle.tatp_settle.specs.declared.refusals.SettleError.{SettleError}
 use Rattle.tatp_settle.specs.declared.refusals.SettleError.TheVariants.{Because, NoMemory as NoMemoryToSettle}
 use Rattle.tatp_settle.specs.Causes.{IsFirstCause}
 use Rattle.tatp_settle.specs.Closings.{closed_of, IsClosedSite, IsClosed}
-use Rattle.tatp_receipts.specs.Receipts.{receipts_of}
+use Rattle.tatp_logs.specs.Receipts.{receipts_of}
 use Rattle.tatp_settle.specs.Runs.{Run, joined, lists_of}
 use Rattle.tatp_settle.specs.Settlements.{IsSettled, IsLeastMissing}
 use Rattle.tatp_threads.specs.declared.outcome.RanParts.{RanParts}

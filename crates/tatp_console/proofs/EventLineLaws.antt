@@ -10,7 +10,7 @@ use Rattle.tatp_dispatch.specs.Events.{Happens}
 use Rattle.tatp_dispatch.specs.Serving.{Tells}
 use Rattle.tatp_procs.specs.declared.ask.Ask.{Ask}
 use Rattle.tatp_procs.specs.declared.entry.Entry.{Entry}
-use Rattle.tatp_completions.specs.Completions.{last_ask}
+use Rattle.tatp_logs.specs.Completions.{last_ask}
 use Rattle.tatp_trace_lines.specs.declared.line.TraceLine.{TraceLine}
 use Rattle.tatp_trace_lines.specs.declared.line.TraceLine.TheVariants.{Event, Steps, Look, Home, Audit}
 use Rattle.tatp_trace_lines.specs.AnswerText.{answered_text}

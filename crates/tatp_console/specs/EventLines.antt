@@ -8,7 +8,7 @@ use Rattle.tatp_audits.specs.Printing.{verdict_text}
 use Rattle.tatp_events.specs.declared.event.Event.{Event as AnEvent}
 use Rattle.tatp_events.specs.declared.event.Event.TheVariants.{Step}
 use Rattle.tatp_events.specs.Answers.{Answered}
-use Rattle.tatp_completions.specs.Completions.{last_ask}
+use Rattle.tatp_logs.specs.Completions.{last_ask}
 use Rattle.tatp_dispatch.specs.Events.{Happens}
 use Rattle.tatp_dispatch.specs.Gathered.{gathered_rows}
 use Rattle.tatp_dispatch.specs.Serving.{Tells}

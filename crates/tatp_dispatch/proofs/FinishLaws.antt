@@ -4,7 +4,7 @@ use Rattle.std.specs.Vec.{with_item}
 use Rattle.std.proofs.Math.ListN.{set}
 use Rattle.std.proofs.lemmas.Bool.{false≢true}
 use Rattle.std.proofs.lemmas.Option.{slice_get_within}
-use Rattle.tatp_completions.specs.Completions.{CompletionsState}
+use Rattle.tatp_logs.specs.Completions.{CompletionsState}
 use Rattle.tatp_partition.specs.declared.item.Completion.{Completion}
 use Rattle.tatp_partition.specs.declared.item.Stepped.TheVariants.{Moved as Did_move, Ended as Did_end}
 use Rattle.tatp_partition.specs.declared.refusal.SiteRefusal.{SiteRefusal}

@@ -21,7 +21,7 @@ use crate::client::Client;
 use crate::queue::Queue;
 pub use getters::what_holds_of_every_world;
 use std::marker::Model;
-use tatp_completions::Completions;
+use tatp_logs::Completions;
 use tatp_extents::Chapter;
 use tatp_loader::Loaded;
 use tatp_move::Routes;

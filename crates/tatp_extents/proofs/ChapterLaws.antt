@@ -7,7 +7,8 @@ use Rattle.std.proofs.lemmas.List.Elements.{All-head, All-tail, All-append}
 use Rattle.tatp_homes.specs.Home.{SubscriberRows}
 use Rattle.tatp_procs.specs.declared.entry.Entry.{Entry}
 use Rattle.tatp_extents.specs.Histories.{Leads, StampsRise, IsHistory}
-use Rattle.tatp_extents.specs.Extents.{ExtentState, IsExtent, last_stamp_from}
+use Rattle.tatp_logs.specs.Logs.{last_stamp_from}
+use Rattle.tatp_extents.specs.Extents.{ExtentState, IsExtent}
 use Rattle.tatp_extents.specs.HomelessLog.{HomelessState, IsHomeless, IsHomelessHistory, RecordsHomeless}
 use Rattle.tatp_extents.specs.Chapters.{ChapterState, IsChapterOfHomes, IsChapterOf, IsChapter, chapter_of, homeless_chapter_of, Joins, entries_joined, EachLeads, EachRises, chapters_listed, homes_due_from}
 use Rattle.tatp_extents.proofs.HistoryLaws.{last_of_more}

@@ -9,7 +9,8 @@ use Rattle.tatp_homes.specs.Home.{SubscriberRows}
 use Rattle.tatp_procs.specs.declared.entry.Entry.{Entry}
 use Rattle.tatp_procs.specs.Transactions.{transaction}
 use Rattle.tatp_extents.specs.Histories.{with_tables, Records, Leads, StampsRise}
-use Rattle.tatp_extents.specs.Extents.{ExtentState, AreHomesOfExtent, IsExtent, LiesIn, s_ids, home_among, home_at, first_subscriber, place_in, with_home_at, with_entry, as_mixed, last_stamp_from}
+use Rattle.tatp_logs.specs.Logs.{last_stamp_from}
+use Rattle.tatp_extents.specs.Extents.{ExtentState, AreHomesOfExtent, IsExtent, LiesIn, s_ids, home_among, home_at, first_subscriber, place_in, with_home_at, with_entry, as_mixed}
 use Rattle.tatp_extents.specs.Pinning.{PinnedState, IsPinned, Logs, HasItsHome}
 use Rattle.tatp_extents.specs.HomelessLog.{IsHomelessHistory, RecordsHomeless}
 use Rattle.tatp_extents.proofs.ListLaws.{get_set_same, set_set, set_same, get_within}

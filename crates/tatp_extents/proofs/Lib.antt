@@ -3,8 +3,6 @@ pub mod ListLaws
 pub mod ExtentLaws
 pub mod HistoryLaws
 pub mod ChapterLaws
-pub mod KeptReplyLaws
-pub mod LogLaws
 pub mod OpeningLaws
 pub mod HomeRowsLaws
 pub mod CleanRowsLaws

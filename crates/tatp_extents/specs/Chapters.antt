@@ -9,7 +9,8 @@ use Rattle.tatp_procs.specs.contracts.entry.Entry as entry
 use Rattle.tatp_extents.specs.declared.chapter.CheckpointError.{CheckpointError}
 use Rattle.tatp_extents.specs.declared.chapter.CheckpointError.TheVariants.{LogEnded, ChapterCountFull, NoMemory}
 use Rattle.tatp_extents.specs.Histories.{Leads, StampsRise, IsHistory}
-use Rattle.tatp_extents.specs.Extents.{ExtentState, AreHomesOfExtent, last_stamp_from, last_stamp_of}
+use Rattle.tatp_logs.specs.Logs.{last_stamp_from}
+use Rattle.tatp_extents.specs.Extents.{ExtentState, AreHomesOfExtent, last_stamp_of}
 use Rattle.tatp_extents.specs.HomelessLog.{HomelessState, IsHomelessHistory, last_homeless_stamp}
 
 -- what contracts see of a chapter: whose it is, how many were handed out before it, and the calls

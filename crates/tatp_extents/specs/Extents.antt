@@ -6,6 +6,7 @@ use Rattle.std.specs.Coded.{Coded, code_by, coded×, coded_ℕ, coded_bool, code
 use Rattle.tatp_homes.specs.Home.{SubscriberRows, subscriber_rows_code}
 use Rattle.tatp_procs.specs.declared.entry.Entry.{Entry}
 use Rattle.tatp_procs.specs.contracts.entry.Entry as entry
+use Rattle.tatp_logs.specs.Logs.{last_stamp_from}
 use Rattle.tatp_extents.specs.Histories.{IsHistory}
 
 -- what contracts see of an extent: how many chapters it handed out, and of its last checkpoint, or
@@ -41,11 +42,6 @@ extent_state_code =
       log = p.1.1.1.1.1.1.1;
     })
     (λ _. refl)
-
--- the stamp of the last entry of a log, the kept one without an entry
-abbrev pub last_stamp_from : ℕ → List Entry → ℕ
-last_stamp_from kept_stamp log =
-    option_map_or (λ (e : Entry). e.stamp) (slice_get log (length log - 1)) kept_stamp
 
 -- the last stamp of an extent, 0 before the first
 abbrev pub last_stamp_of : ExtentState → ℕ

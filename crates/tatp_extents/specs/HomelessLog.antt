@@ -9,7 +9,7 @@ use Rattle.tatp_procs.specs.declared.entry.Entry.{Entry}
 use Rattle.tatp_procs.specs.Arguments.{arguments_accepted}
 use Rattle.tatp_procs.specs.Transactions.{transaction}
 use Rattle.tatp_extents.specs.Histories.{StampsRise}
-use Rattle.tatp_extents.specs.Extents.{last_stamp_from}
+use Rattle.tatp_logs.specs.Logs.{last_stamp_from}
 
 -- what contracts see of it: whether it is mixed, how many chapters it handed out, the last stamp at
 -- the last checkpoint, its entries since then, and for how many more there is room

@@ -1,6 +1,3 @@
-pub mod Logs
-pub mod KeptReplies
-pub mod LoggedCalls
 pub mod Histories
 pub mod Extents
 pub mod Pinning

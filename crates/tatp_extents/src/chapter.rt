@@ -4,10 +4,11 @@ ghost use Rattle.tatp_extents.specs.declared.chapter.CheckpointError.TheVariants
 ghost use Rattle.tatp_extents.specs.Chapters.{IsChapter};
 ghost use Rattle.tatp_extents.specs.ChapterParts.{chapter_of_parts};
 
-use crate::{Log, SharedHomes};
+use crate::SharedHomes;
 use std::alloc::AllocError;
 use std::marker::Model;
 use tatp_homes::Home;
+use tatp_logs::Log;
 use thiserror::Error;
 
 /// The most chapters of one extent.

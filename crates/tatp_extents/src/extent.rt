@@ -11,11 +11,12 @@ ghost use Rattle.tatp_extents.specs.Chapters.{CheckpointsExtent, IsChapter};
 use crate::chapter::{ChapterParts, MOST_CHAPTERS};
 use crate::extent_numbers::first_subscriber;
 use crate::homes::{add_rows, copies, home_in_row};
-use crate::{Chapter, CheckpointError, ExtentParts, Log, Pinned, SharedHomes};
+use crate::{Chapter, CheckpointError, ExtentParts, Pinned, SharedHomes};
 use std::alloc::{AllocError, Global};
 use std::marker::Model;
 use std::mem;
 use tatp_homes::Home;
+use tatp_logs::Log;
 use tatp_tables::Rows;
 
 /// The homes of up to 64 subscribers in a row, as they were at the last checkpoint and as they are,

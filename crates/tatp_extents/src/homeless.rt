@@ -4,9 +4,10 @@ ghost use Rattle.tatp_extents.specs.HomelessLog.{HomelessState, IsHomeless, Reco
 ghost use Rattle.tatp_extents.specs.Chapters.{CheckpointsHomeless, IsChapter};
 
 use crate::chapter::{ChapterParts, MOST_CHAPTERS};
-use crate::{Chapter, CheckpointError, HomelessParts, Log, SharedHomes};
+use crate::{Chapter, CheckpointError, HomelessParts, SharedHomes};
 use std::alloc::{AllocError, Global};
 use std::marker::Model;
+use tatp_logs::Log;
 use tatp_procs::Entry;
 
 /// The log of the calls without a home, which counts as extent 0.

@@ -1,7 +1,8 @@
 //! The parts of an extent, and of the log of calls without a home.
 
-use crate::{Log, SharedHomes};
+use crate::SharedHomes;
 use tatp_homes::Home;
+use tatp_logs::Log;
 
 /// What an extent is made of. They tell nothing of each other: an [`crate::Extent`] does.
 #[derive(Debug, Drop)]

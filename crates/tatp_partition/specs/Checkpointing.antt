@@ -2,7 +2,8 @@
 use Rattle.std.specs.Prelude.{◌≡◌, ℕ, zero, suc, ◌+◌, ◌==◌, Bool, false, if◌then◌else◌, List, [], ◌∷◌, is_some, is_none, Option, Some, None, Result, Ok, Err}
 use Rattle.std.specs.Option.{option_map, option_map_or}
 use Rattle.tatp_procs.specs.declared.entry.Entry.{Entry}
-use Rattle.tatp_extents.specs.Extents.{ExtentState, last_stamp_from}
+use Rattle.tatp_logs.specs.Logs.{last_stamp_from}
+use Rattle.tatp_extents.specs.Extents.{ExtentState}
 use Rattle.tatp_extents.specs.declared.chapter.CheckpointError.{CheckpointError}
 use Rattle.tatp_extents.specs.declared.chapter.CheckpointError.TheVariants as error
 use Rattle.tatp_extents.specs.Chapters.{ChapterState, most_chapters, chapter_of, after_checkpoint}

@@ -4,8 +4,8 @@ use Rattle.std.proofs.lemmas.Option.{same_Some, none-some}
 use Rattle.tatp_procs.specs.declared.ask.Ask.{Ask}
 use Rattle.tatp_procs.specs.declared.entry.Entry.{Entry}
 use Rattle.tatp_procs.specs.contracts.ask.Ask as ask
-use Rattle.tatp_receipts.specs.declared.receipt.Receipt.{Receipt}
-use Rattle.tatp_receipts.specs.declared.receipt.Receipt.TheVariants.{Done, Refused}
+use Rattle.tatp_logs.specs.declared.receipt.Receipt.{Receipt}
+use Rattle.tatp_logs.specs.declared.receipt.Receipt.TheVariants.{Done, Refused}
 use Rattle.tatp_settle.specs.declared.places.LogPlace.{LogPlace}
 use Rattle.tatp_settle.specs.Closings.{ClosedState, entries_numbered}
 use Rattle.tatp_settle.specs.Runs.{at_call}
@@ -13,7 +13,7 @@ use Rattle.tatp_settle.specs.Answering.{AreMatched, EntryFound}
 use Rattle.tatp_settle.specs.CallPlaces.{HoldsNowhere}
 use Rattle.tatp_settle.specs.Causes.{IsUnmatched, IsOtherThanLogged, Differs}
 use Rattle.tatp_settle.specs.Placing.{AllPlaced, Cells}
-use Rattle.tatp_extents.specs.Logs.{HasSaid}
+use Rattle.tatp_logs.specs.Logs.{HasSaid}
 use Rattle.tatp_settle.specs.Agreeing.{Agrees}
 use Rattle.tatp_settle.proofs.StableLaws.{equal_or_not}
 use Rattle.tatp_settle.proofs.ReceivedLaws.{matched_unless, in_cell, one_entry, is_of, differs_from_entry, differs_without}

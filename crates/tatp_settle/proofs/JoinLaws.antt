@@ -7,7 +7,8 @@ use Rattle.tatp_homes.specs.Home.{SubscriberRows, subscriber_rows_code}
 use Rattle.tatp_tables.specs.declared.row.Rows.{Rows}
 use Rattle.tatp_procs.specs.declared.entry.Entry.{Entry}
 use Rattle.tatp_extents.specs.Histories.{StampsRise}
-use Rattle.tatp_extents.specs.Extents.{ExtentState, last_stamp_from}
+use Rattle.tatp_logs.specs.Logs.{last_stamp_from}
+use Rattle.tatp_extents.specs.Extents.{ExtentState}
 use Rattle.tatp_extents.specs.Chapters.{ChapterState, Joins, EachRises, chapters_listed, homes_due_from}
 use Rattle.tatp_extents.proofs.ChapterLaws.{joined_rise, parts_join}
 use Rattle.tatp_settle.specs.declared.cause.Unsettled.TheVariants.{Mixed, ParcelLeft, Doubled, ChapterMissing, ChapterTwice, ChapterDiffers}

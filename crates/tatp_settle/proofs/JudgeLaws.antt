@@ -7,7 +7,7 @@ use Rattle.std.proofs.lemmas.Result.{IfOk-at_ok}
 use Rattle.tatp_tables.specs.Clean.{IsClean}
 use Rattle.tatp_tables.specs.Database.{database_of}
 use Rattle.tatp_procs.specs.declared.ask.Ask.{Ask}
-use Rattle.tatp_receipts.specs.declared.receipt.Receipt.{Receipt}
+use Rattle.tatp_logs.specs.declared.receipt.Receipt.{Receipt}
 use Rattle.tatp_settle.specs.declared.places.CallPlace.{CallPlace}
 use Rattle.tatp_settle.specs.declared.places.ChapterPlace.{ChapterPlace}
 use Rattle.tatp_settle.specs.declared.cause.Unsettled.{Unsettled}

@@ -4,11 +4,11 @@ use Rattle.std.specs.Option.{option_or}
 use Rattle.std.proofs.lemmas.Option.{same_Some, none-some}
 use Rattle.std.proofs.lemmas.Bool.{false≢true}
 use Rattle.tatp_procs.specs.declared.entry.Entry.{Entry}
-use Rattle.tatp_receipts.specs.declared.receipt.Receipt.{Receipt}
+use Rattle.tatp_logs.specs.declared.receipt.Receipt.{Receipt}
 use Rattle.tatp_settle.specs.declared.places.LogPlace.{LogPlace}
 use Rattle.tatp_settle.specs.declared.places.CallPlace.{CallPlace}
 use Rattle.tatp_settle.specs.declared.placement.Placed.{Placed}
-use Rattle.tatp_extents.specs.Logs.{IsOfCall}
+use Rattle.tatp_logs.specs.Logs.{IsOfCall}
 use Rattle.tatp_settle.specs.Closings.{ClosedState, entries_numbered, StandsAt}
 use Rattle.tatp_settle.specs.Runs.{at_call}
 use Rattle.tatp_settle.specs.Answering.{EntryFound}

@@ -4,9 +4,9 @@ use Rattle.std.proofs.lemmas.Option.{same_Some, none-some}
 use Rattle.tatp_procs.specs.declared.ask.Ask.{Ask}
 use Rattle.tatp_procs.specs.declared.entry.Entry.{Entry}
 use Rattle.tatp_procs.specs.contracts.ask.Ask as ask
-use Rattle.tatp_receipts.specs.declared.receipt.Receipt.{Receipt}
-use Rattle.tatp_receipts.specs.declared.receipt.Receipt.TheVariants.{Done, Refused}
-use Rattle.tatp_receipts.specs.contracts.receipt.Receipt as receipt
+use Rattle.tatp_logs.specs.declared.receipt.Receipt.{Receipt}
+use Rattle.tatp_logs.specs.declared.receipt.Receipt.TheVariants.{Done, Refused}
+use Rattle.tatp_logs.specs.contracts.receipt.Receipt as receipt
 use Rattle.tatp_settle.specs.declared.places.LogPlace.{LogPlace}
 use Rattle.tatp_settle.specs.Closings.{ClosedState, entries_numbered, StandsAt}
 use Rattle.tatp_settle.specs.Runs.{Run, at_call}

@@ -3,7 +3,7 @@ use Rattle.std.proofs.Common.{◌≡◌, ℕ, zero, suc, ◌<◌, ◌⊎◌, inl
 use Rattle.std.specs.Option.{option_map_or}
 use Rattle.tatp_procs.specs.declared.entry.Entry.{Entry}
 use Rattle.tatp_extents.specs.Histories.{StampsRise}
-use Rattle.tatp_extents.specs.Extents.{last_stamp_from}
+use Rattle.tatp_logs.specs.Logs.{last_stamp_from}
 use Rattle.tatp_extents.specs.Chapters.{ChapterState}
 use Rattle.tatp_extents.proofs.HistoryLaws.{last_of_more}
 use Rattle.tatp_settle.specs.Closings.{ClosedState, chapter_count, entries_since, chapter_numbered, IsClosed}

@@ -7,7 +7,7 @@ use Rattle.tatp_homes.specs.Home.{SubscriberRows}
 use Rattle.tatp_tables.specs.declared.row.Rows.{Rows}
 use Rattle.tatp_procs.specs.declared.entry.Entry.{Entry}
 use Rattle.tatp_extents.specs.Histories.{StampsRise}
-use Rattle.tatp_extents.specs.Extents.{last_stamp_from}
+use Rattle.tatp_logs.specs.Logs.{last_stamp_from}
 use Rattle.tatp_extents.specs.Chapters.{ChapterState}
 use Rattle.tatp_extents.proofs.HistoryLaws.{last_of_more}
 use Rattle.tatp_settle.specs.Closings.{ClosedState, ExtentLog, log_numbered, chapter_count, chapter_numbered}

@@ -4,8 +4,8 @@ use Rattle.tatp_procs.specs.declared.ask.Ask.{Ask}
 use Rattle.tatp_procs.specs.declared.ask.Ask.TheVariants.{Txn, Raw}
 use Rattle.tatp_procs.specs.declared.entry.Entry.{Entry}
 use Rattle.tatp_procs.specs.Calls.{procedure_of}
-use Rattle.tatp_receipts.specs.declared.receipt.Receipt.{Receipt}
-use Rattle.tatp_receipts.specs.declared.receipt.Receipt.TheVariants.{Done, Refused}
+use Rattle.tatp_logs.specs.declared.receipt.Receipt.{Receipt}
+use Rattle.tatp_logs.specs.declared.receipt.Receipt.TheVariants.{Done, Refused}
 use Rattle.tatp_settle.specs.Receipts.{IsOf}
 use Rattle.tatp_settle.specs.Merging.{PlacedEntry}
 use Rattle.tatp_settle.specs.Closings.{ClosedState, StandsAt}

@@ -1,6 +1,6 @@
 -- The search for calls whose receipt or ask isn't what their entry says.
 use Rattle.std.specs.Prelude.{ℕ}
-use Rattle.tatp_receipts.specs.Receipts.{receipts_of}
+use Rattle.tatp_logs.specs.Receipts.{receipts_of}
 use Rattle.tatp_settle.specs.declared.differences.Differing.{Differing}
 use Rattle.tatp_settle.specs.CallPlaces.{HoldsNowhere}
 use Rattle.tatp_settle.specs.Causes.{Differs, IsUnmatched}

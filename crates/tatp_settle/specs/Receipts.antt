@@ -1,7 +1,7 @@
 -- Receipts of a client's calls.
 use Rattle.std.specs.Prelude.{◌≡◌, ℕ, ◌<◌, Bool, true, false}
-use Rattle.tatp_receipts.specs.declared.receipt.Receipt.{Receipt}
-use Rattle.tatp_receipts.specs.declared.receipt.Receipt.TheVariants.{Done, Refused}
+use Rattle.tatp_logs.specs.declared.receipt.Receipt.{Receipt}
+use Rattle.tatp_logs.specs.declared.receipt.Receipt.TheVariants.{Done, Refused}
 
 -- whether the receipt is of a completed call
 abbrev pub is_done : Receipt → Bool

@@ -11,8 +11,8 @@ use Rattle.tatp_procs.specs.declared.ask.Ask.{Ask}
 use Rattle.tatp_procs.specs.declared.entry.Entry.{Entry}
 use Rattle.tatp_extents.specs.Opening.{extent_count, homes_of_extent}
 use Rattle.tatp_extents.specs.HomeRows.{rows_of_homes}
-use Rattle.tatp_receipts.specs.declared.receipt.Receipt.{Receipt}
-use Rattle.tatp_receipts.specs.Receipts.{ReceiptsState, receipts_of}
+use Rattle.tatp_logs.specs.declared.receipt.Receipt.{Receipt}
+use Rattle.tatp_logs.specs.Receipts.{ReceiptsState, receipts_of}
 use Rattle.tatp_settle.specs.declared.run.Run.{Run as HeldRun}
 use Rattle.tatp_settle.specs.Closings.{ClosedState, entries_numbered, homes_numbered, moves_numbered}
 

@@ -14,7 +14,7 @@ use Rattle.tatp_procs.specs.declared.entry.Entry.{Entry}
 use Rattle.tatp_extents.specs.Histories.{StampsRise}
 use Rattle.tatp_extents.specs.Extents.{ExtentState}
 use Rattle.tatp_extents.specs.Chapters.{Joins}
-use Rattle.tatp_receipts.specs.declared.receipt.Receipt.{Receipt}
+use Rattle.tatp_logs.specs.declared.receipt.Receipt.{Receipt}
 use Rattle.tatp_settle.specs.declared.settled.Settled.{Settled}
 use Rattle.tatp_settle.specs.declared.refusals.GatherError.{GatherError}
 use Rattle.tatp_settle.specs.declared.refusals.GatherError.TheVariants.{ExtentMissing, NoMemory as NoMemoryToGather}

@@ -1,6 +1,6 @@
 //! Calls whose receipt or ask differs from their entry.
 ghost use Rattle.std.specs.Prelude.{◌↔◌, IsTrue, Some};
-ghost use Rattle.tatp_receipts.specs.Receipts.{receipt_seen};
+ghost use Rattle.tatp_logs.specs.Receipts.{receipt_seen};
 ghost use Rattle.tatp_settle.specs.CallPlaces.{IsFirstCall, IsFirstNumber};
 ghost use Rattle.tatp_settle.specs.Agreeing.{Agrees};
 ghost use Rattle.tatp_settle.specs.Comparing.{DiffersIn, IsReady};

@@ -8,7 +8,7 @@ ghost use Rattle.tatp_settle.specs.Causes.{IsMixed, IsUnjoined};
 ghost use Rattle.tatp_settle.specs.CallPlaces.{IsFirstNumber};
 ghost use Rattle.tatp_settle.specs.ChapterTables.{IsFirstChapter, entries_of_some};
 ghost use Rattle.tatp_settle.specs.Stamping.{first_is_above};
-ghost use Rattle.tatp_extents.specs.Extents.{last_stamp_from};
+ghost use Rattle.tatp_logs.specs.Logs.{last_stamp_from};
 
 use crate::chapter_table::ChapterTable;
 use crate::log_parts::LogPart;

@@ -35,7 +35,7 @@ pub use gathering::gather;
 pub use refusals::{GatherError, NotGathered, NotSettled, SettleError};
 pub use settled::Settled;
 pub use settlement::settle;
-pub use tatp_receipts::{Receipt, ReceiptRef, Receipts};
+pub use tatp_logs::{Receipt, ReceiptRef, Receipts};
 pub use theorems::{
     every_interleaving_is_one_history, logs_can_be_merged, merged_logs_are_one_history,
     runs_are_one_history, runs_are_one_history_in_any_order,

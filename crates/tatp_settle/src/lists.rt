@@ -1,7 +1,7 @@
 //! Lists of lists, by client and call number. A list that is lacking counts as empty.
 ghost use Rattle.std.specs.Prelude.{◌≡◌, ◌≤◌, ℕ, None, length, slice_get};
 ghost use Rattle.std.specs.Option.{option_copied, option_map, option_map_or};
-ghost use Rattle.tatp_receipts.specs.Receipts.{receipt_seen, receipts_of};
+ghost use Rattle.tatp_logs.specs.Receipts.{receipt_seen, receipts_of};
 ghost use Rattle.tatp_settle.specs.Runs.{at_call, lists_of};
 
 use crate::{ReceiptRef, Receipts};

@@ -2,12 +2,12 @@
 ghost use Rattle.std.specs.Prelude.{◌≡◌, ◌<◌, ◌≤◌, ◌↔◌, ◌++◌, [], IsTrue, IfSome, OnSome, OnOk, length, slice_get};
 ghost use Rattle.std.specs.Option.{option_copied};
 ghost use Rattle.tatp_procs.specs.Replies.{reply_seen};
-ghost use Rattle.tatp_extents.specs.Logs.{HasSaid, IsOfCall};
+ghost use Rattle.tatp_logs.specs.Logs.{HasSaid, IsOfCall};
 ghost use Rattle.tatp_settle.specs.WholeLogs.{entry_in_part};
 
 use std::alloc::{AllocError, Global};
 use std::marker::Model;
-use tatp_extents::Log;
+use tatp_logs::Log;
 use tatp_homes::Home;
 use tatp_procs::{Ask, Entry, ReplyRef};
 

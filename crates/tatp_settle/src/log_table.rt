@@ -3,7 +3,7 @@ ghost use Rattle.std.specs.Prelude.{◌≡◌, ◌<◌, ◌≤◌, ◌↔◌, �
 ghost use Rattle.std.specs.Option.{option_copied, option_map_or};
 ghost use Rattle.tatp_procs.specs.declared.entry.Entry.{Entry};
 ghost use Rattle.tatp_procs.specs.Replies.{reply_seen};
-ghost use Rattle.tatp_extents.specs.Logs.{HasSaid, IsOfCall};
+ghost use Rattle.tatp_logs.specs.Logs.{HasSaid, IsOfCall};
 ghost use Rattle.tatp_settle.specs.Closings.{entries_numbered, least_above};
 
 use crate::Closed;

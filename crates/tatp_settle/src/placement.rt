@@ -1,8 +1,8 @@
 //! The entries of all logs, put into the table of calls.
 ghost use Rattle.std.specs.Prelude.{◌≡◌, ◌⊎◌, ◌+◌, ◌<◌, ◌≤◌, ◌^◌, ◌++◌, ℕ, Bool, true, false, List, IfOk, length};
 ghost use denote.Param.Send.{IsSync};
-ghost use Rattle.tatp_receipts.specs.declared.receipt.Receipt.{Receipt};
-ghost use Rattle.tatp_receipts.specs.Receipts.{receipts_of};
+ghost use Rattle.tatp_logs.specs.declared.receipt.Receipt.{Receipt};
+ghost use Rattle.tatp_logs.specs.Receipts.{receipts_of};
 ghost use Rattle.tatp_settle.specs.Closings.{ClosedState};
 ghost use Rattle.tatp_settle.specs.Placing.{ArePlacedOrExtra, IsTableOf, IsTableOfPart};
 

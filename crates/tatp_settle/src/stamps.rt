@@ -1,6 +1,6 @@
 //! The stamps of each client's receipts.
 ghost use Rattle.std.specs.Prelude.{◌≡◌};
-ghost use Rattle.tatp_receipts.specs.Receipts.{receipts_of};
+ghost use Rattle.tatp_logs.specs.Receipts.{receipts_of};
 ghost use Rattle.tatp_settle.specs.CallPlaces.{IsFirstCall, IsFirstNumber};
 ghost use Rattle.tatp_settle.specs.Causes.{StampFalls};
 ghost use Rattle.tatp_settle.specs.Stamping.{is_above};

@@ -1,7 +1,7 @@
 //! Tables of cells, row by row, each of which is filled at most once.
 ghost use Rattle.std.specs.Prelude.{◌≡◌, ◌++◌, ◌∷◌, [], None, IfOk, OnOk, length, replicate, slice_get};
 ghost use Rattle.std.specs.Option.{option_map_or};
-ghost use Rattle.tatp_receipts.specs.Receipts.{receipts_of};
+ghost use Rattle.tatp_logs.specs.Receipts.{receipts_of};
 ghost use Rattle.tatp_settle.specs.Runs.{at_call};
 ghost use Rattle.tatp_settle.specs.Placing.{cells_of, IsFresh, Puts};
 

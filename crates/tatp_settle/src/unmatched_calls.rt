@@ -1,7 +1,7 @@
 //! Calls without their receipts, and receipts without their calls.
 ghost use Rattle.std.specs.Prelude.{◌≡◌, ◌↔◌, IsTrue};
 ghost use Rattle.std.specs.Option.{option_copied, option_map};
-ghost use Rattle.tatp_receipts.specs.Receipts.{receipt_seen, receipts_of};
+ghost use Rattle.tatp_logs.specs.Receipts.{receipt_seen, receipts_of};
 ghost use Rattle.tatp_settle.specs.Runs.{lists_of};
 ghost use Rattle.tatp_settle.specs.Answering.{AreMatched};
 ghost use Rattle.tatp_settle.specs.CallPlaces.{IsFirstCall, IsFirstNumber};

@@ -9,7 +9,7 @@ use tatp_loader::Loaded;
 use tatp_numbers::Key;
 use tatp_partition::{Item, Parcel, Site, close_sites, discard_all};
 use tatp_procs::{Ask, Call, Raw, Reply};
-use tatp_receipts::{Receipt, Receipts};
+use tatp_logs::{Receipt, Receipts};
 
 /// What happens at a site.
 #[derive(Clone, Copy)]

@@ -1,6 +1,6 @@
 //! A client, which asks its calls one after another.
 ghost use Rattle.std.specs.Prelude.{◌≤◌, Option};
-ghost use Rattle.tatp_receipts.specs.declared.receipt.Receipt.{Receipt};
+ghost use Rattle.tatp_logs.specs.declared.receipt.Receipt.{Receipt};
 ghost use Rattle.tatp_workers.specs.Asking.{Receives};
 
 use crate::admission::{Arities, Port};
@@ -10,7 +10,7 @@ use std::mem;
 use std::sync::Wait;
 use tatp_partition::Item;
 use tatp_procs::Ask;
-use tatp_receipts::Receipts;
+use tatp_logs::Receipts;
 use tatp_sync::Mailbox;
 use tatp_workers::{Delivery, Requester, ask_all};
 

@@ -3,7 +3,7 @@ ghost use Rattle.std.specs.Prelude.{◌≡◌};
 
 use tatp_extents::Chapter;
 use tatp_partition::{Landed, Parcel, Site, discard_all};
-use tatp_receipts::Receipts;
+use tatp_logs::Receipts;
 
 /// What a run leaves. It can be neither copied nor dropped: [`Ran::parts`] spends it.
 pub struct Ran<'m> {

@@ -12,7 +12,7 @@ use tatp_loader::Loaded;
 use tatp_locks::Partition;
 use tatp_partition::{Parcel, Site};
 use tatp_procs::Ask;
-use tatp_receipts::Receipts;
+use tatp_logs::Receipts;
 use tatp_sync::{Mailbox, ends_of, open_inboxes};
 use tatp_workers::Delivery;
 

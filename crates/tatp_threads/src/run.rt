@@ -20,7 +20,7 @@ use tatp_move::Routes;
 use tatp_numbers::Directory;
 use tatp_partition::{Site, close_sites, discard_parcels, open_sites};
 use tatp_procs::Ask;
-use tatp_receipts::Receipts;
+use tatp_logs::Receipts;
 use tatp_slices::Gate;
 use tatp_sync::Start;
 use tatp_tables::Rows;

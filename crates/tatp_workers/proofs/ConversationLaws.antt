@@ -3,8 +3,8 @@ use Rattle.std.proofs.Common.{◌≡◌, ℕ, suc, ◌+◌, Bool, true, false, L
 use Rattle.std.proofs.lemmas.List.{append-nil}
 use Rattle.tatp_procs.specs.declared.ask.Ask.{Ask}
 use Rattle.tatp_numbers.specs.Listing.{Listing}
-use Rattle.tatp_receipts.specs.declared.receipt.Receipt.{Receipt}
-use Rattle.tatp_receipts.specs.Receipts.{ReceiptsState}
+use Rattle.tatp_logs.specs.declared.receipt.Receipt.{Receipt}
+use Rattle.tatp_logs.specs.Receipts.{ReceiptsState}
 use Rattle.tatp_workers.specs.declared.client.Exchange.{Exchange}
 use Rattle.tatp_slices.specs.Growing.{Grows}
 use Rattle.tatp_workers.specs.Asking.{Conversation, Answered, Converses, Receives, item_of, seen_after, with_receipt}

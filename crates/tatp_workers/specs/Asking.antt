@@ -4,9 +4,9 @@ use Rattle.tatp_procs.specs.declared.ask.Ask.{Ask}
 use Rattle.tatp_numbers.specs.Listing.{Listing, answer}
 use Rattle.tatp_partition.specs.declared.item.Item.{Item}
 use Rattle.tatp_procs.specs.Asked.{key_asked}
-use Rattle.tatp_receipts.specs.declared.receipt.Receipt.{Receipt}
-use Rattle.tatp_receipts.specs.declared.receipt.Receipt.TheVariants.{Done, Refused}
-use Rattle.tatp_receipts.specs.Receipts.{ReceiptsState}
+use Rattle.tatp_logs.specs.declared.receipt.Receipt.{Receipt}
+use Rattle.tatp_logs.specs.declared.receipt.Receipt.TheVariants.{Done, Refused}
+use Rattle.tatp_logs.specs.Receipts.{ReceiptsState}
 use Rattle.tatp_workers.specs.declared.client.Exchange.{Exchange}
 
 -- how many calls of a client were asked, and the last stamp that it has seen

@@ -5,8 +5,8 @@ use Rattle.tatp_partition.specs.declared.item.Completion.{Completion}
 use Rattle.tatp_partition.specs.declared.item.Stepped.{Stepped}
 use Rattle.tatp_partition.specs.declared.item.Stepped.TheVariants.{Moved, Ended}
 use Rattle.tatp_partition.specs.declared.refusal.SiteRefusal.{SiteRefusal}
-use Rattle.tatp_receipts.specs.declared.receipt.Receipt.{Receipt}
-use Rattle.tatp_receipts.specs.declared.receipt.Receipt.TheVariants.{Done, Refused}
+use Rattle.tatp_logs.specs.declared.receipt.Receipt.{Receipt}
+use Rattle.tatp_logs.specs.declared.receipt.Receipt.TheVariants.{Done, Refused}
 use Rattle.tatp_workers.specs.declared.delivery.Delivery.TheVariants.{Got, Dropped}
 use Rattle.tatp_workers.specs.declared.effects.Effect.{Effect}
 use Rattle.tatp_workers.specs.declared.effects.Effect.TheVariants.{Sends, Answers, Tells}

@@ -7,7 +7,7 @@ ghost use Rattle.tatp_workers.specs.Asking.{Converses, Conversation, Receives, i
 use tatp_numbers::Directory;
 use tatp_partition::Item;
 use tatp_procs::Ask;
-use tatp_receipts::{Receipt, ReceiptRef, Receipts};
+use tatp_logs::{Receipt, ReceiptRef, Receipts};
 
 /// A call that was asked, and what came of it: none where it came to nothing.
 #[derive(Clone, Copy, Debug)]

@@ -4,7 +4,7 @@ ghost use Rattle.tatp_workers.specs.Effects.{receipt_of};
 
 use std::slice;
 use tatp_partition::Completion;
-use tatp_receipts::Receipt;
+use tatp_logs::Receipt;
 
 /// What a client waits for.
 #[derive(Clone, Copy, Debug)]

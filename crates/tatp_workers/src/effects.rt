@@ -11,7 +11,7 @@ ghost use Rattle.tatp_workers.specs.declared.effects.Effect.TheVariants.{Sends, 
 
 use crate::{Delivery, Message};
 use tatp_partition::{Completion, CompletionPlace, Item, SiteRefusal, Stepped};
-use tatp_receipts::Receipt;
+use tatp_logs::Receipt;
 use tatp_slices::{Checkpointed, Offered};
 
 /// What an executor or the debugger did.

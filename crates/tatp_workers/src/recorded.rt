@@ -25,7 +25,7 @@ use tatp_partition::{
     Completion, CompletionPlace, Item, Landed, Parcel, Site, SiteRefusal, Stepped,
 };
 use tatp_procs::Ask;
-use tatp_receipts::Receipts;
+use tatp_logs::Receipts;
 use tatp_slices::{Checkpointed, Observer, Offered, StepAhead, slice};
 
 /// What was done, kept as long as there is memory for it.

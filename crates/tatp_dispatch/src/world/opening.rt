@@ -10,7 +10,7 @@ use super::World;
 use crate::client::Client;
 use crate::queue::Queue;
 use std::alloc::{AllocError, Global};
-use tatp_completions::Completions;
+use tatp_logs::Completions;
 use tatp_extents::{OpenError, admit, discard, open_clean};
 use tatp_loader::Loaded;
 use tatp_move::Routes;

@@ -2,7 +2,7 @@
 
 use std::test::Fail;
 use tatp_procs::{Outputs, Reply, ReplyRef};
-use tatp_receipts::{Receipt, ReceiptRef, Receipts};
+use tatp_logs::{Receipt, ReceiptRef, Receipts};
 
 /// What client 7 got for its call with this number.
 fn done(number: u64, reply: Reply) -> Receipt {

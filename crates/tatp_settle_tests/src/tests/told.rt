@@ -14,7 +14,7 @@ use tatp_audits::audit;
 use tatp_extents::Chapter;
 use tatp_partition::{close_sites, discard_all};
 use tatp_procs::Ask;
-use tatp_receipts::Receipts;
+use tatp_logs::Receipts;
 use tatp_settle::{Closed, NotGathered, NotSettled, Settled, gather, settle};
 use tatp_tables::Rows;
 

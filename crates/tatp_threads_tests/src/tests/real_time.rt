@@ -12,7 +12,7 @@ use std::thread::Threads;
 use tatp_dispatch::World;
 use tatp_partition::{Site, close_sites};
 use tatp_procs::{Ask, Call, ReplyRef};
-use tatp_receipts::{ReceiptRef, Receipts};
+use tatp_logs::{ReceiptRef, Receipts};
 use tatp_settle_tests::rows::clean_rows;
 use tatp_settle_tests::sites::module;
 use tatp_tables::Rows;

@@ -10,7 +10,7 @@ use std::thread::Threads;
 use tatp_extents::ExtentParts;
 use tatp_partition::Site;
 use tatp_procs::{Ask, Call, ReplyRef};
-use tatp_receipts::{ReceiptRef, Receipts};
+use tatp_logs::{ReceiptRef, Receipts};
 use tatp_settle_tests::rows::clean_rows;
 use tatp_settle_tests::sites::{module, spend_parcels};
 use tatp_threads::{Gate, Moves, NoGate, Ran, RanParts, copy_extent, discard_chapters, run_calls};

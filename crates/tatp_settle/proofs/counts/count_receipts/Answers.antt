@@ -1,6 +1,6 @@
 use Rattle.std.proofs.Common.{◌≡◌, ℕ, ◌+◌, not, cond, true, false, List, Some, count_by, slice_get, sym, ◌∙◌, ap, arith}
-use Rattle.tatp_receipts.specs.declared.receipt.Receipt.{Receipt}
-use Rattle.tatp_receipts.specs.Receipts.{ReceiptsState, receipt_seen, receipts_of}
+use Rattle.tatp_logs.specs.declared.receipt.Receipt.{Receipt}
+use Rattle.tatp_logs.specs.Receipts.{ReceiptsState, receipt_seen, receipts_of}
 use Rattle.tatp_settle.specs.Receipts.{is_done}
 use Rattle.tatp_settle.proofs.CountLaws.{list_here, seen, seen_start, seen_list, counted_next, none_missing, count_within}
 use Rattle.tatp_settle.proofs.counts.count_receipts.Goals as goal

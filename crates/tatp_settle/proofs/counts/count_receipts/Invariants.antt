@@ -1,5 +1,5 @@
 use Rattle.std.proofs.Common.{◌≡◌, not, take, count_by, slice_get, Some}
-use Rattle.tatp_receipts.specs.Receipts.{receipts_of}
+use Rattle.tatp_logs.specs.Receipts.{receipts_of}
 use Rattle.tatp_settle.specs.Receipts.{is_done}
 use Rattle.tatp_settle.specs.Runs.{joined}
 use Rattle.tatp_settle.proofs.CountLaws.{seen}

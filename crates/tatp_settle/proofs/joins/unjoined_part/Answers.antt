@@ -1,7 +1,7 @@
 use Rattle.std.proofs.Common.{◌≡◌, ℕ, ◌+◌, option_copied, sym, ◌∙◌, ap, subst, arith}
 use Rattle.std.specs.Option.{option_map}
 use Rattle.std.proofs.lemmas.Bool.{false≢true}
-use Rattle.tatp_extents.specs.Extents.{last_stamp_from}
+use Rattle.tatp_logs.specs.Logs.{last_stamp_from}
 use Rattle.tatp_settle.specs.declared.log_parts.LogPart.{LogPart}
 use Rattle.tatp_settle.specs.Closings.{IsClosed}
 use Rattle.tatp_settle.specs.ChapterTables.{entries_of_some}

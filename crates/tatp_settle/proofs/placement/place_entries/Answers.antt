@@ -1,11 +1,11 @@
 use Rattle.std.proofs.Common.{List, true, Result, Ok, Err, None, Some, IfOk, IfNone, Option}
 use Rattle.std.specs.declared.alloc.AllocError.{AllocError}
-use Rattle.tatp_receipts.specs.declared.receipt.Receipt.{Receipt}
+use Rattle.tatp_logs.specs.declared.receipt.Receipt.{Receipt}
 use Rattle.tatp_settle.specs.declared.places.CallPlace.{CallPlace}
 use Rattle.tatp_settle.specs.declared.places.LogPlace.{LogPlace}
 use Rattle.tatp_settle.specs.declared.placement.Placed.{Placed}
 use Rattle.tatp_settle.specs.Closings.{ClosedState}
-use Rattle.tatp_receipts.specs.Receipts.{receipts_of}
+use Rattle.tatp_logs.specs.Receipts.{receipts_of}
 use Rattle.tatp_settle.specs.Placing.{cells_of, AllPlaced, ArePlacedIn, ArePlacedOrExtra, Cells, IsTableOf}
 use Rattle.tatp_settle.proofs.PlacingLaws.{placed_all, placed_end}
 use Rattle.tatp_settle.proofs.placement.place_entries.Goals as goal

@@ -4,7 +4,7 @@ use Rattle.std.proofs.lemmas.Bool.{false≢true}
 use Rattle.std.proofs.Math.ListN.{length-map}
 use Rattle.tatp_procs.specs.declared.entry.Entry.{Entry}
 use Rattle.tatp_settle.specs.Closings.{ClosedState, StandsAt, entries_numbered}
-use Rattle.tatp_receipts.specs.Receipts.{ReceiptsState, receipts_of}
+use Rattle.tatp_logs.specs.Receipts.{ReceiptsState, receipts_of}
 use Rattle.tatp_settle.specs.Placing.{cells_of, BelongsAt}
 use Rattle.tatp_settle.proofs.PlacingLaws.{caller_put, caller_kept, caller_other, placed_log, placed_part}
 use Rattle.tatp_settle.proofs.placement.place_in_turn.Goals as goal

@@ -1,5 +1,5 @@
 use Rattle.std.proofs.Common.{◌≡◌, length}
-use Rattle.tatp_receipts.specs.Receipts.{receipts_of}
+use Rattle.tatp_logs.specs.Receipts.{receipts_of}
 use Rattle.tatp_settle.specs.Placing.{cells_of}
 use Rattle.tatp_settle.proofs.PlacingLaws.{PlacedBefore}
 use Rattle.tatp_settle.proofs.placement.place_in_turn.Given as goal

@@ -1,6 +1,6 @@
 use Rattle.std.proofs.Common.{Some, arith, sym, ◌∙◌, ap}
-use Rattle.tatp_receipts.specs.declared.receipt.ReceiptRef.{ReceiptRef}
-use Rattle.tatp_receipts.specs.Receipts.{receipt_seen}
+use Rattle.tatp_logs.specs.declared.receipt.ReceiptRef.{ReceiptRef}
+use Rattle.tatp_logs.specs.Receipts.{receipt_seen}
 use Rattle.tatp_settle.proofs.SearchLaws.{clear_step, clear_all}
 use Rattle.tatp_settle.proofs.StampLaws.{last_done, last_refused, last_none, falls_none, falls_refused, falls_above, falls_here}
 use Rattle.tatp_settle.proofs.stamps.falling_of.Goals as goal

@@ -1,4 +1,4 @@
-use Rattle.tatp_receipts.specs.Receipts.{receipts_of}
+use Rattle.tatp_logs.specs.Receipts.{receipts_of}
 use Rattle.tatp_settle.specs.Causes.{StampFalls}
 use Rattle.tatp_settle.proofs.SearchLaws.{Clear}
 use Rattle.tatp_settle.proofs.StampLaws.{IsLast}

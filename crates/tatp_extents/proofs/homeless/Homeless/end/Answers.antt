@@ -1,5 +1,5 @@
 use Rattle.std.proofs.Common.{subst, sym, ◌<◌, ℕ}
-use Rattle.tatp_extents.specs.Extents.{last_stamp_from}
+use Rattle.tatp_logs.specs.Logs.{last_stamp_from}
 use Rattle.tatp_extents.specs.HomelessLog.{HomelessState, IsHomelessHistory}
 use Rattle.tatp_extents.proofs.HistoryLaws.{homeless_logged}
 use Rattle.tatp_extents.proofs.homeless.Homeless.end.Goals as goal

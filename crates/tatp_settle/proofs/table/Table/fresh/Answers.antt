@@ -1,7 +1,7 @@
 use Rattle.std.proofs.Common.{None, length, refl, sym, ◌∙◌, ◌++◌, ◌∷◌, [], ap, subst, replicate, take, arith}
 use Rattle.std.proofs.lemmas.List.{take_all, length-map}
 use Rattle.std.proofs.lemmas.Option.{slice_get_read}
-use Rattle.tatp_receipts.specs.Receipts.{ReceiptsState, receipts_of}
+use Rattle.tatp_logs.specs.Receipts.{ReceiptsState, receipts_of}
 use Rattle.tatp_settle.specs.Runs.{at_call}
 use Rattle.tatp_settle.specs.Placing.{IsFresh, cells_of}
 use Rattle.tatp_settle.proofs.TableLaws.{fresh_more, fresh_are_fresh, fresh_rows, fresh_row}

@@ -1,5 +1,5 @@
 use Rattle.std.proofs.Common.{◌≡◌, take}
-use Rattle.tatp_receipts.specs.Receipts.{receipts_of}
+use Rattle.tatp_logs.specs.Receipts.{receipts_of}
 use Rattle.tatp_settle.proofs.TableLaws.{fresh_rows}
 use Rattle.tatp_settle.proofs.table.Table.fresh.Given as goal
 

@@ -1,2 +1,0 @@
-pub mod KeptAskLaws
-pub mod CompletedCallLaws

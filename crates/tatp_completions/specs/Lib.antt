@@ -1,3 +1,0 @@
-pub mod KeptAsks
-pub mod Completions
-pub mod CompletedCalls

@@ -1,0 +1,37 @@
+-- Completed calls, as they are kept: their arguments and outputs stand in one list.
+use Rattle.std.specs.Prelude.{ℕ, ◌+◌, ◌-◌, ◌/◌, List, All, map, min, vec_len, Vec}
+use Rattle.std.specs.Vec.{vec_capacity}
+use Rattle.std.specs.declared.alloc.Global.{Global}
+use Rattle.tatp_procs.specs.declared.entry.Entry.{Entry}
+use Rattle.tatp_logs.specs.KeptReplies.{StandsIn, reply_in, most_outputs}
+use Rattle.tatp_logs.specs.declared.completed_call.CompletedCall.{CompletedCall}
+use Rattle.tatp_logs.specs.Completions.{CompletionsState}
+use Rattle.tatp_logs.specs.KeptAsks.{HasArgumentsIn, ask_in, most_arguments}
+
+-- the arguments and the outputs of the call stand in this list
+abbrev pub StandsWith : List ℕ → CompletedCall → Type 0
+StandsWith values x = HasArgumentsIn values x.ask × StandsIn values x.reply
+
+abbrev pub AllStand : List ℕ → List CompletedCall → Type 0
+AllStand values calls = All (StandsWith values) calls
+
+-- the entry whose arguments and outputs stand in this list
+abbrev pub entry_in : List ℕ → CompletedCall → Entry
+entry_in values x = record {
+  client = x.client;
+  number = x.number;
+  ask = ask_in values x.ask;
+  reply = reply_in values x.reply;
+  stamp = x.stamp;
+}
+
+-- for how many more calls there is room, where there is room for so many calls and so many values
+abbrev pub room_for : ℕ → ℕ → ℕ
+room_for calls values = min calls (values / (most_outputs + most_arguments))
+
+-- these calls, whose arguments and outputs stand in this list
+abbrev pub completions_of_calls : Vec CompletedCall Global → Vec ℕ Global → CompletionsState
+completions_of_calls calls values = record {
+  entries = map (entry_in values.items) calls.items;
+  room = room_for (vec_capacity calls - vec_len calls) (vec_capacity values - vec_len values);
+}

@@ -1,2 +1,0 @@
-pub mod Receipts
-pub mod KeptReceipts

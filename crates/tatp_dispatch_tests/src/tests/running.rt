@@ -16,7 +16,11 @@ type Told = (usize, &'static str, &'static str);
 static TOLD: [Told; 54] = [
     // There is no such client, argument, procedure, partition or call.
     (1, "submit 4 GET_ACCESS_DATA 1 1", "REFUSED 40 NoClient"),
-    (1, "submit 1 GET_ACCESS_DATA 1 5", "REFUSED 26 BadArgument 1"),
+    (
+        1,
+        "submit 1 GET_ACCESS_DATA 1 5",
+        "REFUSED 26 BadArgument 1",
+    ),
     (1, "raw 1 9 id 1", "REFUSED 48 NoProcedure"),
     (1, "begin 2", "REFUSED 38 NoPartition"),
     (1, "begin 1", "REFUSED 42 NothingQueued"),
@@ -55,7 +59,11 @@ static TOLD: [Told; 54] = [
     (1, "route 2 2", "SET 2 1"),
     (1, "route 2 1", "SUPERSEDED 2"),
     // A call is denied memory, and one fails after it has written, while another reads.
-    (1, "submit 1 DELETE_CALL_FORWARDING 000000000000001 1 8", "QUEUED 0"),
+    (
+        1,
+        "submit 1 DELETE_CALL_FORWARDING 000000000000001 1 8",
+        "QUEUED 0",
+    ),
     (1, "deny 0", "DENIED 1"),
     (1, "submit 2 UPDATE_SUBSCRIBER_DATA 2 1 4 9", "QUEUED 0"),
     (1, "begin 0", "BEGAN 2"),

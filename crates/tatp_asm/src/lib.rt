@@ -17,4 +17,4 @@ mod theorems;
 pub use assembling::{assemble, assemble_bytes};
 pub use fault::{AsmError, AsmFault, AsmFaultKind};
 pub use printing::disassemble;
-pub use theorems::assemble_disassembled;
+pub use theorems::{assemble_disassembled, instructions_are_printed_as_their_text};

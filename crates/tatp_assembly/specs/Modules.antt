@@ -11,6 +11,7 @@ use Rattle.tatp_loader.specs.Rules.{first_fault}
 use Rattle.tatp_asm.specs.declared.fault.AsmError.{AsmError}
 use Rattle.tatp_asm.specs.declared.fault.AsmError.TheVariants.{NoMemory as NoMemoryToAssemble, Fault as InText}
 use Rattle.tatp_asm.specs.Texts.{IsTextOf}
+use Rattle.tatp_asm.specs.Printing.{disassembled}
 use Rattle.tatp_asm.specs.Reading.{assembled}
 use Rattle.tatp_streams.specs.declared.fault.StreamFault.TheVariants.{NoMemory}
 use Rattle.tatp_streams.specs.Writing.{LeavesText}
@@ -25,9 +26,14 @@ pub record IsModuleOfText (text : List ℕ) (bytes : List ℕ) : Type 0 where
   pub lawful : IsLawful m
   pub bytes_of : IsModuleOf bytes m
 
--- the same, from the bytes to the text
-abbrev pub IsTextOfModule : List ℕ → List ℕ → Type 0
-IsTextOfModule bytes text = IsModuleOfText text bytes
+-- the bytes are those of a module that keeps the rules, and the text is that one of its texts which
+-- is printed
+pub record IsTextOfModule (bytes : List ℕ) (text : List ℕ) : Type 0 where
+  pub m : ModuleState
+  pub bytes_of : IsModuleOf bytes m
+  pub lawful : IsLawful m
+  pub text_of : IsTextOf text m
+  pub printed : text ≡ disassembled m
 
 -- how many instructions the procedures have together
 abbrev pub instruction_count : List Procedure → ℕ

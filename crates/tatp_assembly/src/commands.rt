@@ -22,7 +22,7 @@ fn assembled(alloc: Global, text: &[u8]) -> Result<Vec<u8>, AssemblyFault>
     Ok(save(alloc, &loaded)?)
 }
 
-/// A text of the module that bytes are.
+/// The text that is printed of the module that bytes are.
 fn disassembled(alloc: Global, bytes: &[u8]) -> Result<String, AssemblyFault>
     ensures text { IfOk result (λ text. IsTextOfModule bytes.now (string_bytes text)) }
     ensures faults { IfErr result (RefusesBytes bytes.now) }
@@ -82,7 +82,8 @@ pub fn run_asm<R: Read, W: Write>(
     Ok(())
 }
 
-/// Reads the bytes of a module, which has to keep the rules, and writes a text of it.
+/// Reads the bytes of a module, which has to keep the rules, and writes the text that
+/// [`tatp_asm::disassemble`] prints of it.
 pub fn run_dis<R: Read, W: Write>(
     alloc: Global,
     reader: &mut R,

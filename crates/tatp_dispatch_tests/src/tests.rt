@@ -1,5 +1,6 @@
 //! Tests.
 mod completions;
+mod running;
 mod trace_lines;
 mod versions;
 mod world;

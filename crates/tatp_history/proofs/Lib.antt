@@ -1,0 +1,16 @@
+pub mod OrderLaws
+pub mod PointLaws
+pub mod RunLaws
+pub mod LocalityLaws
+pub mod FinalLaws
+pub mod ChoiceLaws
+pub mod EventLaws
+pub mod RemainingLaws
+pub mod LeadLaws
+pub mod JustInTimeLaws
+pub mod ReadLaws
+pub mod PrefixLaws
+pub mod LineLaws
+pub mod SubscriberEventLaws
+pub mod JudgedLaws
+pub mod CutLaws

@@ -1,0 +1,139 @@
+//! What is proved of the definitions. Nothing runs here: a clause is the theorem.
+ghost use Rattle.std.specs.Prelude.{◌≡◌, ◌↔◌, ℕ, suc, List, [], ◌++◌, length};
+ghost use Rattle.tatp_tables.specs.Database.{Database, of_subscriber};
+ghost use Rattle.tatp_procs.specs.declared.call.Call.TheVariants.{GetSubscriberData, GetNewDestination, GetAccessData};
+ghost use Rattle.tatp_procs.specs.Transactions.{transaction};
+ghost use Rattle.tatp_procs.specs.Consistent.{IsConsistent};
+ghost use Rattle.tatp_history.specs.declared.event.Event.{Event};
+ghost use Rattle.tatp_history.specs.declared.line.Line.{Line};
+ghost use Rattle.tatp_history.specs.declared.observed.Observed.{Observed};
+ghost use Rattle.tatp_history.specs.Histories.{MayHaveReply, IsStrictlySerializable, rows_after, IsStrictlySerializableTo};
+ghost use Rattle.tatp_history.specs.HistoryLines.{calls_of, AreAcceptedLines};
+ghost use Rattle.tatp_history.specs.Locality.{AreInTime, AreAccepted, AreCalls, calls_on, FailWithout, IsSerializableAtEach, IsSerializableToEach};
+ghost use Rattle.tatp_history.specs.Prefixes.{calls_by};
+ghost use Rattle.tatp_history.specs.Events.{asked_in, TimesRise, HaveEnds};
+ghost use Rattle.tatp_history.specs.JustInTime.{Chooses, AreOpen, Explains};
+ghost use Rattle.tatp_history.specs.Configurations.{Configuration, starting, Lead, LeadToSome, AreUnanswered, IsRead};
+ghost use Rattle.tatp_history.specs.SubscriberEvents.{NothingIsOpen, events_of, events_from};
+
+/// Strict serializability is local (Herlihy and Wing, 1990): calls are strictly serializable exactly
+/// where each subscriber's calls are on that subscriber's rows, and those that name none fail.
+pub fn strict_serializability_is_local()
+    ensures combined { (u : Database) (calls : List Observed)
+        → IsConsistent u → AreCalls calls
+        → IsSerializableAtEach u calls → IsStrictlySerializable u calls }
+    ensures parted { (u : Database) (calls : List Observed)
+        → IsConsistent u → AreCalls calls
+        → IsStrictlySerializable u calls → IsSerializableAtEach u calls }
+{}
+
+/// Strict serializability that leaves given rows is local too.
+pub fn strict_serializability_to_rows_is_local()
+    ensures combined { (u : Database) (calls : List Observed) (after : Database)
+        → IsConsistent u → IsConsistent after → AreCalls calls
+        → IsSerializableToEach u calls after → IsStrictlySerializableTo u calls after }
+    ensures parted { (u : Database) (calls : List Observed) (after : Database)
+        → IsConsistent u → AreCalls calls
+        → IsStrictlySerializableTo u calls after → IsSerializableToEach u calls after }
+{}
+
+/// The rows of a subscriber that calls leave are those that its own calls leave.
+pub fn rows_are_left_by_each_subscribers_calls()
+    ensures { (u : Database) (order : List Observed) (s : ℕ)
+        → IsConsistent u → AreAccepted order
+        → of_subscriber (rows_after u order) s ≡ rows_after (of_subscriber u s) (calls_on u s order) }
+{}
+
+/// Databases in which each subscriber has the same rows are equal.
+pub fn equal_rows_of_each_subscriber_are_equal_databases()
+    ensures { (u v : Database)
+        → IsConsistent u → IsConsistent v
+        → ((s : ℕ) → of_subscriber u s ≡ of_subscriber v s)
+        → u ≡ v }
+{}
+
+/// Lowe's search, just in time, goes through the events of calls exactly where these are strictly
+/// serializable.
+pub fn the_search_just_in_time_is_exact()
+    ensures { (u : Database) (events : List Event)
+        → TimesRise events → HaveEnds events
+        → (Explains events u [] ↔ IsStrictlySerializable u (asked_in events)) }
+{}
+
+/// The search goes through events exactly where they lead to some configuration.
+pub fn the_search_leads_to_configurations()
+    ensures { (events : List Event) (c : Configuration)
+        → (Explains events c.rows c.opened ↔ ((d : Configuration) × Lead events c d)) }
+{}
+
+/// An open read whose reply fits may take effect at once: nothing is lost.
+pub fn reads_may_take_effect_at_once()
+    ensures once { (events : List Event) (u : Database) (opened left : List Observed)
+        (x : Observed)
+        → TimesRise events → HaveEnds events → AreOpen events opened → Chooses opened x left
+        → IsRead x.call → MayHaveReply x.outcome (transaction x.call u).reply
+        → (Explains events u opened ↔ Explains events u left) }
+    ensures subscriber { (s : ℕ) → IsRead (GetSubscriberData s) }
+    ensures destination { (s t b e : ℕ) → IsRead (GetNewDestination s t b e) }
+    ensures access { (s t : ℕ) → IsRead (GetAccessData s t) }
+{}
+
+/// What clients had seen by any time is strictly serializable where all that they saw is; and a
+/// history's first lines tell what they had seen by the last of these.
+pub fn prefixes_are_strictly_serializable()
+    ensures times { (time : ℕ) (u : Database) (calls : List Observed)
+        → AreInTime calls
+        → IsStrictlySerializable u calls → IsStrictlySerializable u (calls_by time calls) }
+    ensures told { (first second : List Line)
+        → calls_by (length first) (calls_of (first ++ second)) ≡ calls_of first }
+    ensures lines { (u : Database) (first second : List Line)
+        → IsStrictlySerializable u (calls_of (first ++ second))
+        → IsStrictlySerializable u (calls_of first) }
+{}
+
+/// The events on a subscriber are those of its calls, in the order of time, each with its end.
+pub fn events_of_a_subscriber_are_those_of_its_calls()
+    ensures asked { (u : Database) (s : ℕ) (lines : List Line)
+        → asked_in (events_of u s lines) ≡ calls_on u s (calls_of lines) }
+    ensures rise { (u : Database) (s : ℕ) (lines : List Line)
+        → TimesRise (events_of u s lines) }
+    ensures ends { (u : Database) (s : ℕ) (lines : List Line)
+        → HaveEnds (events_of u s lines) }
+    ensures calls { (lines : List Line) → AreAcceptedLines lines → AreCalls (calls_of lines) }
+{}
+
+/// A history is strictly serializable exactly where the search goes through the events of each
+/// subscriber's calls on its rows, and those answered that name none fail.
+pub fn histories_are_judged_subscriber_by_subscriber()
+    ensures { (u : Database) (lines : List Line)
+        → IsConsistent u → AreAcceptedLines lines
+        → ((((s : ℕ) → Explains (events_of u s lines) (of_subscriber u s) [])
+        × FailWithout u (calls_of lines)) ↔ IsStrictlySerializable u (calls_of lines)) }
+{}
+
+/// A history may be cut where no call on a subscriber is open. The search on the second part begins
+/// with the configurations to which the first part leads: their rows, and the calls of unknown
+/// outcome that have not taken effect there and still may.
+pub fn histories_may_be_cut_where_nothing_is_open()
+    ensures lines { (u : Database) (s : ℕ) (first second : List Line)
+        → NothingIsOpen u s first
+        → events_of u s (first ++ second)
+        ≡ events_of u s first ++ events_from u s (suc (length first)) second }
+    ensures searched { (u : Database) (s : ℕ) (rows : Database) (first second : List Line)
+        → NothingIsOpen u s first
+        → (Explains (events_of u s (first ++ second)) rows []
+        ↔ LeadToSome (events_of u s first) (starting rows)
+        (λ c. Explains (events_from u s (suc (length first)) second) c.rows c.opened)) }
+    ensures serializable { (u : Database) (first second : List Event)
+        → TimesRise (first ++ second) → HaveEnds (first ++ second)
+        → (IsStrictlySerializable u (asked_in (first ++ second))
+        ↔ LeadToSome first (starting u)
+        (λ c. IsStrictlySerializable c.rows (c.opened ++ asked_in second))) }
+    ensures rows { (u after : Database) (first second : List Event)
+        → TimesRise (first ++ second) → HaveEnds (first ++ second)
+        → (IsStrictlySerializableTo u (asked_in (first ++ second)) after
+        ↔ LeadToSome first (starting u)
+        (λ c. IsStrictlySerializableTo c.rows (c.opened ++ asked_in second) after)) }
+    ensures unknown { (u : Database) (first : List Event) (c : Configuration)
+        → TimesRise first → HaveEnds first → Lead first (starting u) c → AreUnanswered c.opened }
+{}

@@ -2,8 +2,9 @@
 use Rattle.std.proofs.Common.{◌≡◌, ℕ, ◌+◌, ◌≤◌, List, [], ◌∷◌, ◌++◌, map, refl, sym, ◌∙◌, ap, arith}
 use Rattle.std.proofs.lemmas.List.{map_push}
 use Rattle.std.proofs.lemmas.List.Elements.{All-head, All-tail, All-push, All-weaker}
+use Rattle.tatp_limits.specs.declared.limits.TheConstants.{MAX_OUTPUTS}
 use Rattle.tatp_procs.specs.declared.reply.Reply.{Reply}
-use Rattle.tatp_extents.specs.KeptReplies.{most_outputs, room_in}
+use Rattle.tatp_extents.specs.KeptReplies.{room_in}
 use Rattle.tatp_extents.proofs.KeptReplyLaws.{stands_still, same_reply}
 use Rattle.tatp_receipts.specs.declared.receipt.Receipt.{Receipt}
 use Rattle.tatp_receipts.specs.declared.receipt.Receipt.TheVariants as receipt
@@ -39,7 +40,7 @@ one_more_receipt : (outputs more : List ℕ) (kept : List KeptReceipt) (x : Kept
 one_more_receipt outputs more kept x h = map_push (receipt_in (outputs ++ more)) kept x ∙ ap (λ (l : List Receipt). l ++ receipt_in (outputs ++ more) x ∷ []) (same_receipts outputs more kept h)
 
 -- and it takes room for one
-pub room_taken : (calls outputs calls' outputs' : ℕ) → calls ≤ calls' + 1 → outputs ≤ outputs' + most_outputs → room_in calls outputs ≤ room_in calls' outputs' + 1
+pub room_taken : (calls outputs calls' outputs' : ℕ) → calls ≤ calls' + 1 → outputs ≤ outputs' + MAX_OUTPUTS → room_in calls outputs ≤ room_in calls' outputs' + 1
 room_taken calls outputs calls' outputs' one some = omega (arith, one, some)
 
 -- so what is kept is one more receipt

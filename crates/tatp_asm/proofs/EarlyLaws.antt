@@ -2,6 +2,7 @@
 use Rattle.std.proofs.Common.{◌≡◌, ◌≢◌, ℕ, zero, suc, ◌+◌, ◌-◌, ◌≤◌, ◌∙◌, sym, ap, subst, Bool, true, false, cond, eqb, ltb, List, [], ◌∷◌, ◌++◌, length, drop, refl, arith, Option, Some, None, Result, Ok, Err, is_some}
 use Rattle.std.specs.Prelude.{slice_get}
 use Rattle.std.proofs.lemmas.Bool.{eqb-true}
+use Rattle.tatp_limits.specs.declared.limits.TheConstants.{MAX_INSTRUCTIONS, MAX_PROCEDURES}
 use Rattle.tatp_instr.specs.declared.instr.Instr.{Instr}
 use Rattle.tatp_encoding.specs.Modules.{Procedure, ModuleState}
 use Rattle.tatp_lines.specs.Lines.{lines_of}
@@ -67,14 +68,14 @@ closed_from n closed o (Ok code) h = tt
 closed_from n closed o (Err f) h = h f refl
 
 step_from : (m n : ℕ) (closed : List Procedure) (current : Option Open) (line : Line) → m ≤ n → IsOpenFrom m current → GoesOnFrom m (step closed current n line)
-step_from m n closed None (Opens name arity) h w = either m (ltb (length closed) 16) (Ok (record { closed = closed; current = Some (opened name arity) })) (Err (record { kind = TooLong; line = n })) tt h
+step_from m n closed None (Opens name arity) h w = either m (ltb (length closed) MAX_PROCEDURES) (Ok (record { closed = closed; current = Some (opened name arity) })) (Err (record { kind = TooLong; line = n })) tt h
 step_from m n closed None (Names l) h w = h
 step_from m n closed None (Does i l) h w = h
 step_from m n closed None Closes h w = h
 step_from m n closed (Some o) (Opens name arity) h w = h
 step_from m n closed (Some o) (Names l) h w = either m (is_some (position_of o.labels l)) (Err (record { kind = LabelTwice; line = n })) (Ok (record { closed = closed; current = Some (labelled o l) })) h w
 step_from m n closed (Some o) (Does i l) h w =
-    either m (ltb (length o.code) 256) (Ok (record { closed = closed; current = Some (longer o i l n) })) (Err (record { kind = TooLong; line = n })) (push_from m o.code (record { instr = i; label = l; line = n }) w h) h
+    either m (ltb (length o.code) MAX_INSTRUCTIONS) (Ok (record { closed = closed; current = Some (longer o i l n) })) (Err (record { kind = TooLong; line = n })) (push_from m o.code (record { instr = i; label = l; line = n }) w h) h
 step_from m n closed (Some o) Closes h w =
     either m (eqb (length o.code) 0) (Err (record { kind = Syntax; line = n })) (resolve o.labels o.code >>= λ code. Ok (record { closed = closed ++ (record { name = o.name; arity = o.arity; code = code } ∷ []); current = None })) h
     (closed_from m closed o (resolve o.labels o.code) (λ f e. resolve_from m o.labels o.code f w e))
@@ -114,7 +115,7 @@ closes_not false f r t q e = cc
 
 step_bare : (closed : List Procedure) (current : Option Open) (n : ℕ) (line : Line) (t : State) → IsBare current → is_code (Some line) ≡ false → step closed current n line ≡ Ok t → IsBare t.current
 step_bare closed None n (Opens name arity) t h c e =
-    let g = guard_yes (ltb (length closed) 16) (record { closed = closed; current = Some (opened name arity) }) t (record { kind = TooLong; line = n }) e in
+    let g = guard_yes (ltb (length closed) MAX_PROCEDURES) (record { closed = closed; current = Some (opened name arity) }) t (record { kind = TooLong; line = n }) e in
     subst (λ (s : State). IsBare s.current) g.1 refl
 step_bare closed None n (Names l) t h c e = absurd cc
 step_bare closed None n (Does i l) t h c e = absurd cc

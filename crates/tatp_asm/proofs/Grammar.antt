@@ -6,6 +6,7 @@ use Rattle.std.specs.List.{All, list_all}
 use Rattle.std.proofs.lemmas.Bool.{lt-ltb, ne_eqb}
 use Rattle.std.proofs.lemmas.Slice.Eq.{bytes_eq-Decides}
 use Rattle.std.proofs.lemmas.List.{append-nil}
+use Rattle.tatp_limits.specs.declared.limits.TheConstants.{MAX_INSTRUCTIONS, MAX_PROCEDURES}
 use Rattle.tatp_instr.specs.declared.instr.Instr.{Instr}
 use Rattle.tatp_asm.specs.declared.fault.AsmFaultKind.TheVariants.{Syntax, LabelTwice, TooLong}
 use Rattle.tatp_asm.specs.declared.fault.AsmFault.{AsmFault}
@@ -277,7 +278,7 @@ step_found : (closed : List Procedure) (current : Option Open) (n : ℕ) (line :
     → step closed current n line ≡ Ok t → all ≡ t.closed ++ ps → Tail t.current lines ps
     → (qs : List Procedure) × (all ≡ closed ++ qs) × Tail current (line ∷ lines) qs
 step_found closed None n (Opens name arity) t all ps lines e q h =
-    let g = guard_yes (ltb (length closed) 16) (record { closed = closed; current = Some (opened name arity) }) t (record { kind = TooLong; line = n }) e in
+    let g = guard_yes (ltb (length closed) MAX_PROCEDURES) (record { closed = closed; current = Some (opened name arity) }) t (record { kind = TooLong; line = n }) e in
     (ps, q ∙ ap (λ (s : State). s.closed ++ ps) (sym g.1), tail_opens name arity lines ps (subst (λ (s : State). Tail s.current lines ps) (sym g.1) h))
 step_found closed None n (Names l) t all ps lines e q h = absurd cc
 step_found closed None n (Does i l) t all ps lines e q h = absurd cc
@@ -287,7 +288,7 @@ step_found closed (Some o) n (Names l) t all ps lines e q h =
     let g = guard_no (is_some (position_of o.labels l)) (record { closed = closed; current = Some (labelled o l) }) t (record { kind = LabelTwice; line = n }) e in
     (ps, q ∙ ap (λ (s : State). s.closed ++ ps) (sym g.1), tail_names o l lines ps (none_of (position_of o.labels l) g.0) (subst (λ (s : State). Tail s.current lines ps) (sym g.1) h))
 step_found closed (Some o) n (Does i l) t all ps lines e q h =
-    let g = guard_yes (ltb (length o.code) 256) (record { closed = closed; current = Some (longer o i l n) }) t (record { kind = TooLong; line = n }) e in
+    let g = guard_yes (ltb (length o.code) MAX_INSTRUCTIONS) (record { closed = closed; current = Some (longer o i l n) }) t (record { kind = TooLong; line = n }) e in
     (ps, q ∙ ap (λ (s : State). s.closed ++ ps) (sym g.1), tail_does o i l n lines ps (subst (λ (s : State). Tail s.current lines ps) (sym g.1) h))
 step_found closed (Some o) n Closes t all ps lines e q h = by (eqb (length o.code) 0) e
   where
@@ -341,7 +342,7 @@ step_only : (closed : List Procedure) (current : Option Open) (n : ℕ) (line : 
     → (t : State) × (step closed current n line ≡ Ok t) × (qs : List Procedure) × (t.closed ++ qs ≡ closed ++ ps) × Tail t.current lines qs × Bounded t.closed qs
 step_only closed None n (Opens name arity) lines [] h b = absurd cc
 step_only closed None n (Opens name arity) lines (p ∷ ps) h b =
-    let l : ltb (length closed) 16 ≡ true = lt-ltb _ _ (omega (arith, b.few)) in
+    let l : ltb (length closed) MAX_PROCEDURES ≡ true = lt-ltb _ _ (omega (arith, b.few)) in
     (record { closed = closed; current = Some (opened name arity) }, rw l refl, p ∷ ps, refl, opens_tail name arity lines (p ∷ ps) h, b)
 step_only closed None n (Names l) lines [] h b = absurd cc
 step_only closed None n (Names l) lines (p ∷ ps) (body, rest, e, u, c, r) b = absurd cc
@@ -359,7 +360,7 @@ step_only closed (Some o) n (Does i l) lines (p ∷ ps) h b =
     let k = length-continues o.labels (bare (longer o i l n).code) t.0 p.code t.5 in
     let m : length (bare (longer o i l n).code) ≡ suc (length o.code) = length-bare (longer o i l n).code ∙ (length-append o.code (record { instr = i; label = l; line = n } ∷ []) ∙ add-one (length o.code)) in
     let c = b.codes 0 p (omega arith) in
-    let z : ltb (length o.code) 256 ≡ true = lt-ltb _ _ (omega (arith, k, m, c.1)) in
+    let z : ltb (length o.code) MAX_INSTRUCTIONS ≡ true = lt-ltb _ _ (omega (arith, k, m, c.1)) in
     (record { closed = closed; current = Some (longer o i l n) }, rw z refl, p ∷ ps, refl, t, b)
 step_only closed (Some o) n Closes lines [] h b = absurd h
 step_only closed (Some o) n Closes lines (p ∷ ps) h b =

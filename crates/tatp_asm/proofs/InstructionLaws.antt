@@ -1,9 +1,10 @@
 -- Instructions, their mnemonics and their operands.
-use Rattle.std.proofs.Common.{◌≡◌, ℕ, ◌<◌, ◌∙◌, sym, ap, subst, Bool, true, false, cond, leb, ◌||◌, List, [], ◌∷◌, ◌++◌, length, refl, arith, append_assoc, Some, None, decimal}
+use Rattle.std.proofs.Common.{◌≡◌, ℕ, ◌-◌, ◌<◌, ◌∙◌, sym, ap, subst, Bool, true, false, cond, leb, ◌||◌, List, [], ◌∷◌, ◌++◌, length, refl, arith, append_assoc, Some, None, decimal}
 use Rattle.std.specs.Prelude.{codes}
 use Rattle.std.specs.Str.{bytes_eq}
 use Rattle.std.specs.List.{list_all}
 use Rattle.std.proofs.lemmas.Bool.{lt-leb, leb-false}
+use Rattle.tatp_limits.specs.declared.limits.TheConstants.{REGISTERS}
 use Rattle.tatp_instr.specs.declared.instr.Instr.{Instr}
 use Rattle.tatp_instr.specs.declared.instr.Instr.TheVariants.{Ldi, Mov, Arg, Add, Sub, Eq, Lt, Jmp, Jz, Fsub, Fnum, Facc, Ffac, Fcfw, Get, Put, Ins, Del, Out, Done, Fail, Loop}
 use Rattle.tatp_asm.specs.Lines.{Line, Opens, Names, Does, Closes, instruction_text, line_text, IsLine}
@@ -156,10 +157,10 @@ each_makes_its_own =
     ⨾ (λ d a b g i h l e. made _ _ _ (Fnum d a) i g.label e refl refl (λ t. ((h.0, h.1.0), refl, l)))
     ⨾ (λ d a b g i h l e. made _ _ _ (Facc d a b) i g.label e refl refl (λ t. ((h.0, h.1.0, h.1.1.0), refl, l)))
     ⨾ (λ d a b g i h l e. made _ _ _ (Ffac d a b) i g.label e refl refl (λ t. ((h.0, h.1.0, h.1.1.0), refl, l)))
-    ⨾ (λ d a b g i h l e. made _ _ _ (Fcfw d a) i g.label e refl refl (λ t. ((h.0, leb-false 14 a (key_within _ _ t)), refl, l)))
+    ⨾ (λ d a b g i h l e. made _ _ _ (Fcfw d a) i g.label e refl refl (λ t. ((h.0, leb-false (REGISTERS - 2) a (key_within _ _ t)), refl, l)))
     ⨾ (λ d a b g i h l e. made _ _ _ (Get d g.number) i g.label e refl refl (λ t. ((h.0, h.1.0), refl, l)))
     ⨾ (λ d a b g i h l e. made _ _ _ (Put d g.number) i g.label e refl refl (λ t. ((h.1.0, h.0), refl, l)))
-    ⨾ (λ d a b g i h l e. made _ _ _ (Ins d a) i g.label e refl refl (λ t. ((h.0, leb-false 12 a (row_within _ _ t)), refl, l)))
+    ⨾ (λ d a b g i h l e. made _ _ _ (Ins d a) i g.label e refl refl (λ t. ((h.0, leb-false (REGISTERS - 4) a (row_within _ _ t)), refl, l)))
     ⨾ (λ d a b g i h l e. made _ _ false Del i g.label e refl refl (λ t. (tt, refl, l)))
     ⨾ (λ d a b g i h l e. made _ _ _ (Out d) i g.label e refl refl (λ t. (h.0, refl, l)))
     ⨾ (λ d a b g i h l e. made _ _ false Done i g.label e refl refl (λ t. (tt, refl, l)))
@@ -253,8 +254,8 @@ few_operands _ label = omega arith
 bare_line : (i : Instr) (label : List ℕ) → label ≡ [] → Does i [] ≡ Does i label
 bare_line i label e = ap (λ (l : List ℕ). Does i l) (sym e)
 
-low : (d : ℕ) → d < 16 → leb 16 d ≡ false
-low d h = lt-leb 16 d h
+low : (d : ℕ) → d < REGISTERS → leb REGISTERS d ≡ false
+low d h = lt-leb REGISTERS d h
 
 -- the row of its mnemonic, with its operands
 pub with_again : (i : Instr) (label : List ℕ) → IsLine (Does i label) → instruction_with (mnemonic i) (operands i label) ≡ Some (Does i label)
@@ -272,10 +273,10 @@ with_again (Fsub d a) label (h, t, l) = rw (low d h.0, low a h.1) (ap Some (bare
 with_again (Fnum d a) label (h, t, l) = rw (low d h.0, low a h.1) (ap Some (bare_line (Fnum d a) label l))
 with_again (Facc d a b) label (h, t, l) = rw (low d h.0, low a h.1, low b h.2) (ap Some (bare_line (Facc d a b) label l))
 with_again (Ffac d a b) label (h, t, l) = rw (low d h.0, low a h.1, low b h.2) (ap Some (bare_line (Ffac d a b) label l))
-with_again (Fcfw d a) label (h, t, l) = rw (low d h.0, low a (omega arith), lt-leb 14 a h.1) (ap Some (bare_line (Fcfw d a) label l))
+with_again (Fcfw d a) label (h, t, l) = rw (low d h.0, low a (omega arith), lt-leb (REGISTERS - 2) a h.1) (ap Some (bare_line (Fcfw d a) label l))
 with_again (Get d c) label (h, t, l) = rw (low d h.0) (ap Some (bare_line (Get d c) label l))
 with_again (Put a c) label (h, t, l) = rw (low a h.0) (ap Some (bare_line (Put a c) label l))
-with_again (Ins d a) label (h, t, l) = rw (low d h.0, low a (omega arith), lt-leb 12 a h.1) (ap Some (bare_line (Ins d a) label l))
+with_again (Ins d a) label (h, t, l) = rw (low d h.0, low a (omega arith), lt-leb (REGISTERS - 4) a h.1) (ap Some (bare_line (Ins d a) label l))
 with_again Del label (h, t, l) = ap Some (bare_line Del label l)
 with_again (Out a) label (h, t, l) = rw (low a h) (ap Some (bare_line (Out a) label l))
 with_again Done label (h, t, l) = ap Some (bare_line Done label l)

@@ -7,6 +7,7 @@ use Rattle.std.specs.List.{slice_split, join_with_byte, list_all}
 use Rattle.std.proofs.lemmas.Bool.{eqb-true}
 use Rattle.std.proofs.lemmas.List.Splits.{join_with_byte-slice_split}
 use Rattle.std.proofs.lemmas.Str.{IsUtf8-from_ascii, is_utf8-from_IsUtf8}
+use Rattle.tatp_limits.specs.declared.limits.TheConstants.{MAX_ARGUMENTS}
 use Rattle.tatp_instr.specs.declared.instr.Instr.{Instr}
 use Rattle.tatp_encoding.specs.Modules.{is_name}
 use Rattle.tatp_asm.specs.Lines.{Line, Opens, Names, Does, Closes, line_text, instruction_text, IsLine, is_label}
@@ -135,7 +136,7 @@ names_again : (l : List ℕ) → is_label l ≡ true → word_of (l ++ codes ":"
 unfolding word_of
 names_again l h = rw (word_not l (codes "end") end_no_label, colon_again l) (rw h refl)
 
-opens_again : (name : List ℕ) (arity : ℕ) → is_name name ≡ true → arity ≤ 8 → opening_of (codes "proc") name (decimal arity) ≡ Some (Opens name arity)
+opens_again : (name : List ℕ) (arity : ℕ) → is_name name ≡ true → arity ≤ MAX_ARGUMENTS → opening_of (codes "proc") name (decimal arity) ≡ Some (Opens name arity)
 unfolding opening_of
 opens_again name arity h k = rw (h, below_again 9 arity (omega arith) (omega arith)) refl
 

@@ -5,6 +5,7 @@ use Rattle.std.specs.Str.{bytes_eq}
 use Rattle.std.specs.List.{All, list_all}
 use Rattle.std.proofs.lemmas.Bool.{le-leb, leb-true, ltb-true}
 use Rattle.std.proofs.lemmas.List.Folds.{list_all-append}
+use Rattle.tatp_limits.specs.declared.limits.TheConstants.{MAX_ARGUMENTS, MAX_INSTRUCTIONS, MAX_PROCEDURES}
 use Rattle.tatp_lines.specs.Numbers.{is_between}
 use Rattle.tatp_instr.specs.declared.instr.Instr.{Instr}
 use Rattle.tatp_instr.specs.declared.instr.Instr.TheVariants.{Jmp, Jz, Loop}
@@ -78,13 +79,13 @@ AreFit ps = (list_all is_procedure ps ≡ true) × (list_all jumps_stay ps ≡ t
 
 record IsFitOpen (o : Open) : Type 0 where
   name : is_name o.name ≡ true
-  arity : o.arity ≤ 8
-  code : length o.code ≤ 256
+  arity : o.arity ≤ MAX_ARGUMENTS
+  code : length o.code ≤ MAX_INSTRUCTIONS
   labels : LabelsWithin (length o.code) o.labels
 
 abbrev IsFitState : List Procedure → Option Open → Type 0
-IsFitState closed None = AreFit closed × (length closed ≤ 16)
-IsFitState closed (Some o) = AreFit closed × (length closed < 16) × IsFitOpen o
+IsFitState closed None = AreFit closed × (length closed ≤ MAX_PROCEDURES)
+IsFitState closed (Some o) = AreFit closed × (length closed < MAX_PROCEDURES) × IsFitOpen o
 
 abbrev IsFit : State → Type 0
 IsFit s = IsFitState s.closed s.current
@@ -100,17 +101,17 @@ closed_fits : (closed : List Procedure) (o : Open) (code : List Instr) → AreFi
 closed_fits closed o code f h some s =
     let p : Procedure = record { name = o.name; arity = o.arity; code = code } in
     let least : 1 ≤ length code = omega (arith, s.0) in
-    let most : length code ≤ 256 = omega (arith, s.0, h.code) in
+    let most : length code ≤ MAX_INSTRUCTIONS = omega (arith, s.0, h.code) in
     let stays : list_all (jumps_within (length code)) code ≡ true = rw s.0 s.1 in (
-      push_all is_procedure closed p f.0 (rw (h.name, le-leb o.arity 8 h.arity, le-leb 1 (length code) least, le-leb (length code) 256 most) refl),
+      push_all is_procedure closed p f.0 (rw (h.name, le-leb o.arity MAX_ARGUMENTS h.arity, le-leb 1 (length code) least, le-leb (length code) MAX_INSTRUCTIONS most) refl),
       push_all jumps_stay closed p f.1 stays,
     )
 
 step_fits : (closed : List Procedure) (current : Option Open) (n : ℕ) (line : Line) (t : State) → IsFitState closed current → IsLine line → step closed current n line ≡ Ok t → IsFit t
 step_fits closed None n (Opens name arity) t f h e =
     let o : Open = record { name = name; arity = arity; labels = []; code = [] } in
-    let g = guard_yes (ltb (length closed) 16) (record { closed = closed; current = Some o }) t (record { kind = TooLong; line = n }) e in
-    subst IsFit g.1 (f.0, ltb-true (length closed) 16 g.0, record { name = h.0; arity = h.1; code = omega arith; labels = tt })
+    let g = guard_yes (ltb (length closed) MAX_PROCEDURES) (record { closed = closed; current = Some o }) t (record { kind = TooLong; line = n }) e in
+    subst IsFit g.1 (f.0, ltb-true (length closed) MAX_PROCEDURES g.0, record { name = h.0; arity = h.1; code = omega arith; labels = tt })
 step_fits closed None n (Names l) t f h e = absurd cc
 step_fits closed None n (Does i l) t f h e = absurd cc
 step_fits closed None n Closes t f h e = absurd cc
@@ -122,8 +123,8 @@ step_fits closed (Some o) n (Names l) t (f, room, d) h e =
 step_fits closed (Some o) n (Does i l) t (f, room, d) h e =
     let x : Pending = record { instr = i; label = l; line = n } in
     let p : Open = record o { code = o.code ++ (x ∷ []) } in
-    let g = guard_yes (ltb (length o.code) 256) (record { closed = closed; current = Some p }) t (record { kind = TooLong; line = n }) e in
-    let less = ltb-true (length o.code) 256 g.0 in
+    let g = guard_yes (ltb (length o.code) MAX_INSTRUCTIONS) (record { closed = closed; current = Some p }) t (record { kind = TooLong; line = n }) e in
+    let less = ltb-true (length o.code) MAX_INSTRUCTIONS g.0 in
     let long : length (o.code ++ (x ∷ [])) ≡ length o.code + 1 = length-append o.code (x ∷ []) in
     subst IsFit g.1 (f, room, record { name = d.name; arity = d.arity; code = omega (arith, long); labels = within_more (length o.code) (length (o.code ++ (x ∷ []))) o.labels (omega (arith, long)) d.labels })
 step_fits closed (Some o) n Closes t (f, room, d) h e = by (eqb (length o.code) 0) refl e
@@ -138,7 +139,7 @@ step_fits closed (Some o) n Closes t (f, room, d) h e = by (eqb (length o.code) 
         (closed_fits closed o b.0 f d (positive (length o.code) z) s, omega (arith, length-append closed (p ∷ [])))
 
 abbrev AreFitProcedures : List Procedure → Type 0
-AreFitProcedures ps = AreFit ps × (1 ≤ length ps) × (length ps ≤ 16)
+AreFitProcedures ps = AreFit ps × (1 ≤ length ps) × (length ps ≤ MAX_PROCEDURES)
 
 finish_fits : (closed : List Procedure) (current : Option Open) (n : ℕ) (all : List Procedure) → IsFitState closed current → finish closed current n ≡ Ok all → AreFitProcedures all
 finish_fits [] None n all f e = absurd cc
@@ -169,11 +170,11 @@ module_of_text text m e =
     let ps = m.procedures in
     let f = assembled_fits text m e in
     let w = (assembled_found text m e).1 in
-    rw (le-leb 1 (length ps) f.1, le-leb (length ps) 16 f.2, f.0.0, f.0.1, w) refl
+    rw (le-leb 1 (length ps) f.1, le-leb (length ps) MAX_PROCEDURES f.2, f.0.0, f.0.1, w) refl
 
 -- ---- the tests of a module
 pub record IsTested (m : ModuleState) : Type 0 where
-  pub count : is_between 1 16 (length m.procedures) ≡ true
+  pub count : is_between 1 MAX_PROCEDURES (length m.procedures) ≡ true
   pub procedures : list_all is_procedure m.procedures ≡ true
   pub jumps : list_all jumps_stay m.procedures ≡ true
   pub version : list_all (has_version m.version) m.procedures ≡ true
@@ -182,7 +183,7 @@ pub tested : (m : ModuleState) → is_module m ≡ true → IsTested m
 tested m h =
     let ps = m.procedures in
     let versions = list_all (has_version m.version) ps in
-    let a = both (is_between 1 16 (length ps)) (list_all is_procedure ps && (list_all jumps_stay ps && versions)) h in
+    let a = both (is_between 1 MAX_PROCEDURES (length ps)) (list_all is_procedure ps && (list_all jumps_stay ps && versions)) h in
     let b = both (list_all is_procedure ps) (list_all jumps_stay ps && versions) a.1 in
     let c = both (list_all jumps_stay ps) versions b.1 in
     record { count = a.0; procedures = b.0; jumps = c.0; version = c.1 }
@@ -191,18 +192,18 @@ codes_of : (ps : List Procedure) → list_all is_procedure ps ≡ true → All (
 codes_of [] h i d l = absurd (omega arith)
 codes_of (p ∷ ps) h zero d l =
     let a = both (is_procedure p) (list_all is_procedure ps) h in
-    let b = both (is_name p.name) (nat_le p.arity 8 && is_between 1 256 (length p.code)) a.0 in
-    let c = both (nat_le p.arity 8) (is_between 1 256 (length p.code)) b.1 in
-    let x = both (nat_le 1 (length p.code)) (nat_le (length p.code) 256) c.1 in
+    let b = both (is_name p.name) (nat_le p.arity MAX_ARGUMENTS && is_between 1 MAX_INSTRUCTIONS (length p.code)) a.0 in
+    let c = both (nat_le p.arity MAX_ARGUMENTS) (is_between 1 MAX_INSTRUCTIONS (length p.code)) b.1 in
+    let x = both (nat_le 1 (length p.code)) (nat_le (length p.code) MAX_INSTRUCTIONS) c.1 in
     let least = leb-true 1 (length p.code) x.0 in
-    let most = leb-true (length p.code) 256 x.1 in
+    let most = leb-true (length p.code) MAX_INSTRUCTIONS x.1 in
     (omega arith, omega arith)
 codes_of (p ∷ ps) h (suc i) d l = codes_of ps (both (is_procedure p) (list_all is_procedure ps) h).1 i d (omega arith)
 
 pub bounded : (m : ModuleState) → IsTested m → Bounded [] m.procedures
 bounded m t =
     let ps = m.procedures in
-    let x = both (nat_le 1 (length ps)) (nat_le (length ps) 16) t.count in
+    let x = both (nat_le 1 (length ps)) (nat_le (length ps) MAX_PROCEDURES) t.count in
     let least = leb-true 1 (length ps) x.0 in
-    let most = leb-true (length ps) 16 x.1 in
+    let most = leb-true (length ps) MAX_PROCEDURES x.1 in
     record { some = omega arith; few = omega arith; codes = codes_of ps t.procedures }

@@ -4,6 +4,7 @@ use Rattle.std.specs.Prelude.{codes}
 use Rattle.std.specs.Option.{option_map, option_and_then}
 use Rattle.std.specs.List.{join_with_byte, list_all}
 use Rattle.std.proofs.lemmas.Bool.{eqb-true}
+use Rattle.tatp_limits.specs.declared.limits.TheConstants.{REGISTERS}
 use Rattle.tatp_instr.specs.Instrs.{register_text}
 use Rattle.tatp_asm.specs.Lines.{is_label}
 use Rattle.tatp_asm.specs.Words.{Operand, Register, Number, Target, below, operand_of, operands_of}
@@ -16,7 +17,7 @@ operand_text (Number n) = codes "#" ++ decimal n
 operand_text (Target label) = codes "@" ++ label
 
 abbrev pub IsOperand : Operand → Type 0
-IsOperand (Register r) = r < 16
+IsOperand (Register r) = r < REGISTERS
 IsOperand (Number n) = n < 2 ^ 32
 IsOperand (Target label) = is_label label ≡ true
 
@@ -41,10 +42,10 @@ operand_takes [] o e = absurd cc
 operand_takes (b ∷ bs) o e = by (eqb b 114) (eqb b 35) (eqb b 64) refl refl refl e
   where
     by : (p q r : Bool) → eqb b 114 ≡ p → eqb b 35 ≡ q → eqb b 64 ≡ r
-        → cond p (option_map Register (below 16 bs)) (cond q (option_map Number (below (2 ^ 32) bs)) (cond r (cond (is_label bs) (Some (Target bs)) None) None)) ≡ Some o → IsRead (b ∷ bs) o
+        → cond p (option_map Register (below REGISTERS bs)) (cond q (option_map Number (below (2 ^ 32) bs)) (cond r (cond (is_label bs) (Some (Target bs)) None) None)) ≡ Some o → IsRead (b ∷ bs) o
     by true q r h i j k =
-        let m = mapped Register (below 16 bs) o k in
-        let t = below_takes 16 bs m.0 m.1 in
+        let m = mapped Register (below REGISTERS bs) o k in
+        let t = below_takes REGISTERS bs m.0 m.1 in
         subst (IsRead (b ∷ bs)) m.2 (same_cons b 114 bs (decimal m.0) (eqb-true b 114 h) t.0, t.1)
     by false true r h i j k =
         let m = mapped Number (below (2 ^ 32) bs) o k in
@@ -93,7 +94,7 @@ operands_take (a ∷ b ∷ c ∷ d ∷ fs) os e = absurd cc
 -- ---- what is written is read so
 operand_again : (o : Operand) → IsOperand o → operand_of (operand_text o) ≡ Some o
 unfolding operand_of
-operand_again (Register r) h = rw (below_again 16 r h (omega arith)) refl
+operand_again (Register r) h = rw (below_again REGISTERS r h (omega arith)) refl
 operand_again (Number n) h = rw (below_again (2 ^ 32) n h (omega arith)) refl
 operand_again (Target label) h = rw h refl
 

@@ -7,6 +7,7 @@ use Rattle.std.specs.Char.{is_ascii_digit}
 use Rattle.std.proofs.lemmas.Bool.{lt-ltb, leb-true}
 use Rattle.std.proofs.lemmas.Bool.Decides.{nat_tests}
 use Rattle.std.proofs.lemmas.Fmt.{digits_decimal, length-decimal-le}
+use Rattle.tatp_limits.specs.declared.limits.TheConstants.{MAX_ARGUMENTS, MAX_INSTRUCTIONS, MAX_NAME_BYTES}
 use Rattle.tatp_lines.specs.Numbers.{is_between}
 use Rattle.tatp_instr.specs.declared.instr.Instr.{Instr}
 use Rattle.tatp_instr.specs.declared.instr.Instr.TheVariants.{Jmp, Jz, Loop}
@@ -66,7 +67,7 @@ label_at_is : (k : ℕ) → k < 2 ^ 32 → is_label (label_at k) ≡ true
 unfolding is_label label_at
 label_at_is k h =
     let l : length (decimal k) ≤ 10 = length-decimal-le 10 k (omega arith) (omega arith) (omega arith) in
-    rw (digits_label (decimal k) (digits_decimal own k (omega arith)), lt-ltb (length (decimal k)) 24 (omega arith)) refl
+    rw (digits_label (decimal k) (digits_decimal own k (omega arith)), lt-ltb (length (decimal k)) MAX_NAME_BYTES (omega arith)) refl
 
 instruction_is : (i : Instr) → IsInstr i → IsLine (instruction_line i)
 instruction_is (Jmp t) h = (omega arith, refl, label_at_is t h)
@@ -90,15 +91,15 @@ body_are all k (i ∷ code) h w =
 
 record IsFit (p : Procedure) : Type 0 where
   name : is_name p.name ≡ true
-  arity : p.arity ≤ 8
-  most : length p.code ≤ 256
+  arity : p.arity ≤ MAX_ARGUMENTS
+  most : length p.code ≤ MAX_INSTRUCTIONS
 
 fits : (p : Procedure) → is_procedure p ≡ true → IsFit p
 fits p h =
-    let b = both (is_name p.name) (nat_le p.arity 8 && is_between 1 256 (length p.code)) h in
-    let c = both (nat_le p.arity 8) (is_between 1 256 (length p.code)) b.1 in
-    let x = both (nat_le 1 (length p.code)) (nat_le (length p.code) 256) c.1 in
-    record { name = b.0; arity = leb-true p.arity 8 c.0; most = leb-true (length p.code) 256 x.1 }
+    let b = both (is_name p.name) (nat_le p.arity MAX_ARGUMENTS && is_between 1 MAX_INSTRUCTIONS (length p.code)) h in
+    let c = both (nat_le p.arity MAX_ARGUMENTS) (is_between 1 MAX_INSTRUCTIONS (length p.code)) b.1 in
+    let x = both (nat_le 1 (length p.code)) (nat_le (length p.code) MAX_INSTRUCTIONS) c.1 in
+    record { name = b.0; arity = leb-true p.arity MAX_ARGUMENTS c.0; most = leb-true (length p.code) MAX_INSTRUCTIONS x.1 }
 
 module_are : (ps : List Procedure) → list_all is_procedure ps ≡ true → All (λ p. All IsInstr p.code) ps → AreLines (module_lines ps)
 module_are [] h w = tt

@@ -3,6 +3,7 @@ use Rattle.std.proofs.Common.{◌≡◌, ℕ, suc, ◌+◌, ◌<◌, ◌≤◌, 
 use Rattle.std.specs.Prelude.{codes}
 use Rattle.std.proofs.lemmas.Bool.{eqb-true, eq-eqb, ne_eqb}
 use Rattle.std.proofs.lemmas.List.{append-nil, drop_all, get_or-set_same, get_or-set_other}
+use Rattle.tatp_limits.specs.declared.limits.TheConstants.{MAX_INSTRUCTIONS}
 use Rattle.tatp_instr.specs.declared.instr.Instr.{Instr}
 use Rattle.tatp_instr.specs.declared.instr.Instr.TheVariants.{Jmp, Jz, Loop}
 use Rattle.tatp_instr.specs.Instrs.{text_of}
@@ -104,7 +105,7 @@ marked xs p k h = by (eqb p k) refl
     by true e = let q : p ≡ k = eqb-true p k e in rw (← q) (get_or-set_same xs p true false h)
     by false e = get_or-set_other xs p k true false (λ q. (let r = eq-eqb p k (sym q) in absurd cc))
 
-pub not_marked : (xs : List Bool) (p k : ℕ) → 257 ≤ p → k ≤ 256 → get_or xs k false ≡ (eqb p k || get_or xs k false)
+pub not_marked : (xs : List Bool) (p k : ℕ) → MAX_INSTRUCTIONS + 1 ≤ p → k ≤ MAX_INSTRUCTIONS → get_or xs k false ≡ (eqb p k || get_or xs k false)
 not_marked xs p k h l = let n : eqb p k ≡ false = ne_eqb p k (λ e. omega arith) in rw n refl
 
 named_push : (front : List Instr) (i : Instr) (k : ℕ) → is_named (front ++ (i ∷ [])) k ≡ (is_target (target_of i) k || is_named front k)
@@ -117,8 +118,8 @@ named_push (x ∷ front) i k = rw (named_push front i k) (by (is_target (target_
     by false b c = refl
 
 pub one_more_named : (code : List Instr) (n : ℕ) (i : Instr) (xs ys : List Bool) → take (n + 1) code ≡ take n code ++ (i ∷ [])
-    → ((k : ℕ) → k ≤ 256 → get_or xs k false ≡ is_named (take n code) k)
-    → ((k : ℕ) → k ≤ 256 → get_or ys k false ≡ (is_target (target_of i) k || get_or xs k false))
-    → (k : ℕ) → k ≤ 256 → get_or ys k false ≡ is_named (take (n + 1) code) k
+    → ((k : ℕ) → k ≤ MAX_INSTRUCTIONS → get_or xs k false ≡ is_named (take n code) k)
+    → ((k : ℕ) → k ≤ MAX_INSTRUCTIONS → get_or ys k false ≡ (is_target (target_of i) k || get_or xs k false))
+    → (k : ℕ) → k ≤ MAX_INSTRUCTIONS → get_or ys k false ≡ is_named (take (n + 1) code) k
 one_more_named code n i xs ys e h m k l =
     m k l ∙ (ap (λ (b : Bool). is_target (target_of i) k || b) (h k l) ∙ (sym (named_push (take n code) i k) ∙ ap (λ (c : List Instr). is_named c k) (sym e)))

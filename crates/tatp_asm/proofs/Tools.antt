@@ -12,6 +12,7 @@ use Rattle.tatp_encoding.specs.Modules.{is_name, is_name_byte}
 use Rattle.tatp_asm.specs.Lines.{is_label, is_letter, is_label_byte}
 use Rattle.std.proofs.lemmas.Str.Parse.{IsNumeralModel, numerals_by_value, tells_all_ascii_digits}
 use Rattle.std.specs.Str.Parse.{digits_value}
+use Rattle.tatp_limits.specs.declared.limits.TheConstants.{MAX_NAME_BYTES}
 use Rattle.tatp_lines.specs.Numbers.{is_between}
 
 -- ---- options and tests
@@ -96,20 +97,20 @@ pub label_plain : (l : List ℕ) → is_label l ≡ true → list_all plain l �
 unfolding is_label
 label_plain [] h = refl
 label_plain (b ∷ bs) h =
-    let r = both (is_letter b) (list_all is_label_byte bs && ltb (length bs) 24) h in
-    let s = both (list_all is_label_byte bs) (ltb (length bs) 24) r.1 in
+    let r = both (is_letter b) (list_all is_label_byte bs && ltb (length bs) MAX_NAME_BYTES) h in
+    let s = both (list_all is_label_byte bs) (ltb (length bs) MAX_NAME_BYTES) r.1 in
     rw (letter_plain b r.0) (mono is_label_byte plain label_byte_plain bs s.0)
 
 pub name_plain : (name : List ℕ) → is_name name ≡ true → list_all plain name ≡ true
-name_plain name h = mono is_name_byte plain name_byte_plain name (both (is_between 1 24 (length name)) (list_all is_name_byte name) h).1
+name_plain name h = mono is_name_byte plain name_byte_plain name (both (is_between 1 MAX_NAME_BYTES (length name)) (list_all is_name_byte name) h).1
 
 pub label_short : (l : List ℕ) → is_label l ≡ true → length l < 25
 unfolding is_label
 label_short [] h = omega arith
 label_short (b ∷ bs) h =
-    let r = both (is_letter b) (list_all is_label_byte bs && ltb (length bs) 24) h in
-    let s = both (list_all is_label_byte bs) (ltb (length bs) 24) r.1 in
-    let t = ltb-true (length bs) 24 s.1 in
+    let r = both (is_letter b) (list_all is_label_byte bs && ltb (length bs) MAX_NAME_BYTES) h in
+    let s = both (list_all is_label_byte bs) (ltb (length bs) MAX_NAME_BYTES) r.1 in
+    let t = ltb-true (length bs) MAX_NAME_BYTES s.1 in
     omega arith
 
 -- ---- fields of such bytes, parted by a byte

@@ -1,12 +1,12 @@
 -- The lines of an assembly text: docs/FORMATS.md, "Assembly text".
 use Rattle.std.specs.Prelude.{◌≡◌, ℕ, ◌≤◌, nat_lt, ◌==◌, ◌&&◌, ◌||◌, Bool, true, false, List, [], ◌∷◌, ◌++◌, length, codes, decimal}
 use Rattle.std.specs.List.{list_all}
+use Rattle.tatp_limits.specs.declared.limits.TheConstants.{MAX_ARGUMENTS, MAX_NAME_BYTES}
 use Rattle.tatp_lines.specs.Numbers.{is_between}
 use Rattle.tatp_instr.specs.declared.instr.Instr.{Instr}
 use Rattle.tatp_instr.specs.declared.instr.Instr.TheVariants.{Jmp, Jz, Loop}
 use Rattle.tatp_instr.specs.Instrs.{text_of, register_text}
 use Rattle.tatp_encoding.specs.Modules.{is_name}
-use Rattle.tatp_encoding.specs.declared.module.TheConstants.{MAX_NAME_BYTES, MAX_ARGUMENTS}
 use Rattle.tatp_encoding.specs.Spelling.{IsInstr}
 use Rattle.tatp_asm.specs.Instrs.{has_target, aimed}
 
@@ -38,7 +38,7 @@ is_letter byte = is_between 65 90 byte || is_between 97 122 byte
 abbrev pub is_label_byte : ℕ → Bool
 is_label_byte byte = is_letter byte || is_between 48 57 byte || byte == 95
 
--- a letter, and then letters, digits or underscores, 1 to 24
+-- a letter, and then letters, digits or underscores, in all as many as a name may have
 unfoldable pub is_label : List ℕ → Bool
 is_label [] = false
 is_label (first ∷ more) =

@@ -1,11 +1,11 @@
 -- Reading an assembly text from front to back, with the first fault that is met: docs/FORMATS.md,
 -- "Assembly text".
 use Rattle.std.specs.Prelude.{◌≡◌, ℕ, ◌+◌, ◌==◌, nat_lt, Bool, true, false, if◌then◌else◌, List, [], ◌∷◌, ◌++◌, length, bytes_eq, Option, Some, None, is_some, Result, Ok, Err}
+use Rattle.tatp_limits.specs.declared.limits.TheConstants.{MAX_INSTRUCTIONS, MAX_PROCEDURES}
 use Rattle.tatp_instr.specs.declared.instr.Instr.{Instr}
 use Rattle.tatp_instr.specs.declared.version.Version.{Version}
 use Rattle.tatp_instr.specs.Versions.{is_in}
 use Rattle.tatp_encoding.specs.Modules.{Procedure, ModuleState}
-use Rattle.tatp_encoding.specs.declared.module.TheConstants.{MAX_PROCEDURES, MAX_INSTRUCTIONS}
 use Rattle.tatp_asm.specs.declared.fault.AsmFaultKind.{AsmFaultKind}
 use Rattle.tatp_asm.specs.declared.fault.AsmFaultKind.TheVariants.{Syntax, NoSuchLabel, LabelTwice, TooLong}
 use Rattle.tatp_asm.specs.declared.fault.AsmFault.{AsmFault}

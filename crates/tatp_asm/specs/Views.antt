@@ -1,9 +1,9 @@
 -- What the definitions see of the program's values.
 use Rattle.std.specs.Prelude.{◌≡◌, ℕ, ◌≤◌, true, List, [], ◌∷◌, length, map, Option, Some, option_map, IfSome, String}
 use Rattle.std.specs.String.{string_bytes}
+use Rattle.tatp_limits.specs.declared.limits.TheConstants.{MAX_ARGUMENTS, MAX_INSTRUCTIONS}
 use Rattle.tatp_lines.specs.Lines.{lines_of}
 use Rattle.tatp_encoding.specs.Modules.{Procedure, is_name}
-use Rattle.tatp_encoding.specs.declared.module.TheConstants.{MAX_ARGUMENTS, MAX_INSTRUCTIONS}
 use Rattle.tatp_asm.specs.declared.fields.Split.{Split}
 use Rattle.tatp_asm.specs.declared.fields.Split.TheVariants.{One, Two, Three, More}
 use Rattle.tatp_asm.specs.declared.operands.Operand.{Operand}

@@ -2,6 +2,7 @@
 use Rattle.std.specs.Prelude.{ℕ, ◌+◌, ◌^◌, ◌==◌, ◌&&◌, nat_lt, if◌then◌else◌, List, [], ◌∷◌, take, drop, length, codes, bytes_eq, Option, Some, None}
 use Rattle.std.specs.Option.{option_map, option_and_then}
 use Rattle.std.specs.Str.{is_utf8}
+use Rattle.tatp_limits.specs.declared.limits.TheConstants.{MAX_ARGUMENTS, REGISTERS}
 use denote.Ref.{Bor}
 use Rattle.tatp_lines.specs.Fields.{fields_of}
 use Rattle.tatp_lines.specs.Numbers.{number_of}
@@ -10,7 +11,6 @@ use Rattle.tatp_instr.specs.declared.book.Word.TheVariants as holds
 use Rattle.tatp_instr.specs.Shapes.{Row, row_named}
 use Rattle.tatp_instr.specs.Parts.{instr_of}
 use Rattle.tatp_encoding.specs.Modules.{is_name}
-use Rattle.tatp_encoding.specs.declared.module.TheConstants.{MAX_ARGUMENTS}
 use Rattle.tatp_asm.specs.Lines.{Line, Opens, Names, Does, Closes, is_label}
 
 -- ---- fields
@@ -35,7 +35,7 @@ target_in label = if is_label label then Some (Target label) else None
 -- the operand after its first character: r, # or @
 abbrev pub operand_after : ℕ → List ℕ → Option Operand
 operand_after mark text =
-    if mark == 114 then option_map Register (below 16 text) else
+    if mark == 114 then option_map Register (below REGISTERS text) else
     if mark == 35 then option_map Number (below (2 ^ 32) text) else
     if mark == 64 then target_in text else
     None

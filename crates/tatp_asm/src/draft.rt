@@ -13,8 +13,9 @@ use crate::name::Name;
 use crate::target::{aimed, target_of};
 use indexmap::IndexMap;
 use std::alloc::Global;
-use tatp_encoding::{MAX_INSTRUCTIONS, MAX_PROCEDURES, Proc};
+use tatp_encoding::Proc;
 use tatp_instr::Instr;
+use tatp_limits::{MAX_INSTRUCTIONS, MAX_PROCEDURES};
 
 /// An instruction, with the label that it names, which is empty where it names none, and its line.
 #[derive(Drop)]

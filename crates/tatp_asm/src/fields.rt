@@ -6,7 +6,7 @@ ghost use Rattle.tatp_asm.specs.Words.{below, fields_left};
 ghost use Rattle.tatp_lines.specs.Fields.{fields_of};
 ghost use Rattle.tatp_asm.specs.Views.{AreFields};
 
-use tatp_encoding::MAX_NAME_BYTES;
+use tatp_limits::MAX_NAME_BYTES;
 use tatp_lines::read_number;
 
 /// The fields of a text, where there are at most three.

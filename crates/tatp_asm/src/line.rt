@@ -8,8 +8,9 @@ ghost use Rattle.tatp_asm.specs.Views.{line_view};
 use crate::fields::{Split, below, is_label, split_fields};
 use crate::name::{Name, name_of};
 use crate::operands::{instruction, instruction_with};
-use tatp_encoding::{MAX_ARGUMENTS, is_name};
+use tatp_encoding::is_name;
 use tatp_instr::{Instr, Version};
+use tatp_limits::MAX_ARGUMENTS;
 
 /// A line that isn't empty.
 #[derive(Clone, Copy, Debug)]
@@ -58,10 +59,7 @@ fn opening(word: &str, name: &str, arity: &str) -> Option<Line>
     if word != "proc" || !is_name(name.as_bytes()) {
         return None;
     }
-    Some(Line::Opening(
-        name_of(name),
-        below(u64::from(MAX_ARGUMENTS) + 1, arity)? as u8,
-    ))
+    Some(Line::Opening(name_of(name), below(MAX_ARGUMENTS as u64 + 1, arity)? as u8))
 }
 
 /// The line that a text is.

@@ -2,7 +2,7 @@
 ghost use Rattle.std.specs.Prelude.{◌≡◌, ◌≤◌, length};
 
 use arrayvec::ArrayString;
-use tatp_encoding::MAX_NAME_BYTES;
+use tatp_limits::MAX_NAME_BYTES;
 
 /// A procedure's name, or a label.
 pub(crate) type Name = ArrayString<MAX_NAME_BYTES>;

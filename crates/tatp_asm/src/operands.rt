@@ -10,6 +10,7 @@ use crate::fields::{Split, below, is_label, split_fields};
 use crate::line::Line;
 use crate::name::{Name, name_of};
 use tatp_instr::{Instr, OpRow, Parts, Register, Word, row_named};
+use tatp_limits::REGISTERS;
 
 /// An operand: its first character tells which.
 #[derive(Clone, Copy, Debug)]
@@ -47,9 +48,9 @@ fn labelled(label: Name) -> Given
 
 /// The register of a number.
 fn register(text: &str) -> Option<Register>
-    ensures { result ≡ words.below 16 text.now }
+    ensures { result ≡ words.below REGISTERS text.now }
 {
-    Register::new(below(16, text)? as u8)
+    Register::new(below(REGISTERS as u64, text)? as u8)
 }
 
 /// The operand that a field is.

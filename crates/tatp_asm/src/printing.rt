@@ -8,8 +8,9 @@ ghost use Rattle.tatp_asm.specs.Printing.{is_target, is_named, instruction_line,
 
 use crate::target::target_of;
 use std::alloc::{AllocError, Global};
-use tatp_encoding::{MAX_INSTRUCTIONS, Module, Proc};
+use tatp_encoding::{Module, Proc};
 use tatp_instr::{Instr, Version, text};
+use tatp_limits::MAX_INSTRUCTIONS;
 use tatp_lines::push_decimal;
 
 /// How many positions a label can have: before each instruction, and after the last.

@@ -10,8 +10,9 @@ use std::alloc::{AllocError, Global};
 use std::io::{Read, Write};
 use tatp_asm::disassemble;
 use tatp_encoding::{Module, Proc};
+use tatp_limits::{MAX_INPUT_BYTES, MAX_PROCEDURES};
 use tatp_loader::{load, save};
-use tatp_streams::{MOST_BYTES, read_all, write_last};
+use tatp_streams::{read_all, write_last};
 
 /// The bytes of the module that a text is, where it keeps the rules.
 fn assembled(alloc: Global, text: &[u8]) -> Result<Vec<u8>, AssemblyFault>
@@ -33,7 +34,7 @@ fn disassembled(alloc: Global, bytes: &[u8]) -> Result<String, AssemblyFault>
 
 /// How many instructions the procedures have together.
 fn instruction_count(procs: &[Proc]) -> usize
-    requires { length procs.now ≤ 16 }
+    requires { length procs.now ≤ MAX_PROCEDURES }
     ensures { result ≡ instruction_count procs.now }
 {
     let mut count = 0;
@@ -74,7 +75,7 @@ pub fn run_asm<R: Read, W: Write>(
         Leaves (RefusesText text) (IsModuleOfText text)
         (W.contents writer.old) (W.contents writer.new) fault)) }
     ensures limit { OnOk result
-        (IfSome (R.remaining reader.old) (λ input. length input ≤ MOST_BYTES)) }
+        (IfSome (R.remaining reader.old) (λ input. length input ≤ MAX_INPUT_BYTES)) }
 {
     let text = read_all(alloc, reader)?;
     let bytes = assembled(alloc, &text)?;
@@ -95,7 +96,7 @@ pub fn run_dis<R: Read, W: Write>(
         Leaves (RefusesBytes bytes) (IsTextOfModule bytes)
         (W.contents writer.old) (W.contents writer.new) fault)) }
     ensures limit { OnOk result
-        (IfSome (R.remaining reader.old) (λ input. length input ≤ MOST_BYTES)) }
+        (IfSome (R.remaining reader.old) (λ input. length input ≤ MAX_INPUT_BYTES)) }
 {
     let bytes = read_all(alloc, reader)?;
     let text = disassembled(alloc, &bytes)?;
@@ -116,7 +117,7 @@ pub fn run_check<R: Read, W: Write>(
         Leaves (RefusesBytes bytes) (IsApprovalOf bytes)
         (W.contents writer.old) (W.contents writer.new) fault)) }
     ensures limit { OnOk result
-        (IfSome (R.remaining reader.old) (λ input. length input ≤ MOST_BYTES)) }
+        (IfSome (R.remaining reader.old) (λ input. length input ≤ MAX_INPUT_BYTES)) }
 {
     let bytes = read_all(alloc, reader)?;
     let text = approved(alloc, &bytes)?;

@@ -6,6 +6,7 @@ use Rattle.std.specs.List.{range_with_len}
 use Rattle.std.specs.Option.{option_map}
 use Rattle.std.specs.Result.{result_err}
 use Rattle.std.proofs.lemmas.List.{map-append}
+use Rattle.tatp_limits.specs.declared.limits.TheConstants.{MAX_SUBSCRIBERS}
 use Rattle.rand_core.specs.Stream.{Stream}
 use Rattle.tatp_encoding.specs.Modules.{ModuleState}
 use Rattle.tatp_procs.specs.declared.ask.Ask.{Ask}
@@ -56,14 +57,14 @@ has_standard (UpdateLocation n v) = refl
 has_standard (InsertCallForwarding n t b e x) = refl
 has_standard (DeleteCallForwarding n t b) = refl
 
-one_of : (x n : ℕ) → 1 ≤ n → n ≤ 1000000 → 1 + x % n ≤ 999999999999999
+one_of : (x n : ℕ) → 1 ≤ n → n ≤ MAX_SUBSCRIBERS → 1 + x % n ≤ 999999999999999
 one_of x n some few = omega arith
 
-named_fits : (distribution : Distribution) (n : ℕ) (words : List ℕ) → 1 ≤ n → n ≤ 1000000 → drawn_subscriber distribution n words ≤ 999999999999999
+named_fits : (distribution : Distribution) (n : ℕ) (words : List ℕ) → 1 ≤ n → n ≤ MAX_SUBSCRIBERS → drawn_subscriber distribution n words ≤ 999999999999999
 named_fits Skewed n words some few = one_of _ n some few
 named_fits Uniform n words some few = one_of _ n some few
 
-accepted : (distribution : Distribution) (n : ℕ) (words : List ℕ) → 1 ≤ n → n ≤ 1000000 → arguments_accepted (drawn_call distribution n words) ≡ Ok tt
+accepted : (distribution : Distribution) (n : ℕ) (words : List ℕ) → 1 ≤ n → n ≤ MAX_SUBSCRIBERS → arguments_accepted (drawn_call distribution n words) ≡ Ok tt
 accepted distribution n words some few = call_on_accepted (drawn_subscriber distribution n words) words (named_fits distribution n words some few)
 
 none_of_both : (xs ys : List (Option RunRefusal)) → first_of xs ≡ None → first_of ys ≡ None → first_of (xs ++ ys) ≡ None
@@ -75,7 +76,7 @@ module _ (modul : ModuleState) (has : (call : Call) → has_procedure modul (Txn
   no_obstacle : (call : Call) → arguments_accepted call ≡ Ok tt → obstacle_to modul (Txn call) ≡ None
   no_obstacle call fits = (λ i. cond (has call i) (option_map BadArgument (bad_argument (Txn call))) (Some NoProcedure)) ∙ ap (λ (r : Result (Unit {0}) Bad). option_map BadArgument (result_err r)) fits
 
-  pub calls_run : (distribution : Distribution) (subscribers : ℕ) → 1 ≤ subscribers → subscribers ≤ 1000000 → (n : ℕ) (stream : Stream)
+  pub calls_run : (distribution : Distribution) (subscribers : ℕ) → 1 ≤ subscribers → subscribers ≤ MAX_SUBSCRIBERS → (n : ℕ) (stream : Stream)
       → obstacle_in modul (map Txn (next_calls distribution subscribers n stream).0) ≡ None
   unfolding next_calls
   calls_run distribution subscribers some few zero stream = refl

@@ -4,6 +4,7 @@ use Rattle.std.proofs.Common.{sym, ap, ◌∙◌, subst, arith, mul-le-mul}
 use Rattle.std.specs.declared.alloc.Global.{Global}
 use Rattle.std.proofs.lemmas.List.{length-map}
 use Rattle.std.proofs.lemmas.List.FromFn.{length-map-range_with_len}
+use Rattle.tatp_limits.specs.declared.limits.TheConstants.{MAX_BENCH_CALLS, MAX_CLIENTS}
 use Rattle.rand_core.specs.Stream.{next_u64}
 use Rattle.tatp_tables.specs.Clean.{IsClean}
 use Rattle.tatp_tables.specs.declared.row.Rows.{Rows}
@@ -30,7 +31,7 @@ calls_counted plan = count_joined (client_calls plan) plan.calls 0 plan.clients 
 
 pub few_calls : (plan : BenchPlan) → IsPlan plan → length (joined (calls_drawn plan)) < 2 ^ 64
 few_calls plan is =
-    let most : plan.clients * plan.calls ≤ 64 * 100000 = mul-le-mul is.clients.1 is.calls.1 in
+    let most : plan.clients * plan.calls ≤ MAX_CLIENTS * MAX_BENCH_CALLS = mul-le-mul is.clients.1 is.calls.1 in
     omega (arith, calls_counted plan, most)
 
 pub clients_listed : (plan : BenchPlan) (lists : List (Vec Ask Global)) → lists_of lists ≡ calls_drawn plan → length lists ≡ plan.clients

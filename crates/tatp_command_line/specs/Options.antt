@@ -2,9 +2,9 @@
 use Rattle.std.specs.Prelude.{ℕ, ◌^◌, ◌-◌, Bool, false, List, Option, Some, None, option_map, IfSome, codes, bytes_eq, if◌then◌else◌}
 use Rattle.std.specs.Option.{option_map_or}
 use Rattle.std.specs.Str.Parse.{digits_value}
+use Rattle.tatp_limits.specs.declared.limits.TheConstants.{MAX_BENCH_CALLS, MAX_BENCH_CHAPTER, MAX_BENCH_MOVES, MAX_BENCH_STOPS, MAX_CLIENTS, MAX_PARTITIONS, MAX_SUBSCRIBERS}
 use Rattle.clap.specs.Matches.{first_value}
 use Rattle.clap.specs.declared.parser.matches.Found.{Found}
-use Rattle.tatp_tables.specs.Database.{most_subscribers}
 use Rattle.tatp_driver.specs.declared.distribution.Distribution.{Distribution}
 use Rattle.tatp_driver.specs.declared.distribution.Distribution.TheVariants.{Skewed, Uniform}
 use Rattle.tatp_tasks.specs.declared.plan.BenchPlan.{BenchPlan}
@@ -20,7 +20,7 @@ abbrev pub subscribers : Ranged
 subscribers = record {
   name = codes "subscribers";
   least = 1;
-  most = most_subscribers;
+  most = MAX_SUBSCRIBERS;
   default = None;
 }
 
@@ -28,25 +28,45 @@ abbrev pub seed : Ranged
 seed = record { name = codes "seed"; least = 0; most = 2 ^ 64 - 1; default = Some (codes "1") }
 
 abbrev pub partitions : Ranged
-partitions = record { name = codes "partitions"; least = 1; most = 16; default = Some (codes "2") }
+partitions = record {
+  name = codes "partitions";
+  least = 1;
+  most = MAX_PARTITIONS;
+  default = Some (codes "2");
+}
 
 abbrev pub clients : Ranged
-clients = record { name = codes "clients"; least = 1; most = 64; default = Some (codes "4") }
+clients = record {
+  name = codes "clients";
+  least = 1;
+  most = MAX_CLIENTS;
+  default = Some (codes "4");
+}
 
 abbrev pub calls : Ranged
-calls = record { name = codes "calls"; least = 1; most = 100000; default = None }
+calls = record { name = codes "calls"; least = 1; most = MAX_BENCH_CALLS; default = None }
 
 abbrev pub moves : Ranged
-moves = record { name = codes "moves"; least = 0; most = 100000; default = Some (codes "0") }
+moves = record {
+  name = codes "moves";
+  least = 0;
+  most = MAX_BENCH_MOVES;
+  default = Some (codes "0");
+}
 
 abbrev pub stops : Ranged
-stops = record { name = codes "stops"; least = 0; most = 100000; default = Some (codes "0") }
+stops = record {
+  name = codes "stops";
+  least = 0;
+  most = MAX_BENCH_STOPS;
+  default = Some (codes "0");
+}
 
 abbrev pub chapter : Ranged
 chapter = record {
   name = codes "chapter";
   least = 1;
-  most = 1000000;
+  most = MAX_BENCH_CHAPTER;
   default = Some (codes "1000");
 }
 
@@ -67,7 +87,7 @@ procedures_asked found =
 -- ---- the population: without --gen its rows are read
 abbrev pub HasPopulation : Found → Type 0
 HasPopulation found =
-    HasNumber seed found × IfSome (first_value found (codes "gen")) (IsNumberIn 1 most_subscribers)
+    HasNumber seed found × IfSome (first_value found (codes "gen")) (IsNumberIn 1 MAX_SUBSCRIBERS)
 
 -- by the text of --gen, where it was given, and the number of --seed
 abbrev pub population_by : Option (List ℕ) → ℕ → Population

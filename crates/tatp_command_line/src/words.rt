@@ -15,6 +15,7 @@ use clap::error::ErrorKind;
 use clap::{ArgMatches, Error};
 use std::alloc::{AllocError, Global};
 use tatp_driver::Distribution;
+use tatp_limits::{MAX_CLIENTS, MAX_PARTITIONS};
 use tatp_tasks::{BenchPlan, Population, Procedures, Setup, Task};
 
 /// Where the procedures of a run come from.
@@ -48,19 +49,19 @@ fn partitions_of<'a>(options: &ArgMatches<'a>) -> Result<u8, BadNumber<'a>>
     ensures asked { OkIff result (HasNumber partitions (found_of options.now))
         (number_asked partitions (found_of options.now)) }
     ensures least { IfOk result (λ number. 1 ≤ number) }
-    ensures most { IfOk result (λ number. number ≤ 16) }
+    ensures most { IfOk result (λ number. number ≤ MAX_PARTITIONS) }
 {
     Ok(PARTITIONS.number(options)? as u8)
 }
 
 /// How many clients there are.
-fn clients_of<'a>(options: &ArgMatches<'a>) -> Result<u8, BadNumber<'a>>
+fn clients_of<'a>(options: &ArgMatches<'a>) -> Result<u16, BadNumber<'a>>
     ensures asked { OkIff result (HasNumber clients (found_of options.now))
         (number_asked clients (found_of options.now)) }
     ensures least { IfOk result (λ number. 1 ≤ number) }
-    ensures most { IfOk result (λ number. number ≤ 64) }
+    ensures most { IfOk result (λ number. number ≤ MAX_CLIENTS) }
 {
-    Ok(CLIENTS.number(options)? as u8)
+    Ok(CLIENTS.number(options)? as u16)
 }
 
 /// What a run over events is opened with.

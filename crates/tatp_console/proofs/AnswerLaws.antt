@@ -3,8 +3,9 @@ use Rattle.std.proofs.Common.{◌≡◌, ℕ, ◌∙◌, sym, ap, subst, List, [
 use Rattle.std.specs.Option.{option_map, IfSome}
 use Rattle.std.specs.Io.KnownBytes.{Appends}
 use Rattle.std.proofs.lemmas.List.{append-nil}
+use Rattle.tatp_limits.specs.declared.limits.TheConstants.{MAX_INPUT_BYTES}
 use Rattle.tatp_dispatch.specs.Worlds.{WorldState}
-use Rattle.tatp_streams.specs.LineReading.{most_bytes, LinesLeft, Stays, Relates, with_line}
+use Rattle.tatp_streams.specs.LineReading.{LinesLeft, Stays, Relates, with_line}
 use Rattle.tatp_streams.proofs.LineReadingLaws.{relates_from_start, relates_line, relates_end, relates_all, relates_as}
 use Rattle.tatp_streams.specs.Writing.{AppendsFront, KeepsOrAppends}
 use Rattle.tatp_streams.proofs.StreamLaws.{appends_none, appends_both}
@@ -156,12 +157,12 @@ writes_next answers w now all left old new then pending rest h kept =
 
 -- the end
 pub answers_all : (answers : Answering) (w now : WorldState) (all left left' : Option LinesLeft) (old new then : Option (List ℕ)) (pending : List ℕ)
-    → Relates all left (GoingOn answers w old new pending now) → Stays left left' → IfSome left' (λ l. l.lines ≡ []) → IfSome left' (λ l. l.input_length ≤ most_bytes) → Appends new then pending
-    → IfSome all (λ a. AnswersAll answers w a.lines old then × (a.input_length ≤ most_bytes))
+    → Relates all left (GoingOn answers w old new pending now) → Stays left left' → IfSome left' (λ l. l.lines ≡ []) → IfSome left' (λ l. l.input_length ≤ MAX_INPUT_BYTES) → Appends new then pending
+    → IfSome all (λ a. AnswersAll answers w a.lines old then × (a.input_length ≤ MAX_INPUT_BYTES))
 answers_all answers w now all left left' old new then pending h s none within written =
-    relates_all all left' (λ a l. AnswersAll answers w a.lines old then × (a.input_length ≤ most_bytes)) (λ a. AnswersAll answers w a.lines old then × (a.input_length ≤ most_bytes))
-    (relates_end all left left' (GoingOn answers w old new pending now) (λ a l. AnswersAll answers w a.lines old then × (a.input_length ≤ most_bytes)) h s none within
-    (λ a l empty short g. (goes_to_end answers w now a.lines l.lines old new then pending g.goes empty written, subst (λ n. n ≤ most_bytes) g.input_length short)))
+    relates_all all left' (λ a l. AnswersAll answers w a.lines old then × (a.input_length ≤ MAX_INPUT_BYTES)) (λ a. AnswersAll answers w a.lines old then × (a.input_length ≤ MAX_INPUT_BYTES))
+    (relates_end all left left' (GoingOn answers w old new pending now) (λ a l. AnswersAll answers w a.lines old then × (a.input_length ≤ MAX_INPUT_BYTES)) h s none within
+    (λ a l empty short g. (goes_to_end answers w now a.lines l.lines old new then pending g.goes empty written, subst (λ n. n ≤ MAX_INPUT_BYTES) g.input_length short)))
     (λ a l both. both)
 
 pub lines_answered : (P Q : LinesLeft → Type 0) (all : Option LinesLeft) → IfSome all (λ a. P a × Q a) → IfSome all P

@@ -3,19 +3,19 @@ use Rattle.std.proofs.Common.{◌≡◌, ℕ, List, ◌≤◌, length, Option, R
 use Rattle.std.specs.Option.{IfSome}
 use Rattle.std.specs.Io.KnownBytes.{Appends}
 use Rattle.std.proofs.lemmas.Option.{IfSome_then}
+use Rattle.tatp_limits.specs.declared.limits.TheConstants.{MAX_INPUT_BYTES, MAX_SUBSCRIBERS}
 use Rattle.tatp_lines.specs.Lines.{lines_of}
 use Rattle.tatp_tables.specs.Clean.{IsClean}
 use Rattle.tatp_tables.specs.declared.row.Rows.{Rows}
 use Rattle.tatp_encoding.specs.Modules.{ModuleState}
 use Rattle.tatp_extents.specs.declared.open_error.OpenError.{OpenError}
-use Rattle.tatp_tables.specs.Database.{most_subscribers}
 use Rattle.tatp_extents.specs.Opening.{RefusesRows}
 use Rattle.tatp_dispatch.specs.Opened.{IsOpened}
 use Rattle.tatp_dispatch.specs.Serving.{IsWorld}
 use Rattle.tatp_dispatch.specs.Worlds.{WorldState}
 use Rattle.tatp_streams.specs.declared.fault.StreamFault.{StreamFault}
 use Rattle.tatp_streams.specs.declared.fault.StreamFault.TheVariants.{NoMemory, ReadFault, WriteFault}
-use Rattle.tatp_streams.specs.LineReading.{most_bytes, LineReaderState, nothing_taken, LinesLeft, lines_left, Relates}
+use Rattle.tatp_streams.specs.LineReading.{LineReaderState, nothing_taken, LinesLeft, lines_left, Relates}
 use Rattle.tatp_streams.proofs.StreamLaws.{appends_none}
 use Rattle.tatp_streams.proofs.LineReadingLaws.{of_input, relates_all, relates_known}
 use Rattle.tatp_tasks.specs.declared.population.Population.{Population}
@@ -34,7 +34,7 @@ IsText = ModuleState → Work → List ℕ → Type 0
 
 -- ---- what the input brings, and the whole that was opened with it
 pub record OpensRows (setup : Setup) (m : ModuleState) (rows : Rows) (opened : WorldState) : Type 0 where
-  pub few : length rows.subscribers ≤ most_subscribers
+  pub few : length rows.subscribers ≤ MAX_SUBSCRIBERS
   pub clean : IsClean rows
   pub is_opened : IsOpened m rows setup.partitions setup.clients opened
   pub world : IsWorld opened
@@ -100,11 +100,11 @@ cut_short answers setup start known left old new m rows opened fault e b o a =
     (λ input written. inr written)
 
 pub input_within : (setup : Setup) (start : LineReaderState) (known : Option (List ℕ)) (left : Option LinesLeft) (m : ModuleState) (rows : Rows)
-    → start ≡ nothing_taken → Relates (lines_left start known) left (Brings setup m rows) → IfSome left (λ l. l.input_length ≤ most_bytes) → IfSome known (λ input. length input ≤ most_bytes)
+    → start ≡ nothing_taken → Relates (lines_left start known) left (Brings setup m rows) → IfSome left (λ l. l.input_length ≤ MAX_INPUT_BYTES) → IfSome known (λ input. length input ≤ MAX_INPUT_BYTES)
 input_within setup start known left m rows e b h =
-    of_input known (λ all. all.input_length ≤ most_bytes)
-    (relates_known (lines_left nothing_taken known) left (Brings setup m rows) (λ l. l.input_length ≤ most_bytes) (λ all. all.input_length ≤ most_bytes) (rw e at b) h
-    (λ all l brings within. subst (λ n. n ≤ most_bytes) brings.input_length within))
+    of_input known (λ all. all.input_length ≤ MAX_INPUT_BYTES)
+    (relates_known (lines_left nothing_taken known) left (Brings setup m rows) (λ l. l.input_length ≤ MAX_INPUT_BYTES) (λ all. all.input_length ≤ MAX_INPUT_BYTES) (rw e at b) h
+    (λ all l brings within. subst (λ n. n ≤ MAX_INPUT_BYTES) brings.input_length within))
 
 -- the input is refused
 unread : (IsFront : IsText) (procedures : Procedures) (population : Population) (input : List ℕ) (old : Option (List ℕ)) (fault : ConsoleFault)

@@ -1,9 +1,9 @@
 -- What is answered to lines, one after another.
 use Rattle.std.specs.Prelude.{◌≡◌, ℕ, ◌≤◌, List, [], ◌∷◌, ◌++◌, length, Option}
 use Rattle.std.specs.Io.KnownBytes.{Appends}
+use Rattle.tatp_limits.specs.declared.limits.TheConstants.{MAX_SUBSCRIBERS}
 use Rattle.tatp_tables.specs.Clean.{IsClean}
 use Rattle.tatp_encoding.specs.Modules.{ModuleState}
-use Rattle.tatp_tables.specs.Database.{most_subscribers}
 use Rattle.tatp_dispatch.specs.Opened.{IsOpened}
 use Rattle.tatp_dispatch.specs.Serving.{IsWorld}
 use Rattle.tatp_dispatch.specs.Worlds.{WorldState}
@@ -60,7 +60,7 @@ pub record AnswersUpTo (answers : Answering) (w : WorldState) (lines : List (Lis
 -- rows under the module m; they may be opened
 pub record AnswersWork (answers : Answering) (setup : Setup) (m : ModuleState) (work : Work)
     (text : List ℕ) : Type 0 where
-  pub few : length work.rows.subscribers ≤ most_subscribers
+  pub few : length work.rows.subscribers ≤ MAX_SUBSCRIBERS
   pub clean : IsClean work.rows
   pub opened : WorldState
   pub after : WorldState

@@ -2,7 +2,8 @@
 -- database that the lines before it left.
 use Rattle.std.specs.Prelude.{◌≡◌, ℕ, ◌≤◌, Bool, true, false, List, [], ◌∷◌, ◌++◌, length, Option, Some, None, Result, Ok, Err, codes, decimal, if◌then◌else◌}
 use Rattle.std.specs.Str.{is_utf8}
-use Rattle.tatp_tables.specs.Database.{Database, database_of, most_subscribers}
+use Rattle.tatp_limits.specs.declared.limits.TheConstants.{MAX_SUBSCRIBERS}
+use Rattle.tatp_tables.specs.Database.{Database, database_of}
 use Rattle.tatp_tables.specs.Clean.{IsClean}
 use Rattle.tatp_procs.specs.declared.call.Call.{Call}
 use Rattle.tatp_procs.specs.declared.ask.Ask.TheVariants.{Txn}
@@ -67,7 +68,7 @@ replies refused (line ∷ more) u =
 -- the text is what is written for these rows and lines, where the marked lines were refused their
 -- memory
 pub record ServesWork (refused : List Bool) (work : Work) (text : List ℕ) : Type 0 where
-  pub few : length work.rows.subscribers ≤ most_subscribers
+  pub few : length work.rows.subscribers ≤ MAX_SUBSCRIBERS
   pub clean : IsClean work.rows
   pub replied : text ≡ replies refused work.lines (database_of work.rows)
 

@@ -1,10 +1,10 @@
 -- trusted: read it
 -- What a run over event lines writes.
 use Rattle.std.specs.Prelude.{◌≡◌, ℕ, ◌≤◌, List, ◌++◌, length, Result}
+use Rattle.tatp_limits.specs.declared.limits.TheConstants.{MAX_SUBSCRIBERS}
 use Rattle.tatp_tables.specs.Clean.{IsClean}
 use Rattle.tatp_tables.specs.declared.row.Rows.{Rows}
 use Rattle.tatp_encoding.specs.Modules.{ModuleState}
-use Rattle.tatp_tables.specs.Database.{most_subscribers}
 use Rattle.tatp_events.specs.declared.event.Answer.{Answer}
 use Rattle.tatp_events.specs.declared.refusal.Refusal.{Refusal}
 use Rattle.tatp_dispatch.specs.Benchmark.{IsTheBenchmark}
@@ -36,7 +36,7 @@ pub record TellsFrom (m : ModuleState) (rows : Rows) (setup : Setup) (lines : Li
 -- told is what is told of all lines of the work, whose rows may be opened
 pub record TellsWork (setup : Setup) (m : ModuleState) (work : Work) (told : List ℕ)
     : Type 0 where
-  pub few : length work.rows.subscribers ≤ most_subscribers
+  pub few : length work.rows.subscribers ≤ MAX_SUBSCRIBERS
   pub clean : IsClean work.rows
   pub tells : TellsFrom m work.rows setup work.lines told
 

@@ -14,8 +14,9 @@ use crate::lines::{LineCommand, answer_all};
 use std::alloc::{AllocError, Global};
 use std::io::{Read, Write};
 use tatp_dispatch::World;
+use tatp_limits::{MAX_INPUT_BYTES, MAX_PARTITIONS};
 use tatp_procs::{Ask, Call, ReplyRef, args_ok, push_reply, read_call};
-use tatp_streams::{MOST_BYTES, text_of};
+use tatp_streams::text_of;
 use tatp_tasks::{Population, Procedures, Setup};
 
 /// The command `call`.
@@ -76,8 +77,8 @@ impl LineCommand for Calls {
 /// Reads rows and calls, or calls alone, and writes a reply to each line of calls.
 ///
 /// The rows are opened before the first reply is written; then all replies to the lines that have
-/// come, before it waits for more. No more than [`MOST_BYTES`] bytes are read. Each call is run to
-/// its end before the next, over so many partitions, which changes nothing of what is written.
+/// come, before it waits for more. No more than [`MAX_INPUT_BYTES`] bytes are read. Each call is run
+/// to its end before the next, over so many partitions, which changes nothing of what is written.
 pub fn run_call<R: Read, W: Write>(
     alloc: Global,
     reader: &mut R,
@@ -86,7 +87,7 @@ pub fn run_call<R: Read, W: Write>(
     partitions: u8,
 ) -> Result<(), ConsoleFault>
     requires population { IsPopulation population }
-    requires partitions { (1 ≤ partitions) × (partitions ≤ 16) }
+    requires partitions { (1 ≤ partitions) × (partitions ≤ MAX_PARTITIONS) }
     ensures served { OnOk result (IfSome (R.remaining reader.old) (λ input.
         WritesOfWork (λ m. Served) Standard population input
         (W.contents writer.old) (W.contents writer.new))) }
@@ -94,7 +95,7 @@ pub fn run_call<R: Read, W: Write>(
         Leaves (λ m. ServedFront) Standard population input
         (W.contents writer.old) (W.contents writer.new) fault)) }
     ensures limit { OnOk result
-        (IfSome (R.remaining reader.old) (λ input. length input ≤ MOST_BYTES)) }
+        (IfSome (R.remaining reader.old) (λ input. length input ≤ MAX_INPUT_BYTES)) }
 {
     let setup = Setup {
         procedures: Procedures::Standard,

@@ -15,7 +15,8 @@ use crate::world::open_world;
 use std::alloc::{AllocError, Global};
 use std::io::{Read, Write};
 use tatp_dispatch::World;
-use tatp_streams::{LineReader, MOST_BYTES, StreamFault, write_if_full, write_last};
+use tatp_limits::MAX_INPUT_BYTES;
+use tatp_streams::{LineReader, StreamFault, write_if_full, write_last};
 use tatp_tasks::Setup;
 
 /// A command that answers lines, each by what it makes of the whole.
@@ -80,7 +81,7 @@ fn answer_lines<C: LineCommand, R: Read, W: Write>(
     ensures ok { OnOk result (IfSome (lines_left lines.old (R.remaining reader.old)) (λ all.
         AnswersAll C.answers world.old all.lines (W.contents writer.old) (W.contents writer.new))) }
     ensures limit { OnOk result (IfSome (lines_left lines.old (R.remaining reader.old)) (λ all.
-        all.input_length ≤ MOST_BYTES)) }
+        all.input_length ≤ MAX_INPUT_BYTES)) }
     ensures front { OnErr result (IfSome (lines_left lines.old (R.remaining reader.old)) (λ all.
         AnswersUpTo C.answers world.old all.lines
         (W.contents writer.old) (W.contents writer.new))) }
@@ -112,7 +113,7 @@ pub(crate) fn answer_all<C: LineCommand, R: Read, W: Write>(
         Leaves (AnswersFront C.answers setup) setup.procedures setup.population input
         (W.contents writer.old) (W.contents writer.new) fault)) }
     ensures limit { OnOk result
-        (IfSome (R.remaining reader.old) (λ input. length input ≤ MOST_BYTES)) }
+        (IfSome (R.remaining reader.old) (λ input. length input ≤ MAX_INPUT_BYTES)) }
 {
     let mut lines = LineReader::new(alloc);
     let Brought { loaded, rows } = bring(alloc, setup, &mut lines, reader)?;

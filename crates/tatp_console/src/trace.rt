@@ -10,7 +10,7 @@ use crate::lines::{LineCommand, answer_all};
 use std::alloc::{AllocError, Global};
 use std::io::{Read, Write};
 use tatp_dispatch::World;
-use tatp_streams::MOST_BYTES;
+use tatp_limits::MAX_INPUT_BYTES;
 use tatp_tasks::Setup;
 
 /// The command `trace`.
@@ -33,7 +33,7 @@ impl LineCommand for Events {
 /// them may stand the text of the procedures that calls run.
 ///
 /// The rows are opened before the first answer is written; then all answers to the lines that have
-/// come, before it waits for more. No more than [`MOST_BYTES`] bytes are read.
+/// come, before it waits for more. No more than [`MAX_INPUT_BYTES`] bytes are read.
 pub fn run_trace<R: Read, W: Write>(
     alloc: Global,
     reader: &mut R,
@@ -48,7 +48,7 @@ pub fn run_trace<R: Read, W: Write>(
         Leaves (TellsFront setup) setup.procedures setup.population input
         (W.contents writer.old) (W.contents writer.new) fault)) }
     ensures limit { OnOk result
-        (IfSome (R.remaining reader.old) (λ input. length input ≤ MOST_BYTES)) }
+        (IfSome (R.remaining reader.old) (λ input. length input ≤ MAX_INPUT_BYTES)) }
 {
     answer_all::<Events, R, W>(alloc, reader, writer, setup)
 }

@@ -1,6 +1,5 @@
 //! The whole over which lines are answered.
 ghost use Rattle.std.specs.Prelude.{◌≤◌, IfOk, IfErr, OnOk, length};
-ghost use Rattle.tatp_tables.specs.Database.{most_subscribers};
 ghost use Rattle.tatp_tables.specs.Clean.{IsClean};
 ghost use Rattle.tatp_extents.specs.Opening.{RefusesRows};
 ghost use Rattle.tatp_dispatch.specs.Opened.{IsOpened};
@@ -11,6 +10,7 @@ ghost use Rattle.tatp_inputs.specs.Work.{AreCleanWhereDrawn};
 use std::alloc::Global;
 use tatp_dispatch::World;
 use tatp_extents::OpenError;
+use tatp_limits::MAX_SUBSCRIBERS;
 use tatp_loader::Loaded;
 use tatp_tables::Rows;
 use tatp_tasks::{Population, Setup};
@@ -26,7 +26,7 @@ pub(crate) fn open_world<'m>(
     requires drawn { AreCleanWhereDrawn setup.population rows }
     ensures opened { IfOk result (IsOpened loaded.now rows setup.partitions setup.clients) }
     ensures world { IfOk result IsWorld }
-    ensures few { OnOk result (length rows.subscribers ≤ most_subscribers) }
+    ensures few { OnOk result (length rows.subscribers ≤ MAX_SUBSCRIBERS) }
     ensures clean { OnOk result (IsClean rows) }
     ensures refusal { IfErr result (RefusesRows rows) }
 {

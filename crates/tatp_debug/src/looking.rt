@@ -8,6 +8,7 @@ use crate::{CurrentKeys, Snapshot};
 use arrayvec::ArrayString;
 use tatp_homes::Home;
 use tatp_instr::text;
+use tatp_limits::{MAX_NAME_BYTES, REGISTERS};
 use tatp_loader::Loaded;
 use tatp_machine::Machine;
 use tatp_partition::{Site, SiteRefusal};
@@ -60,7 +61,7 @@ fn snapshot_of(loaded: &Loaded, machine: &Machine<'_>) -> Snapshot
 }
 
 /// The values of all registers.
-fn registers_of(machine: &Machine<'_>) -> [u64; 16]
+fn registers_of(machine: &Machine<'_>) -> [u64; REGISTERS]
     ensures { result ≡ register_values machine.now.frame }
 {
     [
@@ -84,7 +85,7 @@ fn registers_of(machine: &Machine<'_>) -> [u64; 16]
 }
 
 /// The name of a procedure of a module.
-fn name_of(loaded: &Loaded, procedure: usize) -> ArrayString<24>
+fn name_of(loaded: &Loaded, procedure: usize) -> ArrayString<MAX_NAME_BYTES>
     ensures { result.bytes ≡ name_of loaded.now procedure }
 {
     let mut name = ArrayString::new();

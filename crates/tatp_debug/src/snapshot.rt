@@ -1,6 +1,7 @@
 //! Snapshots of running calls.
 use arrayvec::ArrayString;
 use tatp_instr::Line;
+use tatp_limits::{MAX_NAME_BYTES, REGISTERS};
 use tatp_procs::Outputs;
 
 /// The keys of a call's current rows, table by table: three parts, 0 in those that the table's key
@@ -23,11 +24,11 @@ pub struct Snapshot {
     /// The number of its procedure in the module.
     pub procedure: usize,
     /// The name of its procedure.
-    pub name: ArrayString<24>,
+    pub name: ArrayString<MAX_NAME_BYTES>,
     /// The position of the next instruction.
     pub pc: usize,
     /// The values of the registers.
-    pub registers: [u64; 16],
+    pub registers: [u64; REGISTERS],
     /// The keys of the current rows.
     pub current: CurrentKeys,
     /// What it put out, in its order.

@@ -5,12 +5,13 @@ use Rattle.std.specs.Option.{option_flatten, option_map_or, option_and_then}
 use Rattle.std.proofs.lemmas.Bool.{and_parts, eqb-true, eq-eqb}
 use Rattle.std.proofs.lemmas.List.{length-replicate, length-map}
 use Rattle.std.proofs.lemmas.List.FromFn.{length-range_with_len}
+use Rattle.tatp_limits.specs.declared.limits.TheConstants.{MAX_SUBSCRIBERS}
 use Rattle.tatp_encoding.specs.Modules.{ModuleState}
 use Rattle.tatp_loader.specs.Lawful.{IsLawful}
 use Rattle.tatp_tables.specs.Tuples.{Tuple, has, set_of}
 use Rattle.tatp_tables.specs.Keys.{has_key}
 use Rattle.tatp_tables.specs.Clean.{IsClean}
-use Rattle.tatp_tables.specs.Database.{Database, database_of, in_table, of_subscriber, most_subscribers}
+use Rattle.tatp_tables.specs.Database.{Database, database_of, in_table, of_subscriber}
 use Rattle.tatp_homes.specs.Home.{SubscriberRows, home_in as home_in_database}
 use Rattle.tatp_tables.specs.declared.row.Rows.{Rows}
 use Rattle.tatp_tables.specs.declared.table.Table.{Table}
@@ -54,7 +55,7 @@ use Rattle.tatp_dispatch.proofs.SlotLaws.{stands_here}
 pub record Opens (modul : ModuleState) (rows : Rows) (partitions : ℕ) (directory : Listing) (sites : List SiteState) : Type 0 where
   pub lawful : IsLawful modul
   pub some : 1 ≤ partitions
-  pub few : length rows.subscribers ≤ most_subscribers
+  pub few : length rows.subscribers ≤ MAX_SUBSCRIBERS
   pub clean : IsClean rows
   pub answers : (key : Key) → answer directory key ≡ home_of_key (set_of rows.subscribers) key
   pub opened : AreSitesOpened modul partitions (opened_extents (database_of rows) (length rows.subscribers)) sites

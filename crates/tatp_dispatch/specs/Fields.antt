@@ -1,10 +1,10 @@
 -- How the fields of the whole show it, and what holds of them.
 use Rattle.std.specs.Prelude.{◌≡◌, ℕ, ◌+◌, ◌≤◌, List, Option, length, vec_len, None}
 use Rattle.std.specs.Vec.{vec_capacity}
+use Rattle.tatp_limits.specs.declared.limits.TheConstants.{MAX_CLIENTS}
 use Rattle.tatp_extents.specs.Extents.{ExtentState}
 use Rattle.tatp_partition.specs.Sites.{SiteState}
 use Rattle.tatp_dispatch.specs.declared.world.World.TheInside.{Inside}
-use Rattle.tatp_dispatch.specs.Queues.{most_clients}
 use Rattle.tatp_dispatch.specs.Worlds.{WorldState}
 use Rattle.tatp_dispatch.specs.Counts.{one, total}
 use Rattle.tatp_dispatch.specs.Serving.{IsWorld}
@@ -36,7 +36,7 @@ parcel_count parcels = total (λ x. one x) parcels
 pub record HasRoom (a : Inside) : Type 0 where
   pub completions : running_count a.sites.items ≤ a.completions.room
   pub landings : vec_len a.landings + parcel_count a.parcels ≤ vec_capacity a.landings
-  pub clients : length a.clients.items ≤ most_clients
+  pub clients : length a.clients.items ≤ MAX_CLIENTS
 
 pub record IsSound (a : Inside) : Type 0 where
   pub world : IsWorld (world_of a)

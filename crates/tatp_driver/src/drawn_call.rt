@@ -5,12 +5,13 @@ ghost use Rattle.tatp_procs.specs.Calls.{key_of_call};
 ghost use Rattle.tatp_driver.specs.DrawnCall.{call_on, drawn_call, drawn_subscriber, NamesOneOf};
 
 use crate::Distribution;
+use tatp_limits::MAX_SUBSCRIBERS;
 use tatp_procs::Call;
 
 /// The call that seven words make, by the benchmark's mix.
 pub fn call_of(words: &[u64; 7], subscribers: u64, distribution: Distribution) -> Call
     requires some { 1 ≤ subscribers }
-    requires few { subscribers ≤ 1000000 }
+    requires few { subscribers ≤ MAX_SUBSCRIBERS }
     ensures drawn { result ≡ drawn_call distribution subscribers words.now }
     ensures accepted { arguments_accepted result ≡ Ok tt }
     ensures key { NamesOneOf subscribers (key_of_call result) }
@@ -21,7 +22,7 @@ pub fn call_of(words: &[u64; 7], subscribers: u64, distribution: Distribution) -
 /// The subscriber, whose s_id is its number.
 fn choose_subscriber(words: &[u64; 7], subscribers: u64, distribution: Distribution) -> u64
     requires some { 1 ≤ subscribers }
-    requires few { subscribers ≤ 1000000 }
+    requires few { subscribers ≤ MAX_SUBSCRIBERS }
     ensures chosen { result ≡ drawn_subscriber distribution subscribers words.now }
     ensures low { 1 ≤ result }
     ensures high { result ≤ subscribers }

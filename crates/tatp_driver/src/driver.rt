@@ -9,6 +9,7 @@ use crate::{Distribution, call_of};
 use rand_core::Rng;
 use rand_pcg::Pcg64;
 use std::marker::Model;
+use tatp_limits::MAX_SUBSCRIBERS;
 use tatp_procs::Call;
 
 /// Draws the calls of one client. It takes no memory.
@@ -21,6 +22,7 @@ pub struct Driver {
 
 impl Model for Driver {
     ghost use Rattle.std.specs.Prelude.{◌≤◌};
+    ghost use Rattle.tatp_limits.specs.declared.limits.TheConstants.{MAX_SUBSCRIBERS};
     ghost use Rattle.tatp_driver.specs.DrawnWords.{DriverState};
 
     ghost Value = { DriverState };
@@ -31,14 +33,14 @@ impl Model for Driver {
       distribution = d.distribution;
     } };
 
-    ghost invariant = { λ d. (1 ≤ d.subscribers) × (d.subscribers ≤ 1000000) };
+    ghost invariant = { λ d. (1 ≤ d.subscribers) × (d.subscribers ≤ MAX_SUBSCRIBERS) };
 }
 
 impl Driver {
     /// The driver of a client, counted from 0, which draws from that client's stream of the seed.
     pub fn new(seed: u64, client: u64, subscribers: u64, distribution: Distribution) -> Driver
         requires some { 1 ≤ subscribers }
-        requires few { subscribers ≤ 1000000 }
+        requires few { subscribers ≤ MAX_SUBSCRIBERS }
         ensures { result ≡ record {
           generator = client_generator seed client;
           subscribers = subscribers;

@@ -5,21 +5,10 @@ ghost use Rattle.tatp_encoding.specs.Modules.{is_name, is_procedure, is_module};
 use arrayvec::ArrayString;
 use std::marker::Model;
 use tatp_instr::{Instr, Version};
+use tatp_limits::{MAX_ARGUMENTS, MAX_INSTRUCTIONS, MAX_NAME_BYTES};
 
-/// The most procedures that a module has.
-pub const MAX_PROCEDURES: usize = 16;
-
-/// The most bytes that a procedure's name has.
-pub const MAX_NAME_BYTES: usize = 24;
-
-/// The most arguments that a procedure takes.
-pub const MAX_ARGUMENTS: u8 = 8;
-
-/// The most instructions that a procedure has.
-pub const MAX_INSTRUCTIONS: usize = 256;
-
-/// A procedure: a name of 1 to 24 of the letters A..Z and underscore, 0 to 8 arguments, and 1 to
-/// 256 instructions.
+/// A procedure: a name of some of the letters A..Z and underscore, perhaps arguments, and some
+/// instructions, no more of each than the limits.
 #[derive(Debug, Drop)]
 pub struct Proc {
     name: ArrayString<MAX_NAME_BYTES>,
@@ -91,8 +80,8 @@ impl Proc {
     }
 }
 
-/// A module: a version of the instruction table, and 1 to 16 procedures of its instructions, whose
-/// jumps lead to a place in their code or to its end. Names may repeat.
+/// A module: a version of the instruction table, and procedures of its instructions, at least
+/// one, whose jumps lead to a place in their code or to its end. Names may repeat.
 #[derive(Debug, Drop)]
 pub struct Module {
     version: Version,

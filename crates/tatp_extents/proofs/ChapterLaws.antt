@@ -4,6 +4,7 @@ use Rattle.std.specs.Option.{option_map, option_to_list}
 use Rattle.std.proofs.lemmas.Bool.Decides.{nat_tests}
 use Rattle.std.proofs.lemmas.List.{append_assoc}
 use Rattle.std.proofs.lemmas.List.Elements.{All-head, All-tail, All-append}
+use Rattle.tatp_limits.specs.declared.limits.TheConstants.{MAX_EXTENT_CHAPTERS}
 use Rattle.tatp_homes.specs.Home.{SubscriberRows}
 use Rattle.tatp_procs.specs.declared.entry.Entry.{Entry}
 use Rattle.tatp_extents.specs.Histories.{Leads, StampsRise, IsHistory}
@@ -32,7 +33,7 @@ of_number : (e : ℕ) (c : ChapterState) → 1 ≤ e → IsChapterOfHomes c → 
 of_number zero c l h = absurd (omega (arith, l))
 of_number (suc e) c l h = h
 
-pub is_chapter : (x : ExtentState) → IsExtent x → x.mixed ≡ false → x.chapters < 65535 → IsChapter (chapter_of x)
+pub is_chapter : (x : ExtentState) → IsExtent x → x.mixed ≡ false → x.chapters < MAX_EXTENT_CHAPTERS → IsChapter (chapter_of x)
 is_chapter x h unmixed few =
     let past : IsHistory x.kept_stamp x.opening x.log x.homes = h.history unmixed in
     record {
@@ -43,7 +44,7 @@ is_chapter x h unmixed few =
       });
     }
 
-pub is_homeless_chapter : (h : HomelessState) → IsHomeless h.mixed h.kept_stamp h.log → h.mixed ≡ false → h.chapters < 65535 → IsChapter (homeless_chapter_of h)
+pub is_homeless_chapter : (h : HomelessState) → IsHomeless h.mixed h.kept_stamp h.log → h.mixed ≡ false → h.chapters < MAX_EXTENT_CHAPTERS → IsChapter (homeless_chapter_of h)
 is_homeless_chapter h history unmixed few =
     let past : IsHomelessHistory h.kept_stamp h.log = history unmixed in
     record { few = few; history = record { before = refl; after = refl; history = record { entries = past.entries; rise = rise_from_less 0 h.kept_stamp h.log (omega arith) past.rise } } }

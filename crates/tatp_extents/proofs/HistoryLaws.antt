@@ -5,6 +5,7 @@ use Rattle.std.specs.Option.{option_map_or}
 use Rattle.std.proofs.Math.ListN.{set, length-set}
 use Rattle.std.proofs.lemmas.Bool.Decides.{nat_tests}
 use Rattle.std.proofs.lemmas.List.Elements.{All-push}
+use Rattle.tatp_limits.specs.declared.limits.TheConstants.{EXTENT_SUBSCRIBERS}
 use Rattle.tatp_homes.specs.Home.{SubscriberRows}
 use Rattle.tatp_procs.specs.declared.entry.Entry.{Entry}
 use Rattle.tatp_procs.specs.Transactions.{transaction}
@@ -69,7 +70,7 @@ replaced e i opening homes old new is same h =
     record {
       numbered = h.numbered;
       least = subst (λ (n : ℕ). 1 ≤ n) (sym long) h.least;
-      most = subst (λ (n : ℕ). n ≤ 64) (sym long) h.most;
+      most = subst (λ (n : ℕ). n ≤ EXTENT_SUBSCRIBERS) (sym long) h.most;
       in_order = ids ∙ h.in_order ∙ ap (range_with_len (first_subscriber e)) (sym long);
       same = h.same ∙ sym ids;
     }

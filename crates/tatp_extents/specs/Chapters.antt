@@ -3,6 +3,7 @@ use Rattle.std.specs.Prelude.{◌≡◌, ℕ, zero, suc, ◌+◌, ◌-◌, ◌<�
 use Rattle.std.specs.List.{flat_map, range_with_len}
 use Rattle.std.specs.Option.{option_map, option_to_list}
 use Rattle.std.specs.Coded.{Coded, code_by, coded×, coded_ℕ, coded_list}
+use Rattle.tatp_limits.specs.declared.limits.TheConstants.{MAX_EXTENT_CHAPTERS}
 use Rattle.tatp_homes.specs.Home.{SubscriberRows, subscriber_rows_code}
 use Rattle.tatp_procs.specs.declared.entry.Entry.{Entry}
 use Rattle.tatp_procs.specs.contracts.entry.Entry as entry
@@ -38,10 +39,6 @@ chapter_state_code =
     })
     (λ _. refl)
 
--- the most chapters of one extent
-abbrev pub most_chapters : ℕ
-most_chapters = 65535
-
 -- a chapter of an extent with homes: its entries are the history that leads from the homes before
 -- to those after
 pub record IsChapterOfHomes (c : ChapterState) : Type 0 where
@@ -60,7 +57,7 @@ IsChapterOf (suc e) c = IsChapterOfHomes c
 
 -- what holds of every chapter
 pub record IsChapter (c : ChapterState) : Type 0 where
-  pub few : c.index < most_chapters
+  pub few : c.index < MAX_EXTENT_CHAPTERS
   pub history : IsChapterOf c.extent c
 
 -- ---- a checkpoint of an extent
@@ -88,14 +85,14 @@ abbrev pub CheckpointsExtent
     : ExtentState → Result ChapterState CheckpointError → ExtentState → Type 0
 CheckpointsExtent x (Ok chapter) x' =
     (x.mixed ≡ false)
-    × (x.chapters < most_chapters)
+    × (x.chapters < MAX_EXTENT_CHAPTERS)
     × (chapter ≡ chapter_of x)
     × (x' ≡ after_checkpoint x)
 CheckpointsExtent x (Err LogEnded) x' = (x.mixed ≡ true) × (x' ≡ x)
 CheckpointsExtent x (Err ChapterCountFull) x' =
-    (x.mixed ≡ false) × (x.chapters ≡ most_chapters) × (x' ≡ x)
+    (x.mixed ≡ false) × (x.chapters ≡ MAX_EXTENT_CHAPTERS) × (x' ≡ x)
 CheckpointsExtent x (Err NoMemory) x' =
-    (x.mixed ≡ false) × (x.chapters < most_chapters) × (x' ≡ x)
+    (x.mixed ≡ false) × (x.chapters < MAX_EXTENT_CHAPTERS) × (x' ≡ x)
 
 -- ---- a checkpoint of the log of calls without a home
 abbrev pub homeless_chapter_of : HomelessState → ChapterState
@@ -118,12 +115,12 @@ abbrev pub CheckpointsHomeless
     : HomelessState → Result ChapterState CheckpointError → HomelessState → Type 0
 CheckpointsHomeless h (Ok chapter) h' =
     (h.mixed ≡ false)
-    × (h.chapters < most_chapters)
+    × (h.chapters < MAX_EXTENT_CHAPTERS)
     × (chapter ≡ homeless_chapter_of h)
     × IsHomelessAfterCheckpoint h h'
 CheckpointsHomeless h (Err LogEnded) h' = (h.mixed ≡ true) × (h' ≡ h)
 CheckpointsHomeless h (Err ChapterCountFull) h' =
-    (h.mixed ≡ false) × (h.chapters ≡ most_chapters) × (h' ≡ h)
+    (h.mixed ≡ false) × (h.chapters ≡ MAX_EXTENT_CHAPTERS) × (h' ≡ h)
 CheckpointsHomeless h (Err NoMemory) h' = ⊥
 
 -- ---- chapters joined end to end

@@ -1,8 +1,9 @@
--- Extents: the homes of up to 64 subscribers in a row.
+-- Extents: the homes of some subscribers in a row.
 use Rattle.std.specs.Prelude.{◌≡◌, ℕ, ◌+◌, ◌*◌, ◌-◌, ◌/◌, ◌<◌, ◌≤◌, ◌==◌, nat_lt, Bool, true, false, if◌then◌else◌, List, [], ◌∷◌, ◌++◌, length, map, find, Option, None, slice_get, slice_set, refl}
 use Rattle.std.specs.List.{range_with_len}
 use Rattle.std.specs.Option.{option_map_or}
 use Rattle.std.specs.Coded.{Coded, code_by, coded×, coded_ℕ, coded_bool, coded_list}
+use Rattle.tatp_limits.specs.declared.limits.TheConstants.{EXTENT_SUBSCRIBERS}
 use Rattle.tatp_homes.specs.Home.{SubscriberRows, subscriber_rows_code}
 use Rattle.tatp_procs.specs.declared.entry.Entry.{Entry}
 use Rattle.tatp_procs.specs.contracts.entry.Entry as entry
@@ -49,7 +50,7 @@ last_stamp_of x = last_stamp_from x.kept_stamp x.log
 
 -- the first subscriber of extent e
 abbrev pub first_subscriber : ℕ → ℕ
-first_subscriber e = 64 * (e - 1) + 1
+first_subscriber e = EXTENT_SUBSCRIBERS * (e - 1) + 1
 
 -- whose homes these are
 abbrev pub s_ids : List SubscriberRows → List ℕ
@@ -59,12 +60,12 @@ s_ids homes = map (λ home. home.s_id) homes
 abbrev pub home_among : ℕ → List SubscriberRows → Option SubscriberRows
 home_among s homes = find (λ home. home.s_id == s) homes
 
--- these are homes of extent e, 1 to 64 of them, at one time and at a later: of its first subscriber
+-- these are homes of extent e, some of them, at one time and at a later: of its first subscriber
 -- and those that follow
 pub record AreHomesOfExtent (e : ℕ) (opening homes : List SubscriberRows) : Type 0 where
   pub numbered : 1 ≤ e
   pub least : 1 ≤ length homes
-  pub most : length homes ≤ 64
+  pub most : length homes ≤ EXTENT_SUBSCRIBERS
   pub in_order : s_ids homes ≡ range_with_len (first_subscriber e) (length homes)
   pub same : s_ids opening ≡ s_ids homes
 
@@ -83,7 +84,7 @@ LiesIn s x = (first_subscriber x.number ≤ s) × (s < first_subscriber x.number
 
 -- in which extent a subscriber lies
 abbrev pub extent_of : ℕ → ℕ
-extent_of s = (s + 63) / 64
+extent_of s = (s + (EXTENT_SUBSCRIBERS - 1)) / EXTENT_SUBSCRIBERS
 
 -- the place of a subscriber in extent e
 abbrev pub place_in : ℕ → ℕ → ℕ

@@ -1,7 +1,8 @@
 -- The extents that clean rows are opened into.
 use Rattle.std.specs.Prelude.{ℕ, ◌+◌, ◌*◌, ◌-◌, ◌/◌, ◌<◌, ◌≤◌, min, false, List, [], map, length}
 use Rattle.std.specs.List.{range_with_len}
-use Rattle.tatp_tables.specs.Database.{Database, most_subscribers}
+use Rattle.tatp_limits.specs.declared.limits.TheConstants.{EXTENT_SUBSCRIBERS, MAX_SUBSCRIBERS}
+use Rattle.tatp_tables.specs.Database.{Database}
 use Rattle.tatp_tables.specs.Clean.{IsClean}
 use Rattle.tatp_homes.specs.Home.{SubscriberRows}
 use Rattle.tatp_homes.specs.Loading.{homes_in}
@@ -13,11 +14,11 @@ use Rattle.tatp_extents.specs.declared.open_error.OpenError.TheVariants.{TooMany
 
 -- the last subscriber of extent e, of n in all
 abbrev pub last_subscriber : ℕ → ℕ → ℕ
-last_subscriber n e = min (64 * e) n
+last_subscriber n e = min (EXTENT_SUBSCRIBERS * e) n
 
 -- how many extents n subscribers make
 abbrev pub extent_count : ℕ → ℕ
-extent_count n = (n + 63) / 64
+extent_count n = (n + (EXTENT_SUBSCRIBERS - 1)) / EXTENT_SUBSCRIBERS
 
 -- the homes of extent e in a database of n subscribers
 abbrev pub homes_of_extent : Database → ℕ → ℕ → List SubscriberRows
@@ -44,7 +45,7 @@ opened_extents u n =
 
 -- why rows aren't opened
 abbrev pub RefusesRows : Rows → OpenError → Type 0
-RefusesRows r TooMany = most_subscribers < length r.subscribers
+RefusesRows r TooMany = MAX_SUBSCRIBERS < length r.subscribers
 RefusesRows r (NotClean verdict) =
-    (length r.subscribers ≤ most_subscribers) × IsVerdict r verdict × (IsClean r → ⊥)
-RefusesRows r NoMemory = length r.subscribers ≤ most_subscribers
+    (length r.subscribers ≤ MAX_SUBSCRIBERS) × IsVerdict r verdict × (IsClean r → ⊥)
+RefusesRows r NoMemory = length r.subscribers ≤ MAX_SUBSCRIBERS

@@ -11,16 +11,13 @@ use tatp_homes::Home;
 use tatp_logs::Log;
 use thiserror::Error;
 
-/// The most chapters of one extent.
-pub(crate) const MOST_CHAPTERS: u16 = 65535;
-
 /// Why no chapter is handed out. Its text is its number and its name.
 #[derive(Clone, Copy, Debug, PartialEq, Eq, Error)]
 pub enum CheckpointError {
     /// A call that is no standard transaction has ended, and with it the log.
     #[error("54 LogEnded")]
     LogEnded,
-    /// 65,535 chapters were handed out.
+    /// As many chapters were handed out as may be.
     #[error("55 ChapterCountFull")]
     ChapterCountFull,
     /// Memory ran out.

@@ -1,4 +1,4 @@
-//! Extents: the homes of up to 64 subscribers in a row, with their history.
+//! Extents: the homes of some subscribers in a row, with their history.
 ghost use Rattle.std.specs.Prelude.{◌≡◌, ◌+◌, ◌<◌, ◌↔◌, IfOk, IfErr, IsSome, IfSome, OnOk, length};
 ghost use Rattle.std.specs.Option.{option_copied};
 ghost use Rattle.tatp_extents.specs.Extents.{IsExtent, LiesIn, last_stamp_of, home_among, home_at};
@@ -8,7 +8,7 @@ ghost use Rattle.tatp_extents.specs.Parts.{state_of};
 ghost use Rattle.tatp_extents.specs.HomeRows.{with_homes};
 ghost use Rattle.tatp_extents.specs.Chapters.{CheckpointsExtent, IsChapter};
 
-use crate::chapter::{ChapterParts, MOST_CHAPTERS};
+use crate::chapter::ChapterParts;
 use crate::extent_numbers::first_subscriber;
 use crate::homes::{add_rows, copies, home_in_row};
 use crate::{Chapter, CheckpointError, ExtentParts, Pinned, SharedHomes};
@@ -16,10 +16,11 @@ use std::alloc::{AllocError, Global};
 use std::marker::Model;
 use std::mem;
 use tatp_homes::Home;
+use tatp_limits::{MAX_EXTENT_CHAPTERS, MAX_EXTENT_MOVES};
 use tatp_logs::Log;
 use tatp_tables::Rows;
 
-/// The homes of up to 64 subscribers in a row, as they were at the last checkpoint and as they are,
+/// The homes of some subscribers in a row, as they were at the last checkpoint and as they are,
 /// and the log of the calls that led from those to these. It can be neither copied nor dropped, so
 /// none is doubled or lost on its way, and whoever takes it over has its history since that
 /// checkpoint: [`Extent::close`] spends it.
@@ -159,7 +160,7 @@ impl Extent {
 
     /// The extent after one more move.
     pub fn moved(self) -> Extent
-        requires { self.moves < 65535 }
+        requires { self.moves < MAX_EXTENT_MOVES }
         ensures value { result ≡ record self { moves = self.moves + 1 } }
         ensures extent { IsExtent self }
     {
@@ -197,7 +198,7 @@ impl Extent {
         if self.parts.mixed {
             return Err(CheckpointError::LogEnded);
         }
-        if self.parts.chapters == MOST_CHAPTERS {
+        if self.parts.chapters == MAX_EXTENT_CHAPTERS {
             return Err(CheckpointError::ChapterCountFull);
         }
         // All memory is taken before anything changes.

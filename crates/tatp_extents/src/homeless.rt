@@ -3,10 +3,11 @@ ghost use Rattle.std.specs.Prelude.{◌≡◌, ◌+◌, ◌-◌, ◌<◌, ◌≤
 ghost use Rattle.tatp_extents.specs.HomelessLog.{HomelessState, IsHomeless, RecordsHomeless, last_homeless_stamp};
 ghost use Rattle.tatp_extents.specs.Chapters.{CheckpointsHomeless, IsChapter};
 
-use crate::chapter::{ChapterParts, MOST_CHAPTERS};
+use crate::chapter::ChapterParts;
 use crate::{Chapter, CheckpointError, HomelessParts, SharedHomes};
 use std::alloc::{AllocError, Global};
 use std::marker::Model;
+use tatp_limits::MAX_EXTENT_CHAPTERS;
 use tatp_logs::Log;
 use tatp_procs::Entry;
 
@@ -128,7 +129,7 @@ impl Homeless {
         if self.mixed {
             return Err(CheckpointError::LogEnded);
         }
-        if self.chapters == MOST_CHAPTERS {
+        if self.chapters == MAX_EXTENT_CHAPTERS {
             return Err(CheckpointError::ChapterCountFull);
         }
         let index = self.chapters;

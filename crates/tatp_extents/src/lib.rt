@@ -1,4 +1,4 @@
-//! Extents: the homes of up to 64 subscribers in a row, with the log of their calls and its
+//! Extents: the homes of some subscribers in a row, with the log of their calls and its
 //! chapters; and clean rows opened into extents.
 #![tactic(auto)]
 
@@ -16,7 +16,7 @@ mod theorems;
 
 pub use chapter::{Chapter, CheckpointError, what_holds_of_every_chapter};
 pub use extent::{Extent, what_holds_of_every_extent};
-pub use extent_numbers::{EXTENT_SIZE, extent_count, extent_of, first_subscriber};
+pub use extent_numbers::{extent_count, extent_of, first_subscriber};
 pub use homeless::{Homeless, what_holds_of_every_homeless_log};
 pub use open_error::OpenError;
 pub use opening::{admit, discard, open, open_clean, reserve_logs};

@@ -2,7 +2,7 @@
 ghost use Rattle.std.specs.Prelude.{◌≡◌, ◌≤◌, IfOk, IfErr, OnOk, length};
 ghost use Rattle.std.specs.List.{flat_map};
 ghost use Rattle.tatp_tables.specs.Tuples.{set_of};
-ghost use Rattle.tatp_tables.specs.Database.{database_of, most_subscribers};
+ghost use Rattle.tatp_tables.specs.Database.{database_of};
 ghost use Rattle.tatp_tables.specs.Clean.{IsClean};
 ghost use Rattle.tatp_homes.specs.Loading.{homes_in};
 ghost use Rattle.tatp_numbers.specs.Homes.{home_of_key};
@@ -10,16 +10,13 @@ ghost use Rattle.tatp_numbers.specs.Listing.{answer};
 ghost use Rattle.tatp_numbers.specs.declared.key.Key.{Key};
 ghost use Rattle.tatp_extents.specs.Opening.{opened_extents, RefusesRows};
 
-use crate::extent_numbers::EXTENT_SIZE;
 use crate::{Extent, OpenError};
 use std::alloc::{AllocError, Global};
 use tatp_audits::audit;
 use tatp_homes::homes_in_lists;
+use tatp_limits::{EXTENT_SUBSCRIBERS, MAX_PARTITIONS, MAX_SUBSCRIBERS};
 use tatp_numbers::Directory;
 use tatp_tables::Rows;
-
-/// The most subscribers that are opened.
-const MOST_SUBSCRIBERS: usize = 1_000_000;
 
 /// Spends extents that come to nothing.
 pub fn discard(extents: Vec<Extent>) {
@@ -42,11 +39,11 @@ pub fn reserve_logs(extents: &mut [Extent], calls: usize) -> Result<(), AllocErr
 
 /// Refuses rows that aren't opened: too many, or not clean.
 pub fn admit(alloc: Global, rows: &Rows) -> Result<(), OpenError>
-    ensures few { OnOk result (length rows.now.subscribers ≤ most_subscribers) }
+    ensures few { OnOk result (length rows.now.subscribers ≤ MAX_SUBSCRIBERS) }
     ensures clean { OnOk result (IsClean rows.now) }
     ensures refusal { IfErr result (RefusesRows rows.now) }
 {
-    if rows.subscribers.len() > MOST_SUBSCRIBERS {
+    if rows.subscribers.len() > MAX_SUBSCRIBERS as usize {
         return Err(OpenError::TooMany);
     }
     let verdict = audit(alloc, rows)?;
@@ -59,11 +56,11 @@ pub fn admit(alloc: Global, rows: &Rows) -> Result<(), OpenError>
 /// The extents of clean rows, in order. The rows give up their memory before the homes are copied.
 fn extents_of(alloc: Global, rows: Rows) -> Result<Vec<Extent>, AllocError>
     requires clean { IsClean rows }
-    requires few { length rows.subscribers ≤ most_subscribers }
+    requires few { length rows.subscribers ≤ MAX_SUBSCRIBERS }
     ensures { IfOk result (λ extents.
         extents.items ≡ opened_extents (database_of rows) (length rows.subscribers)) }
 {
-    let lists = homes_in_lists(alloc, &rows, EXTENT_SIZE as usize)?;
+    let lists = homes_in_lists(alloc, &rows, EXTENT_SUBSCRIBERS as usize)?;
     drop(rows);
     let mut extents = Vec::with_capacity(alloc, lists.len())?;
     for homes in lists {
@@ -84,7 +81,7 @@ fn extents_of(alloc: Global, rows: Rows) -> Result<Vec<Extent>, AllocError>
 #[tactic(auto, using(crate::proofs::OpeningLaws::homes_of_all))]
 pub fn open_clean(alloc: Global, rows: Rows) -> Result<(Vec<Extent>, Directory), AllocError>
     requires clean { IsClean rows }
-    requires few { length rows.subscribers ≤ most_subscribers }
+    requires few { length rows.subscribers ≤ MAX_SUBSCRIBERS }
     ensures extents { IfOk result (λ opened.
         opened.0.items ≡ opened_extents (database_of rows) (length rows.subscribers)) }
     ensures homes { IfOk result (λ opened.
@@ -109,7 +106,7 @@ pub fn open(
     partitions: u8,
 ) -> Result<(Vec<Extent>, Directory), OpenError>
     requires least { 1 ≤ partitions }
-    requires most { partitions ≤ 16 }
+    requires most { partitions ≤ MAX_PARTITIONS }
     ensures extents { IfOk result (λ opened.
         opened.0.items ≡ opened_extents (database_of rows) (length rows.subscribers)) }
 
@@ -120,7 +117,7 @@ pub fn open(
     ensures count { IfOk result (λ opened. opened.1.count ≡ length rows.subscribers) }
     ensures directory { IfOk result (λ opened. (key : Key)
         → answer opened.1 key ≡ home_of_key (set_of rows.subscribers) key) }
-    ensures few { OnOk result (length rows.subscribers ≤ most_subscribers) }
+    ensures few { OnOk result (length rows.subscribers ≤ MAX_SUBSCRIBERS) }
     ensures clean { OnOk result (IsClean rows) }
     ensures refusal { IfErr result (RefusesRows rows) }
 {

@@ -5,12 +5,13 @@ use Rattle.std.specs.Str.{is_utf8}
 use Rattle.std.proofs.Common.{refl, sym, ap, subst, ◌∙◌, arith}
 use Rattle.std.proofs.lemmas.Option.{IfSome_then}
 use Rattle.std.proofs.lemmas.Slice.Eq.{bytes_eq-Decides}
+use Rattle.tatp_limits.specs.declared.limits.TheConstants.{MAX_INPUT_BYTES}
 use Rattle.tatp_lines.specs.Lines.{lines_of}
 use Rattle.tatp_texts.specs.Text.{row_of}
 use Rattle.tatp_tables.specs.declared.row.Row.{Row}
 use Rattle.tatp_tables.specs.declared.row.Rows.{Rows}
 use Rattle.tatp_population.specs.PopulationText.{on_rows, row_first, in_tables}
-use Rattle.tatp_streams.specs.LineReading.{most_bytes, LineReaderState, nothing_taken, LinesLeft, lines_left, Relates}
+use Rattle.tatp_streams.specs.LineReading.{LineReaderState, nothing_taken, LinesLeft, lines_left, Relates}
 use Rattle.tatp_streams.proofs.LineReadingLaws.{relates_all, of_input}
 use Rattle.tatp_streams.specs.declared.fault.StreamFault.TheVariants.{NoMemory, ReadFault, WriteFault}
 use Rattle.tatp_inputs.specs.declared.fault.InputFault.{InputFault}
@@ -113,10 +114,10 @@ rows_of_input start known left rows n e h =
     (relates_all (lines_left nothing_taken known) left (TakesRows false rows 0 n) (λ all. rows_of_lines 1 all.lines ≡ Ok rows) (rw e at h) (λ a l t. rows_without_dot 1 a.lines rows t.part.later t.read))
 
 pub input_within : (start : LineReaderState) (known : Option (List ℕ)) (left : Option LinesLeft) (rows : Rows) (n : ℕ) → start ≡ nothing_taken
-    → Relates (lines_left start known) left (TakesRows false rows start.number n) → IfSome known (λ input. length input ≤ most_bytes)
+    → Relates (lines_left start known) left (TakesRows false rows start.number n) → IfSome known (λ input. length input ≤ MAX_INPUT_BYTES)
 input_within start known left rows n e h =
-    of_input known (λ all. all.input_length ≤ most_bytes)
-    (relates_all (lines_left nothing_taken known) left (TakesRows false rows 0 n) (λ all. all.input_length ≤ most_bytes) (rw e at h) (λ a l t. t.part.within refl))
+    of_input known (λ all. all.input_length ≤ MAX_INPUT_BYTES)
+    (relates_all (lines_left nothing_taken known) left (TakesRows false rows 0 n) (λ all. all.input_length ≤ MAX_INPUT_BYTES) (rw e at h) (λ a l t. t.part.within refl))
 
 pub dot_refused : (start : LineReaderState) (known : Option (List ℕ)) (left : Option LinesLeft) (rows : Rows) (n : ℕ) → start ≡ nothing_taken
     → Relates (lines_left start known) left (TakesRows true rows start.number n) → IfSome known (λ input. rows_of_lines 1 (lines_of input) ≡ Err n)

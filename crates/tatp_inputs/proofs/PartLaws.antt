@@ -3,7 +3,8 @@ use Rattle.std.specs.Prelude.{◌≡◌, ℕ, ◌+◌, ◌≤◌, Bool, true, fa
 use Rattle.std.specs.Option.{IfSome}
 use Rattle.std.proofs.Common.{refl, sym, ap, subst, ◌∙◌, arith, append_assoc, inl, inr}
 use Rattle.std.proofs.lemmas.List.{append-nil}
-use Rattle.tatp_streams.specs.LineReading.{most_bytes, LinesLeft, with_line}
+use Rattle.tatp_limits.specs.declared.limits.TheConstants.{MAX_INPUT_BYTES}
+use Rattle.tatp_streams.specs.LineReading.{LinesLeft, with_line}
 use Rattle.tatp_streams.specs.declared.fault.StreamFault.TheVariants.{NoMemory, ReadFault}
 use Rattle.tatp_inputs.specs.declared.fault.InputFault.{InputFault}
 use Rattle.tatp_inputs.specs.declared.fault.InputFault.TheVariants.{Stream}
@@ -60,12 +61,12 @@ part_ends_at_dot before now now' line all left dot next s = record {
 }
 
 -- the end
-pub part_ends : (before now now' : ℕ) (all left : LinesLeft) → left.lines ≡ [] → left.input_length ≤ most_bytes → now' ≡ now → PartSoFar before now all left → TakesPart false before now' all left
+pub part_ends : (before now now' : ℕ) (all left : LinesLeft) → left.lines ≡ [] → left.input_length ≤ MAX_INPUT_BYTES → now' ≡ now → PartSoFar before now all left → TakesPart false before now' all left
 part_ends before now now' all left none within same s = record {
   later = sym s.later ∙ ap after_dot none;
   counted = all_counted before now now' 0 (before_dot left.lines) (before_dot all.lines) (ap before_dot none) (omega (arith, same)) s.counted;
   input_length = s.input_length;
-  within = λ e. subst (λ n. n ≤ most_bytes) s.input_length within;
+  within = λ e. subst (λ n. n ≤ MAX_INPUT_BYTES) s.input_length within;
 }
 
 -- ---- the text of the part
@@ -96,7 +97,7 @@ text_ends_at_dot text before now now' line all left dot next s = record {
   part = part_ends_at_dot before now now' line all left dot next s.part;
 }
 
-pub text_ends : (text : List ℕ) (before now now' : ℕ) (all left : LinesLeft) → left.lines ≡ [] → left.input_length ≤ most_bytes → now' ≡ now → TextSoFar text before now all left → TakesText false text before now' all left
+pub text_ends : (text : List ℕ) (before now now' : ℕ) (all left : LinesLeft) → left.lines ≡ [] → left.input_length ≤ MAX_INPUT_BYTES → now' ≡ now → TextSoFar text before now all left → TakesText false text before now' all left
 text_ends text before now now' all left none within same s = record {
   told = all_told text (text_before_dot left.lines) (text_before_dot all.lines) (ap text_before_dot none) s.told;
   part = part_ends before now now' all left none within same s.part;

@@ -1,5 +1,6 @@
 -- The rows of a run, and the lines that it answers.
 use Rattle.std.specs.Prelude.{◌≡◌, ℕ, ◌+◌, ◌≤◌, List, length, Option, Some, None, Result, Ok, Err}
+use Rattle.tatp_limits.specs.declared.limits.TheConstants.{MAX_SUBSCRIBERS}
 use Rattle.rand_core.specs.Stream.{next_u64}
 use Rattle.rand_core.specs.Steps.{stream_of, steps_u64_low}
 use Rattle.rand_pcg.specs.Lcg.{started, increment_of}
@@ -8,7 +9,6 @@ use Rattle.tatp_streams.specs.LineReading.{LinesLeft}
 use Rattle.tatp_tables.specs.Clean.{IsClean}
 use Rattle.tatp_tables.specs.declared.row.Rows.{Rows}
 use Rattle.tatp_population.specs.DrawnRows as drawn
-use Rattle.tatp_tables.specs.Database.{most_subscribers}
 use Rattle.tatp_tasks.specs.declared.population.Population.{Population}
 use Rattle.tatp_tasks.specs.declared.population.Population.TheVariants.{Read, Generated}
 use Rattle.tatp_inputs.specs.Parts.{before_dot, after_dot}
@@ -61,4 +61,4 @@ pub record BringsWork (population : Population) (first : ℕ) (rows : Rows) (all
 abbrev pub AreCleanWhereDrawn : Population → Rows → Type 0
 AreCleanWhereDrawn Read rows = Unit {0}
 AreCleanWhereDrawn (Generated n seed) rows =
-    IsClean rows × (length rows.subscribers ≤ most_subscribers)
+    IsClean rows × (length rows.subscribers ≤ MAX_SUBSCRIBERS)

@@ -11,14 +11,15 @@ use crate::rows::read_rows;
 use std::alloc::{AllocError, Global};
 use std::io::{Read, Write};
 use tatp_audits::{Verdict, audit};
-use tatp_streams::{MOST_BYTES, write_last};
+use tatp_limits::MAX_INPUT_BYTES;
+use tatp_streams::write_last;
 
 /// The verdict on the rows that an input is.
 fn judged<R: Read>(alloc: Global, reader: &mut R) -> Result<Verdict, InputFault>
     ensures verdict { IfOk result (λ verdict.
         IfSome (R.remaining reader.old) (λ input. IsVerdictOn input verdict)) }
     ensures limit { OnOk result
-        (IfSome (R.remaining reader.old) (λ input. length input ≤ MOST_BYTES)) }
+        (IfSome (R.remaining reader.old) (λ input. length input ≤ MAX_INPUT_BYTES)) }
     ensures faults { IfErr result (λ fault. IfSome (R.remaining reader.old) (λ input.
         RefusesReading (rows_of_lines 1 (lines_of input)) fault)) }
 {
@@ -44,7 +45,7 @@ pub fn run_audit<R: Read, W: Write>(
     ensures faults { IfErr result (λ fault. IfSome (R.remaining reader.old) (λ input.
         LeavesVerdict input (W.contents writer.old) (W.contents writer.new) fault)) }
     ensures limit { OnOk result
-        (IfSome (R.remaining reader.old) (λ input. length input ≤ MOST_BYTES)) }
+        (IfSome (R.remaining reader.old) (λ input. length input ≤ MAX_INPUT_BYTES)) }
 {
     let verdict = judged(alloc, reader)?;
     let line = line_of(alloc, verdict)?;

@@ -11,7 +11,8 @@ use crate::InputFault;
 use crate::text::is_dot;
 use std::alloc::Global;
 use std::io::Read;
-use tatp_streams::{LineReader, MOST_BYTES, text_of};
+use tatp_limits::MAX_INPUT_BYTES;
+use tatp_streams::{LineReader, text_of};
 use tatp_tables::{Row, Rows};
 use tatp_texts::read_row;
 
@@ -68,7 +69,7 @@ pub(crate) fn read_rows<R: Read>(alloc: Global, reader: &mut R) -> Result<Rows, 
     ensures rows { IfOk result (λ rows. IfSome (R.remaining reader.old) (λ input.
         rows_of_lines 1 (lines_of input) ≡ Ok rows)) }
     ensures limit { OnOk result
-        (IfSome (R.remaining reader.old) (λ input. length input ≤ MOST_BYTES)) }
+        (IfSome (R.remaining reader.old) (λ input. length input ≤ MAX_INPUT_BYTES)) }
     ensures faults { IfErr result (λ fault. IfSome (R.remaining reader.old) (λ input.
         RefusesReading (rows_of_lines 1 (lines_of input)) fault)) }
 {

@@ -1,6 +1,7 @@
 -- The instruction with given parts, and what can be wrong with parts.
-use Rattle.std.specs.Prelude.{ℕ, Bool, false, not, ◌&&◌, ◌||◌, ◌==◌, nat_le, if◌then◌else◌, take, drop, Option, Some, None, is_none, slice_index}
+use Rattle.std.specs.Prelude.{ℕ, Bool, false, not, ◌&&◌, ◌||◌, ◌==◌, ◌-◌, nat_le, if◌then◌else◌, take, drop, Option, Some, None, is_none, slice_index}
 use Rattle.std.specs.List.{list_any}
+use Rattle.tatp_limits.specs.declared.limits.TheConstants.{REGISTERS}
 use Rattle.tatp_instr.specs.declared.book.Word.{Word}
 use Rattle.tatp_instr.specs.declared.book.Word.TheVariants.{Nothing, Count, Column, Argument, Target}
 use Rattle.tatp_instr.specs.declared.book.Shape.{Shape}
@@ -38,14 +39,14 @@ has_unused p = has_unused_in (shape_at p.op) p
 -- one of the shape's registers is not among the sixteen
 abbrev pub has_high_register : Option Shape → Parts → Bool
 has_high_register None p = false
-has_high_register (Some s) p = list_any (nat_le 16) (take s.registers p.registers)
+has_high_register (Some s) p = list_any (nat_le REGISTERS) (take s.registers p.registers)
 
 -- a register operand is not among the sixteen, or a register of a key or a row that it begins
 abbrev pub has_bad_register : Parts → Bool
 has_bad_register p =
     has_high_register (shape_at p.op) p
-    || (p.op == 0x0E && nat_le 14 (slice_index p.registers 1))
-    || (p.op == 0x11 && nat_le 12 (slice_index p.registers 1))
+    || (p.op == 0x0E && nat_le (REGISTERS - 2) (slice_index p.registers 1))
+    || (p.op == 0x11 && nat_le (REGISTERS - 4) (slice_index p.registers 1))
 
 -- ---- the instruction
 -- the instruction of an op of the table, with these registers and this number

@@ -5,6 +5,7 @@ ghost use Rattle.tatp_instr.specs.Parts.{has_bad_op, has_unused, has_bad_registe
 ghost use Rattle.tatp_instr.specs.Shapes.{shape_at, HasShape};
 
 use crate::registers::{KeyRegisters, Register, RowRegisters};
+use tatp_limits::REGISTERS;
 
 /// One instruction; one variant per row of the table, in its order. The registers stand before the
 /// u32, as in the encoding: so an instruction takes 8 bytes.
@@ -74,9 +75,9 @@ impl Instr {
 
         // Each register operand is among the sixteen, and so are the three of a key (op 0x0E) and
         // the five of a row (op 0x11).
-        ensures registers { All (λ number. number < 16) result.registers }
-        ensures key { result.op ≡ 0x0E → slice_index result.registers 1 + 3 ≤ 16 }
-        ensures row { result.op ≡ 0x11 → slice_index result.registers 1 + 5 ≤ 16 }
+        ensures registers { All (λ number. number < REGISTERS) result.registers }
+        ensures key { result.op ≡ 0x0E → slice_index result.registers 1 + 3 ≤ REGISTERS }
+        ensures row { result.op ≡ 0x11 → slice_index result.registers 1 + 5 ≤ REGISTERS }
     {
         let (op, registers, word) = match *self {
             Instr::Ldi(d, n) => (0x01, [d.number(), 0, 0], n),

@@ -6,6 +6,7 @@ use Rattle.std.specs.List.{list_all}
 use Rattle.std.proofs.lemmas.Bool.{le-ltb, leb-true}
 use Rattle.std.proofs.lemmas.Nat.{from_be_bytes-to_be_bytes_2}
 use Rattle.std.proofs.lemmas.List.{append-nil, take_at, drop_at}
+use Rattle.tatp_limits.specs.declared.limits.TheConstants.{MAX_ARGUMENTS, MAX_INSTRUCTIONS, MAX_NAME_BYTES, MAX_PROCEDURES}
 use Rattle.tatp_lines.specs.Numbers.{is_between}
 use Rattle.tatp_instr.specs.declared.instr.Instr.{Instr}
 use Rattle.tatp_instr.specs.declared.version.Version.{Version}
@@ -36,17 +37,17 @@ bytes_again ends k front rest len =
 name_again : (n : ℕ) (name rest : List ℕ) → is_name name ≡ true → name_at n ((length name ∷ name) ++ rest) ≡ Ok (name, rest)
 unfolding name_at
 name_again n name rest h =
-    let parts = both (is_between 1 24 (length name)) (list_all is_name_byte name) h in
+    let parts = both (is_between 1 MAX_NAME_BYTES (length name)) (list_all is_name_byte name) h in
     rw (parts.0, bytes_again (cut n) (length name) name rest refl, parts.1) refl
 
-arity_again : (n arity : ℕ) (rest : List ℕ) → nat_le arity 8 ≡ true → arity_at n (arity ∷ rest) ≡ Ok (arity, rest)
+arity_again : (n arity : ℕ) (rest : List ℕ) → nat_le arity MAX_ARGUMENTS ≡ true → arity_at n (arity ∷ rest) ≡ Ok (arity, rest)
 unfolding arity_at
 arity_again n arity rest h = rw h refl
 
-length_again : (n k : ℕ) (rest : List ℕ) → is_between 1 256 k ≡ true → length_at n (to_be_bytes w16 k ++ rest) ≡ Ok (k, rest)
+length_again : (n k : ℕ) (rest : List ℕ) → is_between 1 MAX_INSTRUCTIONS k ≡ true → length_at n (to_be_bytes w16 k ++ rest) ≡ Ok (k, rest)
 unfolding length_at
 length_again n k rest h =
-    let most = leb-true k 256 (both (nat_le 1 k) (nat_le k 256) h).1 in
+    let most = leb-true k MAX_INSTRUCTIONS (both (nat_le 1 k) (nat_le k MAX_INSTRUCTIONS) h).1 in
     rw (bytes_again (cut n) 2 (to_be_bytes w16 k) rest refl, from_be_bytes-to_be_bytes_2 k (omega (arith, most)), h) refl
 
 instr_again : ReadsInstrs → (version : Version) (n i : ℕ) (instr : Instr) (rest : List ℕ) → IsInstr instr → is_in version instr ≡ true → instr_at version n i (spelling instr ++ rest) ≡ Ok (instr, rest)
@@ -64,8 +65,8 @@ code_again reads version n i (x ∷ code) rest are within =
 procedure_again : ReadsInstrs → (version : Version) (n : ℕ) (p : Procedure) (rest : List ℕ) → is_procedure p ≡ true → HasInstrs p → has_version version p ≡ true → procedure_at version n (procedure_bytes p ++ rest) ≡ Ok (p, rest)
 unfolding procedure_at procedure_bytes
 procedure_again reads version n p rest h are within =
-    let named = both (is_name p.name) (nat_le p.arity 8 && is_between 1 256 (length p.code)) h in
-    let sized = both (nat_le p.arity 8) (is_between 1 256 (length p.code)) named.1 in
+    let named = both (is_name p.name) (nat_le p.arity MAX_ARGUMENTS && is_between 1 MAX_INSTRUCTIONS (length p.code)) h in
+    let sized = both (nat_le p.arity MAX_ARGUMENTS) (is_between 1 MAX_INSTRUCTIONS (length p.code)) named.1 in
     let code = code_bytes p.code ++ rest in
     let tail = to_be_bytes w16 (length p.code) ++ code in
     let regrouped : procedure_bytes p ++ rest ≡ (length p.name ∷ p.name) ++ (p.arity ∷ tail) =
@@ -88,7 +89,7 @@ unfolding version_at
 version_again One rest = rw (bytes_again (cut 0) 4 (magic One) rest refl) refl
 version_again Two rest = rw (bytes_again (cut 0) 4 (magic Two) rest refl) refl
 
-count_again : (version : Version) (count : ℕ) (rest : List ℕ) → is_between 1 16 count ≡ true → count_at (magic version ++ (count ∷ rest)) ≡ Ok (version, (count, rest))
+count_again : (version : Version) (count : ℕ) (rest : List ℕ) → is_between 1 MAX_PROCEDURES count ≡ true → count_at (magic version ++ (count ∷ rest)) ≡ Ok (version, (count, rest))
 unfolding count_at
 count_again version count rest h = rw (version_again version (count ∷ rest), h) refl
 
@@ -97,7 +98,7 @@ unfolding module_at module_bytes
 module_again reads m is are =
     let all = m.procedures in
     let within = list_all (has_version m.version) all in
-    let counted = both (is_between 1 16 (length all)) (list_all is_procedure all && (list_all jumps_stay all && within)) is in
+    let counted = both (is_between 1 MAX_PROCEDURES (length all)) (list_all is_procedure all && (list_all jumps_stay all && within)) is in
     let fit = both (list_all is_procedure all) (list_all jumps_stay all && within) counted.1 in
     let stay = both (list_all jumps_stay all) within fit.1 in
     let procs : procedures_at m.version 0 (length all) (procedures_bytes all) ≡ Ok (all, []) = ap (procedures_at m.version 0 (length all)) (sym (append-nil (procedures_bytes all))) ∙ procedures_again reads m.version 0 all [] fit.0 are stay.1 in

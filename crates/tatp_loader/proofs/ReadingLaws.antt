@@ -11,6 +11,7 @@ use Rattle.std.specs.List.{list_all}
 use Rattle.std.proofs.lemmas.Bool.{le-leb}
 use Rattle.std.proofs.lemmas.List.Folds.{list_all-append}
 use Rattle.std.proofs.lemmas.List.{drop_all}
+use Rattle.tatp_limits.specs.declared.limits.TheConstants.{MAX_ARGUMENTS, MAX_INSTRUCTIONS}
 use Rattle.tatp_encoding.specs.Modules.{Procedure, is_name, is_procedure, has_version}
 use Rattle.tatp_encoding.specs.declared.decoding.Bad.{Bad}
 use Rattle.tatp_encoding.specs.Spelling.{spelling}
@@ -78,8 +79,8 @@ unfolding code_bytes
 code_bytes-nil = refl
 
 -- ---- a procedure
-pub procedure_fits : (name : List ℕ) (arity : ℕ) (code : List Instr) → is_name name ≡ true → arity ≤ 8 → 1 ≤ length code → length code ≤ 256 → is_procedure (record { name = name; arity = arity; code = code }) ≡ true
-procedure_fits name arity code named few least most = rw (named, le-leb arity 8 few, le-leb 1 (length code) least, le-leb (length code) 256 most) refl
+pub procedure_fits : (name : List ℕ) (arity : ℕ) (code : List Instr) → is_name name ≡ true → arity ≤ MAX_ARGUMENTS → 1 ≤ length code → length code ≤ MAX_INSTRUCTIONS → is_procedure (record { name = name; arity = arity; code = code }) ≡ true
+procedure_fits name arity code named few least most = rw (named, le-leb arity MAX_ARGUMENTS few, le-leb 1 (length code) least, le-leb (length code) MAX_INSTRUCTIONS most) refl
 
 pub procedure_read : (version : Version) (n : ℕ) (bytes name r1 : List ℕ) (arity : ℕ) (r2 : List ℕ) (len : ℕ) (r3 : List ℕ) (code : List Instr) (r4 : List ℕ)
     → name_at n bytes ≡ Ok (name, r1) → arity_at n r1 ≡ Ok (arity, r2) → length_at n r2 ≡ Ok (len, r3) → code_at version n 0 len r3 ≡ Ok (code, r4)

@@ -5,6 +5,7 @@ use Rattle.std.specs.Prelude.{slice_get, count_by, nat_le, IsSomeAnd}
 use Rattle.std.specs.List.{list_any}
 use Rattle.std.proofs.lemmas.List.{take_all, append_assoc, append-nil}
 use Rattle.std.proofs.lemmas.Slice.Eq.{bytes_eq-Decides}
+use Rattle.tatp_limits.specs.declared.limits.TheConstants.{MAX_OUTPUTS, MAX_WRITES}
 use Rattle.tatp_instr.specs.declared.instr.Instr.{Instr}
 use Rattle.tatp_instr.specs.declared.version.Version.{Version}
 use Rattle.tatp_instr.specs.declared.version.Version.TheVariants.{One, Two}
@@ -74,21 +75,21 @@ abbrev IsBelow : Version → ℕ → ℕ → Bool → Type 0
 IsBelow One most count is = is ≡ true → count < most
 IsBelow Two most count is = Unit {0}
 
-not_too_many : (version : Version) (outs writes : ℕ) (x : Instr) → excess version outs writes x ≡ None → IsBelow version 40 outs (is_out x) × IsBelow version 64 writes (is_write x)
+not_too_many : (version : Version) (outs writes : ℕ) (x : Instr) → excess version outs writes x ≡ None → IsBelow version MAX_OUTPUTS outs (is_out x) × IsBelow version MAX_WRITES writes (is_write x)
 not_too_many One outs writes x h =
-    let first = none_found (is_out x && nat_le 40 outs) TooManyOut _ h in
-    let second = none_found (is_write x && nat_le 64 writes) TooManyWrites None first.1 in
-    (few 40 outs (is_out x) first.0, few 64 writes (is_write x) second.0)
+    let first = none_found (is_out x && nat_le MAX_OUTPUTS outs) TooManyOut _ h in
+    let second = none_found (is_write x && nat_le MAX_WRITES writes) TooManyWrites None first.1 in
+    (few MAX_OUTPUTS outs (is_out x) first.0, few MAX_WRITES writes (is_write x) second.0)
 not_too_many Two outs writes x h = (tt, tt)
 
-none_too_many : (version : Version) (outs writes : ℕ) (x : Instr) → IsBelow version 40 outs (is_out x) → IsBelow version 64 writes (is_write x) → excess version outs writes x ≡ None
+none_too_many : (version : Version) (outs writes : ℕ) (x : Instr) → IsBelow version MAX_OUTPUTS outs (is_out x) → IsBelow version MAX_WRITES writes (is_write x) → excess version outs writes x ≡ None
 none_too_many One outs writes x few_outs few_writes =
-    found_none _ TooManyOut _ (few_back 40 outs (is_out x) few_outs) (
-    found_none _ TooManyWrites None (few_back 64 writes (is_write x) few_writes) refl)
+    found_none _ TooManyOut _ (few_back MAX_OUTPUTS outs (is_out x) few_outs) (
+    found_none _ TooManyWrites None (few_back MAX_WRITES writes (is_write x) few_writes) refl)
 none_too_many Two outs writes x few_outs few_writes = refl
 
 broken_none : (version : Version) (p : Procedure) (i : ℕ) (x : Instr) → broken_at version p i x ≡ None
-    → IsFit p i x × IsBelow version 40 (count_by is_out (take i p.code)) (is_out x) × IsBelow version 64 (count_by is_write (take i p.code)) (is_write x)
+    → IsFit p i x × IsBelow version MAX_OUTPUTS (count_by is_out (take i p.code)) (is_out x) × IsBelow version MAX_WRITES (count_by is_write (take i p.code)) (is_write x)
 broken_none version p i x h =
     let outs = count_by is_out (take i p.code) in
     let writes = count_by is_write (take i p.code) in
@@ -96,7 +97,7 @@ broken_none version p i x h =
     let counts = not_too_many version outs writes x parts.1 in
     (fit_of_none p i x parts.0, counts.0, counts.1)
 
-none_broken : (version : Version) (p : Procedure) (i : ℕ) (x : Instr) → IsFit p i x → IsBelow version 40 (count_by is_out (take i p.code)) (is_out x) → IsBelow version 64 (count_by is_write (take i p.code)) (is_write x) → broken_at version p i x ≡ None
+none_broken : (version : Version) (p : Procedure) (i : ℕ) (x : Instr) → IsFit p i x → IsBelow version MAX_OUTPUTS (count_by is_out (take i p.code)) (is_out x) → IsBelow version MAX_WRITES (count_by is_write (take i p.code)) (is_write x) → broken_at version p i x ≡ None
 none_broken version p i x fit outs writes =
     both_none (misfit p i x) (excess version (count_by is_out (take i p.code)) (count_by is_write (take i p.code)) x) (none_of_fit p i x fit) (
     none_too_many version (count_by is_out (take i p.code)) (count_by is_write (take i p.code)) x outs writes)
@@ -147,8 +148,8 @@ lawful_procedure version n p broken missing =
     let each : (i : ℕ) (x : Instr) → slice_get p.code i ≡ Some x → broken_at version p i x ≡ None = λ i x e. none_broken_at version n p 0 p.code broken i i x (omega arith) e in
     record {
       each = λ i x e. (broken_none version p i x (each i x e)).0;
-      outs = few_within version is_out 40 p.code (λ i x e. (broken_none version p i x (each i x e)).1);
-      writes = few_within version is_write 64 p.code (λ i x e. (broken_none version p i x (each i x e)).2);
+      outs = few_within version is_out MAX_OUTPUTS p.code (λ i x e. (broken_none version p i x (each i x e)).1);
+      writes = few_within version is_write MAX_WRITES p.code (λ i x e. (broken_none version p i x (each i x e)).2);
       ends = ends_some _ (no_missing n p missing);
     }
 
@@ -158,7 +159,7 @@ faultless_procedure version n p h =
     (none_broken_from version n p 0 p.code (λ i j x at e.
     let here : j ≡ i = omega arith in
     let there : slice_get p.code j ≡ Some x = ap (slice_get p.code) here ∙ e in
-    none_broken version p j x (h.each j x there) (few_before version is_out 40 p.code h.outs j x there) (few_before version is_write 64 p.code h.writes j x there)))
+    none_broken version p j x (h.each j x there) (few_before version is_out MAX_OUTPUTS p.code h.outs j x there) (few_before version is_write MAX_WRITES p.code h.writes j x there)))
     (ap (λ b. cond b None (Some (fault NoEnd n (length p.code - 1)))) (some_ends _ h.ends))
 
 -- ---- a module

@@ -3,6 +3,7 @@
 use Rattle.std.specs.Prelude.{◌≡◌, ℕ, zero, suc, Bool, ◌==◌, nat_lt, nat_le, if◌then◌else◌, List, [], ◌∷◌, length, take, drop, Option, Some, None, Result, Ok, Err, bytes_eq}
 use Rattle.std.specs.Int.{w16, from_be_bytes}
 use Rattle.std.specs.List.{list_all}
+use Rattle.tatp_limits.specs.declared.limits.TheConstants.{MAX_ARGUMENTS, MAX_INSTRUCTIONS, MAX_NAME_BYTES, MAX_PROCEDURES}
 use Rattle.tatp_lines.specs.Numbers.{is_between}
 use Rattle.tatp_instr.specs.declared.instr.Instr.{Instr}
 use Rattle.tatp_instr.specs.declared.version.Version.{Version}
@@ -11,7 +12,6 @@ use Rattle.tatp_encoding.specs.declared.decoding.Bad.{Bad}
 use Rattle.tatp_encoding.specs.declared.decoding.Bad.TheVariants as bad
 use Rattle.tatp_encoding.specs.Decoding.{decoded}
 use Rattle.tatp_encoding.specs.Modules.{Procedure, ModuleState, is_name_byte}
-use Rattle.tatp_encoding.specs.declared.module.TheConstants.{MAX_PROCEDURES, MAX_NAME_BYTES, MAX_ARGUMENTS, MAX_INSTRUCTIONS}
 use Rattle.tatp_loader.specs.declared.fault.LoadFaultKind.{LoadFaultKind}
 use Rattle.tatp_loader.specs.declared.fault.LoadFaultKind.TheVariants.{BadOp, UnusedNotZero, BadRegister, Truncated, BadMagic, Extra, BadHeader}
 use Rattle.tatp_loader.specs.declared.fault.LoadFault.{LoadFault}

@@ -1,13 +1,13 @@
 -- The first rule that a module breaks, and where: docs/FORMATS.md, "The loader's rules".
 use Rattle.std.specs.Prelude.{ℕ, suc, ◌-◌, Bool, false, not, ◌&&◌, nat_le, if◌then◌else◌, List, [], ◌∷◌, ◌++◌, length, take, Option, Some, None, slice_get, count_by, bytes_eq}
 use Rattle.std.specs.List.{list_any}
+use Rattle.tatp_limits.specs.declared.limits.TheConstants.{MAX_OUTPUTS, MAX_WRITES}
 use Rattle.tatp_instr.specs.declared.instr.Instr.{Instr}
 use Rattle.tatp_instr.specs.declared.version.Version.{Version}
 use Rattle.tatp_instr.specs.declared.version.Version.TheVariants.{One, Two}
 use Rattle.tatp_encoding.specs.Modules.{Procedure, ModuleState}
 use Rattle.tatp_loader.specs.Lawful.{reads_argument_below, has_fit_column, jumps_ahead, loops_back, jumps_below, is_out, is_write, is_end}
 use Rattle.tatp_loader.specs.declared.fault.LoadFaultKind.{LoadFaultKind}
-use Rattle.tatp_loader.specs.declared.rules.TheConstants.{MAX_OUTS, MAX_WRITES}
 use Rattle.tatp_loader.specs.declared.fault.LoadFaultKind.TheVariants.{NameTwice, NoSuchArgument, FixedColumn, BackwardJump, ForwardLoop, BadTarget, TooManyOut, TooManyWrites, NoEnd}
 use Rattle.tatp_loader.specs.declared.fault.LoadFault.{LoadFault}
 
@@ -31,11 +31,11 @@ misfit p i x =
     if not (jumps_below (length p.code) x) then Some BadTarget else
     None
 
--- whether it is the 41st OUT or the 65th PUT, INS or DEL of a procedure of version 1; those of
--- version 2 are not counted here
+-- whether it is one OUT, or one of PUT, INS and DEL, too many in a procedure of version 1; those
+-- of version 2 are not counted here
 abbrev pub excess : Version → ℕ → ℕ → Instr → Option LoadFaultKind
 excess One outs writes x =
-    if is_out x && nat_le MAX_OUTS outs then Some TooManyOut else
+    if is_out x && nat_le MAX_OUTPUTS outs then Some TooManyOut else
     if is_write x && nat_le MAX_WRITES writes then Some TooManyWrites else
     None
 excess Two outs writes x = None

@@ -45,10 +45,10 @@ pub enum LoadFaultKind {
     /// The procedure takes no such argument.
     #[error("21 NoSuchArgument")]
     NoSuchArgument = 21,
-    /// The 41st OUT of a procedure, in version 1.
+    /// One OUT too many in a procedure, in version 1.
     #[error("22 TooManyOut")]
     TooManyOut = 22,
-    /// The 65th of PUT, INS and DEL of a procedure, in version 1.
+    /// One of PUT, INS and DEL too many in a procedure, in version 1.
     #[error("23 TooManyWrites")]
     TooManyWrites = 23,
     /// The last instruction is neither DONE nor FAIL.

@@ -11,11 +11,9 @@ ghost use Rattle.tatp_loader.specs.Reading.{Reads, Gives, byte_at, bytes_at, nam
 
 use crate::fault::{LoadError, LoadFault, LoadFaultKind, fault};
 use std::alloc::Global;
-use tatp_encoding::{
-    Bad, MAX_ARGUMENTS, MAX_INSTRUCTIONS, MAX_NAME_BYTES, MAX_PROCEDURES, Proc, are_name_bytes,
-    decode,
-};
+use tatp_encoding::{Bad, Proc, are_name_bytes, decode};
 use tatp_instr::{Instr, Version};
+use tatp_limits::{MAX_ARGUMENTS, MAX_INSTRUCTIONS, MAX_NAME_BYTES, MAX_PROCEDURES};
 
 /// What each module of a version begins with.
 pub(crate) fn magic(version: Version) -> [u8; 4]
@@ -92,7 +90,7 @@ fn arity_at(bytes: &[u8], n: usize) -> Result<(u8, &[u8]), LoadFault>
     ensures most { IfOk result (λ x. x.0 ≤ MAX_ARGUMENTS) }
 {
     let (arity, rest) = byte_at(bytes, fault(LoadFaultKind::Truncated, n, 0))?;
-    if arity > MAX_ARGUMENTS {
+    if usize::from(arity) > MAX_ARGUMENTS {
         return Err(fault(LoadFaultKind::BadHeader, n, 0));
     }
     Ok((arity, rest))

@@ -9,14 +9,8 @@ use crate::fault::{LoadFault, LoadFaultKind, fault};
 use crate::loaded::Loaded;
 use tatp_encoding::{Module, Proc};
 use tatp_instr::{Instr, Version};
+use tatp_limits::{MAX_OUTPUTS, MAX_WRITES};
 use tatp_tables::is_fixed;
-
-/// The most OUT that a procedure of version 1 has, and the most that a call makes.
-pub const MAX_OUTS: usize = 40;
-
-/// The most of PUT, INS and DEL that a procedure of version 1 has, and the most that a call
-/// makes.
-pub const MAX_WRITES: usize = 64;
 
 fn is_out(instr: &Instr) -> bool
     ensures { result ≡ is_out instr.now }
@@ -80,7 +74,7 @@ fn instr_excess(
 {
     match version {
         Version::One => {
-            if is_out(instr) && outs >= MAX_OUTS {
+            if is_out(instr) && outs >= MAX_OUTPUTS {
                 Some(LoadFaultKind::TooManyOut)
             } else if is_write(instr) && writes >= MAX_WRITES {
                 Some(LoadFaultKind::TooManyWrites)

@@ -1,7 +1,8 @@
 -- One more receipt is kept.
 use Rattle.std.proofs.Common.{◌≡◌, ℕ, ◌+◌, ◌≤◌, List, ◌++◌, refl, ap, arith}
 use Rattle.tatp_procs.specs.declared.reply.Reply.{Reply}
-use Rattle.tatp_logs.specs.KeptReplies.{most_outputs, room_in}
+use Rattle.tatp_limits.specs.declared.limits.TheConstants.{MAX_OUTPUTS}
+use Rattle.tatp_logs.specs.KeptReplies.{room_in}
 use Rattle.tatp_logs.specs.declared.receipt.Receipt.TheVariants as receipt
 use Rattle.tatp_logs.specs.declared.receipts.KeptReceipt.{KeptReceipt}
 use Rattle.tatp_logs.specs.declared.receipts.KeptReceipt.TheVariants.{Done, Refused}
@@ -14,5 +15,5 @@ same_receipt outputs more (Done extent client number reply stamp) h = ap (λ (r 
 same_receipt outputs more (Refused client number) h = refl
 
 -- and it takes room for one
-pub room_taken : (calls outputs calls' outputs' : ℕ) → calls ≤ calls' + 1 → outputs ≤ outputs' + most_outputs → room_in calls outputs ≤ room_in calls' outputs' + 1
+pub room_taken : (calls outputs calls' outputs' : ℕ) → calls ≤ calls' + 1 → outputs ≤ outputs' + MAX_OUTPUTS → room_in calls outputs ≤ room_in calls' outputs' + 1
 room_taken calls outputs calls' outputs' one some = omega (arith, one, some)

@@ -2,11 +2,12 @@
 use Rattle.std.specs.Prelude.{ℕ, ◌+◌, ◌-◌, ◌/◌, List, All, map, min, vec_len, Vec}
 use Rattle.std.specs.Vec.{vec_capacity}
 use Rattle.std.specs.declared.alloc.Global.{Global}
+use Rattle.tatp_limits.specs.declared.limits.TheConstants.{MAX_ARGUMENTS, MAX_OUTPUTS}
 use Rattle.tatp_procs.specs.declared.entry.Entry.{Entry}
-use Rattle.tatp_logs.specs.KeptReplies.{StandsIn, reply_in, most_outputs}
+use Rattle.tatp_logs.specs.KeptReplies.{StandsIn, reply_in}
 use Rattle.tatp_logs.specs.declared.completed_call.CompletedCall.{CompletedCall}
 use Rattle.tatp_logs.specs.Completions.{CompletionsState}
-use Rattle.tatp_logs.specs.KeptAsks.{HasArgumentsIn, ask_in, most_arguments}
+use Rattle.tatp_logs.specs.KeptAsks.{HasArgumentsIn, ask_in}
 
 -- the arguments and the outputs of the call stand in this list
 abbrev pub StandsWith : List ℕ → CompletedCall → Type 0
@@ -27,7 +28,7 @@ entry_in values x = record {
 
 -- for how many more calls there is room, where there is room for so many calls and so many values
 abbrev pub room_for : ℕ → ℕ → ℕ
-room_for calls values = min calls (values / (most_outputs + most_arguments))
+room_for calls values = min calls (values / (MAX_OUTPUTS + MAX_ARGUMENTS))
 
 -- these calls, whose arguments and outputs stand in this list
 abbrev pub completions_of_calls : Vec CompletedCall Global → Vec ℕ Global → CompletionsState

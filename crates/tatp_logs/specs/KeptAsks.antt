@@ -1,19 +1,16 @@
 -- What was asked, as it is kept: the arguments of a call that is no transaction stand in one list.
 use Rattle.std.specs.Prelude.{ℕ, ◌+◌, ◌≤◌, List, length, slice_range}
+use Rattle.tatp_limits.specs.declared.limits.TheConstants.{MAX_ARGUMENTS}
 use Rattle.tatp_procs.specs.declared.ask.Ask.{Ask}
 use Rattle.tatp_procs.specs.declared.ask.Ask.TheVariants as ask
 use Rattle.tatp_logs.specs.declared.kept_ask.KeptAsk.{KeptAsk}
 use Rattle.tatp_logs.specs.declared.kept_ask.KeptAsk.TheVariants.{Txn, Raw}
 
--- how many arguments a call has at most
-abbrev pub most_arguments : ℕ
-most_arguments = 8
-
 -- the arguments stand in this list
 abbrev pub HasArgumentsIn : List ℕ → KeptAsk → Type 0
 HasArgumentsIn values (Txn call) = Unit {0}
 HasArgumentsIn values (Raw procedure key first count) =
-    (first + count ≤ length values) × (count ≤ most_arguments)
+    (first + count ≤ length values) × (count ≤ MAX_ARGUMENTS)
 
 -- what was asked, where the arguments stand in this list
 abbrev pub ask_in : List ℕ → KeptAsk → Ask

@@ -1,17 +1,14 @@
 -- Replies as they are kept: their outputs stand in one list.
 use Rattle.std.specs.Prelude.{ℕ, ◌+◌, ◌/◌, ◌≤◌, List, length, min, slice_range}
+use Rattle.tatp_limits.specs.declared.limits.TheConstants.{MAX_OUTPUTS}
 use Rattle.tatp_procs.specs.declared.reply.Reply.{Reply}
 use Rattle.tatp_procs.specs.declared.reply.Reply.TheVariants as reply
 use Rattle.tatp_logs.specs.declared.kept_reply.KeptReply.{KeptReply}
 use Rattle.tatp_logs.specs.declared.kept_reply.KeptReply.TheVariants.{Values, Failed, Trapped, Refused}
 
--- how many outputs a reply has at most
-abbrev pub most_outputs : ℕ
-most_outputs = 40
-
 -- the outputs of the reply stand in this list
 abbrev pub StandsIn : List ℕ → KeptReply → Type 0
-StandsIn outputs (Values count first) = (first + count ≤ length outputs) × (count ≤ most_outputs)
+StandsIn outputs (Values count first) = (first + count ≤ length outputs) × (count ≤ MAX_OUTPUTS)
 StandsIn outputs (Failed n) = Unit {0}
 StandsIn outputs (Trapped trap) = Unit {0}
 StandsIn outputs Refused = Unit {0}
@@ -26,4 +23,4 @@ reply_in outputs Refused = reply.Refused
 -- for how many more replies there is room, where there is room for so many calls and so many
 -- outputs
 abbrev pub room_in : ℕ → ℕ → ℕ
-room_in calls outputs = min calls (outputs / most_outputs)
+room_in calls outputs = min calls (outputs / MAX_OUTPUTS)

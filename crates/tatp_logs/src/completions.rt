@@ -9,10 +9,11 @@ use crate::kept_ask::KeptAsk;
 use crate::kept_reply::KeptReply;
 use std::alloc::{AllocError, Global};
 use std::marker::Model;
+use tatp_limits::{MAX_ARGUMENTS, MAX_OUTPUTS};
 use tatp_procs::{Ask, Entry, Reply, ReplyRef};
 
-/// The most values of a call: 40 outputs and 8 arguments.
-const MOST_VALUES: usize = 48;
+/// The most values of a call, its outputs and its arguments.
+const MOST_VALUES: usize = MAX_OUTPUTS + MAX_ARGUMENTS;
 
 /// Completed calls, in the order of their ends. One takes as much memory as its arguments and
 /// outputs need, where an [`Entry`] of its own has room for forty outputs. Contracts see the

@@ -1,8 +1,9 @@
 //! What was asked, as a list of many calls keeps it: with as many arguments as each has.
 ghost use Rattle.std.specs.Prelude.{◌≡◌, ◌+◌, ◌≤◌, ◌++◌, ℕ, List, vec_len};
 ghost use Rattle.std.specs.Vec.{vec_capacity};
-ghost use Rattle.tatp_logs.specs.KeptAsks.{HasArgumentsIn, ask_in, most_arguments};
+ghost use Rattle.tatp_logs.specs.KeptAsks.{HasArgumentsIn, ask_in};
 
+use tatp_limits::MAX_ARGUMENTS;
 use tatp_numbers::Key;
 use tatp_procs::{Ask, Call, Raw};
 
@@ -25,11 +26,11 @@ impl KeptAsk {
     /// Puts the arguments of a call that is no transaction behind all other values, where there is
     /// room for them.
     pub(crate) fn keep(values: &mut Vec<u64>, ask: &Ask) -> KeptAsk
-        requires { vec_len values.old + most_arguments ≤ vec_capacity values.old }
+        requires { vec_len values.old + MAX_ARGUMENTS ≤ vec_capacity values.old }
         ensures behind { (more : List ℕ) × (values.new.items ≡ values.old.items ++ more) }
         ensures stands { HasArgumentsIn values.new.items result }
         ensures ask { ask_in values.new.items result ≡ ask.now }
-        ensures len { vec_len values.new ≤ vec_len values.old + most_arguments }
+        ensures len { vec_len values.new ≤ vec_len values.old + MAX_ARGUMENTS }
         ensures capacity { vec_capacity values.old ≤ vec_capacity values.new }
     {
         match ask {

@@ -2,13 +2,11 @@
 ghost use Rattle.std.specs.Prelude.{◌≡◌, ◌+◌, ◌≤◌, ◌↔◌, ◌++◌, ℕ, List, IsTrue, vec_len};
 ghost use Rattle.std.specs.Vec.{vec_capacity};
 ghost use Rattle.tatp_procs.specs.Replies.{reply_seen};
-ghost use Rattle.tatp_logs.specs.KeptReplies.{StandsIn, reply_in, most_outputs};
+ghost use Rattle.tatp_logs.specs.KeptReplies.{StandsIn, reply_in};
 
+use tatp_limits::MAX_OUTPUTS;
 use tatp_machine::Trap;
 use tatp_procs::{Outputs, Reply, ReplyRef};
-
-/// The most outputs of a reply.
-pub(crate) const MOST_OUTPUTS: usize = 40;
 
 /// A reply whose outputs stand in a list of the outputs of many. A [`Reply`] of its own has room
 /// for forty.
@@ -27,11 +25,11 @@ pub(crate) enum KeptReply {
 impl KeptReply {
     /// Puts the outputs of a reply behind all others, where there is room for them.
     pub(crate) fn keep(outputs: &mut Vec<u64>, reply: &Reply) -> KeptReply
-        requires { vec_len outputs.old + most_outputs ≤ vec_capacity outputs.old }
+        requires { vec_len outputs.old + MAX_OUTPUTS ≤ vec_capacity outputs.old }
         ensures behind { (more : List ℕ) × (outputs.new.items ≡ outputs.old.items ++ more) }
         ensures stands { StandsIn outputs.new.items result }
         ensures reply { reply_in outputs.new.items result ≡ reply.now }
-        ensures len { vec_len outputs.new ≤ vec_len outputs.old + most_outputs }
+        ensures len { vec_len outputs.new ≤ vec_len outputs.old + MAX_OUTPUTS }
         ensures capacity { vec_capacity outputs.old ≤ vec_capacity outputs.new }
     {
         match reply {

@@ -7,10 +7,11 @@ ghost use Rattle.tatp_logs.specs.Logs.{AsksTransaction, HasSaid, IsOfCall};
 ghost use Rattle.tatp_logs.specs.KeptReplies.{StandsIn};
 ghost use Rattle.tatp_logs.specs.LoggedCalls.{entry_in};
 
-use crate::kept_reply::{KeptReply, MOST_OUTPUTS};
+use crate::kept_reply::KeptReply;
 use std::alloc::{AllocError, Global};
 use std::marker::Model;
 use std::mem;
+use tatp_limits::MAX_OUTPUTS;
 use tatp_procs::{Ask, Call, Entry, ReplyRef};
 
 /// How many outputs a call has, where room is made for many calls: one of the mix has 13 on
@@ -192,7 +193,7 @@ impl Log {
         log.outputs.reserve(
             outputs
                 .saturating_add(outputs / 8)
-                .saturating_add(MOST_OUTPUTS),
+                .saturating_add(MAX_OUTPUTS),
         )?;
         Ok(log)
     }
@@ -204,7 +205,7 @@ impl Log {
         ensures room { OnOk result (1 ≤ self.new.room) }
     {
         make_room(&mut self.calls, 1)?;
-        make_room(&mut self.outputs, MOST_OUTPUTS)
+        make_room(&mut self.outputs, MAX_OUTPUTS)
     }
 
     /// Makes room for about so many more entries of the benchmark's mix.

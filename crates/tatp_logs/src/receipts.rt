@@ -4,10 +4,11 @@ ghost use Rattle.std.specs.Option.{option_map};
 ghost use Rattle.tatp_logs.specs.KeptReceipts.{receipt_in, StandsWith};
 ghost use Rattle.tatp_logs.specs.Receipts.{receipt_seen};
 
-use crate::kept_reply::{KeptReply, MOST_OUTPUTS};
+use crate::kept_reply::KeptReply;
 use crate::receipt::{Receipt, ReceiptRef};
 use std::alloc::{AllocError, Global};
 use std::marker::Model;
+use tatp_limits::MAX_OUTPUTS;
 
 /// A receipt whose outputs stand in the list of all outputs. In this order it takes 48 bytes.
 #[derive(Clone, Copy, Debug)]
@@ -89,7 +90,7 @@ impl Receipts {
         ensures receipts { IfOk result (λ receipts. receipts.receipts ≡ []) }
         ensures room { IfOk result (λ receipts. room ≤ receipts.room) }
     {
-        let outputs = room.checked_mul(MOST_OUTPUTS).ok_or(AllocError)?;
+        let outputs = room.checked_mul(MAX_OUTPUTS).ok_or(AllocError)?;
         Ok(Receipts {
             kept: Vec::with_capacity(alloc, room)?,
             outputs: Vec::with_capacity(alloc, outputs)?,
@@ -109,7 +110,7 @@ impl Receipts {
     {
         let kept = self.kept.capacity() - self.kept.len();
         let outputs = self.outputs.capacity() - self.outputs.len();
-        kept.min(outputs / MOST_OUTPUTS)
+        kept.min(outputs / MAX_OUTPUTS)
     }
 
     /// The receipt in a place, counted from 0, where there is one.
@@ -166,7 +167,7 @@ impl Receipts {
         });
         self.kept.truncate(kept);
         let outputs = self.outputs.len();
-        self.outputs.extend_from_slice(&[0; MOST_OUTPUTS]).unwrap();
+        self.outputs.extend_from_slice(&[0; MAX_OUTPUTS]).unwrap();
         self.outputs.truncate(outputs);
     }
 }

@@ -5,9 +5,6 @@ ghost use Rattle.tatp_machine.specs.Traps.{trap_name};
 
 use std::fmt;
 
-/// The most steps of a call, the one that ends it among them.
-pub const MAX_STEPS: usize = 4096;
-
 /// Why a call is stopped.
 #[derive(Clone, Copy, Debug, PartialEq, Eq)]
 pub enum Trap {
@@ -15,11 +12,11 @@ pub enum Trap {
     NoCurrent,
     /// A value is outside its column's domain.
     Domain,
-    /// The 4,096th step would not end the call. Version 2.
+    /// The last step that a call may make would not end it. Version 2.
     Budget,
-    /// A 41st output. Version 2.
+    /// An output more than a call may have. Version 2.
     Output,
-    /// A 65th write. Version 2.
+    /// A write more than a call may make. Version 2.
     Writes,
 }
 

@@ -1,6 +1,7 @@
 -- A plan moves the extents in which the subscribers of its range lie.
 use Rattle.std.proofs.Common.{◌≡◌, ◌↔◌, ℕ, ◌*◌, ◌-◌, ◌≤◌, ◌<◌, ◌==◌, ◌||◌, nat_lt, nat_le, Bool, true, false, if◌then◌else◌, Ok, Err, refl, subst, arith}
 use Rattle.std.proofs.lemmas.Bool.Decides.{nat_tests}
+use Rattle.tatp_limits.specs.declared.limits.TheConstants.{EXTENT_SUBSCRIBERS}
 use Rattle.tatp_extents.specs.Extents.{extent_of}
 use Rattle.tatp_move.specs.declared.plan.Plan.{Plan}
 use Rattle.tatp_move.specs.declared.plan.MoveRefusal.TheVariants.{NoExtent, NoPartition, SamePartition}
@@ -17,11 +18,11 @@ planned true b c p plan h = absurd cc
 -- an extent between those of two subscribers has a subscriber between them
 between : (lo hi e : ℕ) → 1 ≤ lo → lo ≤ hi → extent_of lo ≤ e → e ≤ extent_of hi → (s : ℕ) × (lo ≤ s) × (s ≤ hi) × (extent_of s ≡ e)
 between lo hi e least range from to =
-    elim (nat_lt (64 * e - 63) lo) as (λ b. nat_lt (64 * e - 63) lo ≡ b → (s : ℕ) × (lo ≤ s) × (s ≤ hi) × (extent_of s ≡ e)) [
-      | true ↦ λ q. let later : 64 * e - 63 < lo = grind (arith, nat_tests, q) in (lo, omega arith, range, omega (arith, later, from))
+    elim (nat_lt (EXTENT_SUBSCRIBERS * e - (EXTENT_SUBSCRIBERS - 1)) lo) as (λ b. nat_lt (EXTENT_SUBSCRIBERS * e - (EXTENT_SUBSCRIBERS - 1)) lo ≡ b → (s : ℕ) × (lo ≤ s) × (s ≤ hi) × (extent_of s ≡ e)) [
+      | true ↦ λ q. let later : EXTENT_SUBSCRIBERS * e - (EXTENT_SUBSCRIBERS - 1) < lo = grind (arith, nat_tests, q) in (lo, omega arith, range, omega (arith, later, from))
       | false ↦ λ q.
-          let later : lo ≤ 64 * e - 63 = grind (arith, nat_tests, q) in
-          (64 * e - 63, later, omega (arith, to, least, later), omega (arith, least, later))
+          let later : lo ≤ EXTENT_SUBSCRIBERS * e - (EXTENT_SUBSCRIBERS - 1) = grind (arith, nat_tests, q) in
+          (EXTENT_SUBSCRIBERS * e - (EXTENT_SUBSCRIBERS - 1), later, omega (arith, to, least, later), omega (arith, least, later))
     ] refl
 
 pub moves_what_it_meets : (r : RoutesState) (range : Range) (plan : Plan) (e : ℕ) → plan_of r range ≡ Ok plan → Moves plan e ↔ Meets range e

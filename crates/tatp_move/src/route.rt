@@ -7,6 +7,7 @@ use crate::{MoveRefusal, Plan};
 use std::alloc::{AllocError, Global};
 use std::marker::Model;
 use tatp_extents::{extent_count, extent_of};
+use tatp_limits::MAX_SUBSCRIBERS;
 use tatp_partition::Landed;
 
 /// Where an extent was last known to have landed, and after how many moves.
@@ -37,6 +38,7 @@ pub struct Routes {
 
 impl Model for Routes {
     ghost use Rattle.std.specs.Prelude.{◌≡◌, ◌+◌, ◌≤◌, vec_len};
+    ghost use Rattle.tatp_limits.specs.declared.limits.TheConstants.{MAX_SUBSCRIBERS};
     ghost use Rattle.tatp_extents.specs.Opening.{extent_count};
     ghost use Rattle.tatp_move.specs.Routing.{RoutesState};
 
@@ -49,16 +51,17 @@ impl Model for Routes {
     } };
 
     ghost invariant = { λ a.
-        (vec_len a.routes ≡ extent_count a.subscribers + 1) × (a.subscribers ≤ 1000000) };
+        (vec_len a.routes ≡ extent_count a.subscribers + 1) × (a.subscribers ≤ MAX_SUBSCRIBERS) };
 }
 
 impl Routes {
+    ghost use Rattle.tatp_limits.specs.declared.limits.TheConstants.{MAX_SUBSCRIBERS};
     ghost use Rattle.tatp_move.specs.Routing.{opened_routes, route_of, UpdatesRoute};
     ghost use Rattle.tatp_move.specs.Ranges.{plan_of};
 
     /// The routes to the extents of so many subscribers, which open in so many partitions.
     pub fn open(alloc: Global, subscribers: u64, partitions: u8) -> Result<Routes, AllocError>
-        requires few { subscribers ≤ 1000000 }
+        requires few { subscribers ≤ MAX_SUBSCRIBERS }
         requires some { 1 ≤ partitions }
         ensures { IfOk result (λ routes. routes ≡ opened_routes subscribers partitions) }
     {

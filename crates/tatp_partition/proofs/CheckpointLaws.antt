@@ -3,6 +3,7 @@ use Rattle.std.proofs.Common.{◌≡◌, ◌≢◌, inl, inr, ℕ, zero, suc, �
 use Rattle.std.specs.Option.{option_flatten, option_map, option_map_or}
 use Rattle.std.proofs.Math.ListN.{set}
 use Rattle.std.proofs.lemmas.Bool.{ne_eqb, eq-eqb}
+use Rattle.tatp_limits.specs.declared.limits.TheConstants.{MAX_EXTENT_CHAPTERS}
 use Rattle.tatp_extents.specs.Extents.{ExtentState, IsExtent, last_stamp_of, extent_of}
 use Rattle.tatp_extents.specs.declared.chapter.CheckpointError.{CheckpointError}
 use Rattle.tatp_extents.specs.declared.chapter.CheckpointError.TheVariants as error
@@ -70,7 +71,7 @@ module _ (a : Inside) (h : IsSound a) (idle : a.running ≡ None) where
         runner = λ r q. let f : None ≡ Some r = sym idle ∙ q in absurd cc;
       }
 
-  obstacle : (k : ℕ) (x : ExtentState) → slice_get a.slots (suc k) ≡ Some (Some x) → checkpoint_obstacle s (suc k) ≡ (if x.mixed then Some LogEnded else if x.chapters == 65535 then Some ChapterCountFull else None)
+  obstacle : (k : ℕ) (x : ExtentState) → slice_get a.slots (suc k) ≡ Some (Some x) → checkpoint_obstacle s (suc k) ≡ (if x.mixed then Some LogEnded else if x.chapters == MAX_EXTENT_CHAPTERS then Some ChapterCountFull else None)
   obstacle k x has =
       let there : log_here s (suc k) ≡ Some (log_of x) = ap (option_map log_of) (ap (λ t. slot t (suc k)) same_slots ∙ ap option_flatten has) in
       λ i. log_obstacle (no_run i) (there i)
@@ -83,16 +84,16 @@ module _ (a : Inside) (h : IsSound a) (idle : a.running ≡ None) where
   -- what is answered
   pub answers : (k : ℕ) (x x' : ExtentState) (made : Result ChapterState CheckpointError) (new : List (Option ExtentState)) → slice_get a.slots (suc k) ≡ Some (Some x) → CheckpointsExtent x made x' → new ≡ set a.slots (suc k) (Some x') → Checkpoints s (suc k) (told made) (site_of (record a { slots = new }))
   answers k x x' (Ok chapter) new has checks is =
-      let few : (x.chapters == 65535) ≡ false = ne_eqb x.chapters 65535 (λ q. omega (arith, q, checks.1)) in
+      let few : (x.chapters == MAX_EXTENT_CHAPTERS) ≡ false = ne_eqb x.chapters MAX_EXTENT_CHAPTERS (λ q. omega (arith, q, checks.1)) in
       let there : slot s.slots (suc k) ≡ Some x = ap (λ t. slot t (suc k)) same_slots ∙ ap option_flatten has in
       let put : new ≡ set s.slots (suc k) (Some (after_checkpoint x)) = is ∙ (λ i. set (sym same_slots i) (suc k) (Some (checks.3 i))) in
-      (obstacle k x has ∙ clear x.mixed (x.chapters == 65535) checks.0 few, (x, there, checks.2, shows new ∙ ap (λ t. record s { slots = t }) put))
-  answers k x x' (Err error.LogEnded) new has checks is = (obstacle k x has ∙ ended x.mixed (x.chapters == 65535) checks.0, same_site k x x' new has checks.1 is)
+      (obstacle k x has ∙ clear x.mixed (x.chapters == MAX_EXTENT_CHAPTERS) checks.0 few, (x, there, checks.2, shows new ∙ ap (λ t. record s { slots = t }) put))
+  answers k x x' (Err error.LogEnded) new has checks is = (obstacle k x has ∙ ended x.mixed (x.chapters == MAX_EXTENT_CHAPTERS) checks.0, same_site k x x' new has checks.1 is)
   answers k x x' (Err error.ChapterCountFull) new has checks is =
-      (obstacle k x has ∙ full x.mixed (x.chapters == 65535) checks.0 (eq-eqb x.chapters 65535 checks.1), same_site k x x' new has checks.2 is)
+      (obstacle k x has ∙ full x.mixed (x.chapters == MAX_EXTENT_CHAPTERS) checks.0 (eq-eqb x.chapters MAX_EXTENT_CHAPTERS checks.1), same_site k x x' new has checks.2 is)
   answers k x x' (Err error.NoMemory) new has checks is =
-      let few : (x.chapters == 65535) ≡ false = ne_eqb x.chapters 65535 (λ q. omega (arith, q, checks.1)) in
-      (obstacle k x has ∙ clear x.mixed (x.chapters == 65535) checks.0 few, same_site k x x' new has checks.2 is)
+      let few : (x.chapters == MAX_EXTENT_CHAPTERS) ≡ false = ne_eqb x.chapters MAX_EXTENT_CHAPTERS (λ q. omega (arith, q, checks.1)) in
+      (obstacle k x has ∙ clear x.mixed (x.chapters == MAX_EXTENT_CHAPTERS) checks.0 few, same_site k x x' new has checks.2 is)
 
   -- no last stamp changes
   pub stamps : (e : ℕ) (x x' : ExtentState) (new : List (Option ExtentState)) → slice_get a.slots e ≡ Some (Some x) → last_stamp_of x' ≡ last_stamp_of x → new ≡ set a.slots e (Some x') → KeepsLastStamps s (site_of (record a { slots = new }))

@@ -2,9 +2,9 @@
 use Rattle.std.proofs.Common.{◌≡◌, ℕ, zero, suc, ◌-◌, ◌<◌, ◌==◌, Bool, true, false, is_some, List, [], ◌∷◌, length, Option, Some, None, IsSomeAnd, Ok, refl, sym, ◌∙◌, ap, subst, arith}
 use Rattle.std.specs.Option.{option_map_or}
 use Rattle.std.proofs.lemmas.Bool.{false≢true}
+use Rattle.tatp_limits.specs.declared.limits.TheConstants.{MAX_STEPS}
 use Rattle.tatp_tables.specs.Database.{Database}
 use Rattle.tatp_homes.specs.Home.{SubscriberRows}
-use Rattle.tatp_machine.specs.declared.progress.TheConstants.{MAX_STEPS}
 use Rattle.tatp_machine.specs.declared.progress.End.{End}
 use Rattle.tatp_machine.specs.declared.progress.Progress.{Progress}
 use Rattle.tatp_machine.specs.declared.progress.Progress.TheVariants.{Running, Ended}

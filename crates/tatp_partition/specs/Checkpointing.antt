@@ -1,12 +1,13 @@
 -- A checkpoint: an extent of a site, or its log of calls without a home, hands out a chapter.
 use Rattle.std.specs.Prelude.{◌≡◌, ℕ, zero, suc, ◌+◌, ◌==◌, Bool, false, if◌then◌else◌, List, [], ◌∷◌, is_some, is_none, Option, Some, None, Result, Ok, Err}
 use Rattle.std.specs.Option.{option_map, option_map_or}
+use Rattle.tatp_limits.specs.declared.limits.TheConstants.{MAX_EXTENT_CHAPTERS}
 use Rattle.tatp_procs.specs.declared.entry.Entry.{Entry}
 use Rattle.tatp_logs.specs.Logs.{last_stamp_from}
 use Rattle.tatp_extents.specs.Extents.{ExtentState}
 use Rattle.tatp_extents.specs.declared.chapter.CheckpointError.{CheckpointError}
 use Rattle.tatp_extents.specs.declared.chapter.CheckpointError.TheVariants as error
-use Rattle.tatp_extents.specs.Chapters.{ChapterState, most_chapters, chapter_of, after_checkpoint}
+use Rattle.tatp_extents.specs.Chapters.{ChapterState, chapter_of, after_checkpoint}
 use Rattle.tatp_partition.specs.declared.refusal.SiteRefusal.{SiteRefusal}
 use Rattle.tatp_partition.specs.declared.refusal.SiteRefusal.TheVariants.{Running, NotHere, LogEnded, ChapterCountFull, NoMemory}
 use Rattle.tatp_partition.specs.Sites.{SiteState, HomelessCalls, slot, last_stamp_here}
@@ -39,7 +40,8 @@ abbrev pub has_ended : Option LogHere → Bool
 has_ended log = option_map_or (λ (l : LogHere). l.mixed) log false
 
 abbrev pub is_chapter_count_full : Option LogHere → Bool
-is_chapter_count_full log = option_map_or (λ (l : LogHere). l.chapters == most_chapters) log false
+is_chapter_count_full log =
+    option_map_or (λ (l : LogHere). l.chapters == MAX_EXTENT_CHAPTERS) log false
 
 -- what stands against handing out a chapter of this log
 abbrev pub log_obstacle : Bool → Option LogHere → Option SiteRefusal

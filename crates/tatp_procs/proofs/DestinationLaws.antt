@@ -6,6 +6,7 @@ use Rattle.std.proofs.lemmas.Bool.{and_parts, and_from, or_cases, eqb-true, eq-e
 use Rattle.std.proofs.lemmas.Bool.Decides.{nat_tests}
 use Rattle.std.proofs.lemmas.List.{map-append}
 use Rattle.std.proofs.lemmas.List.Elements.{filter-append}
+use Rattle.tatp_limits.specs.declared.limits.TheConstants.{MAX_OUTPUTS, MAX_STEPS}
 use Rattle.tatp_tables.specs.Tuples.{Tuple, rows_of}
 use Rattle.tatp_tables.specs.Keys.{has_key, row_at}
 use Rattle.tatp_tables.specs.Domains.{is_in_domain, are_in_domain}
@@ -124,7 +125,7 @@ no_destinations u s k b e inactive =
 
 -- ---- the call
 -- three numbers at most, in no more turns, pass no limit
-few_numbers : (a b c : Option ℕ) → nat_le (length (all_of a b c)) 40 ≡ true
+few_numbers : (a b c : Option ℕ) → nat_le (length (all_of a b c)) MAX_OUTPUTS ≡ true
 few_numbers None None None = refl
 few_numbers None None (Some o) = refl
 few_numbers None (Some n) None = refl
@@ -134,7 +135,7 @@ few_numbers (Some m) None (Some o) = refl
 few_numbers (Some m) (Some n) None = refl
 few_numbers (Some m) (Some n) (Some o) = refl
 
-few_turns : (n : ℕ) → n ≤ 50 → nat_lt n 4096 ≡ true
+few_turns : (n : ℕ) → n ≤ 50 → nat_lt n MAX_STEPS ≡ true
 few_turns n few = grind (arith, nat_tests)
 
 numbers_within : (n : ℕ) (a b c : Option ℕ) → n ≤ 50 → is_within n (all_of a b c) (code_of standard_module 1) ≡ true

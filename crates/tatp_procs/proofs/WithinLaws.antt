@@ -4,6 +4,7 @@ use Rattle.std.specs.List.{list_all, list_any}
 use Rattle.std.proofs.Common.{refl, sym, ap, subst, ◌∙◌, arith, inl, inr, ⊎_elim}
 use Rattle.std.proofs.lemmas.Bool.{and_parts, or_cases, lt-leb}
 use Rattle.std.proofs.lemmas.Bool.Decides.{nat_tests}
+use Rattle.tatp_limits.specs.declared.limits.TheConstants.{MAX_OUTPUTS, MAX_STEPS, MAX_WRITES}
 use Rattle.tatp_instr.specs.declared.instr.Instr.{Instr}
 use Rattle.tatp_instr.specs.declared.instr.Instr.TheVariants.{Out}
 use Rattle.tatp_instr.specs.declared.version.Version.{Version}
@@ -20,9 +21,9 @@ use Rattle.tatp_procs.proofs.KeepLaws.{puts_free}
 
 -- so many turns more, up to these outputs, pass no limit
 pub record IsWithin (n : ℕ) (outputs : List ℕ) (q : Frame) : Type 0 where
-  pub steps_left : q.steps + n < 4096
-  pub output_room : length outputs ≤ 40
-  pub write_room : (q.writes + n ≤ 64) ⊎ (list_any is_write q.code ≡ false)
+  pub steps_left : q.steps + n < MAX_STEPS
+  pub output_room : length outputs ≤ MAX_OUTPUTS
+  pub write_room : (q.writes + n ≤ MAX_WRITES) ⊎ (list_any is_write q.code ≡ false)
 
 -- ---- no limit is passed
 none_writes : (code : List Instr) (i : ℕ) (x : Instr) → list_any is_write code ≡ false → slice_get code i ≡ Some x → is_write x ≡ false
@@ -47,14 +48,14 @@ out_goes i q v h = absurd cc
 abbrev pub LeavesAtMost : Frame → Database → List ℕ → Type 0
 LeavesAtMost q v outputs = (q' : Frame) (w : Database) → turn_by_table q v ≡ Goes_on q' w → length q'.outputs ≤ length outputs
 
-few_outputs : (i : Instr) (q : Frame) (v : Database) (outputs : List ℕ) → slice_get q.code q.pc ≡ Some i → LeavesAtMost q v outputs → length outputs ≤ 40 → is_out i ≡ true → length q.outputs < 40
+few_outputs : (i : Instr) (q : Frame) (v : Database) (outputs : List ℕ) → slice_get q.code q.pc ≡ Some i → LeavesAtMost q v outputs → length outputs ≤ MAX_OUTPUTS → is_out i ≡ true → length q.outputs < MAX_OUTPUTS
 few_outputs i q v outputs there after few out =
     let goes = out_goes i q v out in
     let makes = subst (MakesOn i q) goes.1 (act_makes i q v) in
     let one : one_where (is_out i) ≡ 1 = ap one_where out in
     omega (arith, makes.outputs, one, after goes.0 v (ap (λ o. act_at o q v) there ∙ goes.1), few)
 
-few_writes : (n : ℕ) (i : Instr) (q : Frame) (outputs : List ℕ) → IsWithin (suc n) outputs q → slice_get q.code q.pc ≡ Some i → is_write i ≡ true → q.writes < 64
+few_writes : (n : ℕ) (i : Instr) (q : Frame) (outputs : List ℕ) → IsWithin (suc n) outputs q → slice_get q.code q.pc ≡ Some i → is_write i ≡ true → q.writes < MAX_WRITES
 few_writes n i q outputs within there write =
     elim within.write_room [
       | inl few ↦ omega (arith, few)
@@ -69,15 +70,15 @@ none_of_three false ends true full false spent last outs writes = rw (outs refl)
 none_of_three false ends false full true spent last outs writes = rw (writes refl) refl
 none_of_three false ends false full false spent last outs writes = refl
 
-not_last : (steps n : ℕ) → steps + suc n < 4096 → (steps + 1 == 4096) ≡ false
+not_last : (steps n : ℕ) → steps + suc n < MAX_STEPS → (steps + 1 == MAX_STEPS) ≡ false
 not_last steps n h = grind (arith, nat_tests)
 
 no_excess : (n : ℕ) (i : Instr) (q : Frame) (v : Database) (outputs : List ℕ) → IsWithin (suc n) outputs q → slice_get q.code q.pc ≡ Some i → LeavesAtMost q v outputs → excess i q ≡ None
 no_excess n i q v outputs within there after =
-    none_of_three (is_last_step q) (is_end i) (is_out i) (nat_le 40 (length q.outputs)) (is_write i) (nat_le 64 q.writes)
+    none_of_three (is_last_step q) (is_end i) (is_out i) (nat_le MAX_OUTPUTS (length q.outputs)) (is_write i) (nat_le MAX_WRITES q.writes)
     (not_last q.steps n within.steps_left)
-    (λ out. lt-leb 40 (length q.outputs) (few_outputs i q v outputs there after within.output_room out))
-    (λ write. lt-leb 64 q.writes (few_writes n i q outputs within there write))
+    (λ out. lt-leb MAX_OUTPUTS (length q.outputs) (few_outputs i q v outputs there after within.output_room out))
+    (λ write. lt-leb MAX_WRITES q.writes (few_writes n i q outputs within there write))
 
 no_limit : (version : Version) (i : Instr) (q : Frame) → excess i q ≡ None → limit version i q ≡ None
 no_limit One i q none = refl
@@ -107,7 +108,7 @@ within_next n i q q' outputs within makes = record {
 -- ---- from the entry of a call
 -- so many turns of this code, up to these outputs, pass no limit and put no fixed column
 abbrev pub is_within : ℕ → List ℕ → List Instr → Bool
-is_within n outputs code = list_all puts_free code && (nat_lt n 4096 && (nat_le (length outputs) 40 && (not (list_any is_write code) || nat_le n 64)))
+is_within n outputs code = list_all puts_free code && (nat_lt n MAX_STEPS && (nat_le (length outputs) MAX_OUTPUTS && (not (list_any is_write code) || nat_le n MAX_WRITES)))
 
 is_not : (b : Bool) → not b ≡ true → b ≡ false
 is_not true h = cc
@@ -117,9 +118,9 @@ pub within_at_entry : (n : ℕ) (outputs : List ℕ) (modul : ModuleState) (proc
 within_at_entry n outputs modul procedure arguments home h =
     let code = code_of modul procedure in
     let more = (and_parts (list_all puts_free code) _ h).1 in
-    let room = (and_parts (nat_lt n 4096) _ more).1 in
+    let room = (and_parts (nat_lt n MAX_STEPS) _ more).1 in
     record {
-      steps_left = grind (arith, nat_tests, (and_parts (nat_lt n 4096) _ more).0);
-      output_room = grind (arith, nat_tests, (and_parts (nat_le (length outputs) 40) _ room).0);
-      write_room = ⊎_elim (λ none. inr (is_not (list_any is_write code) none)) (λ few. inl (grind (arith, nat_tests, few))) (or_cases (not (list_any is_write code)) (nat_le n 64) (and_parts (nat_le (length outputs) 40) _ room).1);
+      steps_left = grind (arith, nat_tests, (and_parts (nat_lt n MAX_STEPS) _ more).0);
+      output_room = grind (arith, nat_tests, (and_parts (nat_le (length outputs) MAX_OUTPUTS) _ room).0);
+      write_room = ⊎_elim (λ none. inr (is_not (list_any is_write code) none)) (λ few. inl (grind (arith, nat_tests, few))) (or_cases (not (list_any is_write code)) (nat_le n MAX_WRITES) (and_parts (nat_le (length outputs) MAX_OUTPUTS) _ room).1);
     }

@@ -1,6 +1,7 @@
 -- The line of a reply: docs/FORMATS.md.
 use Rattle.std.specs.Prelude.{ℕ, List, [], ◌++◌, replicate, codes, decimal}
 use Rattle.std.specs.List.{range_with_len}
+use Rattle.tatp_limits.specs.declared.limits.TheConstants.{MAX_OUTPUTS}
 use Rattle.tatp_machine.specs.Traps.{trap_name}
 use Rattle.tatp_procs.specs.declared.call.Call.{Call}
 use Rattle.tatp_procs.specs.declared.call.Call.TheVariants.{GetSubscriberData, GetNewDestination, GetAccessData, UpdateSubscriberData, UpdateLocation, InsertCallForwarding, DeleteCallForwarding}
@@ -15,7 +16,7 @@ use Rattle.tatp_procs.specs.ValuesText.{values_text}
 -- have; data1 to data4
 abbrev pub answer_columns : Call → List ℕ
 answer_columns (GetSubscriberData s) = range_with_len 0 34
-answer_columns (GetNewDestination s t b e) = replicate 40 numberx
+answer_columns (GetNewDestination s t b e) = replicate MAX_OUTPUTS numberx
 answer_columns (GetAccessData s t) = range_with_len 36 4
 answer_columns (UpdateSubscriberData s x t y) = []
 answer_columns (UpdateLocation n v) = []

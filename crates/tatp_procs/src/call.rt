@@ -3,6 +3,7 @@ ghost use Rattle.std.specs.Prelude.{◌≡◌, ◌≤◌, length};
 ghost use Rattle.tatp_procs.specs.Calls.{procedure_of, key_of_call, arguments_of};
 
 use arrayvec::ArrayVec;
+use tatp_limits::MAX_ARGUMENTS;
 use tatp_numbers::Key;
 
 /// A call of one of the seven transactions, with its arguments. The variants stand in the order of
@@ -93,7 +94,7 @@ impl Call {
     }
 
     /// Its arguments, in the order of its standard procedure.
-    pub fn args(&self) -> ArrayVec<u64, 8>
+    pub fn args(&self) -> ArrayVec<u64, MAX_ARGUMENTS>
         ensures { result.items ≡ arguments_of self.now }
     {
         match *self {
@@ -131,11 +132,11 @@ impl Call {
     }
 }
 
-fn kept(arguments: &[u64]) -> ArrayVec<u64, 8>
-    requires { length arguments.now ≤ 8 }
+fn kept(arguments: &[u64]) -> ArrayVec<u64, MAX_ARGUMENTS>
+    requires { length arguments.now ≤ MAX_ARGUMENTS }
     ensures { result.items ≡ arguments.now }
 {
-    let mut all: ArrayVec<u64, 8> = ArrayVec::new();
+    let mut all: ArrayVec<u64, MAX_ARGUMENTS> = ArrayVec::new();
     all.try_extend_from_slice(arguments).unwrap();
     all
 }

@@ -5,43 +5,45 @@ ghost use Rattle.std.specs.Cmp.Lexicographic.{pointwise, nat_list_eq_equiv};
 ghost use Rattle.tatp_procs.specs.Replies.{reply_seen, reply_to};
 
 use std::marker::Model;
+use tatp_limits::MAX_OUTPUTS;
 use tatp_machine::{End, Trap};
 
-/// Values that a call put out, at most 40. Contracts see them as a list.
+/// Values that a call put out, at most [`MAX_OUTPUTS`]. Contracts see them as a list.
 #[derive(Clone, Copy, Debug)]
 pub struct Outputs {
     count: usize,
     /// With 0 after the last.
-    values: [u64; 40],
+    values: [u64; MAX_OUTPUTS],
 }
 
 impl Model for Outputs {
     ghost use Rattle.std.specs.Prelude.{ℕ, List, take, length};
+    ghost use Rattle.tatp_limits.specs.declared.limits.TheConstants.{MAX_OUTPUTS};
     ghost use Rattle.tatp_procs.specs.Padding.{ArePadded, padded, padded_count, padded_values};
 
     ghost Value = { List ℕ };
 
     ghost view = { λ a. take a.count a.values };
 
-    ghost invariant = { λ a. ArePadded 40 a.count a.values };
+    ghost invariant = { λ a. ArePadded MAX_OUTPUTS a.count a.values };
 
-    ghost inverse = { λ xs. record { count = length xs; values = padded 40 xs } };
+    ghost inverse = { λ xs. record { count = length xs; values = padded MAX_OUTPUTS xs } };
 
     ghost inverse_ok = { λ a h. λ i. record {
-      count = padded_count 40 a.count a.values h i;
-      values = padded_values 40 a.count a.values h i;
+      count = padded_count MAX_OUTPUTS a.count a.values h i;
+      values = padded_values MAX_OUTPUTS a.count a.values h i;
     } };
 }
 
 impl Outputs {
     /// These values.
     pub fn from_slice(values: &[u64]) -> Outputs
-        requires { length values.now ≤ 40 }
+        requires { length values.now ≤ MAX_OUTPUTS }
         ensures { result ≡ values.now }
     {
         let mut outputs = Outputs {
             count: 0,
-            values: [0; 40],
+            values: [0; MAX_OUTPUTS],
         };
         outputs.set(values);
         outputs
@@ -49,7 +51,7 @@ impl Outputs {
 
     /// These values in place of the others.
     fn set(&mut self, values: &[u64])
-        requires { length values.now ≤ 40 }
+        requires { length values.now ≤ MAX_OUTPUTS }
         ensures { self.new ≡ values.now }
     {
         let count = values.len();
@@ -61,7 +63,7 @@ impl Outputs {
     /// The values, in the order in which they were put out.
     pub fn as_slice(&self) -> &[u64]
         ensures value { result.now ≡ self.now }
-        ensures most { length self.now ≤ 40 }
+        ensures most { length self.now ≤ MAX_OUTPUTS }
     {
         &self.values[..self.count]
     }
@@ -126,7 +128,7 @@ impl Reply {
     /// What makes a whole reply stands apart, since a function clears the memory of all its locals
     /// when it begins.
     pub fn set(&mut self, end: End, outputs: &[u64])
-        requires { length outputs.now ≤ 40 }
+        requires { length outputs.now ≤ MAX_OUTPUTS }
         ensures { self.new ≡ reply_to end outputs.now }
     {
         match end {
@@ -141,7 +143,7 @@ impl Reply {
 
     #[inline(never)]
     fn become_values(&mut self, outputs: &[u64])
-        requires { length outputs.now ≤ 40 }
+        requires { length outputs.now ≤ MAX_OUTPUTS }
         ensures { self.new ≡ Reply.Values outputs.now }
     {
         *self = Reply::Values(Outputs::from_slice(outputs));

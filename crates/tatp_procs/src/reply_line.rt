@@ -10,6 +10,7 @@ use crate::columns::NUMBERX;
 use crate::values::push_values;
 use crate::{Ask, Call, ReplyRef};
 use std::alloc::{AllocError, Global};
+use tatp_limits::MAX_OUTPUTS;
 use tatp_lines::push_decimal;
 use tatp_machine::Trap;
 
@@ -89,7 +90,7 @@ fn answer_columns(call: &Call) -> &'static [u8]
             0, 1, 2, 3, 4, 5, 6, 7, 8, 9, 10, 11, 12, 13, 14, 15, 16, 17, 18, 19, 20, 21, 22, 23,
             24, 25, 26, 27, 28, 29, 30, 31, 32, 33,
         ],
-        Call::GetNewDestination { .. } => &[NUMBERX; 40],
+        Call::GetNewDestination { .. } => &[NUMBERX; MAX_OUTPUTS],
         Call::GetAccessData { .. } => &[36, 37, 38, 39],
         _ => &[],
     }

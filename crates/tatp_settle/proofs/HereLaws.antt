@@ -3,6 +3,7 @@ use Rattle.std.proofs.Common.{◌≡◌, ℕ, zero, suc, ◌+◌, ◌-◌, ◌*�
 use Rattle.std.specs.Option.{option_map, option_and_then, option_copied, is_some}
 use Rattle.std.proofs.lemmas.List.{length-set}
 use Rattle.std.proofs.lemmas.Bool.{ne_eqb}
+use Rattle.tatp_limits.specs.declared.limits.TheConstants.{EXTENT_SUBSCRIBERS}
 use Rattle.tatp_tables.specs.Database.{Database}
 use Rattle.tatp_extents.specs.Extents.{ExtentState, LiesIn, extent_of, home_at, with_home_at, place_in}
 use Rattle.tatp_extents.proofs.PlaceLaws.{some_home}
@@ -43,21 +44,21 @@ pub copied_some : {T : Type 0} (r : Option (Bor T)) → is_some r ≡ is_some (o
 copied_some None = refl
 copied_some (Some x) = refl
 
-by_slot : (s : SiteState) (e : ℕ) (v : Option ExtentState) → IsSite s → 1 ≤ e → slot s.slots e ≡ v → is_some (option_and_then (λ (x : ExtentState). home_at x (64 * (e - 1) + 1)) v) ≡ is_some v
+by_slot : (s : SiteState) (e : ℕ) (v : Option ExtentState) → IsSite s → 1 ≤ e → slot s.slots e ≡ v → is_some (option_and_then (λ (x : ExtentState). home_at x (EXTENT_SUBSCRIBERS * (e - 1) + 1)) v) ≡ is_some v
 by_slot s e None h l is = refl
 by_slot s e (Some x) h l is =
     let has = slot_stands s.slots e x is in
     let number : x.number ≡ e = h.numbered e x has in
     let least : 1 ≤ length (extent_set_back s.running x).homes = (h.extents e x has).of_extent.least in
     let same = back_length s.running x in
-    let lies : LiesIn (64 * (e - 1) + 1) x = (omega (arith, number, l), omega (arith, number, l, least, same)) in
-    (some_home x (64 * (e - 1) + 1)).1 lies
+    let lies : LiesIn (EXTENT_SUBSCRIBERS * (e - 1) + 1) x = (omega (arith, number, l), omega (arith, number, l, least, same)) in
+    (some_home x (EXTENT_SUBSCRIBERS * (e - 1) + 1)).1 lies
 
 -- whether the home of an extent's first subscriber is here
-pub first_home : (s : SiteState) (e : ℕ) → IsSite s → 1 ≤ e → is_some (home_here s (64 * (e - 1) + 1)) ≡ is_here (closed_site s) e
+pub first_home : (s : SiteState) (e : ℕ) → IsSite s → 1 ≤ e → is_some (home_here s (EXTENT_SUBSCRIBERS * (e - 1) + 1)) ≡ is_here (closed_site s) e
 first_home s e h l =
-    let of : extent_of (64 * (e - 1) + 1) ≡ e = omega (arith, l) in
-    ap (λ (n : ℕ). is_some (option_and_then (λ (x : ExtentState). home_at x (64 * (e - 1) + 1)) (slot s.slots n))) of
+    let of : extent_of (EXTENT_SUBSCRIBERS * (e - 1) + 1) ≡ e = omega (arith, l) in
+    ap (λ (n : ℕ). is_some (option_and_then (λ (x : ExtentState). home_at x (EXTENT_SUBSCRIBERS * (e - 1) + 1)) (slot s.slots n))) of
     ∙ (by_slot s e (slot s.slots e) h l refl
     ∙ (sym (slot_changed (extent_set_back s.running) s.slots e)
     ∙ ap (λ (b : Bool). if b then (s.partition == 0) else is_some (slot (map (option_map (extent_set_back s.running)) s.slots) e)) (sym (ne_eqb e 0 (λ z. omega (arith, l, z))))))

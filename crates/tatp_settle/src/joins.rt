@@ -13,8 +13,9 @@ ghost use Rattle.tatp_logs.specs.Logs.{last_stamp_from};
 use crate::chapter_table::ChapterTable;
 use crate::log_parts::LogPart;
 use crate::places::ChapterPlace;
-use tatp_extents::{EXTENT_SIZE, extent_count};
+use tatp_extents::extent_count;
 use tatp_homes::Home;
+use tatp_limits::EXTENT_SUBSCRIBERS;
 
 /// The homes from which the whole log of a number goes on, of those of the population.
 fn homes_at_first(homes: &[Home], number: u64) -> Option<&[Home]>
@@ -27,7 +28,7 @@ fn homes_at_first(homes: &[Home], number: u64) -> Option<&[Home]>
     if number > extent_count(homes.len() as u64) {
         return None;
     }
-    let size = EXTENT_SIZE as usize;
+    let size = EXTENT_SUBSCRIBERS as usize;
     let first = size * (number as usize - 1);
     Some(&homes[first..(first + size).min(homes.len())])
 }

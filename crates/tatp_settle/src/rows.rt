@@ -9,6 +9,7 @@ use crate::logs::extent_numbered;
 use crate::run::Run;
 use std::alloc::{AllocError, Global};
 use tatp_extents::extent_count;
+use tatp_limits::MAX_EXTENT_MOVES;
 use tatp_tables::Rows;
 
 /// How many extents the population makes.
@@ -53,7 +54,7 @@ pub(crate) fn count_moves(run: &Run<'_>) -> u64
 /// How often an extent was moved, 0 where it doesn't stand.
 fn moves_of(closed: &Closed, number: u64) -> u64
     ensures value { result ≡ moves_numbered closed.now number }
-    ensures most { result ≤ 65535 }
+    ensures most { result ≤ MAX_EXTENT_MOVES }
     ensures none { 2 ^ 32 ≤ number → result ≡ 0 }
 {
     match extent_numbered(closed, number) {

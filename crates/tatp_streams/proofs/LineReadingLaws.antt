@@ -9,9 +9,10 @@ use Rattle.std.proofs.lemmas.List.{append-nil, take-append-drop, take-append-le,
 use Rattle.std.proofs.lemmas.List.Folds.{prefix_len-append}
 use Rattle.std.proofs.lemmas.List.Sums.{prefix_len-le-length}
 use Rattle.std.proofs.lemmas.Option.{same_Some, none-some}
+use Rattle.tatp_limits.specs.declared.limits.TheConstants.{MAX_INPUT_BYTES}
 use Rattle.tatp_lines.specs.Lines.{lines_of}
 use Rattle.tatp_lines.proofs.LineLaws.{is_line_feed, lines_of-nil, lines_of_first, lines_of_last}
-use Rattle.tatp_streams.specs.LineReading.{most_bytes, LineReaderState, nothing_taken, LinesLeft, left_with, lines_left, Stays, Relates, steps_left, with_line, TakesLine, MeetsEnd, ReadsMore, HasNoLineFeed, HoldsNoLine, IsFirstLine}
+use Rattle.tatp_streams.specs.LineReading.{LineReaderState, nothing_taken, LinesLeft, left_with, lines_left, Stays, Relates, steps_left, with_line, TakesLine, MeetsEnd, ReadsMore, HasNoLineFeed, HoldsNoLine, IsFirstLine}
 
 -- ---- the place of the first line feed
 place_of_none : (n l : ℕ) → n ≤ l → cond (ltb n l) (Some n) None ≡ None → n ≡ l
@@ -131,8 +132,8 @@ takes_line old new known long taken h line ahead count ended number = record {
       (rw ended (taken_of old.ahead new.line new.ahead more old.ended long taken h line ahead))
       (rw (count, ended) refl));
   number = number;
-  fewer = fewer_by old.ahead new.ahead (2 * (most_bytes - old.count)) (2 * (most_bytes - new.count)) (cond old.ended 0 1) (cond new.ended 0 1) taken
-      h.some h.taken_within ahead (ap (λ n. 2 * (most_bytes - n)) count) (ap (λ b. cond b 0 1) ended);
+  fewer = fewer_by old.ahead new.ahead (2 * (MAX_INPUT_BYTES - old.count)) (2 * (MAX_INPUT_BYTES - new.count)) (cond old.ended 0 1) (cond new.ended 0 1) taken
+      h.some h.taken_within ahead (ap (λ n. 2 * (MAX_INPUT_BYTES - n)) count) (ap (λ b. cond b 0 1) ended);
 }
 
 -- bytes are read
@@ -162,11 +163,11 @@ fewer_after c c' a a' k e' most true count ahead within e more = omega (arith, c
 fewer_after c c' a a' k e' most false count ahead within e more = omega (arith, count, ahead, within, e, more refl)
 
 pub reads_more : (old new : LineReaderState) (had has : Option (List ℕ)) (read : List ℕ) → Consumes had has read → old.ended ≡ false → (new.ended ≡ true → IsAtEnd has) → (new.ended ≡ false → 0 < length read)
-    → new.ahead ≡ old.ahead ++ read → new.count ≡ old.count + length read → new.count ≤ most_bytes → new.number ≡ old.number → ReadsMore old had new has
+    → new.ahead ≡ old.ahead ++ read → new.count ≡ old.count + length read → new.count ≤ MAX_INPUT_BYTES → new.number ≡ old.number → ReadsMore old had new has
 reads_more old new had has read c o e more a n within number = record {
   left = left_after old new had has read c o e a n;
   number = number;
-  fewer = rw o (fewer_after old.count new.count (length old.ahead) (length new.ahead) (length read) (cond new.ended 0 1) most_bytes new.ended n (ap length a ∙ length-append old.ahead read) within refl more);
+  fewer = rw o (fewer_after old.count new.count (length old.ahead) (length new.ahead) (length read) (cond new.ended 0 1) MAX_INPUT_BYTES new.ended n (ap length a ∙ length-append old.ahead read) within refl more);
 }
 
 -- the end
@@ -174,7 +175,7 @@ none_left : (s : LineReaderState) (known : Option (List ℕ)) → HoldsNoLine s 
 none_left s None h e = tt
 none_left s (Some more) h e = rw (h.last e, e) lines_of-nil
 
-no_longer : (s : LineReaderState) (known : Option (List ℕ)) → s.ended ≡ true → s.count ≤ most_bytes → IfSome (lines_left s known) (λ left. left.input_length ≤ most_bytes)
+no_longer : (s : LineReaderState) (known : Option (List ℕ)) → s.ended ≡ true → s.count ≤ MAX_INPUT_BYTES → IfSome (lines_left s known) (λ left. left.input_length ≤ MAX_INPUT_BYTES)
 no_longer s None e h = tt
 no_longer s (Some more) e h = rw e (omega (arith, h))
 
@@ -197,7 +198,7 @@ takes_later old now new had have has same number fewer t = record {
 }
 
 pub meets_end : (old now : LineReaderState) (had has : Option (List ℕ)) → Stays (lines_left old had) (lines_left now has) → now.number ≡ old.number
-    → HoldsNoLine now → now.ended ≡ true → now.count ≤ most_bytes → MeetsEnd old had now has
+    → HoldsNoLine now → now.ended ≡ true → now.count ≤ MAX_INPUT_BYTES → MeetsEnd old had now has
 meets_end old now had has same number none ended within = record {
   left = same;
   none = none_left now has none ended;
@@ -218,8 +219,8 @@ relates_line (Some a) (Some l) None line P Q h s so = absurd (none-some l s)
 relates_line (Some a) (Some l) (Some k) line P Q h s so = so a k (subst (P a) (sym (same_Some (with_line line k) l s)) h)
 
 pub relates_end : (all left left' : Option LinesLeft) (P Q : LinesLeft → LinesLeft → Type 0) → Relates all left P → Stays left left'
-    → IfSome left' (λ l. l.lines ≡ []) → IfSome left' (λ l. l.input_length ≤ most_bytes)
-    → ((a l : LinesLeft) → l.lines ≡ [] → l.input_length ≤ most_bytes → P a l → Q a l) → Relates all left' Q
+    → IfSome left' (λ l. l.lines ≡ []) → IfSome left' (λ l. l.input_length ≤ MAX_INPUT_BYTES)
+    → ((a l : LinesLeft) → l.lines ≡ [] → l.input_length ≤ MAX_INPUT_BYTES → P a l → Q a l) → Relates all left' Q
 relates_end None left left' P Q h s none within so = tt
 relates_end (Some a) None left' P Q h s none within so = absurd h
 relates_end (Some a) (Some l) None P Q h s none within so = absurd (none-some l s)

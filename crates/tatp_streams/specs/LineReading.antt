@@ -1,11 +1,8 @@
 -- Lines that are taken from a reader one after another: what was taken, and what is left.
 use Rattle.std.specs.Prelude.{◌≡◌, ℕ, ◌+◌, ◌-◌, ◌*◌, ◌<◌, ◌≤◌, ◌==◌, Bool, true, false, List, [], ◌∷◌, ◌++◌, length, take, drop, position, Option, None, Some, IfSome, IsSomeAnd, if◌then◌else◌, ⊤}
 use Rattle.std.specs.Option.{option_map}
+use Rattle.tatp_limits.specs.declared.limits.TheConstants.{MAX_INPUT_BYTES}
 use Rattle.tatp_lines.specs.Lines.{lines_of}
-
--- the most bytes that are read from one input
-abbrev pub most_bytes : ℕ
-most_bytes = 134217728
 
 -- what a LineReader has read and taken
 pub record LineReaderState : Type 0 where
@@ -49,7 +46,7 @@ Relates old new P = IfSome old (λ all. IsSomeAnd new (P all))
 -- how many more steps a loop can make that takes lines and reads: each takes a byte, reads one or
 -- meets the end
 abbrev pub steps_left : LineReaderState → ℕ
-steps_left s = 2 * (most_bytes - s.count) + length s.ahead + (if s.ended then 0 else 1)
+steps_left s = 2 * (MAX_INPUT_BYTES - s.count) + length s.ahead + (if s.ended then 0 else 1)
 
 -- this line, and then those that are left
 abbrev pub with_line : List ℕ → LinesLeft → LinesLeft
@@ -67,7 +64,7 @@ pub record MeetsEnd (old : LineReaderState) (had : Option (List ℕ))
     (new : LineReaderState) (has : Option (List ℕ)) : Type 0 where
   pub left : Stays (lines_left old had) (lines_left new has)
   pub none : IfSome (lines_left new has) (λ left. left.lines ≡ [])
-  pub within : IfSome (lines_left new has) (λ left. left.input_length ≤ most_bytes)
+  pub within : IfSome (lines_left new has) (λ left. left.input_length ≤ MAX_INPUT_BYTES)
   pub number : new.number ≡ old.number
 
 -- bytes are read, or the end is met: all lines are left
@@ -95,7 +92,7 @@ pub record HoldsLines (buffer : List ℕ) (start end taken clear number count : 
   pub clear_within : taken + clear ≤ length buffer
   pub no_line_feed : HasNoLineFeed (take clear (drop taken buffer))
   pub numbered : number + length buffer ≤ count + taken
-  pub count_within : count ≤ most_bytes
+  pub count_within : count ≤ MAX_INPUT_BYTES
 
 -- the first line of bytes is so long, and takes so many of them with its line feed, whatever
 -- follows; past the end of the input nothing does

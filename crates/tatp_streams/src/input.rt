@@ -6,9 +6,7 @@ ghost use Rattle.tatp_streams.specs.declared.fault.StreamFault.TheVariants.{Read
 use crate::StreamFault;
 use std::alloc::Global;
 use std::io::Read;
-
-/// The most bytes that are read from one input.
-pub const MOST_BYTES: usize = 134_217_728;
+use tatp_limits::MAX_INPUT_BYTES;
 
 /// How many bytes are asked for at a time.
 pub(crate) const PIECE: usize = 65_536;
@@ -22,8 +20,9 @@ pub(crate) fn read_piece<R: Read>(
     bytes: &mut Vec<u8>,
 ) -> Result<bool, StreamFault>
     requires room { 0 < length piece.old }
-    requires within { before ≤ MOST_BYTES }
-    ensures within { OnOk result (before + vec_len bytes.new ≤ MOST_BYTES + vec_len bytes.old) }
+    requires within { before ≤ MAX_INPUT_BYTES }
+    ensures within { OnOk result
+        (before + vec_len bytes.new ≤ MAX_INPUT_BYTES + vec_len bytes.old) }
     ensures more { IfOk result (λ more. more ≡ true → vec_len bytes.old < vec_len bytes.new) }
     ensures end { IfOk result (λ more. more ≡ false → IsAtEnd (R.remaining reader.new)) }
     ensures taken { OnOk result ((read : List ℕ)
@@ -33,12 +32,12 @@ pub(crate) fn read_piece<R: Read>(
     ensures faults { IfErr result (λ fault. (fault ≡ ReadFault) ⊎ (fault ≡ NoMemory)) }
 {
     // One byte past the limit shows that there is too much.
-    let most = piece.len().min(MOST_BYTES - before + 1);
+    let most = piece.len().min(MAX_INPUT_BYTES - before + 1);
     let space = &mut piece[..most];
     match reader.read(space) {
         Ok(0) => Ok(false),
         Ok(count) => {
-            if count > MOST_BYTES - before {
+            if count > MAX_INPUT_BYTES - before {
                 return Err(StreamFault::ReadFault);
             }
             bytes.extend_from_slice(&space[..count])?;
@@ -48,15 +47,15 @@ pub(crate) fn read_piece<R: Read>(
     }
 }
 
-/// All that a reader gives, at most [`MOST_BYTES`] bytes. Any error of the reader ends it, an
+/// All that a reader gives, at most [`MAX_INPUT_BYTES`] bytes. Any error of the reader ends it, an
 /// interrupted read too.
 #[tactic(auto, using(crate::proofs::StreamLaws::consumes_none, crate::proofs::StreamLaws::consumes_both, crate::proofs::StreamLaws::consumed_all, crate::proofs::StreamLaws::input_within))]
 pub fn read_all<R: Read>(alloc: Global, reader: &mut R) -> Result<Vec<u8>, StreamFault>
     ensures all { IfOk result (λ all.
         IfSome (R.remaining reader.old) (λ input. all.items ≡ input)) }
-    ensures within { IfOk result (λ all. vec_len all ≤ MOST_BYTES) }
+    ensures within { IfOk result (λ all. vec_len all ≤ MAX_INPUT_BYTES) }
     ensures limit { OnOk result
-        (IfSome (R.remaining reader.old) (λ input. length input ≤ MOST_BYTES)) }
+        (IfSome (R.remaining reader.old) (λ input. length input ≤ MAX_INPUT_BYTES)) }
     ensures faults { IfErr result (λ fault. (fault ≡ ReadFault) ⊎ (fault ≡ NoMemory)) }
 {
     let mut piece = [0u8; PIECE];

@@ -8,7 +8,7 @@ mod output;
 mod text;
 
 pub use fault::StreamFault;
-pub use input::{MOST_BYTES, read_all};
+pub use input::read_all;
 pub use line_reader::LineReader;
 pub use output::{write_if_full, write_last, write_out};
 pub use text::text_of;

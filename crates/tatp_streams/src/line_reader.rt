@@ -4,10 +4,11 @@ ghost use Rattle.tatp_streams.specs.declared.fault.StreamFault.TheVariants.{Read
 ghost use Rattle.tatp_streams.specs.LineReading.{nothing_taken, HasNoLineFeed, IsFirstLine, HoldsNoLine, TakesLine, MeetsEnd, ReadsMore};
 
 use crate::StreamFault;
-use crate::input::{MOST_BYTES, PIECE, read_piece};
+use crate::input::{PIECE, read_piece};
 use std::alloc::Global;
 use std::io::Read;
 use std::marker::Model;
+use tatp_limits::MAX_INPUT_BYTES;
 
 /// The lines of a reader, taken one after another.
 ///
@@ -158,7 +159,7 @@ impl LineReader {
     /// How many lines were taken: the number of that line, counted from 1.
     pub fn number(&self) -> u64
         ensures number { result ≡ self.now.number }
-        ensures few { result ≤ MOST_BYTES }
+        ensures few { result ≤ MAX_INPUT_BYTES }
     {
         self.number
     }
@@ -166,7 +167,7 @@ impl LineReader {
     /// Whether the input has ended.
     fn is_ended(&self) -> bool
         ensures ended { result ≡ self.now.ended }
-        ensures within { self.now.count ≤ MOST_BYTES }
+        ensures within { self.now.count ≤ MAX_INPUT_BYTES }
     {
         self.ended
     }

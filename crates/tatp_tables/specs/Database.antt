@@ -15,10 +15,6 @@ pub record Database : Type 0 where
   pub facilities : Tuples
   pub forwardings : Tuples
 
--- the most subscribers of a database that is opened
-abbrev pub most_subscribers : ℕ
-most_subscribers = 1000000
-
 abbrev pub no_tables : Database
 no_tables = record {
   subscribers = no_rows;

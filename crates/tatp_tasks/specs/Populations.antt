@@ -1,18 +1,18 @@
 -- Populations that can be drawn, and runs that can be opened.
 use Rattle.std.specs.Prelude.{◌≤◌}
-use Rattle.tatp_tables.specs.Database.{most_subscribers}
+use Rattle.tatp_limits.specs.declared.limits.TheConstants.{MAX_CLIENTS, MAX_PARTITIONS, MAX_SUBSCRIBERS}
 use Rattle.tatp_tasks.specs.declared.population.Population.{Population}
 use Rattle.tatp_tasks.specs.declared.population.Population.TheVariants.{Read, Generated}
 use Rattle.tatp_tasks.specs.declared.setup.Setup.{Setup}
 
 abbrev pub IsPopulation : Population → Type 0
 IsPopulation Read = Unit {0}
-IsPopulation (Generated n seed) = (1 ≤ n) × (n ≤ most_subscribers)
+IsPopulation (Generated n seed) = (1 ≤ n) × (n ≤ MAX_SUBSCRIBERS)
 
 -- rows that can be had, over so many partitions and for so many clients as there can be
 pub record IsSetup (setup : Setup) : Type 0 where
   pub population : IsPopulation setup.population
   pub some_partitions : 1 ≤ setup.partitions
-  pub few_partitions : setup.partitions ≤ 16
+  pub few_partitions : setup.partitions ≤ MAX_PARTITIONS
   pub some_clients : 1 ≤ setup.clients
-  pub few_clients : setup.clients ≤ 64
+  pub few_clients : setup.clients ≤ MAX_CLIENTS

@@ -1,5 +1,6 @@
 -- Tasks that can be done.
 use Rattle.std.specs.Prelude.{ℕ, ◌≤◌, List, codes}
+use Rattle.tatp_limits.specs.declared.limits.TheConstants.{MAX_PARTITIONS}
 use Rattle.tatp_tasks.specs.declared.task.Task.{Task}
 use Rattle.tatp_tasks.specs.declared.task.Task.TheVariants.{Call, Trace, Asm, Dis, Check, Audit, Bench, Explain}
 use Rattle.tatp_tasks.specs.Plans.{IsPlan}
@@ -9,7 +10,7 @@ use Rattle.tatp_tasks.specs.Populations.{IsPopulation, IsSetup}
 -- benchmark can be asked for
 abbrev pub IsTask : Task → Type 0
 IsTask (Call population partitions) =
-    IsPopulation population × (1 ≤ partitions) × (partitions ≤ 16)
+    IsPopulation population × (1 ≤ partitions) × (partitions ≤ MAX_PARTITIONS)
 IsTask (Trace setup) = IsSetup setup
 IsTask (Bench plan progress) = IsPlan plan
 IsTask task = Unit {0}

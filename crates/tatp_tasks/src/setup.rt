@@ -8,8 +8,8 @@ pub struct Setup {
     pub procedures: Procedures,
     /// Where its rows come from.
     pub population: Population,
-    /// Over how many partitions they are dealt, 1 to 16.
+    /// Over how many partitions they are dealt, 1 to `MAX_PARTITIONS`.
     pub partitions: u8,
-    /// For how many clients, 1 to 64.
-    pub clients: u8,
+    /// For how many clients, 1 to `MAX_CLIENTS`.
+    pub clients: u16,
 }

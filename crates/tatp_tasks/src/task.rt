@@ -4,7 +4,7 @@ use crate::{BenchPlan, Population, Setup};
 /// What the program is asked to do: one of its commands.
 #[derive(Clone, Copy, Debug, PartialEq, Eq)]
 pub enum Task {
-    /// Answer calls, over so many partitions, 1 to 16.
+    /// Answer calls, over so many partitions, 1 to `MAX_PARTITIONS`.
     Call {
         population: Population,
         partitions: u8,

@@ -2,11 +2,11 @@
 use Rattle.std.specs.Prelude.{◌≡◌, ◌≤◌, if◌then◌else◌, List, [], ◌∷◌, map, length, Option, Some, None, Vec}
 use Rattle.std.specs.Option.{option_map}
 use Rattle.std.specs.declared.alloc.Global.{Global}
+use Rattle.tatp_limits.specs.declared.limits.TheConstants.{MAX_SUBSCRIBERS}
 use Rattle.tatp_encoding.specs.Modules.{ModuleState}
 use Rattle.tatp_tables.specs.Clean.{IsClean}
 use Rattle.tatp_tables.specs.declared.row.Rows.{Rows}
 use Rattle.tatp_procs.specs.declared.ask.Ask.{Ask}
-use Rattle.tatp_tables.specs.Database.{most_subscribers}
 use Rattle.tatp_extents.specs.Opening.{RefusesRows}
 use Rattle.tatp_extents.specs.declared.open_error.OpenError.{OpenError}
 use Rattle.tatp_extents.specs.declared.open_error.OpenError.TheVariants as opening
@@ -43,7 +43,7 @@ opening_refusal opening.NoMemory = NoMemory
 
 -- these rows are opened
 abbrev pub AreOpened : Rows → Type 0
-AreOpened rows = (length rows.subscribers ≤ most_subscribers) × IsClean rows
+AreOpened rows = (length rows.subscribers ≤ MAX_SUBSCRIBERS) × IsClean rows
 
 -- why a run of the clients' lists on these rows is refused: the rows first, then the first call
 -- that can't be run, then that a thread couldn't be started; memory may run out at any time

@@ -8,6 +8,7 @@ use crate::admission::{Admission, Arities, Port, Reader};
 use crate::calls::arities_of;
 use std::alloc::{AllocError, Global};
 use tatp_extents::Chapter;
+use tatp_limits::MAX_CLIENTS;
 use tatp_loader::Loaded;
 use tatp_locks::Partition;
 use tatp_partition::{Parcel, Site};
@@ -151,7 +152,7 @@ impl<'m, A: Arities> Reserved<'m, A> {
         partitions: usize,
         lists: &[Vec<Ask>],
     ) -> Result<Reserved<'m, A>, AllocError>
-        requires clients { length lists.now ≤ 64 }
+        requires clients { length lists.now ≤ MAX_CLIENTS }
         requires rule { arities_of loaded.now ≡ A.arities }
         ensures quit { IfOk result (λ room. vec_len room.quit ≡ partitions) }
         ensures inboxes { IfOk result

@@ -14,6 +14,7 @@ use std::marker::Brand;
 use std::sync::{Mutex, Wait};
 use std::thread::Threads;
 use tatp_extents::{Chapter, OpenError, admit, discard, open_clean, reserve_logs};
+use tatp_limits::{MAX_CLIENTS, MAX_PARTITIONS};
 use tatp_loader::Loaded;
 use tatp_locks::Partition;
 use tatp_move::Routes;
@@ -107,7 +108,7 @@ fn run_ruled<'m, R: Threads + Wait + Sync, G: Gate + Sync, A: Arities + Send + S
     setup: Setup<'m, '_>,
     gate: &G,
 ) -> Result<Ran<'m>, RunRefusal>
-    requires clients { length setup.lists.now ≤ 64 }
+    requires clients { length setup.lists.now ≤ MAX_CLIENTS }
     requires rule { arities_of setup.loaded.now ≡ A.arities }
     ensures sites { IfOk result (λ ran. vec_len ran.parts.sites ≡ vec_len setup.entry.sites) }
     ensures receipts { IfOk result
@@ -196,9 +197,9 @@ pub fn run_clean_calls<'m, R: Threads + Wait + Sync, G: Gate + Sync>(
     chapter: u64,
 ) -> Result<Ran<'m>, RunRefusal>
     requires some_partitions { 1 ≤ partitions }
-    requires few_partitions { partitions ≤ 16 }
+    requires few_partitions { partitions ≤ MAX_PARTITIONS }
     requires some_clients { 1 ≤ length lists.now }
-    requires few_clients { length lists.now ≤ 64 }
+    requires few_clients { length lists.now ≤ MAX_CLIENTS }
     requires rows { AreOpened rows }
     requires calls { obstacle_among loaded.now lists.now ≡ None }
     ensures sites { IfOk result (λ ran. vec_len ran.parts.sites ≡ partitions) }
@@ -252,9 +253,9 @@ pub fn run_calls<'m, R: Threads + Wait + Sync, G: Gate + Sync>(
     chapter: u64,
 ) -> Result<Ran<'m>, RunRefusal>
     requires some_partitions { 1 ≤ partitions }
-    requires few_partitions { partitions ≤ 16 }
+    requires few_partitions { partitions ≤ MAX_PARTITIONS }
     requires some_clients { 1 ≤ length lists.now }
-    requires few_clients { length lists.now ≤ 64 }
+    requires few_clients { length lists.now ≤ MAX_CLIENTS }
     ensures sites { IfOk result (λ ran. vec_len ran.parts.sites ≡ partitions) }
     ensures receipts { IfOk result (λ ran. vec_len ran.parts.receipts ≡ length lists.now) }
     ensures landings { IfOk result (λ ran. vec_len ran.parts.landings ≡ 0) }

@@ -9,6 +9,7 @@ use Rattle.std.proofs.lemmas.Option.{none-some, same_Some, option_and_then_some}
 use Rattle.std.proofs.lemmas.Slice.Eq.{bytes_eq-Decides}
 use Rattle.std.specs.List.{All, list_all, join_with_byte, onto_first}
 use Rattle.std.specs.Option.{IfSome, option_map, option_and_then}
+use Rattle.tatp_limits.specs.declared.limits.TheConstants.{MAX_ARGUMENTS, MAX_STEPS}
 use Rattle.tatp_lines.specs.Numbers.{number_of}
 use Rattle.tatp_lines.proofs.NumberLaws.{number_of-decimal, decimal-number_of}
 use Rattle.tatp_texts.specs.Text.{fields_of, value_of}
@@ -108,16 +109,16 @@ of_three word keyword fields build line t text form h =
     subst (PrintsAs (word ∷ fields)) n.2 (of_numbers word keyword fields (n.0.0 ∷ n.0.1 ∷ n.0.2 ∷ []) (build n.0) t (three_read fields n.0 n.1) (text n.0) (form n.0))
 
 -- steps
-within : (count : ℕ) → (leb 1 count && leb count 4096) ≡ true → (1 ≤ count) × (count ≤ 4096)
+within : (count : ℕ) → (leb 1 count && leb count MAX_STEPS) ≡ true → (1 ≤ count) × (count ≤ MAX_STEPS)
 within count h = (grind (arith, nat_tests), grind (arith, nat_tests))
 
-steps_some : (p count : ℕ) (line : TraceLine) (b : Bool) → (b ≡ true → (1 ≤ count) × (count ≤ 4096)) → cond b (Some (Steps p count)) None ≡ Some line → (line ≡ Steps p count) × (1 ≤ count) × (count ≤ 4096)
+steps_some : (p count : ℕ) (line : TraceLine) (b : Bool) → (b ≡ true → (1 ≤ count) × (count ≤ MAX_STEPS)) → cond b (Some (Steps p count)) None ≡ Some line → (line ≡ Steps p count) × (1 ≤ count) × (count ≤ MAX_STEPS)
 steps_some p count line true f h = let w = f refl in (sym (same_Some (Steps p count) line h), w.0, w.1)
 steps_some p count line false f h = absurd (none-some line h)
 
 of_steps : (word : List ℕ) (fields : List (List ℕ)) (line : TraceLine) → bytes_eq word (codes "steps") ≡ true → option_and_then (λ (n : ℕ × ℕ). steps_of n.0 n.1) (two_numbers fields) ≡ Some line → PrintsAs (word ∷ fields) line
 of_steps word fields line t h = option_and_then_some (λ (n : ℕ × ℕ). steps_of n.0 n.1) (two_numbers fields) line h (λ n is then.
-    let s = steps_some n.0 n.1 line (leb 1 n.1 && leb n.1 4096) (within n.1) then in
+    let s = steps_some n.0 n.1 line (leb 1 n.1 && leb n.1 MAX_STEPS) (within n.1) then in
     subst (PrintsAs (word ∷ fields)) (sym s.0) (of_numbers word (codes "steps") fields (n.0 ∷ n.1 ∷ []) (Steps n.0 n.1) t (two_read fields n is) refl (s.1, s.2)))
 
 of_audit : (word : List ℕ) (fields : List (List ℕ)) (line : TraceLine) → bytes_eq word (codes "audit") ≡ true → ended Audit fields ≡ Some line → PrintsAs (word ∷ fields) line
@@ -175,7 +176,7 @@ abbrev raw_fields : ℕ → RawCall → List (List ℕ)
 raw_fields client call = decimal client ∷ decimal call.procedure ∷ key_word call.key ∷ decimal (key_number call.key) ∷ map decimal call.arguments
 
 abbrev AreOfRaw : List (List ℕ) → TraceLine → Type 0
-AreOfRaw fields line = (client : ℕ) × (call : RawCall) × (line ≡ Event (Submit client (Raw call))) × (fields ≡ raw_fields client call) × (length call.arguments ≤ 8)
+AreOfRaw fields line = (client : ℕ) × (call : RawCall) × (line ≡ Event (Submit client (Raw call))) × (fields ≡ raw_fields client call) × (length call.arguments ≤ MAX_ARGUMENTS)
 
 raw_call_some : (client procedure : ℕ) (fields : List (List ℕ)) (line : TraceLine) → raw_call_of client procedure fields ≡ Some line → AreOfRaw (decimal client ∷ decimal procedure ∷ fields) line
 raw_call_some client procedure [] line h = absurd (none-some line h)
@@ -183,8 +184,8 @@ raw_call_some client procedure (word ∷ fields) line h =
     next_number_some fields _ line h (λ n more is then.
     option_and_then_some _ (key_of word n) line then (λ key named rest.
     let key_is = key_some word n key named in
-    let arguments = option_map_some _ (numbers_within 8 more) line rest in
-    let read = within_read 8 more arguments.0 arguments.1 in (
+    let arguments = option_map_some _ (numbers_within MAX_ARGUMENTS more) line rest in
+    let read = within_read MAX_ARGUMENTS more arguments.0 arguments.1 in (
       client,
       record { procedure = procedure; arguments = arguments.0; key = key },
       sym arguments.2,
@@ -311,10 +312,10 @@ three_line word build n m o w f h =
     let f₂ = later_small n (m ∷ o ∷ []) f in
     numbers_line word (n ∷ m ∷ o ∷ []) (build (n, m, o)) w f (h ∙ ap (option_map build) (three_of_decimal n m o (first_small n (m ∷ o ∷ []) f) (first_small m (o ∷ []) f₂) (first_small o [] (later_small m (o ∷ []) f₂))))
 
-tests_within : (count : ℕ) → 1 ≤ count → count ≤ 4096 → (leb 1 count && leb count 4096) ≡ true
+tests_within : (count : ℕ) → 1 ≤ count → count ≤ MAX_STEPS → (leb 1 count && leb count MAX_STEPS) ≡ true
 tests_within count h k = grind (arith, nat_tests)
 
-steps_line : (p count : ℕ) → AreSmall (p ∷ count ∷ []) → 1 ≤ count → count ≤ 4096 → line_of (line_text (Steps p count)) ≡ Some (Steps p count)
+steps_line : (p count : ℕ) → AreSmall (p ∷ count ∷ []) → 1 ≤ count → count ≤ MAX_STEPS → line_of (line_text (Steps p count)) ≡ Some (Steps p count)
 steps_line p count f h k = numbers_line (codes "steps") (p ∷ count ∷ []) (Steps p count) refl f
     (ap (option_and_then (λ (n : ℕ × ℕ). steps_of n.0 n.1)) (two_of_decimal p count (first_small p (count ∷ []) f) (first_small count [] (later_small p (count ∷ []) f)))
     ∙ ap (λ b. cond b (Some (Steps p count)) None) (tests_within count h k))
@@ -338,7 +339,7 @@ key_no_space : (key : Key) → list_all (λ byte. not (is_space byte)) (key_word
 key_no_space (Id n) = refl
 key_no_space (Number n) = refl
 
-raw_line : (client : ℕ) (call : RawCall) → AreSmall (client ∷ call.procedure ∷ key_number call.key ∷ call.arguments) → length call.arguments ≤ 8 → line_of (line_text (Event (Submit client (Raw call)))) ≡ Some (Event (Submit client (Raw call)))
+raw_line : (client : ℕ) (call : RawCall) → AreSmall (client ∷ call.procedure ∷ key_number call.key ∷ call.arguments) → length call.arguments ≤ MAX_ARGUMENTS → line_of (line_text (Event (Submit client (Raw call)))) ≡ Some (Event (Submit client (Raw call)))
 unfolding line_of
 raw_line client call f h =
     let f₂ = later_small client (call.procedure ∷ key_number call.key ∷ call.arguments) f in
@@ -352,7 +353,7 @@ raw_line client call f h =
     ∙ ap (λ rest. decimal client ∷ rest) (number_first call.procedure keyed p
     ∙ ap (λ rest. decimal call.procedure ∷ rest) (fields_of_numbers (key_word call.key) (key_number call.key ∷ call.arguments) (word_no_space (key_word call.key) (key_no_space call.key)) f₃))) in
     ap line_of_fields fields
-    ∙ rw (number_of-decimal client c, number_of-decimal call.procedure p, number_of-decimal (key_number call.key) k, key_read call.key, within_of_decimal 8 call.arguments (later_small (key_number call.key) call.arguments f₃) h) refl
+    ∙ rw (number_of-decimal client c, number_of-decimal call.procedure p, number_of-decimal (key_number call.key) k, key_read call.key, within_of_decimal MAX_ARGUMENTS call.arguments (later_small (key_number call.key) call.arguments f₃) h) refl
 
 pub line_of-line_text : (line : TraceLine) → All (λ n. n < 2 ^ 64) (line_numbers line) → HasForm line → line_of (line_text line) ≡ Some line
 line_of-line_text (Event (Submit client (Txn call))) f h = submit_line client call f h

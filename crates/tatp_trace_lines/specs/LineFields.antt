@@ -1,6 +1,7 @@
 -- The line that a text is, by its fields: docs/FORMATS.md.
 use Rattle.std.specs.Prelude.{ℕ, suc, zero, List, [], ◌∷◌, Option, Some, None, nat_le, ◌&&◌, codes, bytes_eq, if◌then◌else◌}
 use Rattle.std.specs.Option.{option_map, option_and_then}
+use Rattle.tatp_limits.specs.declared.limits.TheConstants.{MAX_ARGUMENTS, MAX_STEPS}
 use Rattle.tatp_lines.specs.Numbers.{number_of}
 use Rattle.tatp_texts.specs.Text.{fields_of}
 use Rattle.tatp_numbers.specs.declared.key.Key.{Key}
@@ -65,16 +66,17 @@ raw_line client procedure key arguments =
 abbrev pub raw_call_of : ℕ → ℕ → List (List ℕ) → Option TraceLine
 raw_call_of client procedure [] = None
 raw_call_of client procedure (word ∷ fields) = next_number fields (λ n more.
-    option_and_then (λ key. option_map (raw_line client procedure key) (numbers_within 8 more))
+    option_and_then
+    (λ key. option_map (raw_line client procedure key) (numbers_within MAX_ARGUMENTS more))
     (key_of word n))
 
 abbrev pub raw_of : List (List ℕ) → Option TraceLine
 raw_of fields = next_number fields (λ client more. next_number more (raw_call_of client))
 
 -- ---- steps
--- 1 to 4,096 of them
+-- as many of them as a call can make
 abbrev pub steps_of : ℕ → ℕ → Option TraceLine
-steps_of p count = if nat_le 1 count && nat_le count 4096 then Some (Steps p count) else None
+steps_of p count = if nat_le 1 count && nat_le count MAX_STEPS then Some (Steps p count) else None
 
 abbrev pub steps_in : List (List ℕ) → Option TraceLine
 steps_in fields = option_and_then (λ (n : ℕ × ℕ). steps_of n.0 n.1) (two_numbers fields)

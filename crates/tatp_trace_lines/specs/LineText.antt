@@ -1,5 +1,6 @@
 -- The text of a line: docs/FORMATS.md.
 use Rattle.std.specs.Prelude.{◌≡◌, ℕ, ◌≤◌, true, List, [], ◌∷◌, ◌++◌, length, codes, decimal}
+use Rattle.tatp_limits.specs.declared.limits.TheConstants.{MAX_ARGUMENTS, MAX_STEPS}
 use Rattle.tatp_numbers.specs.declared.key.Key.{Key}
 use Rattle.tatp_numbers.specs.declared.key.Key.TheVariants.{Id, Number}
 use Rattle.tatp_procs.specs.declared.ask.Ask.{Ask}
@@ -85,17 +86,17 @@ line_numbers (Look p) = p ∷ []
 line_numbers (Home p s_id) = p ∷ s_id ∷ []
 line_numbers Audit = []
 
--- a call's 15-digit numbers are in their domains, or it has at most 8 arguments
+-- a call's 15-digit numbers are in their domains, or it has no more arguments than a call can
 abbrev pub HasAskForm : Ask → Type 0
 HasAskForm (Txn call) = is_printable_call call ≡ true
-HasAskForm (Raw call) = length call.arguments ≤ 8
+HasAskForm (Raw call) = length call.arguments ≤ MAX_ARGUMENTS
 
 abbrev pub HasEventForm : AnEvent → Type 0
 HasEventForm (Submit client ask) = HasAskForm ask
 HasEventForm event = Unit {0}
 
--- its calls have that form, and steps are 1 to 4,096
+-- its calls have that form, and steps are as many as a call can make
 abbrev pub HasForm : TraceLine → Type 0
 HasForm (Event event) = HasEventForm event
-HasForm (Steps p count) = (1 ≤ count) × (count ≤ 4096)
+HasForm (Steps p count) = (1 ≤ count) × (count ≤ MAX_STEPS)
 HasForm line = Unit {0}

@@ -10,6 +10,7 @@ use crate::TraceLine;
 use calls::{raw, submitted};
 use numbers::{one_number, three_numbers, two_numbers};
 use tatp_events::Event;
+use tatp_limits::MAX_STEPS;
 use tatp_texts::Fields;
 
 /// The line that a text is, exactly where it is one.
@@ -75,12 +76,12 @@ fn line_of(text: &str) -> Option<TraceLine>
     }
 }
 
-/// A partition, and how many steps: 1 to 4,096.
+/// A partition, and how many steps: 1 to [`MAX_STEPS`].
 fn steps(fields: &mut Fields) -> Option<TraceLine>
     ensures { result ≡ steps_in fields.old }
 {
     let (partition, count) = two_numbers(fields)?;
-    if 1 <= count && count <= 4096 {
+    if 1 <= count && count <= MAX_STEPS as u64 {
         Some(TraceLine::Steps(partition, count))
     } else {
         None

@@ -1,6 +1,5 @@
 //! A whole that is opened.
 ghost use Rattle.std.specs.Prelude.{◌≡◌, ◌≤◌, [], IfOk, IfErr, OnOk, length, replicate};
-ghost use Rattle.tatp_tables.specs.Database.{most_subscribers};
 ghost use Rattle.tatp_tables.specs.Clean.{IsClean};
 ghost use Rattle.tatp_extents.specs.Opening.{RefusesRows};
 ghost use Rattle.tatp_move.specs.Routing.{opened_routes};
@@ -12,6 +11,7 @@ use crate::queue::Queue;
 use std::alloc::{AllocError, Global};
 use tatp_logs::Completions;
 use tatp_extents::{OpenError, admit, discard, open_clean};
+use tatp_limits::{MAX_CLIENTS, MAX_PARTITIONS, MAX_SUBSCRIBERS};
 use tatp_loader::Loaded;
 use tatp_move::Routes;
 use tatp_partition::{CompletionPlace, Slots, open_sites};
@@ -29,7 +29,7 @@ fn empty_queues(alloc: Global, partitions: u8) -> Result<Vec<Queue>, AllocError>
 }
 
 /// So many clients that have asked nothing.
-fn new_clients(alloc: Global, clients: u8) -> Result<Vec<Client>, AllocError>
+fn new_clients(alloc: Global, clients: u16) -> Result<Vec<Client>, AllocError>
     ensures { IfOk result (λ made. made.items ≡ replicate clients new_client) }
 {
     let mut made = Vec::with_capacity(alloc, clients as usize)?;
@@ -58,9 +58,9 @@ impl FrontEnd {
         alloc: Global,
         subscribers: u64,
         partitions: u8,
-        clients: u8,
+        clients: u16,
     ) -> Result<FrontEnd, AllocError>
-        requires few { subscribers ≤ most_subscribers }
+        requires few { subscribers ≤ MAX_SUBSCRIBERS }
         requires some { 1 ≤ partitions }
         ensures routes { IfOk result
             (λ front. front.routes ≡ opened_routes subscribers partitions) }
@@ -77,6 +77,7 @@ impl FrontEnd {
 }
 
 impl<'m> World<'m> {
+    ghost use Rattle.tatp_limits.specs.declared.limits.TheConstants.{MAX_CLIENTS, MAX_PARTITIONS, MAX_SUBSCRIBERS};
     ghost use Rattle.tatp_dispatch.specs.Opened.{IsOpened};
     ghost use Rattle.tatp_dispatch.specs.Serving.{IsWorld};
 
@@ -87,14 +88,14 @@ impl<'m> World<'m> {
         loaded: &'m Loaded,
         rows: Rows,
         partitions: u8,
-        clients: u8,
+        clients: u16,
     ) -> Result<World<'m>, OpenError>
         requires some_partitions { 1 ≤ partitions }
-        requires few_partitions { partitions ≤ 16 }
-        requires few_clients { clients ≤ 64 }
+        requires few_partitions { partitions ≤ MAX_PARTITIONS }
+        requires few_clients { clients ≤ MAX_CLIENTS }
         ensures opened { IfOk result (IsOpened loaded.now rows partitions clients) }
         ensures world { IfOk result IsWorld }
-        ensures few { OnOk result (length rows.subscribers ≤ most_subscribers) }
+        ensures few { OnOk result (length rows.subscribers ≤ MAX_SUBSCRIBERS) }
         ensures clean { OnOk result (IsClean rows) }
         ensures refusal { IfErr result (RefusesRows rows) }
     {
@@ -110,13 +111,13 @@ impl<'m> World<'m> {
         loaded: &'m Loaded,
         rows: Rows,
         partitions: u8,
-        clients: u8,
+        clients: u16,
     ) -> Result<World<'m>, AllocError>
         requires some_partitions { 1 ≤ partitions }
-        requires few_partitions { partitions ≤ 16 }
-        requires few_clients { clients ≤ 64 }
+        requires few_partitions { partitions ≤ MAX_PARTITIONS }
+        requires few_clients { clients ≤ MAX_CLIENTS }
         requires clean { IsClean rows }
-        requires few { length rows.subscribers ≤ most_subscribers }
+        requires few { length rows.subscribers ≤ MAX_SUBSCRIBERS }
         ensures opened { IfOk result (IsOpened loaded.now rows partitions clients) }
         ensures world { IfOk result IsWorld }
     {

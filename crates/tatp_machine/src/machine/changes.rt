@@ -8,10 +8,10 @@ ghost use Rattle.tatp_machine.specs.Sound.{FitsAt};
 use super::Machine;
 use crate::change::{Change, byte};
 use crate::progress::Write;
-use crate::{End, MAX_STEPS, Progress, Trap};
+use crate::{End, Progress, Trap};
 use tatp_homes::{Home, Refusal, what_holds_of_every_home};
 use tatp_instr::{Instr, Register, RowRegisters};
-use tatp_loader::MAX_WRITES;
+use tatp_limits::{MAX_STEPS, MAX_WRITES};
 use tatp_tables::Table;
 
 impl<'m> Machine<'m> {

@@ -5,6 +5,7 @@ ghost use Rattle.tatp_machine.specs.Machines.{machine_at_entry};
 
 use super::{Machine, kept};
 use crate::current::Current;
+use tatp_limits::REGISTERS;
 use tatp_loader::Loaded;
 
 impl<'m> Machine<'m> {
@@ -30,7 +31,7 @@ impl<'m> Machine<'m> {
         self.version = module.version();
         self.procedure = procedure;
         self.home = home;
-        self.registers = [0; 16];
+        self.registers = [0; REGISTERS];
         self.current = Current::none();
         self.argument_count = proc.arity() as usize;
         self.arguments = kept(arguments);

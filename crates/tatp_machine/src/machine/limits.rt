@@ -5,9 +5,8 @@ ghost use Rattle.tatp_loader.specs.Lawful.{is_end};
 ghost use Rattle.tatp_machine.specs.Instructions.{is_last_step};
 
 use super::Machine;
-use crate::MAX_STEPS;
 use tatp_instr::Instr;
-use tatp_loader::{MAX_OUTS, MAX_WRITES};
+use tatp_limits::{MAX_OUTPUTS, MAX_STEPS, MAX_WRITES};
 
 impl<'m> Machine<'m> {
     /// Whether the next step is the last that the call may make.
@@ -21,9 +20,9 @@ impl<'m> Machine<'m> {
     /// Whether the call may put out one value more.
     #[inline(always)]
     pub(super) fn may_put_out(&self) -> bool
-        ensures { result ≡ nat_lt (length self.now.frame.outputs) MAX_OUTS }
+        ensures { result ≡ nat_lt (length self.now.frame.outputs) MAX_OUTPUTS }
     {
-        self.output_count < MAX_OUTS
+        self.output_count < MAX_OUTPUTS
     }
 
     /// Whether the call may make one write more.

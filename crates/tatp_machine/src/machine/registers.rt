@@ -7,9 +7,9 @@ ghost use Rattle.tatp_machine.specs.Machines.{Reads};
 ghost use Rattle.tatp_machine.specs.Sound.{FitsAt};
 
 use super::Machine;
-use crate::{MAX_STEPS, Progress};
+use crate::Progress;
 use tatp_instr::{Instr, Register};
-use tatp_loader::MAX_OUTS;
+use tatp_limits::{MAX_OUTPUTS, MAX_STEPS};
 
 impl<'m> Machine<'m> {
     pub(super) fn ldi(&mut self, d: Register, n: u32) -> Progress
@@ -97,7 +97,7 @@ impl<'m> Machine<'m> {
     pub(super) fn out(&mut self, a: Register) -> Progress
         requires here { IsNext self.old.frame (Instr.Out a) }
         requires more { self.old.frame.steps + 1 < MAX_STEPS }
-        requires room { length self.old.frame.outputs < MAX_OUTS }
+        requires room { length self.old.frame.outputs < MAX_OUTPUTS }
         ensures { (v : Database) → Reads (Instr.Out a) self.old v result self.new }
     {
         let x = self.value(a);

@@ -2,10 +2,11 @@
 ghost use Rattle.std.specs.Prelude.{◌≡◌, ◌+◌, ◌≤◌, [], ◌∷◌};
 
 use tatp_instr::{Register, Registers};
+use tatp_limits::REGISTERS;
 
 /// COUNT registers, from this one on.
 pub(super) fn registers_from<const COUNT: u8>(number: u8) -> Registers<COUNT>
-    requires { number + COUNT ≤ 16 }
+    requires { number + COUNT ≤ REGISTERS }
     ensures { result ≡ number }
 {
     Registers::new(number).unwrap()

@@ -328,7 +328,7 @@ fn made_again<R: Threads + Wait + Sync>(
         return Ok(None);
     }
     let rows = clean_rows(alloc, SUBSCRIBERS, &[])?;
-    match World::open(alloc, &loaded, rows, 1, CLIENTS as u8) {
+    match World::open(alloc, &loaded, rows, 1, CLIENTS as u16) {
         Err(_) => Err("not opened".into()),
         Ok(mut world) => {
             let same = same_replies(&mut world, &lists, &left.receipts, &clock);

@@ -3,6 +3,7 @@ ghost use Rattle.std.specs.Prelude.{◌≡◌, None, Some, MatchOption};
 ghost use Rattle.tatp_trace_lines.specs.LineFields.{one_number, two_numbers, three_numbers, numbers_within};
 
 use arrayvec::ArrayVec;
+use tatp_limits::MAX_ARGUMENTS;
 use tatp_lines::read_number;
 use tatp_texts::Fields;
 
@@ -35,13 +36,13 @@ pub(super) fn three_numbers(fields: &mut Fields) -> Option<(u64, u64, u64)>
     Some((first, second, third))
 }
 
-/// Eight at most.
+/// As many as a call can have arguments, at most.
 #[tactic(auto, using(crate::proofs::NumberLaws::none_read, crate::proofs::NumberLaws::none_left, crate::proofs::NumberLaws::bad_left, crate::proofs::NumberLaws::too_many_left, crate::proofs::NumberLaws::one_read))]
-pub(super) fn eight_numbers(fields: &mut Fields) -> Option<ArrayVec<u64, 8>>
-    ensures { MatchOption result (numbers_within 8 fields.old ≡ None)
-        (λ numbers. numbers_within 8 fields.old ≡ Some numbers.items) }
+pub(super) fn eight_numbers(fields: &mut Fields) -> Option<ArrayVec<u64, MAX_ARGUMENTS>>
+    ensures { MatchOption result (numbers_within MAX_ARGUMENTS fields.old ≡ None)
+        (λ numbers. numbers_within MAX_ARGUMENTS fields.old ≡ Some numbers.items) }
 {
-    let mut numbers: ArrayVec<u64, 8> = ArrayVec::new();
+    let mut numbers: ArrayVec<u64, MAX_ARGUMENTS> = ArrayVec::new();
     'fields: loop {
         let Some(field) = fields.next() else {
             return Some(numbers);

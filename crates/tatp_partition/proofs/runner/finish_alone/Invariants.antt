@@ -1,5 +1,5 @@
 use Rattle.std.proofs.Common.{◌≡◌, ℕ, ◌-◌, false, None}
-use Rattle.tatp_machine.specs.declared.progress.TheConstants.{MAX_STEPS}
+use Rattle.tatp_limits.specs.declared.limits.TheConstants.{MAX_STEPS}
 use Rattle.tatp_partition.specs.Runners.{GoesOnAlone}
 use Rattle.tatp_partition.proofs.runner.finish_alone.Given as goal
 

@@ -1,5 +1,5 @@
 use Rattle.std.proofs.Common.{◌≡◌, ℕ, ◌-◌, false, Some}
-use Rattle.tatp_machine.specs.declared.progress.TheConstants.{MAX_STEPS}
+use Rattle.tatp_limits.specs.declared.limits.TheConstants.{MAX_STEPS}
 use Rattle.tatp_partition.specs.Runners.{GoesOnOnHome}
 use Rattle.tatp_partition.proofs.runner.finish_on_home.Given as goal
 

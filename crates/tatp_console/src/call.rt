@@ -77,8 +77,9 @@ impl LineCommand for Calls {
 /// Reads rows and calls, or calls alone, and writes a reply to each line of calls.
 ///
 /// The rows are opened before the first reply is written; then all replies to the lines that have
-/// come, before it waits for more. No more than [`MAX_INPUT_BYTES`] bytes are read. Each call is run
-/// to its end before the next, over so many partitions, which changes nothing of what is written.
+/// come, before it waits for more. No more than [`MAX_INPUT_BYTES`] bytes are read. Each call is
+/// run to its end before the next, over so many partitions, which changes nothing of what is
+/// written.
 pub fn run_call<R: Read, W: Write>(
     alloc: Global,
     reader: &mut R,

@@ -1,2 +1,4 @@
+pub mod Asked
+pub mod CommandLine
 pub mod Numbers
 pub mod Options

@@ -1,9 +1,8 @@
--- Options that take a number, among what a parse of the words found.
-use Rattle.std.specs.Prelude.{ℕ, ◌≤◌, List, Option, Some, None, option_map}
+-- Options that take a number, among what the words of a command give.
+use Rattle.std.specs.Prelude.{ℕ, ◌≤◌, Bool, List, Option, Some, None, option_map, IfSome}
 use Rattle.std.specs.Option.{option_or}
 use Rattle.std.specs.Str.Parse.{IsNumeral, digits_value}
-use Rattle.clap.specs.Matches.{first_value}
-use Rattle.clap.specs.declared.parser.matches.Found.{Found}
+use Rattle.clap.specs.Walk.{Row, first_of}
 use Rattle.tatp_command_line.specs.declared.options.NumberOption.{NumberOption}
 
 -- ---- texts
@@ -22,28 +21,40 @@ number_given None = 0
 number_given (Some text) = digits_value 10 text
 
 -- ---- options
--- an option: its word, its least and its greatest number, and the text that counts where it isn't
--- given
+-- an option: its name, whether it is the number alone or comes after its name and two hyphens, its
+-- least and its greatest number, the text that counts where it isn't given, and whether it has to be
 pub record Ranged : Type 0 where
   pub name : List ℕ
+  pub alone : Bool
   pub least : ℕ
   pub most : ℕ
   pub default : Option (List ℕ)
+  pub required : Bool
 
 abbrev pub asked_by : NumberOption → Ranged
 asked_by option = record {
   name = option.name.now;
+  alone = option.alone;
   least = option.least;
   most = option.most;
   default = option_map (λ text. text.now) option.default;
+  required = option.required;
 }
 
-abbrev pub text_asked : Ranged → Found → Option (List ℕ)
-text_asked option found = option_or (first_value found option.name) option.default
+abbrev pub text_asked : Ranged → List Row → Option (List ℕ)
+text_asked option given = option_or (first_of option.name given) option.default
 
 -- it has a number of its range
-abbrev pub HasNumber : Ranged → Found → Type 0
-HasNumber option found = IsGivenIn option.least option.most (text_asked option found)
+abbrev pub HasNumber : Ranged → List Row → Type 0
+HasNumber option given = IsGivenIn option.least option.most (text_asked option given)
 
-abbrev pub number_asked : Ranged → Found → ℕ
-number_asked option found = number_given (text_asked option found)
+abbrev pub number_asked : Ranged → List Row → ℕ
+number_asked option given = number_given (text_asked option given)
+
+-- the same, of an option that needn't be given
+abbrev pub HasNumberIfGiven : Ranged → List Row → Type 0
+HasNumberIfGiven option given =
+    IfSome (first_of option.name given) (IsNumberIn option.least option.most)
+
+abbrev pub number_if_given : Ranged → List Row → Option ℕ
+number_if_given option given = option_map (digits_value 10) (first_of option.name given)

@@ -1,10 +1,8 @@
--- What the options of a command ask for, among what a parse of the words found.
-use Rattle.std.specs.Prelude.{ℕ, ◌^◌, ◌-◌, Bool, false, List, Option, Some, None, option_map, IfSome, codes, bytes_eq, if◌then◌else◌}
+-- What the options of a command ask for, among what its words give.
+use Rattle.std.specs.Prelude.{ℕ, ◌^◌, ◌-◌, Bool, true, false, List, Option, Some, None, codes, bytes_eq, if◌then◌else◌}
 use Rattle.std.specs.Option.{option_map_or}
-use Rattle.std.specs.Str.Parse.{digits_value}
+use Rattle.clap.specs.Walk.{Row, first_of}
 use Rattle.tatp_limits.specs.declared.limits.TheConstants.{MAX_BENCH_CALLS, MAX_BENCH_CHAPTER, MAX_BENCH_MOVES, MAX_BENCH_STOPS, MAX_CLIENTS, MAX_PARTITIONS, MAX_SUBSCRIBERS}
-use Rattle.clap.specs.Matches.{first_value}
-use Rattle.clap.specs.declared.parser.matches.Found.{Found}
 use Rattle.tatp_driver.specs.declared.distribution.Distribution.{Distribution}
 use Rattle.tatp_driver.specs.declared.distribution.Distribution.TheVariants.{Skewed, Uniform}
 use Rattle.tatp_tasks.specs.declared.plan.BenchPlan.{BenchPlan}
@@ -13,131 +11,123 @@ use Rattle.tatp_tasks.specs.declared.population.Population.TheVariants.{Read, Ge
 use Rattle.tatp_tasks.specs.declared.procedures.Procedures.{Procedures}
 use Rattle.tatp_tasks.specs.declared.procedures.Procedures.TheVariants as procedures
 use Rattle.tatp_tasks.specs.declared.setup.Setup.{Setup}
-use Rattle.tatp_command_line.specs.Numbers.{IsNumberIn, Ranged, HasNumber, number_asked}
+use Rattle.tatp_command_line.specs.Numbers.{Ranged, HasNumber, number_asked, HasNumberIfGiven, number_if_given}
 
 -- ---- the options that take a number
-abbrev pub subscribers : Ranged
-subscribers = record {
-  name = codes "subscribers";
-  least = 1;
-  most = MAX_SUBSCRIBERS;
+-- one that has to be given
+abbrev required_from : ℕ → ℕ → List ℕ → Ranged
+required_from least most name = record {
+  name = name;
+  alone = false;
+  least = least;
+  most = most;
   default = None;
+  required = true;
 }
+
+-- one that need not
+abbrev optional_from : ℕ → ℕ → Option (List ℕ) → List ℕ → Ranged
+optional_from least most default name = record {
+  name = name;
+  alone = false;
+  least = least;
+  most = most;
+  default = default;
+  required = false;
+}
+
+abbrev pub gen : Ranged
+gen = optional_from 1 MAX_SUBSCRIBERS None (codes "gen")
+
+abbrev pub subscribers : Ranged
+subscribers = required_from 1 MAX_SUBSCRIBERS (codes "subscribers")
 
 abbrev pub seed : Ranged
-seed = record { name = codes "seed"; least = 0; most = 2 ^ 64 - 1; default = Some (codes "1") }
+seed = optional_from 0 (2 ^ 64 - 1) (Some (codes "1")) (codes "seed")
 
 abbrev pub partitions : Ranged
-partitions = record {
-  name = codes "partitions";
-  least = 1;
-  most = MAX_PARTITIONS;
-  default = Some (codes "2");
-}
+partitions = optional_from 1 MAX_PARTITIONS (Some (codes "2")) (codes "partitions")
 
 abbrev pub clients : Ranged
-clients = record {
-  name = codes "clients";
-  least = 1;
-  most = MAX_CLIENTS;
-  default = Some (codes "4");
-}
+clients = optional_from 1 MAX_CLIENTS (Some (codes "4")) (codes "clients")
 
 abbrev pub calls : Ranged
-calls = record { name = codes "calls"; least = 1; most = MAX_BENCH_CALLS; default = None }
+calls = required_from 1 MAX_BENCH_CALLS (codes "calls")
 
 abbrev pub moves : Ranged
-moves = record {
-  name = codes "moves";
-  least = 0;
-  most = MAX_BENCH_MOVES;
-  default = Some (codes "0");
-}
+moves = optional_from 0 MAX_BENCH_MOVES (Some (codes "0")) (codes "moves")
 
 abbrev pub stops : Ranged
-stops = record {
-  name = codes "stops";
-  least = 0;
-  most = MAX_BENCH_STOPS;
-  default = Some (codes "0");
-}
+stops = optional_from 0 MAX_BENCH_STOPS (Some (codes "0")) (codes "stops")
 
 abbrev pub chapter : Ranged
-chapter = record {
-  name = codes "chapter";
-  least = 1;
-  most = MAX_BENCH_CHAPTER;
-  default = Some (codes "1000");
-}
+chapter = optional_from 1 MAX_BENCH_CHAPTER (Some (codes "1000")) (codes "chapter")
+
+-- the number that is to be explained, a word without an option before it
+abbrev pub number : Ranged
+number = record (optional_from 0 (2 ^ 64 - 1) None (codes "number")) { alone = true }
 
 -- ---- the switches
 -- the switch of this name is given
-abbrev pub is_given : List ℕ → Found → Bool
-is_given name found =
-    option_map_or (λ text. bytes_eq text (codes "true")) (first_value found name) false
+abbrev pub is_given : List ℕ → List Row → Bool
+is_given name given =
+    option_map_or (λ text. bytes_eq text (codes "true")) (first_of name given) false
 
-abbrev pub distribution_asked : Found → Distribution
-distribution_asked found = if is_given (codes "uniform") found then Uniform else Skewed
+abbrev pub distribution_asked : List Row → Distribution
+distribution_asked given = if is_given (codes "uniform") given then Uniform else Skewed
 
 -- without --procedures they are the standard module's
-abbrev pub procedures_asked : Found → Procedures
-procedures_asked found =
-    if is_given (codes "procedures") found then procedures.Read else procedures.Standard
+abbrev pub procedures_asked : List Row → Procedures
+procedures_asked given =
+    if is_given (codes "procedures") given then procedures.Read else procedures.Standard
 
 -- ---- the population: without --gen its rows are read
-abbrev pub HasPopulation : Found → Type 0
-HasPopulation found =
-    HasNumber seed found × IfSome (first_value found (codes "gen")) (IsNumberIn 1 MAX_SUBSCRIBERS)
+abbrev pub HasPopulation : List Row → Type 0
+HasPopulation given =
+    HasNumber seed given × HasNumberIfGiven gen given
 
--- by the text of --gen, where it was given, and the number of --seed
-abbrev pub population_by : Option (List ℕ) → ℕ → Population
-population_by None number = Read
-population_by (Some text) number = Generated (digits_value 10 text) number
+-- by the number of --gen, where it was given, and of --seed
+abbrev pub population_by : Option ℕ → ℕ → Population
+population_by None seed = Read
+population_by (Some subscribers) seed = Generated subscribers seed
 
-abbrev pub population_asked : Found → Population
-population_asked found = population_by (first_value found (codes "gen")) (number_asked seed found)
+abbrev pub population_asked : List Row → Population
+population_asked given = population_by (number_if_given gen given) (number_asked seed given)
 
 -- ---- what a run over events is opened with
-pub record HasSetup (found : Found) : Type 0 where
-  pub population : HasPopulation found
-  pub partitions : HasNumber partitions found
-  pub clients : HasNumber clients found
+pub record HasSetup (given : List Row) : Type 0 where
+  pub population : HasPopulation given
+  pub partitions : HasNumber partitions given
+  pub clients : HasNumber clients given
 
-abbrev pub setup_asked : Found → Setup
-setup_asked found = record {
-  procedures = procedures_asked found;
-  population = population_asked found;
-  partitions = number_asked partitions found;
-  clients = number_asked clients found;
+abbrev pub setup_asked : List Row → Setup
+setup_asked given = record {
+  procedures = procedures_asked given;
+  population = population_asked given;
+  partitions = number_asked partitions given;
+  clients = number_asked clients given;
 }
 
 -- ---- the run of the benchmark
-pub record HasPlan (found : Found) : Type 0 where
-  pub subscribers : HasNumber subscribers found
-  pub partitions : HasNumber partitions found
-  pub clients : HasNumber clients found
-  pub calls : HasNumber calls found
-  pub seed : HasNumber seed found
-  pub moves : HasNumber moves found
-  pub stops : HasNumber stops found
-  pub chapter : HasNumber chapter found
+pub record HasPlan (given : List Row) : Type 0 where
+  pub subscribers : HasNumber subscribers given
+  pub partitions : HasNumber partitions given
+  pub clients : HasNumber clients given
+  pub calls : HasNumber calls given
+  pub seed : HasNumber seed given
+  pub moves : HasNumber moves given
+  pub stops : HasNumber stops given
+  pub chapter : HasNumber chapter given
 
-abbrev pub plan_asked : Found → BenchPlan
-plan_asked found = record {
-  subscribers = number_asked subscribers found;
-  partitions = number_asked partitions found;
-  clients = number_asked clients found;
-  calls = number_asked calls found;
-  seed = number_asked seed found;
-  distribution = distribution_asked found;
-  moves = number_asked moves found;
-  stops = number_asked stops found;
-  chapter = number_asked chapter found;
+abbrev pub plan_asked : List Row → BenchPlan
+plan_asked given = record {
+  subscribers = number_asked subscribers given;
+  partitions = number_asked partitions given;
+  clients = number_asked clients given;
+  calls = number_asked calls given;
+  seed = number_asked seed given;
+  distribution = distribution_asked given;
+  moves = number_asked moves given;
+  stops = number_asked stops given;
+  chapter = number_asked chapter given;
 }
-
--- ---- the number that is to be explained, where one is given
-abbrev pub HasNumberToExplain : Found → Type 0
-HasNumberToExplain found = IfSome (first_value found (codes "number")) (IsNumberIn 0 (2 ^ 64 - 1))
-
-abbrev pub number_to_explain : Found → Option ℕ
-number_to_explain found = option_map (digits_value 10) (first_value found (codes "number"))

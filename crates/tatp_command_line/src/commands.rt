@@ -1,4 +1,9 @@
 //! The commands of the command line, with their options.
+ghost use Rattle.std.specs.Prelude.{◌≡◌, ◌++◌, [], ◌∷◌, true, false, IfOk, codes};
+ghost use Rattle.clap.specs.Walk.{rule_of};
+ghost use Rattle.tatp_command_line.specs.CommandLine.{number_rule, switch_rule, command_with, rows_rules, trace_rules, bench_rules, meanwhile_rules, program, command_line, IsApp, IsLeaf};
+ghost use Rattle.tatp_command_line.specs.Options.{number};
+
 use crate::help::{ASM, AUDIT, BENCH, CALL, CHECK, DIS, EXPLAIN, PROGRAM, TRACE};
 use crate::options::{
     CALLS, CHAPTER, CLIENTS, GEN, MOVES, NUMBER, PARTITIONS, SEED, STOPS, SUBSCRIBERS,
@@ -7,7 +12,10 @@ use clap::{Arg, ArgAction, Command};
 use std::alloc::{AllocError, Global};
 
 /// A switch: it is given, or it isn't.
-fn switch<'a>(alloc: Global, name: &'a str, help: &'a str) -> Arg<'a> {
+fn switch<'a>(alloc: Global, name: &'a str, help: &'a str) -> Arg<'a>
+    ensures rule { rule_of result ≡ switch_rule name.entry.now }
+    ensures own { result.global ≡ false }
+{
     Arg::new(alloc, name)
         .long(name)
         .action(ArgAction::SetTrue)
@@ -15,7 +23,9 @@ fn switch<'a>(alloc: Global, name: &'a str, help: &'a str) -> Arg<'a> {
 }
 
 /// A command over rows that the input brings, or that are drawn.
-fn over_rows<'a>(alloc: Global, name: &'a str, about: &'a str) -> Result<Command<'a>, AllocError> {
+fn over_rows<'a>(alloc: Global, name: &'a str, about: &'a str) -> Result<Command<'a>, AllocError>
+    ensures { IfOk result (IsLeaf (command_with rows_rules name.entry.now)) }
+{
     Command::new(alloc, name)
         .about(about)
         .arg(GEN.arg(alloc))?
@@ -23,7 +33,9 @@ fn over_rows<'a>(alloc: Global, name: &'a str, about: &'a str) -> Result<Command
         .arg(PARTITIONS.arg(alloc))
 }
 
-fn call<'a>(alloc: Global) -> Result<Command<'a>, AllocError> {
+fn call<'a>(alloc: Global) -> Result<Command<'a>, AllocError>
+    ensures { IfOk result (IsLeaf (command_with rows_rules (codes "call"))) }
+{
     let command = over_rows(
         alloc,
         "call",
@@ -32,7 +44,9 @@ fn call<'a>(alloc: Global) -> Result<Command<'a>, AllocError> {
     Ok(command.after_help(CALL))
 }
 
-fn trace<'a>(alloc: Global) -> Result<Command<'a>, AllocError> {
+fn trace<'a>(alloc: Global) -> Result<Command<'a>, AllocError>
+    ensures { IfOk result (IsLeaf (command_with trace_rules (codes "trace"))) }
+{
     let command = over_rows(
         alloc,
         "trace",
@@ -47,7 +61,9 @@ fn trace<'a>(alloc: Global) -> Result<Command<'a>, AllocError> {
 }
 
 /// The options of a run of the benchmark that tell of its database and its clients.
-fn bench<'a>(alloc: Global) -> Result<Command<'a>, AllocError> {
+fn bench<'a>(alloc: Global) -> Result<Command<'a>, AllocError>
+    ensures { IfOk result (IsLeaf (command_with bench_rules (codes "bench"))) }
+{
     Command::new(alloc, "bench")
         .about("Run clients, moves and stops as threads at once, and settle what they leave")
         .after_help(BENCH)
@@ -59,7 +75,10 @@ fn bench<'a>(alloc: Global) -> Result<Command<'a>, AllocError> {
 }
 
 /// The same, with the options that tell what happens beside the calls.
-fn bench_with_moves<'a>(alloc: Global) -> Result<Command<'a>, AllocError> {
+fn bench_with_moves<'a>(alloc: Global) -> Result<Command<'a>, AllocError>
+    ensures { IfOk result
+        (IsLeaf (command_with (bench_rules ++ meanwhile_rules) (codes "bench"))) }
+{
     bench(alloc)?
         .arg(switch(
             alloc,
@@ -76,7 +95,9 @@ fn bench_with_moves<'a>(alloc: Global) -> Result<Command<'a>, AllocError> {
         ))
 }
 
-fn explain<'a>(alloc: Global) -> Result<Command<'a>, AllocError> {
+fn explain<'a>(alloc: Global) -> Result<Command<'a>, AllocError>
+    ensures { IfOk result (IsLeaf (command_with (number_rule number ∷ []) (codes "explain"))) }
+{
     Command::new(alloc, "explain")
         .about("Say what the number of a refusal or a fault means, and what to do")
         .after_help(EXPLAIN)
@@ -84,12 +105,16 @@ fn explain<'a>(alloc: Global) -> Result<Command<'a>, AllocError> {
 }
 
 /// A command without options.
-fn plain<'a>(alloc: Global, name: &'a str, about: &'a str, more: &'a str) -> Command<'a> {
+fn plain<'a>(alloc: Global, name: &'a str, about: &'a str, more: &'a str) -> Command<'a>
+    ensures { IsLeaf (command_with [] name.entry.now) result }
+{
     Command::new(alloc, name).about(about).after_help(more)
 }
 
-/// The program's command line.
-pub(crate) fn command<'a>(alloc: Global) -> Result<Command<'a>, AllocError> {
+/// The program, without its commands.
+fn program<'a>(alloc: Global) -> Command<'a>
+    ensures { IsLeaf (record program { is_leaf = true }) result }
+{
     Command::new(alloc, "tatp")
         .version("0.1.0")
         .propagate_version(true)
@@ -97,6 +122,13 @@ pub(crate) fn command<'a>(alloc: Global) -> Result<Command<'a>, AllocError> {
         .after_help(PROGRAM)
         .arg_required_else_help(true)
         .subcommand_required(true)
+}
+
+/// The program's command line.
+pub(crate) fn command<'a>(alloc: Global) -> Result<Command<'a>, AllocError>
+    ensures { IfOk result (IsApp command_line) }
+{
+    program(alloc)
         .subcommand(call(alloc)?)?
         .subcommand(trace(alloc)?)?
         .subcommand(plain(

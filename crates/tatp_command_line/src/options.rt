@@ -1,9 +1,12 @@
 //! The options, and a word, that take a number.
-ghost use Rattle.std.specs.Prelude.{◌≡◌, ◌==◌, ◌≤◌, SomeIff, OkIff, IfOk, slice_index};
+ghost use Rattle.std.specs.Prelude.{◌≡◌, ◌==◌, ◌≤◌, false, SomeIff, OkIff, IfOk, IfSome, slice_index};
 ghost use Rattle.std.specs.Option.{option_map};
 ghost use Rattle.std.specs.Str.Parse.{digits_value};
 ghost use Rattle.clap.specs.Matches.{found_of};
-ghost use Rattle.tatp_command_line.specs.Numbers.{IsNumberIn, asked_by, text_asked, HasNumber, number_asked};
+ghost use Rattle.clap.specs.Walk.{rows_of, rule_of, first_of};
+ghost use Rattle.tatp_command_line.specs.CommandLine.{number_rule};
+ghost use Rattle.tatp_command_line.specs.Numbers.{IsNumberIn, asked_by, text_asked, HasNumber, number_asked, HasNumberIfGiven, number_if_given};
+ghost use Rattle.tatp_command_line.specs.Options.{is_given};
 
 use clap::{Arg, ArgMatches};
 use std::alloc::Global;
@@ -162,10 +165,31 @@ fn number_in(text: &str, least: u64, most: u64) -> Option<u64>
     }
 }
 
+/// The text that an option is given, or has by default.
+fn given<'a>(options: &ArgMatches<'a>, name: &str) -> Option<&'a str>
+    ensures { option_map (λ text. text.now) result
+        ≡ first_of name.now (rows_of (found_of options.now)) }
+{
+    options.get_str(name)
+}
+
+/// Whether a switch is given.
+pub(crate) fn is_given(options: &ArgMatches<'_>, name: &str) -> bool
+    ensures { result ≡ is_given name.now (rows_of (found_of options.now)) }
+{
+    match given(options, name) {
+        Some(text) => text == "true",
+        None => false,
+    }
+}
+
 impl NumberOption {
     /// The argument that the parse of the words looks for. It takes any text, which is read
     /// afterwards.
-    pub(crate) fn arg<'a>(&self, alloc: Global) -> Arg<'a> {
+    pub(crate) fn arg<'a>(&self, alloc: Global) -> Arg<'a>
+        ensures rule { rule_of result ≡ number_rule (asked_by self.now) }
+        ensures own { result.global ≡ false }
+    {
         let arg = Arg::new(alloc, self.name)
             .value_name(self.value)
             .required(self.required)
@@ -194,9 +218,9 @@ impl NumberOption {
     /// The text that it is given, or what counts where it isn't given.
     fn text<'a>(&self, options: &ArgMatches<'a>) -> Option<&'a str>
         ensures { option_map (λ text. text.now) result
-            ≡ text_asked (asked_by self.now) (found_of options.now) }
+            ≡ text_asked (asked_by self.now) (rows_of (found_of options.now)) }
     {
-        match options.get_str(self.name) {
+        match given(options, self.name) {
             Some(text) => Some(text),
             None => self.default,
         }
@@ -204,8 +228,11 @@ impl NumberOption {
 
     /// The number that is asked for, of an option that is required or has a default.
     pub(crate) fn number<'a>(&self, options: &ArgMatches<'a>) -> Result<u64, BadNumber<'a>>
-        ensures asked { OkIff result (HasNumber (asked_by self.now) (found_of options.now))
-            (number_asked (asked_by self.now) (found_of options.now)) }
+        ensures asked {
+            let given = rows_of (found_of options.now) in
+            OkIff result (HasNumber (asked_by self.now) given)
+                (number_asked (asked_by self.now) given)
+        }
         ensures least { IfOk result (λ number. self.now.least ≤ number) }
         ensures most { IfOk result (λ number. number ≤ self.now.most) }
     {
@@ -216,6 +243,25 @@ impl NumberOption {
                 option: *self,
                 text: "",
             }),
+        }
+    }
+
+    /// The number that is asked for, where one is given.
+    pub(crate) fn number_if_given<'a>(
+        &self,
+        options: &ArgMatches<'a>,
+    ) -> Result<Option<u64>, BadNumber<'a>>
+        ensures asked {
+            let given = rows_of (found_of options.now) in
+            OkIff result (HasNumberIfGiven (asked_by self.now) given)
+                (number_if_given (asked_by self.now) given)
+        }
+        ensures least { IfOk result (λ found. IfSome found (λ number. self.now.least ≤ number)) }
+        ensures most { IfOk result (λ found. IfSome found (λ number. number ≤ self.now.most)) }
+    {
+        match given(options, self.name) {
+            None => Ok(None),
+            Some(text) => Ok(Some(self.read(text)?)),
         }
     }
 }

@@ -1,15 +1,20 @@
 //! The task that the words of the command line name.
-ghost use Rattle.std.specs.Prelude.{◌≡◌, ◌≤◌, Some, IfOk, IfSome, OkIff};
-ghost use Rattle.clap.specs.Matches.{found_of, subcommand_name_of};
+ghost use Rattle.std.specs.Prelude.{◌≡◌, ◌≤◌, Ok, None, Some, map, IfOk, IfSome, IfErr, IsSomeAnd, OkIff};
+ghost use Rattle.std.specs.String.{string_bytes};
+ghost use Rattle.clap.specs.Matches.{found_of};
+ghost use Rattle.clap.specs.Simple.{subcommand_rows_of};
+ghost use Rattle.clap.specs.Walk.{rows_of};
 ghost use Rattle.tatp_tasks.specs.Plans.{IsPlan};
 ghost use Rattle.tatp_tasks.specs.Populations.{IsPopulation, IsSetup};
-ghost use Rattle.tatp_tasks.specs.Tasks.{IsTask, name_of};
+ghost use Rattle.tatp_tasks.specs.Tasks.{IsTask};
+ghost use Rattle.tatp_command_line.specs.Asked.{IsNamedBy, AskFor};
 ghost use Rattle.tatp_command_line.specs.Numbers.{HasNumber, number_asked};
-ghost use Rattle.tatp_command_line.specs.Options.{partitions, clients, HasPopulation, population_asked, HasSetup, setup_asked, HasPlan, plan_asked, distribution_asked, procedures_asked, HasNumberToExplain, number_to_explain};
+ghost use Rattle.tatp_command_line.specs.Options.{partitions, clients, HasPopulation, population_asked, HasSetup, setup_asked, HasPlan, plan_asked, distribution_asked, procedures_asked};
 
 use crate::commands::command;
 use crate::options::{
     BadNumber, CALLS, CHAPTER, CLIENTS, GEN, MOVES, NUMBER, PARTITIONS, SEED, STOPS, SUBSCRIBERS,
+    is_given,
 };
 use clap::error::ErrorKind;
 use clap::{ArgMatches, Error};
@@ -20,34 +25,32 @@ use tatp_tasks::{BenchPlan, Population, Procedures, Setup, Task};
 
 /// Where the procedures of a run come from.
 fn procedures_of(options: &ArgMatches<'_>) -> Procedures
-    ensures { result ≡ procedures_asked (found_of options.now) }
+    ensures { result ≡ procedures_asked (rows_of (found_of options.now)) }
 {
-    match options.get_str("procedures") {
-        Some("true") => Procedures::Read,
-        _ => Procedures::Standard,
+    if is_given(options, "procedures") {
+        Procedures::Read
+    } else {
+        Procedures::Standard
     }
 }
 
 /// Where the rows of a run come from.
 fn population_of<'a>(options: &ArgMatches<'a>) -> Result<Population, BadNumber<'a>>
-    ensures asked { OkIff result (HasPopulation (found_of options.now))
-        (population_asked (found_of options.now)) }
+    ensures asked { OkIff result (HasPopulation (rows_of (found_of options.now)))
+        (population_asked (rows_of (found_of options.now))) }
     ensures drawn { IfOk result IsPopulation }
 {
     let seed = SEED.number(options)?;
-    match options.get_str(GEN.name) {
+    match GEN.number_if_given(options)? {
         None => Ok(Population::Read),
-        Some(text) => Ok(Population::Generated {
-            subscribers: GEN.read(text)?,
-            seed,
-        }),
+        Some(subscribers) => Ok(Population::Generated { subscribers, seed }),
     }
 }
 
 /// In how many partitions the rows are opened.
 fn partitions_of<'a>(options: &ArgMatches<'a>) -> Result<u8, BadNumber<'a>>
-    ensures asked { OkIff result (HasNumber partitions (found_of options.now))
-        (number_asked partitions (found_of options.now)) }
+    ensures asked { OkIff result (HasNumber partitions (rows_of (found_of options.now)))
+        (number_asked partitions (rows_of (found_of options.now))) }
     ensures least { IfOk result (λ number. 1 ≤ number) }
     ensures most { IfOk result (λ number. number ≤ MAX_PARTITIONS) }
 {
@@ -56,8 +59,8 @@ fn partitions_of<'a>(options: &ArgMatches<'a>) -> Result<u8, BadNumber<'a>>
 
 /// How many clients there are.
 fn clients_of<'a>(options: &ArgMatches<'a>) -> Result<u16, BadNumber<'a>>
-    ensures asked { OkIff result (HasNumber clients (found_of options.now))
-        (number_asked clients (found_of options.now)) }
+    ensures asked { OkIff result (HasNumber clients (rows_of (found_of options.now)))
+        (number_asked clients (rows_of (found_of options.now))) }
     ensures least { IfOk result (λ number. 1 ≤ number) }
     ensures most { IfOk result (λ number. number ≤ MAX_CLIENTS) }
 {
@@ -66,8 +69,8 @@ fn clients_of<'a>(options: &ArgMatches<'a>) -> Result<u16, BadNumber<'a>>
 
 /// What a run over events is opened with.
 fn setup_of<'a>(options: &ArgMatches<'a>) -> Result<Setup, BadNumber<'a>>
-    ensures asked { OkIff result (HasSetup (found_of options.now))
-        (setup_asked (found_of options.now)) }
+    ensures asked { OkIff result (HasSetup (rows_of (found_of options.now)))
+        (setup_asked (rows_of (found_of options.now))) }
     ensures possible { IfOk result IsSetup }
 {
     Ok(Setup {
@@ -80,18 +83,19 @@ fn setup_of<'a>(options: &ArgMatches<'a>) -> Result<Setup, BadNumber<'a>>
 
 /// How calls are distributed over the subscribers.
 fn distribution_of(options: &ArgMatches<'_>) -> Distribution
-    ensures { result ≡ distribution_asked (found_of options.now) }
+    ensures { result ≡ distribution_asked (rows_of (found_of options.now)) }
 {
-    match options.get_str("uniform") {
-        Some("true") => Distribution::Uniform,
-        _ => Distribution::Skewed,
+    if is_given(options, "uniform") {
+        Distribution::Uniform
+    } else {
+        Distribution::Skewed
     }
 }
 
 /// The run of the benchmark that is asked for.
 fn plan_of<'a>(options: &ArgMatches<'a>) -> Result<BenchPlan, BadNumber<'a>>
-    ensures asked { OkIff result (HasPlan (found_of options.now))
-        (plan_asked (found_of options.now)) }
+    ensures asked { OkIff result (HasPlan (rows_of (found_of options.now)))
+        (plan_asked (rows_of (found_of options.now))) }
     ensures possible { IfOk result IsPlan }
 {
     Ok(BenchPlan {
@@ -107,21 +111,10 @@ fn plan_of<'a>(options: &ArgMatches<'a>) -> Result<BenchPlan, BadNumber<'a>>
     })
 }
 
-/// The number that is to be explained, where one is given.
-fn explained_of<'a>(options: &ArgMatches<'a>) -> Result<Option<u64>, BadNumber<'a>>
-    ensures { OkIff result (HasNumberToExplain (found_of options.now))
-        (number_to_explain (found_of options.now)) }
-{
-    match options.get_str(NUMBER.name) {
-        None => Ok(None),
-        Some(text) => Ok(Some(NUMBER.read(text)?)),
-    }
-}
-
 /// The task that the words were found to name; none where they name no command.
 fn task_in<'a>(matches: &ArgMatches<'a>) -> Result<Option<Task>, BadNumber<'a>>
-    ensures named { IfOk result (λ found. IfSome found (λ task.
-        subcommand_name_of matches.now ≡ Some (name_of task))) }
+    ensures asked { IfOk result (λ found. IfSome found (λ task.
+        IsSomeAnd (subcommand_rows_of matches.now) (λ command. IsNamedBy command task))) }
     ensures possible { IfOk result (λ found. IfSome found IsTask) }
 {
     let Some((name, options)) = matches.subcommand() else {
@@ -139,16 +132,17 @@ fn task_in<'a>(matches: &ArgMatches<'a>) -> Result<Option<Task>, BadNumber<'a>>
         "audit" => Ok(Some(Task::Audit)),
         "bench" => Ok(Some(Task::Bench {
             plan: plan_of(options)?,
-            progress: options.get_flag("progress"),
+            progress: is_given(options, "progress"),
         })),
-        "explain" => Ok(Some(Task::Explain(explained_of(options)?))),
+        "explain" => Ok(Some(Task::Explain(NUMBER.number_if_given(options)?))),
         _ => Ok(None),
     }
 }
 
 /// What the words ask for; an error holds the text that they are answered with.
 pub fn task_of(alloc: Global, words: &[String]) -> Result<Task, Error>
-    ensures { IfOk result IsTask }
+    ensures asked { IfOk result (AskFor (map string_bytes words.now)) }
+    ensures possible { IfOk result IsTask }
 {
     let matches = command(alloc)?.try_get_matches_from(words)?;
     match task_in(&matches) {

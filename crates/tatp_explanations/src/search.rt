@@ -1,5 +1,6 @@
 //! The explanation of a number.
 ghost use Rattle.std.specs.Prelude.{◌≡◌, true, IfSome, is_some};
+ghost use Rattle.tatp_explanations.specs.Names.{name_of};
 ghost use Rattle.tatp_explanations.specs.Numbers.{is_explained};
 
 use crate::Explanation;
@@ -11,7 +12,8 @@ use crate::table::{
 /// The explanation of a number from 1 to 57.
 fn explained(number: u64) -> Explanation
     requires { is_explained number ≡ true }
-    ensures { result.number ≡ number }
+    ensures own { result.number ≡ number }
+    ensures named { result.name.now ≡ name_of number }
 {
     match number {
         0..=5 => about_changes(number),
@@ -30,6 +32,7 @@ fn explained(number: u64) -> Explanation
 /// The explanation of a number, if it is one of a refusal or a fault.
 pub fn explanation_of(number: u64) -> Option<Explanation>
     ensures own { IfSome result (λ row. row.number ≡ number) }
+    ensures named { IfSome result (λ row. row.name.now ≡ name_of number) }
     ensures some { is_some result ≡ is_explained number }
 {
     if number == 0 || number > 57 {

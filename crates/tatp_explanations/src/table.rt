@@ -1,5 +1,6 @@
 //! The table of all refusals and faults.
 ghost use Rattle.std.specs.Prelude.{◌≡◌, ◌≤◌};
+ghost use Rattle.tatp_explanations.specs.Names.{name_of};
 
 use crate::Explanation;
 
@@ -27,7 +28,8 @@ macro_rules! row_of {
 pub(crate) fn about_changes(number: u64) -> Explanation
     requires least { 1 ≤ number }
     requires most { number ≤ 5 }
-    ensures { result.number ≡ number }
+    ensures own { result.number ≡ number }
+    ensures named { result.name.now ≡ name_of number }
 {
     row_of!(number,
         1 "NoCurrent" "no row has the key"
@@ -72,7 +74,8 @@ pub(crate) fn about_changes(number: u64) -> Explanation
 pub(crate) fn about_texts(number: u64) -> Explanation
     requires least { 6 ≤ number }
     requires most { number ≤ 12 }
-    ensures { result.number ≡ number }
+    ensures own { result.number ≡ number }
+    ensures named { result.name.now ≡ name_of number }
 {
     row_of!(number,
         6 "BadOp" "there is no such op"
@@ -124,7 +127,8 @@ pub(crate) fn about_texts(number: u64) -> Explanation
 pub(crate) fn about_modules(number: u64) -> Explanation
     requires least { 13 ≤ number }
     requires most { number ≤ 17 }
-    ensures { result.number ≡ number }
+    ensures own { result.number ≡ number }
+    ensures named { result.name.now ≡ name_of number }
 {
     row_of!(number,
         13 "Truncated" "the bytes end before a field is whole"
@@ -161,7 +165,8 @@ pub(crate) fn about_modules(number: u64) -> Explanation
 pub(crate) fn about_rules(number: u64) -> Explanation
     requires least { 18 ≤ number }
     requires most { number ≤ 24 }
-    ensures { result.number ≡ number }
+    ensures own { result.number ≡ number }
+    ensures named { result.name.now ≡ name_of number }
 {
     row_of!(number,
         18 "BackwardJump" "a JMP or JZ to itself or backwards"
@@ -211,7 +216,8 @@ pub(crate) fn about_rules(number: u64) -> Explanation
 pub(crate) fn about_openings(number: u64) -> Explanation
     requires least { 25 ≤ number }
     requires most { number ≤ 28 }
-    ensures { result.number ≡ number }
+    ensures own { result.number ≡ number }
+    ensures named { result.name.now ≡ name_of number }
 {
     row_of!(number,
         25 "NumberTwice" "two subscribers have one sub_nbr"
@@ -244,7 +250,8 @@ pub(crate) fn about_openings(number: u64) -> Explanation
 pub(crate) fn about_machines(number: u64) -> Explanation
     requires least { 29 ≤ number }
     requires most { number ≤ 34 }
-    ensures { result.number ≡ number }
+    ensures own { result.number ≡ number }
+    ensures named { result.name.now ≡ name_of number }
 {
     row_of!(number,
         29 "Running" "a call runs"
@@ -287,7 +294,8 @@ pub(crate) fn about_machines(number: u64) -> Explanation
 pub(crate) fn about_places(number: u64) -> Explanation
     requires least { 35 ≤ number }
     requires most { number ≤ 40 }
-    ensures { result.number ≡ number }
+    ensures own { result.number ≡ number }
+    ensures named { result.name.now ≡ name_of number }
 {
     row_of!(number,
         35 "MoveCountFull" "the extent was moved 65,535 times"
@@ -326,7 +334,8 @@ pub(crate) fn about_places(number: u64) -> Explanation
 pub(crate) fn about_queues(number: u64) -> Explanation
     requires least { 41 ≤ number }
     requires most { number ≤ 46 }
-    ensures { result.number ≡ number }
+    ensures own { result.number ≡ number }
+    ensures named { result.name.now ≡ name_of number }
 {
     row_of!(number,
         41 "ClientBusy" "a call of the client is under way"
@@ -367,7 +376,8 @@ pub(crate) fn about_queues(number: u64) -> Explanation
 pub(crate) fn about_streams(number: u64) -> Explanation
     requires least { 47 ≤ number }
     requires most { number ≤ 52 }
-    ensures { result.number ≡ number }
+    ensures own { result.number ≡ number }
+    ensures named { result.name.now ≡ name_of number }
 {
     row_of!(number,
         47 "ReadFault" "the input can't be read, or is longer than is read"
@@ -406,7 +416,8 @@ pub(crate) fn about_streams(number: u64) -> Explanation
 pub(crate) fn about_logs(number: u64) -> Explanation
     requires least { 53 ≤ number }
     requires most { number ≤ 57 }
-    ensures { result.number ≡ number }
+    ensures own { result.number ≡ number }
+    ensures named { result.name.now ≡ name_of number }
 {
     row_of!(number,
         53 "ForwardLoop" "a LOOP to a later instruction"
@@ -425,8 +436,8 @@ pub(crate) fn about_logs(number: u64) -> Explanation
   REFUSED 55 ChapterCountFull"
             "  Make fewer checkpoints. The extent goes on without them."
         56 "WrongHome" "the home of a call isn't the subscriber whom its key names"
-            "  In the library: Site::begin of an item whose home is 2 and whose key is the
-  s_id 1."
+            "  In the library: Site::offer_begin of an item whose home is 2 and whose key is
+  the s_id 1."
             "  Take the home from the directory: Directory::home_of the key."
         57 "NoThread" "a thread can't be started"
             "  bench, where ulimit -u allows 10 threads in all."

@@ -10,6 +10,7 @@ returns-in_err-write_last-in-Some-clause-faults g c =
     let is : IsExplanation c.args.number c.as_bytes.result.now = record {
       row = c.in-Some.explanation;
       own = c.in-Some.ensures.own;
+      named = c.in-Some.ensures.named;
       told = search rules;
     } in
     rw (p.1, p.2)

@@ -1,0 +1,32 @@
+-- The task that the words of the command line ask for.
+use Rattle.std.specs.Prelude.{◌≡◌, List, IsSomeAnd, codes}
+use Rattle.clap.specs.Walk.{Row, Text}
+use Rattle.clap.specs.Simple.{subcommand_of}
+use Rattle.tatp_tasks.specs.declared.task.Task.{Task}
+use Rattle.tatp_tasks.specs.declared.task.Task.TheVariants.{Call, Trace, Bench, Explain}
+use Rattle.tatp_tasks.specs.Tasks.{name_of}
+use Rattle.tatp_command_line.specs.Numbers.{HasNumber, number_asked, HasNumberIfGiven, number_if_given}
+use Rattle.tatp_command_line.specs.Options.{partitions, number, is_given, HasPopulation, population_asked, HasSetup, setup_asked, HasPlan, plan_asked}
+use Rattle.tatp_command_line.specs.CommandLine.{command_line}
+
+-- the options of the task's command have their values, and each field of the task is what they ask
+-- for
+abbrev pub IsAskedBy : List Row → Task → Type 0
+IsAskedBy given (Call population over) =
+    (HasPopulation given × HasNumber partitions given)
+    × (population ≡ population_asked given) × (over ≡ number_asked partitions given)
+IsAskedBy given (Trace setup) = HasSetup given × (setup ≡ setup_asked given)
+IsAskedBy given (Bench plan progress) =
+    HasPlan given × (plan ≡ plan_asked given) × (progress ≡ is_given (codes "progress") given)
+IsAskedBy given (Explain explained) =
+    HasNumberIfGiven number given × (explained ≡ number_if_given number given)
+IsAskedBy given task = Unit {0}
+
+-- it is the command of this name, with what its words give
+abbrev pub IsNamedBy : Text × List Row → Task → Type 0
+IsNamedBy command task = (command.0 ≡ name_of task) × IsAskedBy command.1 task
+
+-- the words, of which the first is the program's name, ask for the task
+abbrev pub AskFor : List Text → Task → Type 0
+AskFor words task =
+    IsSomeAnd (subcommand_of command_line words) (λ command. IsNamedBy command task)

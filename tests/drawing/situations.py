@@ -1,6 +1,6 @@
-"""What 200 runs of drawn events have to reach: each answer and each refusal of each kind of line, and situations. A trap
-NoCurrent comes only in a procedure of one's own, since each GET, PUT and DEL of the standard module stands behind a find
-that was tested."""
+"""What 200 runs of drawn events have to reach: each answer and each refusal of each kind of line, and situations. A
+trap NoCurrent comes only in a procedure of one's own, since each GET, PUT and DEL of the standard module stands behind
+a find that was tested."""
 from model.calls import STANDARD
 
 from .damage import DAMAGES

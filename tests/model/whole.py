@@ -26,7 +26,7 @@ class Site:
 
 
 class Log:
-    """What an extent's calls leave: whether it is mixed, how many chapters were handed out, and how many calls since."""
+    """What an extent's calls leave: whether it is mixed, how many chapters it handed out, and how many calls since."""
 
     def __init__(self):
         self.is_mixed, self.chapters, self.entries = False, 0, 0

@@ -1,5 +1,5 @@
-"""What an edit is: lines `file: src/FILE.rt`, `old: TEXT` (once in that file) and `new: TEXT`. Whether it can be applied
-is judged as rt does it. Texts are bytes here, which latin-1 keeps as they are."""
+"""What an edit is: lines `file: src/FILE.rt`, `old: TEXT` (once in that file) and `new: TEXT`. Whether it can be
+applied is judged as rt does it. Texts are bytes here, which latin-1 keeps as they are."""
 import os
 import re
 

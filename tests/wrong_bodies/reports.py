@@ -62,11 +62,12 @@ def verdict_of(label, said):
 def judge(label, said):
     """Whether the prover refused a wrong body that it tried alone, and what is to be said of it, or None."""
     verdict = verdict_of(label, said)
-    if verdict.startswith("refused, as it must be (only because"):
+    how = verdict.removeprefix("refused, as it must be ")
+    if how.startswith("(only because"):
         # This shows nothing of a contract.
-        return False, "failed: %s: refused only for a name: %s" % (label, verdict.removeprefix("refused, as it must be "))
-    if verdict.startswith("refused, as it must be (only by"):
-        return True, "note: %s: %s" % (label, verdict.removeprefix("refused, as it must be "))
+        return False, "failed: %s: refused only for a name: %s" % (label, how)
+    if how.startswith("(only by"):
+        return True, "note: %s: %s" % (label, how)
     if verdict.startswith("refused, as it must be"):
         return True, None
     # BAD EDIT, NOT REFUSED, or nothing.

@@ -1,6 +1,6 @@
-"""Which wrong bodies are tried at once. A proof sees the contracts of other functions and not their bodies: so a round has
-a wrong body of each of many functions. What changes more or other than the inside of one function has a round of its own,
-in which any function counts."""
+"""Which wrong bodies are tried at once. A proof sees the contracts of other functions and not their bodies: so a round
+has a wrong body of each of many functions. What changes more or other than the inside of one function has a round of
+its own, in which any function counts."""
 import collections
 
 from .functions import insides

@@ -87,8 +87,8 @@ def copy_repository(names, to):
 
 
 class Lane:
-    """One crate's wrong bodies, tried in a repository of their own, since one rt keeps others out of a crate's folder and
-    of those below. The crates below are the same files there: nothing writes to them."""
+    """One crate's wrong bodies, tried in a repository of their own, since one rt keeps others out of a crate's folder
+    and of those below. The crates below are the same files there: nothing writes to them."""
 
     def __init__(self, prover, room, name):
         self.prover, self.name = prover, name

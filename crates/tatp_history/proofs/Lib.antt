@@ -14,3 +14,5 @@ pub mod LineLaws
 pub mod SubscriberEventLaws
 pub mod JudgedLaws
 pub mod CutLaws
+pub mod OutcomeLaws
+pub mod TurnLaws

@@ -6,3 +6,5 @@ pub mod Events
 pub mod JustInTime
 pub mod Configurations
 pub mod SubscriberEvents
+pub mod Outcomes
+pub mod Turns

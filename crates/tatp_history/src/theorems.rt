@@ -2,13 +2,18 @@
 ghost use Rattle.std.specs.Prelude.{◌≡◌, ◌↔◌, ℕ, suc, List, [], ◌++◌, length};
 ghost use Rattle.tatp_tables.specs.Database.{Database, of_subscriber};
 ghost use Rattle.tatp_procs.specs.declared.call.Call.TheVariants.{GetSubscriberData, GetNewDestination, GetAccessData};
+ghost use Rattle.tatp_procs.specs.declared.call.Call.{Call};
+ghost use Rattle.tatp_procs.specs.declared.reply.Reply.{Reply};
+ghost use Rattle.tatp_procs.specs.Order.{in_order};
 ghost use Rattle.tatp_procs.specs.Transactions.{transaction};
 ghost use Rattle.tatp_procs.specs.Consistent.{IsConsistent};
 ghost use Rattle.tatp_history.specs.declared.event.Event.{Event};
 ghost use Rattle.tatp_history.specs.declared.line.Line.{Line};
 ghost use Rattle.tatp_history.specs.declared.observed.Observed.{Observed};
-ghost use Rattle.tatp_history.specs.Histories.{MayHaveReply, IsStrictlySerializable, rows_after, IsStrictlySerializableTo};
+ghost use Rattle.tatp_history.specs.Histories.{MayHaveReply, AreAnsweredInOrder, IsStrictlySerializable, rows_after, IsStrictlySerializableTo};
 ghost use Rattle.tatp_history.specs.HistoryLines.{calls_of, AreAcceptedLines};
+ghost use Rattle.tatp_history.specs.Outcomes.{without_aborted, answered_alone};
+ghost use Rattle.tatp_history.specs.Turns.{AreInTurn, lines_in_turn, calls_made, replies_had};
 ghost use Rattle.tatp_history.specs.Locality.{AreInTime, AreAccepted, AreCalls, calls_on, FailWithout, IsSerializableAtEach, IsSerializableToEach};
 ghost use Rattle.tatp_history.specs.Prefixes.{calls_by};
 ghost use Rattle.tatp_history.specs.Events.{asked_in, TimesRise, HaveEnds};
@@ -16,8 +21,9 @@ ghost use Rattle.tatp_history.specs.JustInTime.{Chooses, AreOpen, Explains};
 ghost use Rattle.tatp_history.specs.Configurations.{Configuration, starting, Lead, LeadToSome, AreUnanswered, IsRead};
 ghost use Rattle.tatp_history.specs.SubscriberEvents.{NothingIsOpen, events_of, events_from};
 
-/// Strict serializability is local (Herlihy and Wing, 1990): calls are strictly serializable exactly
-/// where each subscriber's calls are on that subscriber's rows, and those that name none fail.
+/// Strict serializability is local (Herlihy and Wing, 1990): calls are strictly serializable
+/// exactly where each subscriber's calls are on that subscriber's rows, and those that name none
+/// fail.
 pub fn strict_serializability_is_local()
     ensures combined { (u : Database) (calls : List Observed)
         → IsConsistent u → AreCalls calls
@@ -41,7 +47,8 @@ pub fn strict_serializability_to_rows_is_local()
 pub fn rows_are_left_by_each_subscribers_calls()
     ensures { (u : Database) (order : List Observed) (s : ℕ)
         → IsConsistent u → AreAccepted order
-        → of_subscriber (rows_after u order) s ≡ rows_after (of_subscriber u s) (calls_on u s order) }
+        → of_subscriber (rows_after u order) s
+        ≡ rows_after (of_subscriber u s) (calls_on u s order) }
 {}
 
 /// Databases in which each subscriber has the same rows are equal.
@@ -50,6 +57,25 @@ pub fn equal_rows_of_each_subscriber_are_equal_databases()
         → IsConsistent u → IsConsistent v
         → ((s : ℕ) → of_subscriber u s ≡ of_subscriber v s)
         → u ≡ v }
+{}
+
+/// Calls of which no two overlap are strictly serializable exactly where each has the reply of its
+/// transaction, in their order; so it is with the history of a client that waits for each reply.
+pub fn calls_in_turn_are_answered_in_order()
+    ensures calls { (u : Database) (calls : List Observed)
+        → AreInTurn calls → AreInTime calls
+        → (IsStrictlySerializable u calls ↔ AreAnsweredInOrder u calls) }
+    ensures lines { (u : Database) (pairs : List (Call × Reply))
+        → (IsStrictlySerializable u (calls_of (lines_in_turn pairs))
+        ↔ (replies_had pairs ≡ (in_order u (calls_made pairs)).replies)) }
+{}
+
+/// Calls that were aborted change nothing, and those of unknown outcome may.
+pub fn only_answered_calls_have_to_take_effect()
+    ensures aborted { (u : Database) (calls : List Observed)
+        → (IsStrictlySerializable u (without_aborted calls) ↔ IsStrictlySerializable u calls) }
+    ensures unknown { (u : Database) (calls : List Observed)
+        → IsStrictlySerializable u (answered_alone calls) → IsStrictlySerializable u calls }
 {}
 
 /// Lowe's search, just in time, goes through the events of calls exactly where these are strictly

@@ -1,0 +1,3 @@
+//! What is compared, and with what.
+mod drawn;
+mod machine;

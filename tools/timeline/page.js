@@ -370,6 +370,13 @@ function showCursor(step) {
   }
 }
 
+// The address names the step, a moment later: browsers don't let it change hundreds of times in a few seconds.
+let renaming = 0;
+function nameStep() {
+  renaming = 0;
+  history.replaceState(null, "", `#${current}`);
+}
+
 function show(step) {
   step = Math.max(0, Math.min(run.end, step));
   if (step === current) return;
@@ -382,7 +389,7 @@ function show(step) {
   showCursor(step);
   list.scrollTop = entry.offsetTop - list.clientHeight / 2;
   $("where").textContent = `step ${step} of ${run.end}`;
-  history.replaceState(null, "", `#${step}`);
+  if (!renaming) renaming = setTimeout(nameStep, 100);
   if (step === run.end) play(false);
 }
 

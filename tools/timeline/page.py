@@ -10,12 +10,13 @@ from pathlib import Path
 
 from picture import GUTTER, summary
 
-HERE = Path(__file__).resolve().parent
+BROWSER = Path(__file__).resolve().parent / "browser"
+SCRIPTS = ("tracks", "machines", "homes", "world", "steps", "reader")
 
 
 def page(title, picture, watcher, source, explain):
     """The lines of the page; `explain` gives what the program says of a refusal's number."""
-    script = (HERE / "page.js").read_text()
+    script = "\n".join((BROWSER / f"{name}.js").read_text() for name in SCRIPTS)
     policy = "default-src 'none'; style-src 'unsafe-inline'; script-src " + _hash(script)
     strip = picture.lines()
     numbers = sorted({_refusal(step) for step in watcher.steps} - {None}, key=int)
@@ -28,7 +29,7 @@ def page(title, picture, watcher, source, explain):
     yield f'<meta http-equiv="Content-Security-Policy" content="{policy}">'
     yield f"<title>A run of {escape(title)}</title>"
     yield "<style>"
-    yield (HERE / "page.css").read_text().rstrip("\n")
+    yield (BROWSER / "page.css").read_text().rstrip("\n")
     yield "</style>"
     yield "</head>"
     yield "<body>"

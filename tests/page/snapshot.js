@@ -1,4 +1,4 @@
-// What stands in a page of ./timeline --page at its current step, as tests/page compares it.
+// What stands in a page of ./timeline --page at its current step, as the tests compare it.
 (() => {
   const text = (node) => (node ? node.textContent : "");
   const all = (node, selector) => [...node.querySelectorAll(selector)];

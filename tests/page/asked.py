@@ -1,4 +1,4 @@
-"""What tests/page expects of a page: the lines of a run asked again, each with looks and homes behind it, and what trace
+"""What the tests of pages expect of a page: the lines of a run asked again, each with looks and homes behind it, and what trace
 then answers. This is a reading of FORMATS of its own: nothing of tools/timeline is used.
 """
 

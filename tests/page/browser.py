@@ -107,9 +107,10 @@ class Browser:
         scheme = {"name": "prefers-color-scheme", "value": "dark" if dark else "light"}
         self.ask("Emulation.setEmulatedMedia", features=[scheme])
 
-    def picture(self, path, whole=False):
-        """A picture of what is seen, or of the whole page, as PNG."""
-        data = self.ask("Page.captureScreenshot", format="png", captureBeyondViewport=whole)["data"]
+    def picture(self, path):
+        """A picture of what is seen, as PNG or, where the name says so, as WebP."""
+        form = {"format": "webp", "quality": 70} if str(path).endswith(".webp") else {"format": "png"}
+        data = self.ask("Page.captureScreenshot", **form)["data"]
         with open(path, "wb") as file:
             file.write(base64.b64decode(data))
 

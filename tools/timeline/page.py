@@ -43,10 +43,11 @@ def page(title, picture, watcher, source, explain):
     yield '<section id="list"><h2>Events and answers</h2>'
     yield '<ol id="events">'
     yield _opening(source)
-    yield from (_entry(number, step, watcher.steps, words) for number, step in enumerate(watcher.steps, 1))
+    yield from (_entry(number, step, words) for number, step in enumerate(watcher.steps, 1))
     if source.last_words:
-        yield f'<li id="{len(watcher.steps) + 1}">{_number(len(watcher.steps) + 1)}'
-        yield f'<p class="caption">{_words(source.last_words)}</p><code>the end</code></li>'
+        last = len(watcher.steps) + 1
+        caption = f'<p class="caption">{_words(source.last_words)}</p>'
+        yield f'<li id="{last}">{_number(last)}<div>{caption}<code>the end</code></div></li>'
     yield "</ol></section>"
     yield '<section id="refusals"><h2>What the refusals mean</h2>' if words else '<section id="refusals" hidden>'
     yield from (f'<pre id="refusal-{number}">{escape(text.rstrip())}</pre>' for number, text in words.items())
@@ -68,7 +69,7 @@ def _words(text):
 
 
 def _number(number):
-    return f'<a href="#{number}">{number}</a> '
+    return f'<a href="#{number}">{number}</a>'
 
 
 def _refusal(step):
@@ -80,13 +81,13 @@ def _refusal(step):
 def _opening(source):
     """The entry of the system as it opens, before the first event."""
     many = f"{source.subscribers:,} subscriber{'' if source.subscribers == 1 else 's'}"
-    return f'<li id="0">{_number(0)}<code>the opening</code> <samp>{many}</samp></li>'
+    return f'<li id="0">{_number(0)}<div><code>the opening</code> <samp>{many}</samp></div></li>'
 
 
-def _entry(number, step, steps, words):
+def _entry(number, step, words):
     """The entry of a step: its number, its caption, what was asked and what was answered."""
     event = step.event
-    parts = [f'<li id="{number}">{_number(number)}']
+    parts = [f'<li id="{number}" data-line="{event.number}">{_number(number)}<div>']
     if event.caption and step.index == 0:
         parts.append(f'<p class="caption">{_words(event.caption)}</p>')
     parts.append(f"<code>{escape(step.asked)}</code> ")
@@ -101,7 +102,7 @@ def _entry(number, step, steps, words):
     if refusal:
         meaning = words[refusal].split("\n")[0].partition(": ")[2]
         parts.append(f' <span class="why">{escape(meaning)}</span>')
-    return "".join(parts) + "</li>"
+    return "".join(parts) + "</div></li>"
 
 
 def _json(data):

@@ -1,13 +1,23 @@
 // A step is shown: its event and answer large, the cursor on the timeline, and all panels.
 
+// The caption of the line that made a step stands with all of its steps.
+function captionOf(step) {
+  const line = entries[step].dataset.line;
+  let first = step;
+  while (line && first > 0 && entries[first - 1].dataset.line === line) first--;
+  const caption = entries[first].querySelector(".caption");
+  return caption && caption.cloneNode(true);
+}
+
 function nowPanel(step) {
   const copy = entries[step].cloneNode(true);
   const answer = copy.querySelector("samp");
   if (answer && (answer.textContent.includes("\n") || answer.textContent.length > 60)) answer.classList.add("long");
   const number = /^REFUSED (\d+) /.exec(answer ? answer.textContent : "");
   const meaning = number && $(`refusal-${number[1]}`);
-  const caption = copy.querySelector(".caption");
-  const children = [caption, ...[...copy.childNodes].filter((child) => child !== caption)].filter(Boolean);
+  const caption = captionOf(step);
+  if (copy.querySelector(".caption")) copy.querySelector(".caption").remove();
+  const children = [copy.querySelector("a"), caption, ...copy.querySelector("div").childNodes].filter(Boolean);
   if (meaning) children.push(el("details", "", el("summary", "", `What to do about ${number[1]}`), el("pre", "", meaning.textContent)));
   $("now").replaceChildren(...children);
 }

@@ -32,29 +32,27 @@ function partitionPanel(p, step, touched) {
     el("div", "halves", el("div", "", ...left), el("div", "", ...right)));
 }
 
-const everOf = (place) => run.extents.some((extent) => run.tracks[`extent ${extent}`].some(([, value]) =>
-  Array.isArray(value[place]) ? value[place].length : value[place]));
-const someLand = everOf(3), someHandOut = everOf(4);
+const someHandOut = run.extents.some((extent) => run.tracks[`extent ${extent}`].some(([, value]) => value[4]));
 
 function extentRow(extent, step) {
-  const [place, route, moves, landings, chapters] = extentAt(extent, step);
+  const [place, route, moves, , chapters] = extentAt(extent, step);
   const track = run.tracks[`extent ${extent}`];
   const index = changeAt(`extent ${extent}`, step);
   const fresh = index >= 0 && track[index][0] === step ? "fresh" : "";
-  const waiting = landings.map(([move, where]) => `move ${move} to ${where}`).join(", ");
   const last = Math.min(64 * extent, run.subscribers);
   const cells = [`${extent}: ${64 * (extent - 1) + 1}-${last}`, place < 0 ? "under way" : String(place), String(route), String(moves)];
-  if (someLand) cells.push(waiting || "-");
   if (someHandOut) cells.push(String(chapters));
   return el("tr", fresh, ...cells.map((text) => el("td", "", text)));
 }
 
 function extentsPanel(step) {
-  const names = ["extent", "is at", "route", "moves", ...(someLand ? ["to be routed"] : []), ...(someHandOut ? ["chapters"] : [])];
+  const names = ["extent", "is at", "route", "moves", ...(someHandOut ? ["chapters"] : [])];
   const rows = listed.map((extent) => extentRow(extent, step));
   return el("section", "panel", el("h2", "", "Extents"),
     rows.length ? el("div", "scroll", el("table", "rows extents mono", el("tr", "", ...names.map((name) => el("th", "", name))), ...rows))
-      : el("p", "quiet", "none moves in this run"));
+      : el("p", "quiet", "none moves in this run"),
+    ...listed.flatMap((extent) => extentAt(extent, step)[3].map(([move, where]) =>
+      el("p", "landing", `Extent ${extent} has landed at ${where}, its move ${move}, and its route has yet to learn it.`))));
 }
 
 // All completed calls stand in the page once; those that are yet to end are hidden.

@@ -1,0 +1,120 @@
+"""A headless Chromium for tests: pages are opened, keys pressed, what stands in a page read, and pictures of it taken.
+
+It is spoken to through two pipes by its own protocol, so nothing but the browser and the standard library is needed.
+"""
+
+import base64
+import json
+import os
+import shutil
+import subprocess
+import time
+
+NAMES = ("chromium", "chromium-browser", "google-chrome", "google-chrome-stable")
+KEYS = {"ArrowRight": 39, "ArrowLeft": 37, "Home": 36, "End": 35, " ": 32}
+
+
+def executable():
+    """Where the browser is, or None."""
+    return next((found for name in NAMES if (found := shutil.which(name))), None)
+
+
+class Browser:
+    """A browser with one page."""
+
+    def __init__(self, program, folder):
+        asks, self._asks = os.pipe()
+        self._answers, answers = os.pipe()
+        words = [program, "--headless=new", "--no-sandbox", "--disable-gpu", "--no-first-run", "--disable-extensions",
+                 "--disable-dev-shm-usage", "--hide-scrollbars", f"--user-data-dir={folder}", "--remote-debugging-pipe",
+                 "about:blank"]
+        redirected = f'exec "$@" 3<&{asks} 4>&{answers}'
+        self.process = subprocess.Popen(["sh", "-c", redirected, "sh", *words], pass_fds=(asks, answers),
+                                        stdin=subprocess.DEVNULL, stdout=subprocess.DEVNULL, stderr=subprocess.DEVNULL)
+        os.close(asks)
+        os.close(answers)
+        self._rest = b""
+        self._number = 0
+        self._session = None
+        self.events = []
+        target = self.ask("Target.createTarget", url="about:blank")["targetId"]
+        self._session = self.ask("Target.attachToTarget", targetId=target, flatten=True)["sessionId"]
+        for domain in ("Page", "Runtime"):
+            self.ask(domain + ".enable")
+
+    def _read(self):
+        """The next message of the browser."""
+        while b"\0" not in self._rest:
+            more = os.read(self._answers, 1 << 20)
+            if not more:
+                raise EOFError("the browser has ended")
+            self._rest += more
+        message, self._rest = self._rest.split(b"\0", 1)
+        return json.loads(message)
+
+    def ask(self, method, **words):
+        """Calls a method of the protocol, and gives its result. Events that come meanwhile are kept."""
+        self._number += 1
+        message = {"id": self._number, "method": method, "params": words}
+        if self._session:
+            message["sessionId"] = self._session
+        data = json.dumps(message).encode() + b"\0"
+        while data:
+            data = data[os.write(self._asks, data):]
+        while (answer := self._read()).get("id") != self._number:
+            self.events.append(answer)
+        if "error" in answer:
+            raise RuntimeError(f"{method}: {answer['error']}")
+        return answer["result"]
+
+    def open(self, path):
+        """Opens a file, and gives the seconds until it was loaded."""
+        self.events.clear()
+        began = time.monotonic()
+        self.ask("Page.navigate", url="about:blank")
+        self._wait("Page.loadEventFired")
+        began = time.monotonic()
+        self.ask("Page.navigate", url=f"file://{path}")
+        self._wait("Page.loadEventFired")
+        return time.monotonic() - began
+
+    def _wait(self, event):
+        while not any(kept.get("method") == event for kept in self.events):
+            self.events.append(self._read())
+        self.events = [kept for kept in self.events if kept.get("method") != event]
+
+    def value(self, expression):
+        """What an expression is in the page."""
+        answer = self.ask("Runtime.evaluate", expression=expression, returnByValue=True, awaitPromise=True)
+        if "exceptionDetails" in answer:
+            raise RuntimeError(f"{expression[:80]}: {answer['exceptionDetails']}")
+        return answer["result"].get("value")
+
+    def press(self, key):
+        """Presses a key, as a reader does."""
+        code = KEYS[key]
+        for kind in ("rawKeyDown", "keyUp"):
+            self.ask("Input.dispatchKeyEvent", type=kind, key=key, code=key, windowsVirtualKeyCode=code)
+
+    def click(self, x, y):
+        """Presses and releases the mouse at a place."""
+        for kind in ("mousePressed", "mouseReleased"):
+            self.ask("Input.dispatchMouseEvent", type=kind, x=x, y=y, button="left", clickCount=1)
+
+    def look(self, width, height, dark):
+        """Gives the page a size, and light or dark colours."""
+        self.ask("Emulation.setDeviceMetricsOverride", width=width, height=height, deviceScaleFactor=1, mobile=False)
+        scheme = {"name": "prefers-color-scheme", "value": "dark" if dark else "light"}
+        self.ask("Emulation.setEmulatedMedia", features=[scheme])
+
+    def picture(self, path):
+        """A picture of what is seen, as PNG or, where the name says so, as WebP."""
+        form = {"format": "webp", "quality": 70} if str(path).endswith(".webp") else {"format": "png"}
+        data = self.ask("Page.captureScreenshot", **form)["data"]
+        with open(path, "wb") as file:
+            file.write(base64.b64decode(data))
+
+    def close(self):
+        """Ends the browser."""
+        self.process.terminate()
+        self.process.wait()

@@ -1,0 +1,92 @@
+// A step is shown: its event and answer large, the cursor on the timeline, and all panels.
+
+// The caption of the line that made a step stands with all of its steps.
+function captionOf(step) {
+  const line = entries[step].dataset.line;
+  let first = step;
+  while (line && first > 0 && entries[first - 1].dataset.line === line) first--;
+  const caption = entries[first].querySelector(".caption");
+  return caption && caption.cloneNode(true);
+}
+
+function nowPanel(step) {
+  const copy = entries[step].cloneNode(true);
+  const answer = copy.querySelector("samp");
+  if (answer && (answer.textContent.includes("\n") || answer.textContent.length > 60)) answer.classList.add("long");
+  const number = /^REFUSED (\d+) /.exec(answer ? answer.textContent : "");
+  const meaning = number && $(`refusal-${number[1]}`);
+  const caption = captionOf(step);
+  if (copy.querySelector(".caption")) copy.querySelector(".caption").remove();
+  const children = [copy.querySelector("a"), caption, ...copy.querySelector("div").childNodes].filter(Boolean);
+  if (meaning) children.push(el("details", "", el("summary", "", `What to do about ${number[1]}`), el("pre", "", meaning.textContent)));
+  $("now").replaceChildren(...children);
+}
+
+const parts = el("div", ""), side = el("div", "");
+parts.id = "parts";
+side.id = "side";
+
+function showBoard(step) {
+  const extents = listed.map((extent) => `extent ${extent}`);
+  const moved = run.extents.map((extent) => changeAt(`extent ${extent}`, step)).join();
+  for (let p = 0; p < run.partitions; p++) {
+    const names = ["queue", "machine", "home", "entry", "stopped", "breaks"].map((name) => `${name} ${p}`);
+    const touched = run.partition[step - 1] === p;
+    const node = panel(p, signatureOf(names, step) + `|${moved}|${touched}`, () => partitionPanel(p, step, touched));
+    if (!node.parentNode) parts.append(node);
+  }
+  // (all places are read before the first is changed: the page is laid out once)
+  const next = [...parts.querySelectorAll(".code .at")].map((line) => [line.parentNode, line.offsetTop - 80]);
+  for (const [code, top] of next) code.scrollTop = top;
+  const table = panel("extents", signatureOf(extents, step), () => extentsPanel(step));
+  if (!table.parentNode) side.append(table);
+  showPlain(step);
+}
+
+const svg = document.querySelector("#strip svg");
+// (beside the picture, which isn't drawn again when the cursor moves)
+const cursor = el("div", "cursor");
+$("strip").append(cursor);
+const placeOf = (step) => (step === 0 ? 96 : step > run.places.length ? run.finish : run.places[step - 1]);
+
+function showCursor(step) {
+  const x = placeOf(step), strip = $("strip"), p = run.partition[step - 1];
+  cursor.style.transform = `translateX(${x - 4}px)`;
+  strip.setAttribute("aria-valuenow", String(step));
+  strip.setAttribute("aria-valuetext", entries[step].querySelector("code").textContent);
+  const left = x - strip.scrollLeft;
+  if (left < 120 || left > strip.clientWidth - 80) strip.scrollLeft = x - strip.clientWidth / 2;
+  if (p !== undefined && p >= 0) {
+    const [top, height] = run.lanes[p];
+    if (top < strip.scrollTop || top + height > strip.scrollTop + strip.clientHeight) strip.scrollTop = top - 40;
+  }
+}
+
+// The address names the step, a moment later: browsers don't let it change hundreds of times in a few seconds.
+let renaming = 0;
+function nameStep() {
+  renaming = 0;
+  history.replaceState(null, "", `#${current}`);
+}
+
+function show(step) {
+  step = Math.max(0, Math.min(run.end, step));
+  if (step === current) return;
+  if (current >= 0) entries[current].classList.remove("current");
+  current = step;
+  const entry = entries[step], list = $("events");
+  entry.classList.add("current");
+  nowPanel(step);
+  showBoard(step);
+  showCursor(step);
+  list.scrollTop = entry.offsetTop - list.clientHeight / 2;
+  $("where").textContent = `step ${step} of ${run.end}`;
+  if (!renaming) renaming = setTimeout(nameStep, 100);
+  if (step === run.end) play(false);
+}
+
+function play(wanted) {
+  clearInterval(playing);
+  playing = wanted && current < run.end ? setInterval(() => show(current + 1), 700) : 0;
+  $("play").textContent = playing ? "Pause" : "Play";
+}

@@ -1,0 +1,60 @@
+"""Time on the picture: each line has a column, and columns that are too many for one band go on in the next one.
+
+A place on it is a pixel of all bands, laid end to end.
+"""
+
+MOST = 1080
+
+
+class Columns:
+    """Where each event and each of its answers is. What isn't folded is one band, however wide."""
+
+    def __init__(self, events, fold=True):
+        natural = [_natural_width(event) for event in events]
+        total = sum(natural)
+        scale = _scale(total)
+        self.line_width = 30 * scale
+        wanted = total * scale
+        self.band_width = max(wanted if wanted + 0.5 < MOST or not fold else MOST, 600)
+        self.bands = 1
+        self.width = []
+        self.left = []
+        self.shown = [event.different() for event in events]
+        used = 0
+        for wide in natural:
+            width = min(wide * scale, self.band_width)
+            if used + width > self.band_width + 0.5:
+                self.bands += 1
+                used = 0
+            self.width.append(width)
+            self.left.append((self.bands - 1) * self.band_width + used)
+            used += width
+        self.finish = (self.bands - 1) * self.band_width + used
+
+    def place(self, i, k):
+        """Where the answer k of the event i is, both from 0."""
+        k = min(k, self.shown[i] - 1)
+        return self.left[i] + self.width[i] * (k + 0.5) / self.shown[i]
+
+    def band(self, place):
+        """The band of a place, from 0."""
+        return min(int(place / self.band_width), self.bands - 1)
+
+    def across(self, place):
+        """How far a place is from the left end of its band."""
+        return place - self.band(place) * self.band_width
+
+
+def _natural_width(event):
+    """A line of steps is as wide as its answers are many."""
+    return 10 * event.different() if event.different() > 3 else 30
+
+
+def _scale(total):
+    """How many pixels one is of the natural widths, which together are so many: as far as a band has room for all."""
+    if total == 0:
+        return 1
+    scale = min(MOST / total, 2.4)
+    if scale >= 0.5:
+        return scale
+    return max(min(12 * scale, 0.5), 0.25)

@@ -23,7 +23,7 @@ def program_of(doc, name, words):
     os.chdir(ROOT)
     program = os.path.abspath(words[0] if words else PROGRAM)
     if not os.access(program, os.X_OK):
-        print("failed: there is no program %s: ./check proofs, or the first use of ./tatp, builds it" % program)
+        print("failed: there is no program %s: the first use of ./tatp builds it" % program)
         print("0 passed, 1 failed")
         sys.exit(1)
     return program

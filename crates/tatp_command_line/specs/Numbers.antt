@@ -21,8 +21,8 @@ number_given None = 0
 number_given (Some text) = digits_value 10 text
 
 -- ---- options
--- an option: its name, whether it is the number alone or comes after its name and two hyphens, its
--- least and its greatest number, the text that counts where it isn't given, and whether it has to be
+-- an option: its name; whether its number stands alone, or behind two hyphens and the name; its
+-- least and its greatest number; what counts where it isn't given; and whether it has to be given
 pub record Ranged : Type 0 where
   pub name : List ℕ
   pub alone : Bool

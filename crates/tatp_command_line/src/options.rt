@@ -228,11 +228,9 @@ impl NumberOption {
 
     /// The number that is asked for, of an option that is required or has a default.
     pub(crate) fn number<'a>(&self, options: &ArgMatches<'a>) -> Result<u64, BadNumber<'a>>
-        ensures asked {
-            let given = rows_of (found_of options.now) in
+        ensures asked { let given = rows_of (found_of options.now) in
             OkIff result (HasNumber (asked_by self.now) given)
-                (number_asked (asked_by self.now) given)
-        }
+            (number_asked (asked_by self.now) given) }
         ensures least { IfOk result (λ number. self.now.least ≤ number) }
         ensures most { IfOk result (λ number. number ≤ self.now.most) }
     {
@@ -251,11 +249,9 @@ impl NumberOption {
         &self,
         options: &ArgMatches<'a>,
     ) -> Result<Option<u64>, BadNumber<'a>>
-        ensures asked {
-            let given = rows_of (found_of options.now) in
+        ensures asked { let given = rows_of (found_of options.now) in
             OkIff result (HasNumberIfGiven (asked_by self.now) given)
-                (number_if_given (asked_by self.now) given)
-        }
+            (number_if_given (asked_by self.now) given) }
         ensures least { IfOk result (λ found. IfSome found (λ number. self.now.least ≤ number)) }
         ensures most { IfOk result (λ found. IfSome found (λ number. number ≤ self.now.most)) }
     {

@@ -10,12 +10,20 @@ STANDARD = ["GET_SUBSCRIBER_DATA", "GET_NEW_DESTINATION", "GET_ACCESS_DATA", "UP
             "INSERT_CALL_FORWARDING", "DELETE_CALL_FORWARDING"]
 
 
+# What a step is in the plain world, by the first word of its answer.
+PLAIN = {"BEGAN": "A call of client {} enters the plain world.",
+         "REFUSED": "The event is refused: nothing changes, here or in the plain world.",
+         "DENIED": "Client {}'s call is refused memory: the plain world stays as it is.",
+         "ENDED": "Client {}'s call completes: it is number {} in the serial order."}
+
+
 class Asked:
     """An input again: what stands before its events, and for each step of the page the lines that trace reads."""
 
-    def __init__(self, head, steps, subscribers):
+    def __init__(self, head, steps, names, subscribers):
         self.head = head
         self.steps = steps
+        self.names = names
         self.subscribers = subscribers
 
 
@@ -40,7 +48,7 @@ def asked_again(text, words, seen):
             return None
     # (a comment at the end is a step without an event)
     rest = [page for page in pages if page["asked"] != "the end" or page["answer"]]
-    return None if rest else Asked(head, steps, subscribers)
+    return None if rest else Asked(head, steps, own or STANDARD, subscribers)
 
 
 def _take_steps(line, names, pages, steps):
@@ -129,13 +137,17 @@ class State:
         self.program = program
         self.subscribers = asked.subscribers
         self.partitions = partitions
+        self.names = asked.names
         self.stopped = [False] * partitions
+        self.breaks = [[] for _ in range(partitions)]
+        self.registers = {}
         self.moves = {}
         self.routes = {}
         self.ended = []
         self.queried = {}
         self.clients = {}
         self.running = {}
+        self.callers = {}
         self.entries = {}
 
     def board(self, step, said):
@@ -149,7 +161,9 @@ class State:
             over = self._tell(line, word)
             board["told"] = self.explanation(word[1]) if word[0] == "REFUSED" else ""
             board["why"] = board["told"].split("\n")[0].partition(": ")[2]
+            board["plain"] = self._plain(line, word)
         board.update(stopped=list(self.stopped), completed=len(self.ended), reply=self.ended[-1] if self.ended else "")
+        board["breaks"] = [", ".join(points) for points in self.breaks]
         board["machines"] = [self._machine(p) for p in range(self.partitions)]
         board["homes"] = [self._home(p, over) for p in range(self.partitions)]
         board["entries"] = [self._entry(p, over) for p in range(self.partitions)]
@@ -169,6 +183,8 @@ class State:
         elif word[0] == "BEGAN":
             p = int(line[1])
             self.running[p] = self.clients[word[1]]
+            self.callers[p] = word[1]
+            self.registers[p] = ["0"] * 16
             self.entries[p] = self._rows(p)
         elif word[0] == "ENDED":
             self.ended.append(" ".join(word[2:]))
@@ -179,7 +195,23 @@ class State:
             self.routes[int(word[1])] = word[2]
         elif line[0] in ("stop", "resume") and word[0] == "OK":
             self.stopped[int(line[1])] = line[0] == "stop"
+        elif line[0] in ("break", "clear") and word[0] == "OK":
+            self._set_break(line)
         return None
+
+    def _set_break(self, line):
+        """A breakpoint is set or taken away."""
+        number = int(line[2])
+        point = f"{self.names[number] if number < len(self.names) else number} {line[3]}"
+        points = [other for other in self.breaks[int(line[1])] if other != point]
+        self.breaks[int(line[1])] = points + [point] * (line[0] == "break")
+
+    def _plain(self, line, word):
+        """The words for the step of the plain world."""
+        if word[0] == "MOVED":
+            client = self.callers[int(line[1])]
+            return f"Client {client}'s call makes one instruction on the one database."
+        return PLAIN.get(word[0], "The plain world makes no step.").format(*word[1:2], len(self.ended))
 
     def _extents(self):
         return range(1, (self.subscribers + 63) // 64 + 1)
@@ -194,9 +226,12 @@ class State:
         if look[0].startswith("REFUSED 31"):
             return {"runs": None}
         at = look[0].split(" ", 3)
+        registers = look[1].split(" ")[1:]
+        changed = [n for n, value in enumerate(registers) if value != self.registers[p][n]]
+        self.registers[p] = registers
         # (the page has labels as the text names them, trace by the instruction that they lead to)
         instruction, _, target = at[3].partition("@L")
-        return {"runs": f"{at[1]} {at[2]}", "counter": at[2], "instruction": instruction, "target": target, "registers": look[1].split(" ")[1:],
+        return {"runs": f"{at[1]} {at[2]}", "counter": at[2], "instruction": instruction, "target": target, "registers": registers, "changed": changed,
                 "current": look[2].split(" ")[1:], "out": look[3].split(" ")[1:]}
 
     def _home(self, p, over):

@@ -35,6 +35,7 @@
       target: after ? text(after.querySelector(".n")) : "",
       counter: number,
       registers: all(partition, ".registers b").map(text),
+      changed: all(partition, ".registers span").flatMap((cell, n) => (cell.classList.contains("fresh") ? [n] : [])),
       current: all(partition, ".current b").map(text),
       out: all(partition, ".out b").map(text),
     };
@@ -58,12 +59,14 @@
     partitions: partitions.map((partition) => text(partition.querySelector("h2"))),
     stopped: partitions.map((partition) => Boolean(partition.querySelector(".badge"))),
     queues: partitions.map((partition) => all(partition, ".queue .call").map(text)),
+    breaks: partitions.map((partition) => text(partition.querySelector(".breaks")).replace("Breakpoints: ", "")),
     machines: partitions.map(machine),
     homes: partitions.map((partition) => rows(partition.querySelector(".home"), now, "gone")),
     entries: partitions.map((partition) => rows(partition.querySelector(".home"), entry, "new")),
     places: Object.fromEntries(extents.map((cells) => [cells[0].split(":")[0], cells[1]])),
     routes: Object.fromEntries(extents.map((cells) => [cells[0].split(":")[0], cells[2]])),
     moves: Object.fromEntries(extents.map((cells) => [cells[0].split(":")[0], cells[3]])),
+    plain: text(document.querySelector(".plain-step")),
     completed: completed.length,
     reply: completed.length ? text(completed[completed.length - 1].querySelector(".reply")) : "",
   };

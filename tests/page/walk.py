@@ -99,8 +99,9 @@ class Walk:
                        f"step {page['step']}: the queue was {queue}")
         elif word[0] in ("QUEUED", "AWAY"):
             client = fields[1] if word[0] == "QUEUED" else before["queues"][int(fields[1])][0].split(":")[0].split(" ")[1]
-            self.check(page["queues"][int(word[1])][-1].startswith(f"client {client}: "),
-                       f"step {page['step']}: the last of {page['queues']}")
+            last = page["queues"][int(word[1])][-1]
+            call = f"client {client}: " + (" ".join(fields[2:]) if fields[0] == "submit" else "")
+            self.check(last.startswith(call), f"step {page['step']}: the last of {page['queues']}")
         else:
             self.check(before["queues"] == page["queues"], f"step {page['step']}: a queue changed")
 

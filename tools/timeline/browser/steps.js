@@ -46,7 +46,15 @@ function showBoard(step) {
 const svg = document.querySelector("#strip svg");
 // (beside the picture, which isn't drawn again when the cursor moves)
 const cursor = el("div", "cursor");
+cursor.style.height = `${svg.height.baseVal.value}px`;
 $("strip").append(cursor);
+
+// The names of lanes stay where they are when the timeline is scrolled.
+$("strip").prepend(el("div", "lane-names", ...run.lanes.map(([top], p) => {
+  const name = el("span", "", `partition ${p}`);
+  name.style.top = `${top + 3}px`;
+  return name;
+})));
 const placeOf = (step) => (step === 0 ? 96 : step > run.places.length ? run.finish : run.places[step - 1]);
 
 function showCursor(step) {
@@ -69,6 +77,13 @@ function nameStep() {
   history.replaceState(null, "", `#${current}`);
 }
 
+// (how high entries are that aren't in view is known only once they come into view)
+function keepInView() {
+  const list = $("events").getBoundingClientRect(), entry = entries[current].getBoundingClientRect();
+  if (entry.bottom > list.bottom) $("events").scrollTop += entry.bottom - list.bottom;
+  else if (entry.top < list.top) $("events").scrollTop -= list.top - entry.top;
+}
+
 function show(step) {
   step = Math.max(0, Math.min(run.end, step));
   if (step === current) return;
@@ -80,6 +95,7 @@ function show(step) {
   showBoard(step);
   showCursor(step);
   list.scrollTop = entry.offsetTop - list.clientHeight / 2;
+  setTimeout(keepInView, 120);
   $("where").textContent = `step ${step} of ${run.end}`;
   if (!renaming) renaming = setTimeout(nameStep, 100);
   if (step === run.end) play(false);

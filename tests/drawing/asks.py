@@ -69,10 +69,14 @@ class Asks(Choices):
         """A raw call of a procedure that is none of the seven, whose second argument is a number of rounds."""
         proc = self.words.choice(OWN, len(self.whole.module.procedures) - 1)
         s = self.subscriber()
-        most = ROUNDS[self.whole.module.procedures[proc].name]
+        most = most_rounds(self.whole.module.procedures[proc])
         rounds = self.words.one_of((0, 1, most - 1, most, most + 1, most + 2, self.words.choice(0, 2 * most)))
         return ["raw %d %d id %d %d %d" % (self.client(), proc, s, s, rounds)]
 
 
-# So many rounds the procedures of limits.txt make without a trap.
+# So many rounds the procedures of limits.txt make without a trap. WITHOUT_A_ROW makes none: it looks for a row.
 ROUNDS = {"STEP_BY_STEP": 2044, "OUTPUT_BY_OUTPUT": 39, "WRITE_BY_WRITE": 62, "WITHOUT_A_ROW": 2}
+
+
+def most_rounds(procedure):
+    return ROUNDS[procedure.name]

@@ -104,6 +104,7 @@ class Run:
     def draw(self, drawing, words, number):
         for place in range(3):
             self.tell(drawing.aimed(*PLACES[(3 * number + place) % len(PLACES)]))
+        self.tell(drawing.at_limits())
         for _ in range(words.choice(150, 350)):
             self.tell(drawing.lines())
         self.tell(drawing.closing())

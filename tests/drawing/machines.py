@@ -1,9 +1,9 @@
 """Lines by which calls begin, make steps, are stopped and looked at."""
-from model.calls import STANDARD, read_call
+from model.calls import STANDARD, Ask, read_call
 from model.machine import Call
 from model.tables import copied
 
-from .asks import Asks
+from .asks import OWN, Asks, most_rounds
 from .choices import can_begin, can_go_on, has_call
 
 PLACES = [(proc, pc) for proc, procedure in enumerate(STANDARD.procedures) for pc in range(len(procedure.code))]
@@ -108,6 +108,27 @@ class Machines(Asks):
                 lines += ["stop %d" % p, "step %d" % p, "look %d" % p, "one %d" % p, "resume %d" % p]
                 return lines + ["steps %d %d" % (p, steps_left(call))]
         return []
+
+    def at_limits(self):
+        """Each procedure of one's own to its end: as many rounds as it makes without a trap, and one more, on a home
+        and without one. It is drawn for a whole in which no extent has moved and no call runs."""
+        lines = []
+        for proc, procedure in enumerate(self.whole.module.procedures[OWN:], OWN):
+            for more in (0, 1):
+                for s in (self.words.one_of(self.subscribers), len(self.whole.homes) + 1):
+                    lines += self.to_its_end(Ask(proc, [s, most_rounds(procedure) + more], False, s))
+        return lines
+
+    def to_its_end(self, ask):
+        """The lines by which client 0 asks for a raw call, which begins and makes its steps."""
+        ask.home = self.whole.home_of(ask)
+        homes = {} if ask.home is None else {ask.home: copied(self.whole.homes[ask.home])}
+        call, made = Call(self.whole.module, 0, ask, homes), 1
+        while call.act() is None:
+            made += 1
+        p = self.whole.route_of(ask.home)
+        arguments = " ".join(map(str, ask.arguments))
+        return ["raw 0 %d id %d %s" % (ask.proc, ask.key, arguments), "begin %d" % p, "steps %d %d" % (p, made)]
 
     # ---- breakpoints
     def breakpoint(self, p):

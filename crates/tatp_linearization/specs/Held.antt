@@ -1,0 +1,66 @@
+-- Configurations as the search holds them, and what it makes of them.
+use Rattle.std.specs.Prelude.{◌≡◌, ℕ, ◌⊎◌, ◌↔◌, List, [], ◌∷◌, length, Option, Some, None, Ok, slice_get, remove}
+use Rattle.std.specs.List.{AllByRecursion}
+use Rattle.tatp_tables.specs.Database.{Database}
+use Rattle.tatp_procs.specs.Arguments.{arguments_accepted}
+use Rattle.tatp_procs.specs.Transactions.{transaction}
+use Rattle.tatp_history.specs.declared.event.Event.{Event}
+use Rattle.tatp_history.specs.declared.event.Event.TheVariants.{Asks, Ends}
+use Rattle.tatp_history.specs.declared.observed.Observed.{Observed}
+use Rattle.tatp_history.specs.Histories.{MayHaveReply}
+use Rattle.tatp_history.specs.Locality.{AreAccepted}
+use Rattle.tatp_history.specs.JustInTime.{TakeEffect}
+use Rattle.tatp_history.specs.Configurations.{Configuration, Follows}
+use Rattle.tatp_linearization.specs.declared.configuration.Configuration.{Configuration as Held}
+
+-- the configuration that is held
+abbrev pub seen : Held → Configuration
+seen c = record { rows = c.home.tables; opened = c.opened.items }
+
+-- the configuration is one of these
+abbrev pub Has : List Held → Configuration → Type 0
+Has [] d = ⊥
+Has (c ∷ cs) d = (d ≡ seen c) ⊎ Has cs d
+
+-- ---- arguments in their domains
+abbrev pub IsAcceptedEvent : Event → Type 0
+IsAcceptedEvent (Asks x) = arguments_accepted x.call ≡ Ok tt
+IsAcceptedEvent (Ends asked at) = Unit {0}
+
+abbrev pub AreReady : List Held → Type 0
+AreReady cs = AllByRecursion (λ (c : Held). AreAccepted c.opened.items) cs
+
+-- ---- one call takes effect
+pub record TakesAt (c d : Held) (i : ℕ) (x : Observed) : Type 0 where
+  pub at : slice_get c.opened.items i ≡ Some x
+  pub may : MayHaveReply x.outcome (transaction x.call c.home.tables).reply
+  pub rows : d.home.tables ≡ (transaction x.call c.home.tables).database
+  pub left : d.opened.items ≡ remove c.opened.items i
+
+-- the second is the first after its open call of this place took effect; none where that call has
+-- another reply
+abbrev pub Takes : Held → ℕ → Option Held → Type 0
+Takes c i (Some d) = (x : Observed) × TakesAt c d i x
+Takes c i None =
+    (x : Observed) → slice_get c.opened.items i ≡ Some x
+    → MayHaveReply x.outcome (transaction x.call c.home.tables).reply → ⊥
+
+-- ---- lists of configurations
+abbrev pub IsAt : Configuration → Database → List Observed → Type 0
+IsAt d u opened = d ≡ record { rows = u; opened = opened }
+
+-- what may be where the call that was asked then took effect
+abbrev pub Effects : Held → ℕ → Configuration → Type 0
+Effects c asked d = TakeEffect (length c.opened.items) (IsAt d) asked c.home.tables c.opened.items
+
+abbrev pub AddsEffects : Held → ℕ → List Held → List Held → Type 0
+AddsEffects c asked old new = (d : Configuration) → Has new d ↔ (Has old d ⊎ Effects c asked d)
+
+abbrev pub AddsFollowing : Held → Event → List Held → List Held → Type 0
+AddsFollowing c event old new =
+    (d : Configuration) → Has new d ↔ (Has old d ⊎ Follows event (seen c) d)
+
+-- exactly what may follow on one of these
+abbrev pub FollowAll : Event → List Held → List Held → Type 0
+FollowAll event set new =
+    (d : Configuration) → Has new d ↔ ((c : Configuration) × Has set c × Follows event c d)

@@ -5,6 +5,7 @@ use Rattle.std.specs.Option.{option_map, option_map_or, option_to_list}
 use Rattle.std.proofs.lemmas.Bool.{lt-ltb, le-ltb, ltb-true, cases_lt}
 use Rattle.tatp_homes.specs.Home.{SubscriberRows, subscriber_rows_code}
 use Rattle.tatp_tables.specs.declared.row.Rows.{Rows}
+use Rattle.tatp_tables.specs.Database.{database_of}
 use Rattle.tatp_procs.specs.declared.entry.Entry.{Entry}
 use Rattle.tatp_extents.specs.Histories.{StampsRise}
 use Rattle.tatp_logs.specs.Logs.{last_stamp_from}
@@ -15,7 +16,7 @@ use Rattle.tatp_settle.specs.declared.cause.Unsettled.TheVariants.{Mixed, Parcel
 use Rattle.tatp_settle.specs.Closings.{ClosedState, ExtentLog, log_numbered, chapter_count, entries_since, is_chapter, times_come, chapter_numbered, chapters_numbered, entries_numbered, times_standing, IsClosed}
 use Rattle.tatp_settle.specs.Runs.{Run, homes_at_first}
 use Rattle.tatp_settle.specs.CallPlaces.{HoldsNowhere}
-use Rattle.tatp_settle.specs.Causes.{IsMixed, IsChapterMissing, IsChapterTwice, homes_before, entries_of_part, homes_due, IsUnjoined}
+use Rattle.tatp_settle.specs.Causes.{IsMixed, IsChapterMissing, IsChapterTwice, homes_before, entries_of_part, homes_due, IsUnjoined, NamesHome}
 use Rattle.tatp_settle.specs.CauseOrder.{NoneOfFirst}
 use Rattle.tatp_settle.specs.Settlements.{IsPopulationOnce}
 use Rattle.tatp_settle.proofs.StableLaws.{at_most, equal_unless}
@@ -134,9 +135,9 @@ module _ (population : Rows) (c : ClosedState) (closed : IsClosed c) (unmixed : 
       joined_rise 0 (chapters_numbered c e) (entries_since c e)
       (each_rises e 0 (chapter_count c e) 0 (zero-add (chapter_count c e)) (λ i x from to inside. above_least 0 (entries_of_part c e i) inside.0 x (part_rises c e i closed (unmixed e)) inside.1 inside.2))
 
--- no cause of the first six kinds holds: each extent stands once, at a site and unmixed, and its chapters join
-pub population_once : (run : Run) → IsClosed run.closed → NoneOfFirst 6 run → IsPopulationOnce run
-population_once run closed none =
+-- no cause of the first six kinds holds, and no entry without a home names one: each extent stands once, at a site and unmixed, and its chapters join
+pub population_once : (run : Run) → IsClosed run.closed → NoneOfFirst 6 run → HoldsNowhere (NamesHome (database_of run.population).subscribers run.closed) → IsPopulationOnce run
+population_once run closed none homeless =
     let c : ClosedState = run.closed in
     let unmixed : (e : ℕ) → IsMixed c e → ⊥ = λ e h. none (Mixed e) (omega arith) h in
     let missing : HoldsNowhere (IsChapterMissing c) = λ e i h. none (ChapterMissing e i) (omega arith) h in
@@ -151,6 +152,7 @@ population_once run closed none =
       no_other = no_other run.population c closed unmixed missing twice unjoined;
       joined = joined run.population c closed unmixed missing twice unjoined;
       rise = rise run.population c closed unmixed missing twice unjoined;
+      homeless = homeless;
     }
   where
     no_parcel : (parcels : List ExtentState) → run.closed.parcels ≡ parcels → run.closed.parcels ≡ []

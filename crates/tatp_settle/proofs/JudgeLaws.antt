@@ -1,17 +1,22 @@
 -- The verdict on a run, from what each pass finds.
-use Rattle.std.proofs.Common.{◌≡◌, ℕ, suc, true, false, List, [], ◌∷◌, length, Option, Some, None, Result, Ok, Err, IfOk, slice_get, refl, sym, subst, arith}
+use Rattle.std.proofs.Common.{◌≡◌, ℕ, suc, true, false, List, [], ◌∷◌, length, Option, Some, None, Result, Ok, Err, IfOk, slice_get, refl, sym, ap, ◌∙◌, subst, arith, inl, inr}
 use Rattle.std.specs.Option.{option_map, is_some}
 use Rattle.std.specs.Result.{result_err}
+use Rattle.std.proofs.lemmas.Bool.{false≢true}
 use Rattle.std.proofs.lemmas.List.{length-append}
 use Rattle.std.proofs.lemmas.Result.{IfOk-at_ok}
 use Rattle.tatp_tables.specs.Clean.{IsClean}
 use Rattle.tatp_tables.specs.Database.{database_of}
+use Rattle.tatp_tables.specs.declared.row.Rows.{Rows}
+use Rattle.tatp_audits.specs.declared.verdict.Verdict.{Verdict}
+use Rattle.tatp_audits.specs.Audits.{AllPass, IsVerdict, tests, says_clean}
+use Rattle.tatp_audits.proofs.Verdicts.{pass_and_fail, pass_from_clean}
 use Rattle.tatp_procs.specs.declared.ask.Ask.{Ask}
 use Rattle.tatp_logs.specs.declared.receipt.Receipt.{Receipt}
 use Rattle.tatp_settle.specs.declared.places.CallPlace.{CallPlace}
 use Rattle.tatp_settle.specs.declared.places.ChapterPlace.{ChapterPlace}
 use Rattle.tatp_settle.specs.declared.cause.Unsettled.{Unsettled}
-use Rattle.tatp_settle.specs.declared.cause.Unsettled.TheVariants.{ChapterDiffers, HasHome}
+use Rattle.tatp_settle.specs.declared.cause.Unsettled.TheVariants.{Mixed, ParcelLeft, Doubled, ChapterMissing, ChapterTwice, ChapterDiffers, CallMissing, ReceiptMissing, ReplyDiffers, StampOrder, HasHome, Audit}
 use Rattle.tatp_settle.specs.Closings.{IsClosed}
 use Rattle.tatp_settle.specs.Runs.{Run, at_call, joined, rows_left}
 use Rattle.tatp_settle.specs.Answering.{AreMatched}
@@ -19,11 +24,10 @@ use Rattle.tatp_settle.specs.Placing.{ArePlaced}
 use Rattle.tatp_settle.specs.Interleaving.{IsOneHistoryInAnyOrder}
 use Rattle.tatp_settle.specs.Settlements.{IsOneHistory}
 use Rattle.tatp_settle.specs.CallPlaces.{IsFirstCall, HoldsNowhere}
-use Rattle.tatp_settle.specs.Causes.{IsUnjoined, NamesHome, IsUnmatched, IsFirstCause}
+use Rattle.tatp_settle.specs.Causes.{IsUnjoined, NamesHome, IsUnmatched, IsFirstCause, HasNoCause}
 use Rattle.tatp_settle.specs.ChapterTables.{IsFirstChapter}
 use Rattle.tatp_settle.specs.CauseOrder.{NoneOfFirst, IsFirstOf, IsFirstInCalls}
-use Rattle.tatp_settle.proofs.CauseLaws.{of_fewer, none_unjoined, first_unjoined, none_named, first_named}
-use Rattle.tatp_settle.proofs.JoinLaws.{population_once}
+use Rattle.tatp_settle.proofs.CauseLaws.{none_unjoined, first_unjoined, none_named, first_named}
 use Rattle.tatp_settle.proofs.RunLaws.{runs_are_one_history_in_any_order}
 use Rattle.tatp_settle.proofs.SettledLaws.{one_history}
 
@@ -82,10 +86,34 @@ as_many_receipts calls receipts h = same_count receipts calls (λ c n. beside c 
 pub judged : (run : Run) → IsClean run.population → IsClosed run.closed → NoneOfFirst 11 run → ArePlaced run.closed run.receipts → IsClean (rows_left run) → IsOneHistory run
 judged run population closed none placed clean = one_history run placed.0 population closed none placed.1 clean
 
--- where no cause is found, the logs are one history in any order that keeps their own
-pub judged_in_any_order : (run : Run) → IsClean run.population → IsClosed run.closed → NoneOfFirst 11 run → IsOneHistoryInAnyOrder run
-judged_in_any_order run population closed none =
-    runs_are_one_history_in_any_order run population closed (population_once run closed (of_fewer run 6 11 (omega arith) none)) (λ c n h. none (HasHome c n) (omega arith) h)
+-- all tests pass where a verdict on the rows says that they are clean
+all_pass : (rows : Rows) (verdict : Verdict) → IsVerdict rows verdict → says_clean verdict ≡ true → AllPass (tests rows)
+all_pass rows verdict (inl fails) clean = pass_from_clean rows (Some verdict) fails clean
+all_pass rows verdict (inr passed) clean = passed.0
+
+-- and then every verdict on them does
+says_so : (rows : Rows) (verdict : Verdict) → AllPass (tests rows) → IsVerdict rows verdict → says_clean verdict ≡ false → ⊥
+says_so rows verdict pass (inl fails) dirty = pass_and_fail (tests rows) verdict pass fails
+says_so rows verdict pass (inr passed) dirty = false≢true (sym dirty ∙ ap says_clean passed.1)
+
+-- a run in which none of the other causes holds, and whose rows now are told to be clean, has none
+pub no_cause : (run : Run) (verdict : Verdict) → NoneOfFirst 11 run → IsVerdict (rows_left run) verdict → says_clean verdict ≡ true → HasNoCause run
+no_cause run verdict none told clean (Mixed e) h = none (Mixed e) (omega arith) h
+no_cause run verdict none told clean (ParcelLeft e) h = none (ParcelLeft e) (omega arith) h
+no_cause run verdict none told clean (Doubled e) h = none (Doubled e) (omega arith) h
+no_cause run verdict none told clean (ChapterMissing e i) h = none (ChapterMissing e i) (omega arith) h
+no_cause run verdict none told clean (ChapterTwice e i) h = none (ChapterTwice e i) (omega arith) h
+no_cause run verdict none told clean (ChapterDiffers e i) h = none (ChapterDiffers e i) (omega arith) h
+no_cause run verdict none told clean (CallMissing c n) h = none (CallMissing c n) (omega arith) h
+no_cause run verdict none told clean (ReceiptMissing c n) h = none (ReceiptMissing c n) (omega arith) h
+no_cause run verdict none told clean (ReplyDiffers c n) h = none (ReplyDiffers c n) (omega arith) h
+no_cause run verdict none told clean (StampOrder c n) h = none (StampOrder c n) (omega arith) h
+no_cause run verdict none told clean (HasHome c n) h = none (HasHome c n) (omega arith) h
+no_cause run verdict none told clean (Audit other) h = says_so (rows_left run) other (all_pass (rows_left run) verdict told clean) h.0 h.1
+
+-- the logs of a run that is one history are one in any order that keeps their own
+pub one_history_in_any_order : (run : Run) → IsClean run.population → IsClosed run.closed → IsOneHistory run → IsOneHistoryInAnyOrder run
+one_history_in_any_order run population closed one = runs_are_one_history_in_any_order run population closed one.extents
 
 -- what a pass that found nothing says
 pub none_found : (kinds : ℕ) (run : Run) (v : Option Unsettled) → v ≡ None → IsFirstOf kinds run v → NoneOfFirst kinds run

@@ -13,7 +13,7 @@ use Rattle.tatp_settle.specs.Runs.{Run, at_call}
 use Rattle.tatp_settle.specs.Receipts.{IsOf}
 use Rattle.tatp_settle.specs.Answering.{AreMatched, EntryFound, receipt_of, IsAnswered, HasReceipt}
 use Rattle.tatp_settle.specs.CallPlaces.{HoldsNowhere}
-use Rattle.tatp_settle.specs.Causes.{IsUnmatched, ReceiptDiffers, Differs}
+use Rattle.tatp_settle.specs.Causes.{IsUnmatched, ReceiptDiffers, Differs, StampFalls}
 use Rattle.tatp_settle.specs.Placing.{AllPlaced, Cells}
 use Rattle.tatp_settle.specs.Settlements.{IsReceived}
 use Rattle.tatp_settle.proofs.StableLaws.{equal_numbers, equal_unless}
@@ -133,9 +133,9 @@ module _ (closed : ClosedState) (receipts : List (List Receipt)) (cells : Cells 
               absurd (none-some at (sym (all.none entry.client entry.number is) ∙ in_cell entry.client entry.number f))
           by (Some r) is = is ∙ ap Some (as_logged entry.client entry.number f r is)
 
--- nothing is found: each client's receipts are its calls in order, and each entry has its receipt
-pub received : (run : Run) (cells : Cells LogPlace) → HoldsNowhere (IsUnmatched run.calls run.receipts) → AllPlaced run.closed run.receipts cells → HoldsNowhere (Differs run.closed run.calls run.receipts) → IsReceived run
-received run cells unmatched all agree =
+-- nothing is found: each client's receipts are its calls in order, with stamps that rise, and each entry has its receipt
+pub received : (run : Run) (cells : Cells LogPlace) → HoldsNowhere (IsUnmatched run.calls run.receipts) → AllPlaced run.closed run.receipts cells → HoldsNowhere (Differs run.closed run.calls run.receipts) → HoldsNowhere (StampFalls run.receipts) → IsReceived run
+received run cells unmatched all agree rising =
     let matched : (client number : ℕ) → AreMatched client number (at_call run.calls client number) (at_call run.receipts client number) =
     λ client number. matched_unless client number (at_call run.calls client number) (at_call run.receipts client number) (unmatched client number) in
     record {
@@ -143,4 +143,5 @@ received run cells unmatched all agree =
       answered = is_answered run.closed run.receipts cells all run.calls matched agree;
       known = has_receipt run.closed run.receipts cells all run.calls matched agree;
       once = λ client number one other. one_place run.closed run.receipts cells all client number one other;
+      rising = rising;
     }

@@ -38,8 +38,6 @@ use Rattle.tatp_settle.specs.Closings.{ClosedSiteState, ClosedState, ExtentLog, 
 use Rattle.tatp_settle.specs.Merging.{PlacedEntry, IsMergeable, IsAnsweredInOrder, OneHistory}
 use Rattle.tatp_settle.specs.Runs.{Run, extents_populated, homes_at_first, logs_left, homes_left, rows_left}
 use Rattle.tatp_settle.specs.Answering.{HasReceipt}
-use Rattle.tatp_settle.specs.CallPlaces.{HoldsNowhere}
-use Rattle.tatp_settle.specs.Causes.{StampFalls, NamesHome}
 use Rattle.tatp_settle.specs.Settlements.{IsPopulationOnce, IsReceived}
 use Rattle.tatp_settle.specs.Separate.{Parts, AllFindNone, LogAt, LeadsToLast}
 use Rattle.tatp_settle.proofs.StandingLaws.{has_number as is_numbered}
@@ -174,16 +172,16 @@ module _ (run : Run) (closed : IsClosed run.closed) (once : IsPopulationOnce run
   each_rises : EachRises (logs_left run)
   each_rises e log g = subst Rises (left_at run e log g).1 (0, once.rise e)
 
-  at_extent : HoldsNowhere (NamesHome (database_of run.population).subscribers run.closed) → (e : ℕ) (log : List Entry) → slice_get (logs_left run) e ≡ Some log → LogAt (parts_of run) (database_of run.population) e log
-  at_extent homeless zero log g =
+  at_extent : (e : ℕ) (log : List Entry) → slice_get (logs_left run) e ≡ Some log → LogAt (parts_of run) (database_of run.population) e log
+  at_extent zero log g =
       let at = left_at run 0 log g in
       subst (AllFindNone (database_of run.population)) at.1 (find_none (database_of run.population) (entries_numbered run.closed 0) (whole_log_homeless run closed once) (λ place entry here.
-      none_from (home_of_key (database_of run.population).subscribers (key_asked entry.ask)) (λ names. homeless entry.client entry.number (record {
+      none_from (home_of_key (database_of run.population).subscribers (key_asked entry.ask)) (λ names. once.homeless entry.client entry.number (record {
         found = record { extent = 0; place = place; entry = entry; stands = here; own = record { client = refl; number = refl } };
         homeless = refl;
         names = names;
       }))))
-  at_extent homeless (suc e) log g =
+  at_extent (suc e) log g =
       let at = left_at run (suc e) log g in
       subst (λ (l : List Entry). Leads (homes_first run (suc e)) l (homes_numbered run.closed (suc e))) at.1 (whole_log_leads run e closed once at.0)
 
@@ -202,24 +200,24 @@ homes_are run after last = extents_joined after (length run.population.subscribe
     each (suc e) l m = last e (entries_numbered run.closed (suc e)) (left_gives run (suc e) m)
 
 -- THE LAW: the logs that a run left are one history in every order that keeps each log's own, from the population to the rows that it left
-pub runs_are_one_history_in_any_order : (run : Run) → IsClean run.population → IsClosed run.closed → IsPopulationOnce run → HoldsNowhere (NamesHome (database_of run.population).subscribers run.closed) → IsOneHistoryInAnyOrder run
-runs_are_one_history_in_any_order run clean closed once homeless history interleaves =
+pub runs_are_one_history_in_any_order : (run : Run) → IsClean run.population → IsClosed run.closed → IsPopulationOnce run → IsOneHistoryInAnyOrder run
+runs_are_one_history_in_any_order run clean closed once history interleaves =
     let n : ℕ = length run.population.subscribers in
     let u : Database = database_of run.population in
     let led : LeadsToLast (parts_of run) u (logs_left run) history =
-    every_interleaving_is_one_history (parts_of run) (extents_are_separate n) history u (logs_left run) (IsConsistent-clean run.population clean) interleaves (at_extent run closed once homeless) in
+    every_interleaving_is_one_history (parts_of run) (extents_are_separate n) history u (logs_left run) (IsConsistent-clean run.population clean) interleaves (at_extent run closed once) in
     let rows : AreRowsOf (range_with_len 1 n) led.after = rows_stay (range_with_len 1 n) u led.after (rows_of_clean run.population clean) led.consistent led.keys in
     let now : database_of (rows_left run) ≡ led.after = ap database_of_homes (homes_are run led.after led.homes) ∙ rows_are_the_database led.after (range_with_len 1 n) rows in
     subst (IsAnsweredInOrder u history) (sym now) led.answered
 
 -- THE LAW: the logs that a run left are one history, from the population to the rows that it left
-pub runs_are_one_history : (run : Run) → IsClean run.population → IsClosed run.closed → IsPopulationOnce run → IsReceived run → HoldsNowhere (StampFalls run.receipts) → HoldsNowhere (NamesHome (database_of run.population).subscribers run.closed)
+pub runs_are_one_history : (run : Run) → IsClean run.population → IsClosed run.closed → IsPopulationOnce run → IsReceived run
     → OneHistory (database_of run.population) (logs_left run) (database_of (rows_left run))
-runs_are_one_history run clean closed once received stamps homeless =
+runs_are_one_history run clean closed once received =
     let merged : IsMergeable (logs_left run) = logs_can_be_merged (logs_left run) in
     record {
       history = merged.0;
       merges = merged.1;
-      answered = runs_are_one_history_in_any_order run clean closed once homeless merged.0 (merges_interleave merged.0 (logs_left run) merged.1);
-      in_turn = clients_are_in_turn run.receipts (logs_left run) merged.0 (each_rises run closed once) stamps (known run closed once received) merged.1;
+      answered = runs_are_one_history_in_any_order run clean closed once merged.0 (merges_interleave merged.0 (logs_left run) merged.1);
+      in_turn = clients_are_in_turn run.receipts (logs_left run) merged.0 (each_rises run closed once) received.rising (known run closed once received) merged.1;
     }

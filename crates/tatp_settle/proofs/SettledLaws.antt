@@ -18,12 +18,12 @@ use Rattle.tatp_settle.proofs.RunLaws.{runs_are_one_history}
 
 pub one_history : (run : Run) (cells : Cells LogPlace) → IsClean run.population → IsClosed run.closed → NoneOfFirst 11 run → AllPlaced run.closed run.receipts cells → IsClean (rows_left run) → IsOneHistory run
 one_history run cells population closed none placed clean =
-    let extents : IsPopulationOnce run = population_once run closed (of_fewer run 6 11 (omega arith) none) in
-    let got : IsReceived run = received run cells (λ c n h. none (CallMissing c n) (omega arith) h) placed (λ c n h. none (ReplyDiffers c n) (omega arith) h) in
     let homeless : HoldsNowhere (NamesHome (database_of run.population).subscribers run.closed) = λ c n h. none (HasHome c n) (omega arith) h in
+    let extents : IsPopulationOnce run = population_once run closed (of_fewer run 6 11 (omega arith) none) homeless in
+    let got : IsReceived run = received run cells (λ c n h. none (CallMissing c n) (omega arith) h) placed (λ c n h. none (ReplyDiffers c n) (omega arith) h) (λ c n h. none (StampOrder c n) (omega arith) h) in
     record {
       extents = extents;
-      history = runs_are_one_history run population closed extents got (λ c n h. none (StampOrder c n) (omega arith) h) homeless;
+      history = runs_are_one_history run population closed extents got;
       received = got;
       clean = clean;
     }

@@ -191,3 +191,7 @@ StandsBefore cause other = slice_cmp nat_cmp (place_of cause) (place_of other) �
 pub record IsFirstCause (run : Run) (cause : Unsettled) : Type 0 where
   pub holds : Holds run cause
   pub first : (other : Unsettled) → StandsBefore other cause → Holds run other → ⊥
+
+-- no cause holds
+abbrev pub HasNoCause : Run → Type 0
+HasNoCause run = (cause : Unsettled) → Holds run cause → ⊥

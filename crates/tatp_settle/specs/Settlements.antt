@@ -25,11 +25,13 @@ use Rattle.tatp_settle.specs.Merging.{OneHistory}
 use Rattle.tatp_settle.specs.Runs.{Run, at_call, homes_at_first, joined, logs_left, rows_left}
 use Rattle.tatp_settle.specs.Answering.{AreMatched, IsAnswered, HasReceipt, EntriesStandOnce, is_of_kind}
 use Rattle.tatp_settle.specs.Receipts.{is_done}
-use Rattle.tatp_settle.specs.Causes.{IsMixed, IsFirstCause}
+use Rattle.tatp_settle.specs.CallPlaces.{HoldsNowhere}
+use Rattle.tatp_settle.specs.Causes.{IsMixed, StampFalls, NamesHome, IsFirstCause}
 
 -- each extent of the population stands once, at a site and unmixed, and no other does; the chapters
--- that it handed out came once each, and no other did; and these, joined end to end, lead from the
--- population's homes to those from which its log goes on, with stamps that rise through them all
+-- that it handed out came once each, and no other did; these, joined end to end, lead from the
+-- population's homes to those from which its log goes on, with stamps that rise through them all;
+-- and no call that was logged without a home names a subscriber of the population
 pub record IsPopulationOnce (run : Run) : Type 0 where
   pub unmixed : (e : ℕ) → IsMixed run.closed e → ⊥
   pub landed : run.closed.parcels ≡ []
@@ -43,8 +45,11 @@ pub record IsPopulationOnce (run : Run) : Type 0 where
       → homes_at_first run.population e ≡ Some homes
       → Joins homes (chapters_numbered run.closed e) log.opening
   pub rise : (e : ℕ) → StampsRise 0 (entries_numbered run.closed e)
+  pub homeless
+      : HoldsNowhere (NamesHome (database_of run.population).subscribers run.closed)
 
--- each client's receipts are its calls in order, and each entry has its receipt
+-- each client's receipts are its calls in order, with stamps that rise, and each entry has its
+-- receipt
 pub record IsReceived (run : Run) : Type 0 where
   pub matched : (client number : ℕ)
       → AreMatched client number (at_call run.calls client number)
@@ -55,6 +60,7 @@ pub record IsReceived (run : Run) : Type 0 where
   pub known : (e place : ℕ) (entry : Entry) → StandsAt run.closed e place entry
       → HasReceipt run.receipts (record { extent = e; entry = entry })
   pub once : EntriesStandOnce run.closed
+  pub rising : HoldsNowhere (StampFalls run.receipts)
 
 -- the logs are one history of transactions, from the population to the rows now, which are clean;
 -- and it is what the clients received

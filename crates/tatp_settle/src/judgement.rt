@@ -4,12 +4,11 @@ ghost use Rattle.std.specs.Option.{option_map};
 ghost use Rattle.std.specs.Result.{result_err};
 ghost use denote.Param.Send.{IsSync};
 ghost use Rattle.tatp_tables.specs.Clean.{IsClean};
-ghost use Rattle.tatp_settle.specs.Causes.{IsMixed, IsChapterTwice, IsUnmatched};
+ghost use Rattle.tatp_settle.specs.Causes.{IsMixed, IsChapterTwice, IsUnmatched, HasNoCause};
 ghost use Rattle.tatp_settle.specs.CallPlaces.{HoldsNowhere};
 ghost use Rattle.tatp_settle.specs.ChapterTables.{IsFirstChapter};
 ghost use Rattle.tatp_settle.specs.Runs.{joined, lists_of, rows_left, shown};
 ghost use Rattle.tatp_settle.specs.CauseOrder.{IsFirstOf, IsFirstAfter, IsFirstInCalls};
-ghost use Rattle.tatp_settle.specs.Interleaving.{IsOneHistoryInAnyOrder};
 ghost use Rattle.tatp_settle.specs.Settlements.{AreCountsOf, IsAuditOf, IsSettled, RefusesToSettle};
 
 use crate::chapter_table::{ChapterTable, Listed};
@@ -41,7 +40,7 @@ pub(crate) fn judge<R: Threads + Sync>(
     requires clean { IsClean run.now.population.now }
     requires few { length (joined (lists_of run.now.calls.now)) < 2 ^ 64 }
     ensures settled { IfOk result (IsSettled (shown run.now)) }
-    ensures any_order { OnOk result (IsOneHistoryInAnyOrder (shown run.now)) }
+    ensures no_cause { OnOk result (HasNoCause (shown run.now)) }
     ensures refusal { IfErr result (RefusesToSettle (shown run.now)) }
 {
     run.closed.what_holds();

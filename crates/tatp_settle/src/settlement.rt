@@ -1,6 +1,7 @@
 //! What was gathered is settled.
 ghost use Rattle.std.specs.Prelude.{◌≡◌, ◌<◌, ◌^◌, IfOk, IfErr, OnOk, length};
 ghost use Rattle.tatp_tables.specs.Clean.{IsClean};
+ghost use Rattle.tatp_settle.specs.Causes.{HasNoCause};
 ghost use Rattle.tatp_settle.specs.Runs.{joined, lists_of, run_of};
 ghost use Rattle.tatp_settle.specs.Interleaving.{IsOneHistoryInAnyOrder};
 ghost use Rattle.tatp_settle.specs.Settlements.{IsSettled, RefusesToSettle};
@@ -29,9 +30,12 @@ pub fn settle<R: Threads + Sync>(
     ensures settled { IfOk result
         (IsSettled (run_of population.now closed receipts.now calls.now)) }
 
-    // Whatever order keeps that of each log, as the order in time of their appends does.
+    // Whatever order keeps that of each log, as the order in time of their appends does. It follows
+    // from the clause above.
     ensures any_order { OnOk result
         (IsOneHistoryInAnyOrder (run_of population.now closed receipts.now calls.now)) }
+    ensures no_cause { OnOk result
+        (HasNoCause (run_of population.now closed receipts.now calls.now)) }
     ensures refusal { IfErr result (λ refused.
         RefusesToSettle (run_of population.now closed receipts.now calls.now) refused.error) }
     ensures back { IfErr result (λ refused. refused.closed ≡ closed) }
@@ -42,6 +46,7 @@ pub fn settle<R: Threads + Sync>(
         receipts,
         calls,
     };
+    closed.what_holds();
     match judge(rt, alloc, &run) {
         Ok(settled) => {
             closed.discard(rt);

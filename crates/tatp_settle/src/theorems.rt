@@ -8,8 +8,6 @@ ghost use Rattle.tatp_settle.specs.Merging.{PlacedEntry, Merges, IsMergeable, On
 ghost use Rattle.tatp_settle.specs.Interleaving.{Interleaves, IsOneHistoryInAnyOrder};
 ghost use Rattle.tatp_settle.specs.Closings.{IsClosed};
 ghost use Rattle.tatp_settle.specs.Runs.{Run, logs_left, rows_left};
-ghost use Rattle.tatp_settle.specs.CallPlaces.{HoldsNowhere};
-ghost use Rattle.tatp_settle.specs.Causes.{StampFalls, NamesHome};
 ghost use Rattle.tatp_settle.specs.Settlements.{IsPopulationOnce, IsReceived};
 ghost use Rattle.tatp_settle.specs.Separate.{Parts, AreSeparate, LogsAt, LeadsToLast};
 
@@ -38,24 +36,21 @@ pub fn merged_logs_are_one_history()
 
 /// The whole logs that a run left are one history, from the population to the rows that it left:
 /// where each extent stands once and unmixed, and its chapters lead end to end from the
-/// population's homes to its log; each entry has its receipt; each client's stamps rise; and no
-/// entry without a home names a subscriber.
+/// population's homes to its log; no entry without a home names a subscriber; each entry has its
+/// receipt; and each client's stamps rise.
 pub fn runs_are_one_history()
     ensures { (run : Run)
         → IsClean run.population → IsClosed run.closed → IsPopulationOnce run → IsReceived run
-        → HoldsNowhere (StampFalls run.receipts)
-        → HoldsNowhere (NamesHome (database_of run.population).subscribers run.closed)
         → OneHistory (database_of run.population) (logs_left run) (database_of (rows_left run)) }
 {}
 
 /// The whole logs that a run left are one history in every order that keeps each log's own, from
 /// the population to the rows that it left: where each extent stands once and unmixed, its chapters
 /// lead end to end from the population's homes to its log, and no entry without a home names a
-/// subscriber.
+/// subscriber. So it is of every settled run.
 pub fn runs_are_one_history_in_any_order()
     ensures { (run : Run)
         → IsClean run.population → IsClosed run.closed → IsPopulationOnce run
-        → HoldsNowhere (NamesHome (database_of run.population).subscribers run.closed)
         → IsOneHistoryInAnyOrder run }
 {}
 

@@ -9,7 +9,7 @@ use Rattle.tatp_settle.specs.CauseOrder.{NoneOfFirst, IsFirstAfter, IsFirstInCal
 use Rattle.tatp_settle.specs.Settlements.{AreCountsOf, IsOneHistory, IsAuditOf}
 use Rattle.tatp_settle.proofs.CauseLaws.{first_audit}
 use Rattle.tatp_settle.proofs.MovesLaws.{moves_by_number}
-use Rattle.tatp_settle.proofs.JudgeLaws.{judged, judged_in_any_order, none_found, cause_found, none_in_calls, one_in_calls}
+use Rattle.tatp_settle.proofs.JudgeLaws.{judged, no_cause, none_found, cause_found, none_in_calls, one_in_calls}
 use Rattle.tatp_settle.proofs.judgement.judge.Goals as goal
 
 pub judge_apart-in_chapters-requires-clause-unmixed : goal.judge_apart-in_chapters-requires-clause-unmixed
@@ -60,10 +60,11 @@ returns-clause-settled g c =
       moves = c.count_moves.ensures ∙ moves_by_number run c.what_holds.ensures one.extents;
     }
 
-pub returns-clause-any_order : goal.returns-clause-any_order
-returns-clause-any_order g c =
+pub returns-clause-no_cause : goal.returns-clause-no_cause
+returns-clause-no_cause g c =
     let run : Run = shown c.args.run.now in
     let none6 : NoneOfFirst 6 run = none_found 6 run c.in_ok-cause.field-0 c.in_default-2.is (IfOk-at_ok (IsFirstAfter 3 6 run) c.in_ok-cause.was c.judge_apart-in_chapters.ensures.chapters c.in_default.ensures) in
     let calls : IsFirstInCalls run None = none_in_calls run c.in_ok-counts.was c.in-Ok.is c.judge_apart-in_chapters.ensures.calls in
     let none11 : NoneOfFirst 11 run = none_found 11 run c.in_ok-cause-2.field-0 c.in_default-3.is (c.in_ok-cause-2.ensures (calls.first none6)) in
-    judged_in_any_order run c.requires.clean c.what_holds.ensures none11
+    let audit : IsAuditOf (rows_left run) c.in_ok-verdict.verdict = IfOk-at_ok (IsAuditOf (rows_left run)) c.in_ok-verdict.was c.judge_apart-in_chapters.ensures.audit in
+    no_cause run c.in_ok-verdict.verdict none11 audit.told (sym c.is_clean.ensures ∙ c.if-not-is_clean.false)

@@ -68,7 +68,7 @@ def _take_steps(line, names, pages, steps):
             steps.append([line if count == 3 else b"step " + fields[1]])
             return True
         steps.append([b"step " + fields[1]] * page["times"])
-        if page["asked"] != steps[-1][0].decode():
+        if page["asked"] != steps[-1][0].decode() or left is None and page["times"] != 1:
             return False
         if left is not None:
             left -= page["times"]

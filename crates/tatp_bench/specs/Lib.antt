@@ -1,2 +1,3 @@
 pub mod SettledRuns
 pub mod Benching
+pub mod Works

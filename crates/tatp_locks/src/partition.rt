@@ -1,18 +1,16 @@
 //! What is done at the site of one partition under its lock. What the site was before isn't known,
 //! but that it was a site; so contracts say that the answer is that of some site.
 ghost use Rattle.std.specs.Fn.{FnOnceReturnsAt};
-ghost use Rattle.std.specs.Prelude.{◌≡◌, ◌<◌, List, None, Ok, IfOk, IfErr, vec_len, vec_capacity};
-ghost use Rattle.std.specs.Result.{result_and};
+ghost use Rattle.std.specs.Prelude.{◌≡◌, ◌<◌, None, IfOk, IfErr, vec_len, vec_capacity};
 ghost use Rattle.tatp_extents.specs.Extents.{ExtentState};
 ghost use Rattle.tatp_partition.specs.Moving.{LandedState, Takes, Gives};
 ghost use Rattle.tatp_partition.specs.declared.refusal.NotGiven.{NotGiven};
 ghost use Rattle.tatp_partition.specs.Obstacles.{one_obstacle};
-ghost use Rattle.tatp_partition.specs.Running.{AdvancesUnless, stepped_of};
+ghost use Rattle.tatp_partition.specs.Running.{AdvancesUnless};
 ghost use Rattle.tatp_partition.specs.Stopping.{Stops, Resumes};
 ghost use Rattle.tatp_slices.specs.FullLogs.{ChecksLog};
 ghost use Rattle.tatp_slices.specs.Offering.{Offers};
-ghost use Rattle.tatp_slices.specs.Slices.{IsSlice, logged_at};
-ghost use Rattle.tatp_slices.specs.declared.observer.StepAhead.{StepAhead};
+ghost use Rattle.tatp_slices.specs.Slices.{MakesSlice};
 ghost use Rattle.tatp_locks.specs.Locked.{OfSomeSite};
 
 use crossbeam_utils::CachePadded;
@@ -79,26 +77,23 @@ impl<'m> Partition<'m> {
         offered
     }
 
-    /// Makes steps of a client's call, the gate before each. Where the call ends, its completion is
-    /// left in its place, and the answer is how many entries the log of its extent has then.
+    /// Makes steps of the running call, the gate before each. Where the call ends, its completion
+    /// is left in its place, and the answer is how many entries the log of its extent has then.
     pub fn slice<R: Wait, G: Gate>(
         &self,
         rt: &R,
         gate: &G,
-        client: u64,
         ended: &mut CompletionPlace,
     ) -> Result<u64, SiteRefusal>
         requires { ended.old ≡ None }
-        ensures { OfSomeSite (λ s s'. (steps : List StepAhead)
-            × IsSlice client s (result_and result (Ok (stepped_of ended.new))) s' steps
-            × IfOk result (λ logged. logged ≡ logged_at s' ended.new)) }
+        ensures { OfSomeSite (λ s s'. MakesSlice s result ended.new s') }
     {
         let mut observer = Gated { gate };
         let made = {
             let mut locked = lock(rt, &self.site);
             let site = &mut *locked;
             what_holds_of_every_site(site);
-            let made = slice(site, &mut observer, client, &self.wanted, ended);
+            let made = slice(site, &mut observer, &self.wanted, ended);
             what_holds_of_every_site(site);
             made
         };

@@ -4,7 +4,7 @@ ghost use Rattle.std.specs.Result.{result_and};
 ghost use Rattle.tatp_partition.specs.Obstacles.{step_obstacle};
 ghost use Rattle.tatp_partition.specs.Running.{AdvancesUnless, stepped_of};
 ghost use Rattle.tatp_slices.specs.Growing.{Grows, Does};
-ghost use Rattle.tatp_slices.specs.Slices.{IsSlice, steps_ahead, logged_at};
+ghost use Rattle.tatp_slices.specs.Slices.{IsSlice, step_ahead, steps_ahead, logged_at};
 
 use crate::{Observer, StepAhead};
 use std::sync::atomic::{AtomicU64, Ordering};
@@ -18,13 +18,30 @@ pub fn is_wanted(wanted: &AtomicU64) -> bool {
     wanted.load(Ordering::SeqCst) != 0
 }
 
-/// One step of a client's call, which its observer sees before. A step that is refused isn't seen.
+/// The running call's next step.
+#[inline(always)]
+fn step_ahead(site: &Site<'_>) -> Option<StepAhead>
+    ensures { result ≡ step_ahead site.now }
+{
+    match site.machine() {
+        None => None,
+        Some(machine) => match site.client() {
+            None => None,
+            Some(client) => Some(StepAhead {
+                partition: site.partition(),
+                client,
+                pc: machine.pc(),
+            }),
+        },
+    }
+}
+
+/// One step of the running call, which its observer sees before. A step that is refused isn't seen.
 /// Where the call ends, its completion is left in its place.
 #[inline(always)]
 fn observed_step<O: Observer>(
     site: &mut Site<'_>,
     observer: &mut O,
-    client: u64,
     ended: &mut CompletionPlace,
 ) -> Result<(), SiteRefusal>
     requires { ended.old ≡ None }
@@ -32,38 +49,32 @@ fn observed_step<O: Observer>(
         (result_and result (Ok (stepped_of ended.new))) site.new }
     ensures refused { OnErr result (ended.new ≡ None) }
     ensures observed { Grows (O.observed observer.old) (O.observed observer.new)
-        (steps_ahead site.old client) }
+        (steps_ahead site.old) }
 {
     if let Err(refusal) = site.check_step() {
         return Err(refusal);
     }
-    if let Some(machine) = site.machine() {
-        let step = StepAhead {
-            partition: site.partition(),
-            client,
-            pc: machine.pc(),
-        };
+    if let Some(step) = step_ahead(site) {
         observer.before_step(step);
     }
     site.step_into(StepKind::Step, ended)
 }
 
-/// Makes steps of a client's call: up to the first that doesn't go on, and no more where another
+/// Makes steps of the running call: up to the first that doesn't go on, and no more where another
 /// thread wants the lock. Where the call ends, its completion is left in its place.
 fn make_steps<O: Observer>(
     site: &mut Site<'_>,
     observer: &mut O,
-    client: u64,
     wanted: &AtomicU64,
     ended: &mut CompletionPlace,
 ) -> Result<(), SiteRefusal>
     requires { ended.old ≡ None }
     ensures { Does
-        (IsSlice client site.old (result_and result (Ok (stepped_of ended.new))) site.new)
+        (IsSlice site.old (result_and result (Ok (stepped_of ended.new))) site.new)
         (O.observed observer.old) (O.observed observer.new) }
 {
     for _made in 0..MOST_STEPS - 1 {
-        match observed_step(site, observer, client, ended) {
+        match observed_step(site, observer, ended) {
             Ok(()) => {
                 if ended.is_some() || is_wanted(wanted) {
                     return Ok(());
@@ -72,7 +83,7 @@ fn make_steps<O: Observer>(
             Err(refusal) => return Err(refusal),
         }
     }
-    observed_step(site, observer, client, ended)
+    observed_step(site, observer, ended)
 }
 
 /// How many entries the log of the extent has on which a call ended; 0 where it goes on.
@@ -85,23 +96,22 @@ fn logged_at(site: &Site<'_>, ended: &CompletionPlace) -> u64
     }
 }
 
-/// Makes steps of a client's call at a site whose lock is held: up to the first that doesn't go on,
-/// and no more where another thread wants the lock. Where the call ends, its completion is left in
-/// its place, and the answer is how many entries the log of its extent has then.
+/// Makes steps of the running call at a site whose lock is held: up to the first that doesn't go
+/// on, and no more where another thread wants the lock. Where the call ends, its completion is left
+/// in its place, and the answer is how many entries the log of its extent has then.
 pub fn slice<O: Observer>(
     site: &mut Site<'_>,
     observer: &mut O,
-    client: u64,
     wanted: &AtomicU64,
     ended: &mut CompletionPlace,
 ) -> Result<u64, SiteRefusal>
     requires { ended.old ≡ None }
     ensures steps { Does
-        (IsSlice client site.old (result_and result (Ok (stepped_of ended.new))) site.new)
+        (IsSlice site.old (result_and result (Ok (stepped_of ended.new))) site.new)
         (O.observed observer.old) (O.observed observer.new) }
     ensures logged { IfOk result (λ logged. logged ≡ logged_at site.new ended.new) }
 {
-    match make_steps(site, observer, client, wanted, ended) {
+    match make_steps(site, observer, wanted, ended) {
         Ok(()) => Ok(logged_at(site, ended)),
         Err(refusal) => Err(refusal),
     }

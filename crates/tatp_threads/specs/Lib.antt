@@ -1,3 +1,4 @@
 pub mod Inboxes
 pub mod Calls
 pub mod Seats
+pub mod Partitions

@@ -1,4 +1,8 @@
 //! The executor of one partition.
+ghost use Rattle.std.specs.Prelude.{◌≡◌, None};
+ghost use Rattle.tatp_locks.specs.Locked.{OfSomeSite};
+ghost use Rattle.tatp_slices.specs.Offering.{Offers};
+ghost use Rattle.tatp_slices.specs.Slices.{MakesSlice};
 
 use crate::admission::{Arities, Port, Reader};
 use crate::reserved::ExecutorSeat;
@@ -41,13 +45,17 @@ impl<R: Wait, G: Gate, A: Arities> Executing for ExecutorEnds<'_, '_, '_, '_, R,
         self.reader.take(self.rt)
     }
 
-    fn offer(&mut self, item: &Item) -> Offered {
+    fn offer(&mut self, item: &Item) -> Offered
+        ensures { OfSomeSite (λ s s'. Offers s item.now result s') }
+    {
         self.partition.offer(self.rt, self.shared.alloc, item)
     }
 
-    fn slice(&mut self, client: u64, ended: &mut CompletionPlace) -> Result<u64, SiteRefusal> {
-        self.partition
-            .slice(self.rt, self.shared.gate, client, ended)
+    fn slice(&mut self, ended: &mut CompletionPlace) -> Result<u64, SiteRefusal>
+        requires { ended.old ≡ None }
+        ensures { OfSomeSite (λ s s'. MakesSlice s result ended.new s') }
+    {
+        self.partition.slice(self.rt, self.shared.gate, ended)
     }
 
     /// Room for the chapter is taken before the lock.

@@ -1,4 +1,5 @@
 //! What the threads share.
+ghost use Rattle.std.specs.Prelude.{◌≤◌, IfNone, length};
 ghost use Rattle.tatp_threads.specs.Inboxes.{SendsCall};
 
 use crate::admission::{Admission, Arities, Port};
@@ -32,7 +33,9 @@ pub(crate) struct Shared<'a, 'm, G, A: Arities> {
 
 impl<'a, 'm, G, A: Arities> Shared<'a, 'm, G, A> {
     /// The partition of this number, if there is one.
-    pub(crate) fn partition(&self, number: u8) -> Option<&'a Partition<'m>> {
+    pub(crate) fn partition(&self, number: u8) -> Option<&'a Partition<'m>>
+        ensures { IfNone result (length self.now.partitions.now ≤ number) }
+    {
         self.partitions.get(number as usize)
     }
 

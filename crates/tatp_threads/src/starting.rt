@@ -45,7 +45,7 @@ pub(crate) fn run_threads<R: Threads + Wait + Sync, G: Gate + Sync, A: Arities +
 ) -> bool
     requires partitions { vec_len crew.quit ≡ length shared.now.partitions.now }
     requires executors { AreExecutors crew.quit.items crew.executors.items }
-    requires clients { AreClients (length crew.lists.now) crew.quit.items clients.old }
+    requires clients { AreClients crew.lists.now crew.quit.items clients.old }
     requires mailboxes { length shared.now.mailboxes.now ≡ length crew.lists.now }
 {
     let Crew {

@@ -45,7 +45,7 @@ fn execute_call<R: Wait, E: Executing>(
         (E.effects executing.new) }
 {
     if begin(rt, executing, item) {
-        run(rt, executing, partition, chapter, item.client, ended);
+        run(rt, executing, partition, chapter, ended);
     }
 }
 
@@ -134,15 +134,14 @@ fn run<R: Wait, E: Executing>(
     executing: &mut E,
     partition: u8,
     chapter: u64,
-    client: u64,
     ended: &mut CompletionPlace,
 )
-    ensures { Does (RunsToItsEnd partition chapter client) (E.effects executing.old)
+    ensures { Does (RunsToItsEnd partition chapter) (E.effects executing.old)
         (E.effects executing.new) }
 {
     for _round in rt.forever() {
         ended.clear();
-        let made = executing.slice(client, ended);
+        let made = executing.slice(ended);
         if is_to_go_on(&made, ended) {
             if made.is_err() {
                 thread::yield_now();

@@ -19,6 +19,7 @@ use crate::{
 use std::alloc::Global;
 use std::sync::Wait;
 use std::sync::atomic::AtomicU64;
+use tatp_debug::Snapshot;
 use tatp_move::{MoveRefusal, Plan};
 use tatp_numbers::Directory;
 use tatp_partition::{
@@ -133,15 +134,16 @@ impl Answering for Record<Effect> {
     }
 }
 
-/// Each site is stopped, and its call makes its step.
+/// Each site is stopped; a look at it is refused, and its call makes its step.
 impl Debugging for Record<Effect> {
     fn stop(&mut self, partition: u8) -> bool {
         self.keep(Effect::Stops(partition, true));
         true
     }
 
-    fn look(&mut self, partition: u8) {
-        self.keep(Effect::Looks(partition));
+    fn look(&mut self, partition: u8) -> Result<Snapshot, SiteRefusal> {
+        self.keep(Effect::Looks(partition, Err(SiteRefusal::NotRunning)));
+        Err(SiteRefusal::NotRunning)
     }
 
     fn one(&mut self, partition: u8) -> Result<Stepped, SiteRefusal> {
@@ -166,8 +168,8 @@ impl Executing for Record<Effect> {
         Offered::Dropped
     }
 
-    fn slice(&mut self, client: u64, _ended: &mut CompletionPlace) -> Result<u64, SiteRefusal> {
-        self.keep(Effect::Slices(client, Err(SiteRefusal::NotRunning), 0));
+    fn slice(&mut self, _ended: &mut CompletionPlace) -> Result<u64, SiteRefusal> {
+        self.keep(Effect::Slices(Err(SiteRefusal::NotRunning), 0));
         Err(SiteRefusal::NotRunning)
     }
 
@@ -239,16 +241,15 @@ fn ask_each(
 fn slice_once(
     site: &mut Site<'_>,
     alloc: Global,
-    client: u64,
     wanted: &AtomicU64,
     ended: &mut CompletionPlace,
 ) -> (Record<StepAhead>, Result<u64, SiteRefusal>)
     requires { ended.old ≡ None }
     ensures { result.0.is_lost ≡ false
-        → IsSlice client site.old (result_and result.1 (Ok (stepped_of ended.new))) site.new
+        → IsSlice site.old (result_and result.1 (Ok (stepped_of ended.new))) site.new
         result.0.kept.items }
 {
     let mut observer = Record::new(alloc);
-    let made = slice(site, &mut observer, client, wanted, ended);
+    let made = slice(site, &mut observer, wanted, ended);
     (observer, made)
 }

@@ -1,3 +1,5 @@
+pub mod Locked
+pub mod Copies
 pub mod Inboxes
 pub mod Calls
 pub mod Seats

@@ -6,7 +6,7 @@ use Rattle.tatp_partition.specs.declared.refusal.SiteRefusal.{SiteRefusal}
 use Rattle.tatp_partition.specs.Moving.{LandedState, Gives}
 use Rattle.tatp_partition.specs.Sites.{SiteState}
 use Rattle.tatp_partition.specs.Stopping.{Stops}
-use Rattle.tatp_locks.specs.Locked.{OfSomeSite}
+use Rattle.tatp_threads.specs.Locked.{OfSomeSite}
 
 -- where a partition has this number, of so many, its site answered so
 abbrev pub OfPartition : ℕ → ℕ → (SiteState → SiteState → Type 0) → Type 0

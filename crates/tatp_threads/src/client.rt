@@ -7,9 +7,9 @@ use crate::reserved::ClientSeat;
 use crate::shared::Shared;
 use std::mem;
 use std::sync::Wait;
+use tatp_logs::Receipts;
 use tatp_partition::Item;
 use tatp_procs::Ask;
-use tatp_logs::Receipts;
 use tatp_sync::Mailbox;
 use tatp_workers::{Delivery, Requester, ask_all};
 

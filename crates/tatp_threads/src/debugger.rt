@@ -10,8 +10,7 @@ use crate::shared::Shared;
 use std::sync::Wait;
 use tatp_debug::{Snapshot, look};
 use tatp_partition::{Completion, SiteRefusal, Stepped};
-use tatp_slices::Gate;
-use tatp_workers::{Answering, Debugging, Delivery, debug_run};
+use tatp_workers::{Answering, Debugging, Delivery, Gate, debug_run};
 
 /// The sites under their locks, and the mailboxes.
 #[derive(Drop)]

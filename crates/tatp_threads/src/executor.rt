@@ -1,18 +1,19 @@
 //! The executor of one partition.
 ghost use Rattle.std.specs.Prelude.{◌≡◌, None};
-ghost use Rattle.tatp_locks.specs.Locked.{OfSomeSite};
-ghost use Rattle.tatp_slices.specs.Offering.{Offers};
-ghost use Rattle.tatp_slices.specs.Slices.{MakesSlice};
+ghost use Rattle.tatp_threads.specs.Locked.{OfSomeSite};
+ghost use Rattle.tatp_workers.specs.Offering.{Offers};
+ghost use Rattle.tatp_workers.specs.Slices.{MakesSlice};
 
+use crate::Partition;
 use crate::admission::{Arities, Port, Reader};
 use crate::reserved::ExecutorSeat;
 use crate::shared::Shared;
 use std::sync::Wait;
 use tatp_extents::Chapter;
-use tatp_locks::Partition;
 use tatp_partition::{Completion, CompletionPlace, Item, SiteRefusal};
-use tatp_slices::{Checkpointed, Gate, Offered};
-use tatp_workers::{Answering, Delivery, Executing, Message, take_calls};
+use tatp_workers::{
+    Answering, Checkpointed, Delivery, Executing, Gate, Message, Offered, take_calls,
+};
 
 /// An executor's partition, the reader of its inbox, its ends at all inboxes and the chapters that
 /// it keeps, with what the threads share.

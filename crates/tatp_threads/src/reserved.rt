@@ -4,16 +4,16 @@ ghost use Rattle.tatp_procs.specs.Asked.{arities_of};
 ghost use Rattle.tatp_sync.specs.Inboxes.{IsNew};
 ghost use Rattle.tatp_threads.specs.Seats.{AreExecutors, AreClients};
 
+use crate::Partition;
 use crate::admission::{Admission, Arities, Port, Reader};
 use crate::calls::arities_of;
 use std::alloc::{AllocError, Global};
 use tatp_extents::Chapter;
 use tatp_limits::MAX_CLIENTS;
 use tatp_loader::Loaded;
-use tatp_locks::Partition;
+use tatp_logs::Receipts;
 use tatp_partition::{Parcel, Site};
 use tatp_procs::Ask;
-use tatp_logs::Receipts;
 use tatp_sync::{Mailbox, ends_of, open_inboxes};
 use tatp_workers::Delivery;
 

@@ -2,10 +2,10 @@
 ghost use Rattle.std.specs.Prelude.{◌≤◌, IfNone, length};
 ghost use Rattle.tatp_threads.specs.Inboxes.{SendsCall};
 
+use crate::Partition;
 use crate::admission::{Admission, Arities, Port};
 use std::alloc::Global;
 use std::sync::{Mutex, Wait};
-use tatp_locks::Partition;
 use tatp_move::Routes;
 use tatp_numbers::Directory;
 use tatp_partition::{Completion, Item};

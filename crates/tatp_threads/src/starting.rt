@@ -11,14 +11,13 @@ use crate::mover::move_extents;
 use crate::reserved::{ClientSeat, ExecutorSeat};
 use crate::shared::Shared;
 use std::sync::Wait;
-use std::thread;
 use std::thread::Threads;
+use std::thread;
 use std::time::Duration;
 use tatp_partition::Parcel;
 use tatp_procs::Ask;
-use tatp_slices::Gate;
 use tatp_sync::pause;
-use tatp_workers::Message;
+use tatp_workers::{Gate, Message};
 
 /// For how many milliseconds the executors are alone. Where there are enough processors, the system
 /// then has each of them on its own, and leaves it there as long as it doesn't sleep.

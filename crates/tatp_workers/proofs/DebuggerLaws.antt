@@ -5,10 +5,10 @@ use Rattle.tatp_partition.specs.declared.item.Stepped.{Stepped}
 use Rattle.tatp_partition.specs.declared.refusal.SiteRefusal.{SiteRefusal}
 use Rattle.tatp_workers.specs.declared.effects.Effect.{Effect}
 use Rattle.tatp_workers.specs.declared.effects.Effect.TheVariants.{Stops, Looks, Steps, Resumes}
-use Rattle.tatp_slices.specs.Growing.{Grows, Does}
+use Rattle.tatp_workers.specs.Growing.{Grows, Does}
 use Rattle.tatp_workers.specs.Effects.{effects_of_step}
 use Rattle.tatp_workers.specs.Debugging.{effects_of_inspection, IsDebugged}
-use Rattle.tatp_slices.proofs.GrowthLaws.{grown_twice}
+use Rattle.tatp_workers.proofs.GrowthLaws.{grown_twice}
 
 pub inspected : (partition : ℕ) (seen : Result Snapshot SiteRefusal) (answer : Result Stepped SiteRefusal) (known looked stepped completed known' : Option (List Effect))
     → Grows known looked (Looks partition seen ∷ [])

@@ -7,14 +7,14 @@ use Rattle.tatp_partition.specs.declared.item.Stepped.{Stepped}
 use Rattle.tatp_partition.specs.declared.refusal.SiteRefusal.{SiteRefusal}
 use Rattle.tatp_workers.specs.declared.message.Message.{Message}
 use Rattle.tatp_workers.specs.declared.message.Message.TheVariants.{Call}
-use Rattle.tatp_slices.specs.declared.offers.Offered.{Offered}
+use Rattle.tatp_workers.specs.declared.offers.Offered.{Offered}
 use Rattle.tatp_workers.specs.declared.effects.Effect.{Effect}
 use Rattle.tatp_workers.specs.declared.effects.Effect.TheVariants.{Receives, Offers, Slices}
-use Rattle.tatp_slices.specs.Growing.{Grows, Does}
+use Rattle.tatp_workers.specs.Growing.{Grows, Does}
 use Rattle.tatp_workers.specs.Effects.{Follows, concluding}
-use Rattle.tatp_slices.specs.Offering.{is_again, has_begun}
+use Rattle.tatp_workers.specs.Offering.{is_again, has_begun}
 use Rattle.tatp_workers.specs.Executing.{IsOfferedAgain, IsOffered, is_to_go_on, GoesOnAfter, ChecksFull, Completes, Finishes, RunsToItsEnd, RunsWhereItBegan, ExecutesCall, Executes, is_last, ExecutesUntilQuit}
-use Rattle.tatp_slices.proofs.GrowthLaws.{not_grown, grown_twice}
+use Rattle.tatp_workers.proofs.GrowthLaws.{not_grown, grown_twice}
 
 -- ---- a call is offered
 pub none_offered : (item : Item) (known : Option (List Effect)) → Does (All (IsOfferedAgain item)) known known

@@ -6,11 +6,11 @@ use Rattle.tatp_partition.specs.declared.item.Stepped.{Stepped}
 use Rattle.tatp_partition.specs.declared.item.Stepped.TheVariants.{Moved, Ended}
 use Rattle.tatp_partition.specs.declared.refusal.SiteRefusal.{SiteRefusal}
 use Rattle.tatp_partition.specs.declared.refusal.SiteRefusal.TheVariants.{NotRunning}
-use Rattle.tatp_slices.specs.declared.checkpoints.Checkpointed.{Checkpointed}
+use Rattle.tatp_workers.specs.declared.checkpoints.Checkpointed.{Checkpointed}
 use Rattle.tatp_workers.specs.declared.message.Message.{Message}
 use Rattle.tatp_workers.specs.declared.message.Message.TheVariants.{Quit, Call}
-use Rattle.tatp_slices.specs.declared.offers.Offered.{Offered}
-use Rattle.tatp_slices.specs.Offering.{is_again, has_begun}
+use Rattle.tatp_workers.specs.declared.offers.Offered.{Offered}
+use Rattle.tatp_workers.specs.Offering.{is_again, has_begun}
 use Rattle.tatp_workers.specs.declared.effects.Effect.{Effect}
 use Rattle.tatp_workers.specs.declared.effects.Effect.TheVariants.{Receives, Offers, Slices, Checkpoints}
 use Rattle.tatp_workers.specs.Effects.{Follows, concluding}

@@ -3,7 +3,7 @@ ghost use Rattle.std.specs.Prelude.{◌≡◌, Result, length, [], ◌∷◌};
 ghost use Rattle.tatp_debug.specs.declared.snapshot.Snapshot.{Snapshot};
 ghost use Rattle.tatp_partition.specs.declared.item.Stepped.{Stepped};
 ghost use Rattle.tatp_partition.specs.declared.refusal.SiteRefusal.{SiteRefusal};
-ghost use Rattle.tatp_slices.specs.Growing.{Grows, Does, InTurn};
+ghost use Rattle.tatp_workers.specs.Growing.{Grows, Does, InTurn};
 ghost use Rattle.tatp_workers.specs.Debugging.{effects_of_inspection, IsDebugged};
 ghost use Rattle.tatp_workers.specs.declared.effects.Effect.TheVariants.{Stops, Looks, Steps, Resumes};
 

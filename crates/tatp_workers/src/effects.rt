@@ -2,18 +2,17 @@
 ghost use Rattle.std.specs.Prelude.{◌≡◌, List, Option, None, Ok, [], ◌∷◌};
 ghost use Rattle.std.specs.Result.{result_and};
 ghost use Rattle.tatp_partition.specs.Running.{stepped_of};
-ghost use Rattle.tatp_slices.specs.Growing.{Grows, Does};
+ghost use Rattle.tatp_workers.specs.Growing.{Grows, Does};
 ghost use Rattle.tatp_workers.specs.Effects.{Follows, receipt_of, concluding, effects_of_step};
-ghost use Rattle.tatp_slices.specs.Slices.{logged_by};
+ghost use Rattle.tatp_workers.specs.Slices.{logged_by};
 ghost use Rattle.tatp_workers.specs.declared.delivery.Delivery.TheVariants.{Got};
 ghost use Rattle.tatp_workers.specs.declared.effects.Effect.{Effect};
 ghost use Rattle.tatp_workers.specs.declared.effects.Effect.TheVariants.{Sends, Answers, Tells, Receives, Offers, Slices, Checkpoints};
 
-use crate::{Delivery, Message};
+use crate::{Checkpointed, Delivery, Message, Offered};
 use tatp_debug::Snapshot;
-use tatp_partition::{Completion, CompletionPlace, Item, SiteRefusal, Stepped};
 use tatp_logs::Receipt;
-use tatp_slices::{Checkpointed, Offered};
+use tatp_partition::{Completion, CompletionPlace, Item, SiteRefusal, Stepped};
 
 /// What an executor or the debugger did.
 #[derive(Clone, Copy)]
@@ -93,7 +92,7 @@ pub trait Executing: Answering {
 }
 
 /// Gives a completed call's receipt to its client, and then tells the gate.
-#[tactic(auto, using(tatp_slices::proofs::GrowthLaws::grown_by_two))]
+#[tactic(auto, using(crate::proofs::GrowthLaws::grown_by_two))]
 pub(crate) fn conclude<A: Answering>(answering: &mut A, partition: u8, completion: &Completion)
     ensures { Grows (A.effects answering.old) (A.effects answering.new)
         (concluding partition completion.now) }

@@ -2,9 +2,9 @@
 ghost use Rattle.std.specs.Prelude.{◌≡◌, Ok};
 ghost use Rattle.std.specs.Result.{result_and};
 ghost use Rattle.tatp_partition.specs.Running.{stepped_of};
-ghost use Rattle.tatp_slices.specs.Growing.{Does};
+ghost use Rattle.tatp_workers.specs.Growing.{Does};
 ghost use Rattle.tatp_workers.specs.Executing.{IsOffered, ChecksFull, Completes, Finishes, RunsToItsEnd, ExecutesCall, ExecutesUntilQuit, is_not_running, is_to_go_on};
-ghost use Rattle.tatp_slices.specs.Slices.{logged_by};
+ghost use Rattle.tatp_workers.specs.Slices.{logged_by};
 
 use crate::effects::{conclude, follow};
 use crate::{Executing, Message};

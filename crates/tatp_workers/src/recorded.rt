@@ -3,31 +3,29 @@
 //! workers say something, and are shown to be met.
 ghost use Rattle.std.specs.Prelude.{◌≡◌, [], ◌∷◌, List, None, Ok, false, length, vec_len, vec_capacity, ◌<◌, ◌≤◌, ◌++◌};
 ghost use Rattle.tatp_extents.specs.Extents.{ExtentState};
-ghost use Rattle.tatp_slices.specs.Growing.{Grows, InTurn, known_unless};
+ghost use Rattle.tatp_workers.specs.Growing.{Grows, InTurn, known_unless};
 ghost use Rattle.tatp_workers.specs.Asking.{Conversation, Converses};
 ghost use Rattle.tatp_workers.specs.Carrying.{MakesMoves};
 ghost use Rattle.tatp_workers.specs.Debugging.{IsDebugged};
 ghost use Rattle.tatp_workers.specs.Executing.{ExecutesUntilQuit};
 ghost use Rattle.std.specs.Result.{result_and};
 ghost use Rattle.tatp_partition.specs.Running.{stepped_of};
-ghost use Rattle.tatp_slices.specs.Slices.{IsSlice};
+ghost use Rattle.tatp_workers.specs.Slices.{IsSlice};
 
 use crate::{
-    Answering, Carrying, Debugging, Delivery, Effect, Exchange, Executing, Message, MoveEffect,
-    Moves, Requester, ask_all, debug_run, move_run, take_calls,
+    Answering, Carrying, Checkpointed, Debugging, Delivery, Effect, Exchange, Executing, Message,
+    MoveEffect, Moves, Observer, Offered, Requester, StepAhead, ask_all, debug_run, move_run, slice,
+    take_calls,
 };
 use std::alloc::Global;
 use std::sync::Wait;
 use std::sync::atomic::AtomicU64;
 use tatp_debug::Snapshot;
+use tatp_logs::Receipts;
 use tatp_move::{MoveRefusal, Plan};
 use tatp_numbers::Directory;
-use tatp_partition::{
-    Completion, CompletionPlace, Item, Landed, Parcel, Site, SiteRefusal, Stepped,
-};
+use tatp_partition::{Completion, CompletionPlace, Item, Landed, Parcel, Site, SiteRefusal, Stepped};
 use tatp_procs::Ask;
-use tatp_logs::Receipts;
-use tatp_slices::{Checkpointed, Observer, Offered, StepAhead, slice};
 
 /// What was done, kept as long as there is memory for it.
 #[derive(Drop)]
@@ -51,7 +49,7 @@ impl<T> Record<T> {
 
 impl<T: Copy> Record<T> {
     /// One thing more was done.
-    #[tactic(auto, using(tatp_slices::proofs::GrowthLaws::grows_by))]
+    #[tactic(auto, using(crate::proofs::GrowthLaws::grows_by))]
     fn keep(&mut self, it: T)
         ensures { Grows (known_unless self.old.is_lost self.old.kept.items)
             (known_unless self.new.is_lost self.new.kept.items) (it ∷ []) }
@@ -185,7 +183,7 @@ impl Executing for Record<Effect> {
 }
 
 /// An executor runs calls.
-#[tactic(auto, using(tatp_slices::proofs::GrowthLaws::all_recorded))]
+#[tactic(auto, using(crate::proofs::GrowthLaws::all_recorded))]
 fn execute_each<R: Wait>(rt: &R, alloc: Global) -> Record<Effect>
     ensures { result.is_lost ≡ false → ExecutesUntilQuit 0 1 result.kept.items }
 {
@@ -195,7 +193,7 @@ fn execute_each<R: Wait>(rt: &R, alloc: Global) -> Record<Effect>
 }
 
 /// The debugger makes stops.
-#[tactic(auto, using(tatp_slices::proofs::GrowthLaws::all_recorded))]
+#[tactic(auto, using(crate::proofs::GrowthLaws::all_recorded))]
 fn debug_each(alloc: Global, moves: &Moves) -> Record<Effect>
     ensures { result.is_lost ≡ false
         → InTurn IsDebugged moves.now.stops.items (length moves.now.stops.items) result.kept.items }
@@ -206,7 +204,7 @@ fn debug_each(alloc: Global, moves: &Moves) -> Record<Effect>
 }
 
 /// The mover makes moves.
-#[tactic(auto, using(tatp_slices::proofs::GrowthLaws::all_recorded))]
+#[tactic(auto, using(crate::proofs::GrowthLaws::all_recorded))]
 fn move_each(alloc: Global, moves: &Moves, hand: &mut Vec<Parcel>) -> Record<MoveEffect>
     requires room { vec_len hand.old < vec_capacity hand.old }
     ensures { (kept : List ExtentState)
@@ -219,7 +217,7 @@ fn move_each(alloc: Global, moves: &Moves, hand: &mut Vec<Parcel>) -> Record<Mov
 }
 
 /// A client asks calls.
-#[tactic(auto, using(tatp_slices::proofs::GrowthLaws::all_recorded))]
+#[tactic(auto, using(crate::proofs::GrowthLaws::all_recorded))]
 fn ask_each(
     alloc: Global,
     directory: &Directory,
@@ -237,7 +235,7 @@ fn ask_each(
 }
 
 /// A call makes steps at a site.
-#[tactic(auto, using(tatp_slices::proofs::GrowthLaws::all_recorded))]
+#[tactic(auto, using(crate::proofs::GrowthLaws::all_recorded))]
 fn slice_once(
     site: &mut Site<'_>,
     alloc: Global,

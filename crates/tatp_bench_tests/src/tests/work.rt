@@ -7,9 +7,9 @@ use std::test::*;
 use std::thread::Threads;
 use tatp_bench::{BenchPlan, Work, draw, run_work, settle_run};
 use tatp_driver::Distribution;
+use tatp_logs::{ReceiptRef, Receipts};
 use tatp_partition::Site;
 use tatp_procs::standard;
-use tatp_logs::{ReceiptRef, Receipts};
 use tatp_settle_tests::events::are_few;
 use tatp_threads::{NoGate, RanParts};
 

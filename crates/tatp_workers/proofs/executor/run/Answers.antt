@@ -1,7 +1,7 @@
 use Rattle.std.proofs.Common.{Ok, sym, ◌∙◌}
 use Rattle.std.specs.Result.{result_and}
 use Rattle.tatp_partition.specs.Running.{stepped_of}
-use Rattle.tatp_slices.specs.Slices.{logged_by}
+use Rattle.tatp_workers.specs.Slices.{logged_by}
 use Rattle.tatp_workers.proofs.ExecutorLaws.{one_more_sliced, last_sliced}
 use Rattle.tatp_workers.proofs.executor.run.Goals as goal
 

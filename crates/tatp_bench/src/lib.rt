@@ -17,7 +17,7 @@ pub use fault::BenchFault;
 pub use report::report_bench;
 pub use report_fault::ReportFault;
 pub use reporter::{Progress, Reporter};
-pub use work::{Work, run_work};
 pub use tatp_drawing::{Drawn, draw};
 pub use tatp_tasks::BenchPlan;
 pub use tatp_threads::NoGate;
+pub use work::{Work, run_work};

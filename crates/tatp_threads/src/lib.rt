@@ -22,4 +22,4 @@ pub use outcome::{Ran, RanParts, discard_chapters};
 pub use partition::Partition;
 pub use refusal::RunRefusal;
 pub use run::{run_calls, run_clean_calls};
-pub use tatp_workers::{Gate, NoGate, Moves};
+pub use tatp_workers::{Gate, Moves, NoGate};

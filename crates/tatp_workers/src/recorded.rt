@@ -14,8 +14,8 @@ ghost use Rattle.tatp_workers.specs.Slices.{IsSlice};
 
 use crate::{
     Answering, Carrying, Checkpointed, Debugging, Delivery, Effect, Exchange, Executing, Message,
-    MoveEffect, Moves, Observer, Offered, Requester, StepAhead, ask_all, debug_run, move_run, slice,
-    take_calls,
+    MoveEffect, Moves, Observer, Offered, Requester, StepAhead, ask_all, debug_run, move_run,
+    slice, take_calls,
 };
 use std::alloc::Global;
 use std::sync::Wait;
@@ -24,7 +24,9 @@ use tatp_debug::Snapshot;
 use tatp_logs::Receipts;
 use tatp_move::{MoveRefusal, Plan};
 use tatp_numbers::Directory;
-use tatp_partition::{Completion, CompletionPlace, Item, Landed, Parcel, Site, SiteRefusal, Stepped};
+use tatp_partition::{
+    Completion, CompletionPlace, Item, Landed, Parcel, Site, SiteRefusal, Stepped,
+};
 use tatp_procs::Ask;
 
 /// What was done, kept as long as there is memory for it.

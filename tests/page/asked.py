@@ -1,4 +1,4 @@
-"""What the tests of pages expect of a page: the lines of a run asked again, each with looks and homes behind it, and what trace
+"""What the tests expect of a page: the lines of a run asked again, each with looks and homes behind it, and what trace
 then answers. This is a reading of FORMATS of its own: nothing of tools/timeline is used.
 """
 
@@ -6,8 +6,8 @@ import subprocess
 
 BAD = "REFUSED 5 BadLine"
 BETWEEN = b"between two answers"
-STANDARD = ["GET_SUBSCRIBER_DATA", "GET_NEW_DESTINATION", "GET_ACCESS_DATA", "UPDATE_SUBSCRIBER_DATA", "UPDATE_LOCATION",
-            "INSERT_CALL_FORWARDING", "DELETE_CALL_FORWARDING"]
+STANDARD = ["GET_SUBSCRIBER_DATA", "GET_NEW_DESTINATION", "GET_ACCESS_DATA", "UPDATE_SUBSCRIBER_DATA",
+            "UPDATE_LOCATION", "INSERT_CALL_FORWARDING", "DELETE_CALL_FORWARDING"]
 
 
 # What a step is in the plain world, by the first word of its answer.
@@ -40,7 +40,9 @@ def asked_again(text, words, seen):
             lines = lines[end:]
     own = [line.split(b" ")[1].decode() for line in head if line.startswith(b"proc ")]
     events = [line for line in lines if not line.startswith(b"#")]
-    subscribers = int(words[words.index("--gen") + 1]) if "--gen" in words else sum(line.startswith(b"S ") for line in head)
+    subscribers = sum(line.startswith(b"S ") for line in head)
+    if "--gen" in words:
+        subscribers = int(words[words.index("--gen") + 1])
     steps = [[]]
     pages = iter(seen[1:])
     for line in events:
@@ -68,7 +70,7 @@ def _take_steps(line, names, pages, steps):
             steps.append([line if count == 3 else b"step " + fields[1]])
             return True
         steps.append([b"step " + fields[1]] * page["times"])
-        if page["asked"] != steps[-1][0].decode():
+        if page["asked"] != steps[-1][0].decode() or left is None and page["times"] != 1:
             return False
         if left is not None:
             left -= page["times"]
@@ -99,7 +101,8 @@ def expected_board(program, words, asked, partitions):
     for step in asked.steps:
         for query in [*step, *(query.encode() for query in looks + rows)]:
             lines += [query, BETWEEN]
-    answers = subprocess.run([program, "trace", *words], input=b"\n".join(lines) + b"\n", capture_output=True, check=False)
+    text = b"\n".join(lines) + b"\n"
+    answers = subprocess.run([program, "trace", *words], input=text, capture_output=True, check=False)
     told = iter(answers.stdout.decode("latin-1").split("\n"))
     boards = []
     state = State(program, asked, partitions)
@@ -174,7 +177,8 @@ class State:
 
     def explanation(self, number):
         """What the command explain says of a refusal."""
-        return subprocess.run([self.program, "explain", number], capture_output=True, check=True).stdout.decode().rstrip()
+        told = subprocess.run([self.program, "explain", number], capture_output=True, check=True)
+        return told.stdout.decode().rstrip()
 
     def _tell(self, line, word):
         """Takes in an answer; gives the partition whose call it ended, if it did."""
@@ -231,7 +235,8 @@ class State:
         self.registers[p] = registers
         # (the page has labels as the text names them, trace by the instruction that they lead to)
         instruction, _, target = at[3].partition("@L")
-        return {"runs": f"{at[1]} {at[2]}", "counter": at[2], "instruction": instruction, "target": target, "registers": registers, "changed": changed,
+        return {"runs": f"{at[1]} {at[2]}", "counter": at[2], "instruction": instruction,
+                "target": target, "registers": registers, "changed": changed,
                 "current": look[2].split(" ")[1:], "out": look[3].split(" ")[1:]}
 
     def _home(self, p, over):

@@ -98,9 +98,10 @@ class Walk:
             self.check(queue[0].startswith(f"client {word[1]}: ") and page["queues"][int(fields[1])] == queue[1:],
                        f"step {page['step']}: the queue was {queue}")
         elif word[0] in ("QUEUED", "AWAY"):
-            client = fields[1] if word[0] == "QUEUED" else before["queues"][int(fields[1])][0].split(":")[0].split(" ")[1]
+            call = f"client {fields[1]}: " + (" ".join(fields[2:]) if fields[0] == "submit" else "")
+            if word[0] == "AWAY":
+                call = before["queues"][int(fields[1])][0]
             last = page["queues"][int(word[1])][-1]
-            call = f"client {client}: " + (" ".join(fields[2:]) if fields[0] == "submit" else "")
             self.check(last.startswith(call), f"step {page['step']}: the last of {page['queues']}")
         else:
             self.check(before["queues"] == page["queues"], f"step {page['step']}: a queue changed")
@@ -124,12 +125,11 @@ class Walk:
         self.browser.open(f"{file}#{step}")
         self.check(self.snapshot() == seen[step], f"the address of step {step} shows another")
         self.check(self.browser.value("scrollY") == 0, "the address scrolls the page")
-        place = self.browser.value("(() => { const strip = document.getElementById('strip'), box = strip.getBoundingClientRect();"
-                                   f" return [box.left + placeOf({step}) - strip.scrollLeft, box.top + 40]; }})()")
         self.browser.press("Home")
-        self.browser.value("document.getElementById('strip').scrollLeft = 0")
-        at = self.browser.value(f"document.getElementById('strip').scrollLeft = placeOf({step}) - 300;"
-                                "document.getElementById('strip').scrollLeft")
-        x = self.browser.value(f"document.getElementById('strip').getBoundingClientRect().left + placeOf({step})") - at
-        self.browser.click(x, place[1])
+        x, y = self.browser.value(f"""(() => {{
+            const strip = document.getElementById("strip"), box = strip.getBoundingClientRect();
+            strip.scrollLeft = placeOf({step}) - 300;
+            return [box.left + placeOf({step}) - strip.scrollLeft, box.top + 40];
+        }})()""")
+        self.browser.click(x, y)
         self.check(self.snapshot()["step"] == step, f"a click at step {step} leads to another")

@@ -20,6 +20,8 @@ ROOT = Path(__file__).resolve().parents[2]
 
 def main():
     """Reads the words and the input, makes the run and writes what was asked for; gives the status."""
+    if sys.stdout is None:
+        raise OSError("there is no standard output")
     words = Words(sys.argv[1:])
     program = os.environ.get("TATP") or str(ROOT / "tatp")
     if words.help:
@@ -38,8 +40,8 @@ def main():
         lines = page(words.title(), lines, watcher, source, lambda number: explanation(program, number))
     else:
         lines = lines.lines()
-    sys.stdout.write("\n".join(lines) + "\n")
-    sys.stdout.flush()
+    with open(sys.stdout.fileno(), "wb", closefd=False) as out:
+        out.write("".join(line + "\n" for line in lines).encode())
     return 0
 
 

@@ -1,4 +1,4 @@
-"""Heights on the picture: each band has a lane for clients and routes, one a partition, and one for extents under way."""
+"""Heights on the picture: a band has a lane for clients and routes, one a partition, and one for extents under way."""
 
 from story import WAY, WHOLE
 

@@ -1,5 +1,5 @@
-"""The page of a run: one file with the list of events and answers, the picture as a slider, and all that a script needs to
-show any step.
+"""The page of a run: one file with the list of events and answers, the picture as a slider, and all that a script
+needs to show any step.
 """
 
 import base64
@@ -17,10 +17,32 @@ SCRIPTS = ("tracks", "machines", "homes", "world", "steps", "reader")
 def page(title, picture, watcher, source, explain):
     """The lines of the page; `explain` gives what the program says of a refusal's number."""
     script = "\n".join((BROWSER / f"{name}.js").read_text() for name in SCRIPTS)
-    policy = "default-src 'none'; style-src 'unsafe-inline'; script-src " + _hash(script)
     strip = picture.lines()
     numbers = sorted({_refusal(step) for step in watcher.steps} - {None}, key=int)
     words = {number: explain(number) for number in numbers}
+    yield from _head(title, script)
+    yield f"<p>{summary(picture.events, picture.story)}</p></header>"
+    yield '<section id="now" aria-live="polite" hidden></section>'
+    yield '<div id="strip">'
+    yield from strip
+    yield "</div>"
+    yield '<main id="board" hidden></main>'
+    yield '<section id="list"><h2>Events and answers</h2>'
+    yield '<ol id="events">'
+    yield from _list(watcher, source, words)
+    yield "</ol></section>"
+    yield '<section id="refusals"><h2>What the refusals mean</h2>' if words else '<section id="refusals" hidden>'
+    yield from (f'<pre id="refusal-{number}">{escape(text.rstrip())}</pre>' for number, text in words.items())
+    yield "</section>"
+    yield f'<script type="application/json" id="run">{_json(_data(picture, watcher, source))}</script>'
+    yield f"<script>{script}</script>"
+    yield "</body>"
+    yield "</html>"
+
+
+def _head(title, script):
+    """What stands before the panels; no other script than this one is run, and nothing is loaded."""
+    policy = "default-src 'none'; style-src 'unsafe-inline'; script-src " + _hash(script)
     yield "<!DOCTYPE html>"
     yield '<html lang="en">'
     yield "<head>"
@@ -34,28 +56,16 @@ def page(title, picture, watcher, source, explain):
     yield "</head>"
     yield "<body>"
     yield f"<header><h1>A run of <code>{escape(title)}</code></h1>"
-    yield f"<p>{summary(picture.events, picture.story)}</p></header>"
-    yield '<section id="now" aria-live="polite" hidden></section>'
-    yield '<div id="strip">'
-    yield from strip
-    yield "</div>"
-    yield '<main id="board" hidden></main>'
-    yield '<section id="list"><h2>Events and answers</h2>'
-    yield '<ol id="events">'
+
+
+def _list(watcher, source, words):
+    """The entries of the list: the opening, the steps, and a comment at the end."""
     yield _opening(source)
     yield from (_entry(number, step, words) for number, step in enumerate(watcher.steps, 1))
     if source.last_words:
         last = len(watcher.steps) + 1
         caption = f'<p class="caption">{_words(source.last_words)}</p>'
         yield f'<li id="{last}">{_number(last)}<div>{caption}<code>the end</code></div></li>'
-    yield "</ol></section>"
-    yield '<section id="refusals"><h2>What the refusals mean</h2>' if words else '<section id="refusals" hidden>'
-    yield from (f'<pre id="refusal-{number}">{escape(text.rstrip())}</pre>' for number, text in words.items())
-    yield "</section>"
-    yield f'<script type="application/json" id="run">{_json(_data(picture, watcher, source))}</script>'
-    yield f"<script>{script}</script>"
-    yield "</body>"
-    yield "</html>"
 
 
 def _hash(script):

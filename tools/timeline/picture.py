@@ -258,6 +258,8 @@ class Picture:
 
 def _shortened(text, room):
     """The text of a call, an extent or a reply as it fits: whole, shortened, or what tells most of it."""
+    if text_width(text, 10) > room and text.startswith("TRAPPED "):
+        text = text.removeprefix("TRAPPED ")
     short = fitted(text, 10, room)
     if short or not text:
         return short
@@ -266,7 +268,7 @@ def _shortened(text, room):
     elif text.startswith("OK "):
         text = "OK"
     else:
-        text = text.removeprefix("FAILED ").removeprefix("extent ").removeprefix("TRAPPED ")
+        text = text.removeprefix("FAILED ").removeprefix("extent ")
     return escape(text) if text_width(text, 10) <= room else ""
 
 

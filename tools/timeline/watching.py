@@ -1,5 +1,5 @@
-"""Watching a run for a page: after each answer looks and homes are asked for, which change nothing, and what they and the
-answers tell is kept as tracks.
+"""Watching a run for a page: after each answer looks and homes are asked for, which change nothing, and what they and
+the answers tell is kept as tracks.
 
 A track is a list of (step, value): the value that holds from that step of the page on.
 """

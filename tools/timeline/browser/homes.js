@@ -31,7 +31,7 @@ function subscriberRow(now, entry, before) {
     const line = el("div", "cells mono");
     for (const [name, many] of groups) {
       line.append(el("small", "", `${name} `));
-      for (const end = n + many; n < end; n++) line.append(cell("span", now[n], entry ? entry[n] : undefined, before ? before[n] : undefined), " ");
+      for (const end = n + many; n < end; n++) line.append(cell("span", now[n], entry?.[n], before?.[n]), " ");
     }
     return line;
   });
@@ -53,25 +53,28 @@ function table(letter, now, entry, before) {
   const head = el("tr", "", ...COLUMNS[letter].map((name) => el("th", "", name)));
   const rows = keys.filter((key) => now.has(key) || entry.has(key)).map((key) =>
     tableRow(key, now.get(key), entry.get(key), before ? before.get(key) : null));
-  return keys.length ? el("div", "scroll", el("table", `rows mono table-${letter}`, el("caption", "quiet", TABLES[letter]), head, ...rows)) : null;
+  if (!keys.length) return null;
+  const caption = el("caption", "quiet", TABLES[letter]);
+  return el("div", "scroll", el("table", `rows mono table-${letter}`, caption, head, ...rows));
 }
 
 // The home of the call that runs, or that this step has ended.
 function homePanel(p, step) {
   const look = valueAt(`machine ${p}`, step, null);
-  if (look === null || look.length === 2 && run.tracks[`machine ${p}`][changeAt(`machine ${p}`, step)][0] !== step) return [];
+  if (look === null || look.length === 2 && !changesAt(`machine ${p}`, step)) return [];
   const index = changeAt(`home ${p}`, step);
   const numbers = index < 0 ? null : run.tracks[`home ${p}`][index][1];
   const subscriber = run.calls[look[0]][3];
   if (!numbers) return [el("h3", "", "Home"), el("p", "quiet", "none: the key names no subscriber")];
   const now = rowsByKey(numbers);
   const began = look.length === 6 && look[5] === 0;
-  const changed = run.tracks[`home ${p}`][index][0] === step && !began;
+  const changed = changesAt(`home ${p}`, step) && !began;
   const before = changed ? rowsByKey(run.tracks[`home ${p}`][index - 1][1]) : null;
   const ended = look.length === 2;
   const failed = ended && !look[1].startsWith("OK");
   const entry = rowsByKey(valueAt(`entry ${p}`, step, []));
-  const words = failed ? "what the call changed is set back" : ended ? "as the call left it; what it was at its entry is struck out"
+  const words = failed ? "what the call changed is set back"
+    : ended ? "as the call left it; what it was at its entry is struck out"
     : "now; what it was at the call's entry, and would be again after FAIL or a trap, is struck out";
   const key = `S ${subscriber}`;
   return [el("h3", "", `Home of subscriber ${subscriber}`), el("p", "quiet", words),

@@ -8,7 +8,8 @@ function callLine(number, ...more) {
 function queuePanel(p, step) {
   const queue = valueAt(`queue ${p}`, step, []);
   const list = el("ol", "queue", ...queue.map((call) => el("li", "", callLine(call))));
-  return [el("h3", "", queue.length ? "Queue, the first call first" : "Queue"), queue.length ? list : el("p", "quiet", "empty")];
+  if (!queue.length) return [el("h3", "", "Queue"), el("p", "quiet", "empty")];
+  return [el("h3", "", "Queue, the first call first"), list];
 }
 
 function breaksAt(p, step, procedure) {
@@ -66,12 +67,13 @@ function machinePanel(p, step) {
       callLine(look[0], " → ", el("b", "mono reply", look[1])), breaks];
   }
   const before = lookBefore(p, step);
+  const old = before && before.length > 2 ? before : null;
   const procedure = run.calls[look[0]][2];
   return [el("h3", "", "Machine"), callLine(look[0]),
     el("p", "machine quiet", `${procedure}, next instruction ${look[1]}; ${look[5]} made`),
     codeOf(procedure, look[1], breaksAt(p, step, procedure)), breaks,
     el("h3", "", "Registers"), registersPanel(look, before),
-    el("h3", "", "Current rows"), pairs("current", currentRows(look), before && before.length > 2 ? currentRows(before) : null),
-    el("h3", "", "Outputs"), look[4] ? pairs("out", outputs(look), before && before.length > 2 ? outputs(before) : null)
+    el("h3", "", "Current rows"), pairs("current", currentRows(look), old && currentRows(old)),
+    el("h3", "", "Outputs"), look[4] ? pairs("out", outputs(look), old && outputs(old))
       : el("p", "out quiet", "none")];
 }

@@ -13,7 +13,8 @@ document.addEventListener("keydown", (event) => {
 
 function nearest(x) {
   let best = 0;
-  for (let step = 1; step <= run.end; step++) if (Math.abs(placeOf(step) - x) < Math.abs(placeOf(best) - x)) best = step;
+  const distance = (step) => Math.abs(placeOf(step) - x);
+  for (let step = 1; step <= run.end; step++) if (distance(step) < distance(best)) best = step;
   return best;
 }
 
@@ -44,7 +45,8 @@ function begin() {
   const where = el("b", "mono");
   where.id = "where";
   const controls = el("div", "controls", button("first", "First", KEYS.Home), button("back", "Back", KEYS.ArrowLeft),
-    button("forward", "Forward", KEYS.ArrowRight), button("last", "Last", KEYS.End), button("play", "Play", KEYS[" "]), where,
+    button("forward", "Forward", KEYS.ArrowRight), button("last", "Last", KEYS.End),
+    button("play", "Play", KEYS[" "]), where,
     el("span", "quiet", "Keys: arrows, Home, End, space. The timeline is a slider."));
   $("now").after(controls);
   document.body.className = "read";

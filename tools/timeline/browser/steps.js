@@ -18,7 +18,10 @@ function nowPanel(step) {
   const caption = captionOf(step);
   if (copy.querySelector(".caption")) copy.querySelector(".caption").remove();
   const children = [copy.querySelector("a"), caption, ...copy.querySelector("div").childNodes].filter(Boolean);
-  if (meaning) children.push(el("details", "", el("summary", "", `What to do about ${number[1]}`), el("pre", "", meaning.textContent)));
+  if (meaning) {
+    const summary = el("summary", "", `What to do about ${number[1]}`);
+    children.push(el("details", "", summary, el("pre", "", meaning.textContent)));
+  }
   $("now").replaceChildren(...children);
 }
 

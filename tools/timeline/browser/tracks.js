@@ -29,6 +29,12 @@ function valueAt(name, step, otherwise) {
   return index < 0 ? otherwise : run.tracks[name][index][1];
 }
 
+// Whether the step itself changes a track.
+function changesAt(name, step) {
+  const index = changeAt(name, step);
+  return index >= 0 && run.tracks[name][index][0] === step;
+}
+
 // Each panel is made again only where its signature is another than when it was made.
 const made = new Map();
 function panel(name, signature, make) {
@@ -42,8 +48,5 @@ function panel(name, signature, make) {
 
 // What a panel shows: its tracks as they are, and those which this step changes.
 function signatureOf(names, step) {
-  return names.map((name) => {
-    const index = changeAt(name, step);
-    return index + (index >= 0 && run.tracks[name][index][0] === step ? "*" : "");
-  }).join();
+  return names.map((name) => changeAt(name, step) + (changesAt(name, step) ? "*" : "")).join();
 }

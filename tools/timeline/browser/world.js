@@ -15,8 +15,8 @@ function extentsAt(p, step) {
   const here = listed.filter((extent) => extentAt(extent, step)[0] === p);
   let rest = 0;
   if (allExtents > 24) {
-    rest = Math.floor((allExtents - 1 - p) / run.partitions) + 1 - run.extents.filter((extent) => openedAt(extent) === p).length;
-    rest = Math.max(rest, 0);
+    const moving = run.extents.filter((extent) => openedAt(extent) === p).length;
+    rest = Math.max(Math.floor((allExtents - 1 - p) / run.partitions) + 1 - moving, 0);
   }
   const some = here.length ? here.join(", ") : rest ? "" : "none";
   return some + (rest ? `${some ? ", and " : ""}${rest.toLocaleString("en")} that never move` : "");
@@ -40,7 +40,8 @@ function extentRow(extent, step) {
   const index = changeAt(`extent ${extent}`, step);
   const fresh = index >= 0 && track[index][0] === step ? "fresh" : "";
   const last = Math.min(64 * extent, run.subscribers);
-  const cells = [`${extent}: ${64 * (extent - 1) + 1}-${last}`, place < 0 ? "under way" : String(place), String(route), String(moves)];
+  const where = place < 0 ? "under way" : String(place);
+  const cells = [`${extent}: ${64 * (extent - 1) + 1}-${last}`, where, String(route), String(moves)];
   if (someHandOut) cells.push(String(chapters));
   return el("tr", fresh, ...cells.map((text) => el("td", "", text)));
 }
@@ -48,11 +49,12 @@ function extentRow(extent, step) {
 function extentsPanel(step) {
   const names = ["extent", "is at", "route", "moves", ...(someHandOut ? ["chapters"] : [])];
   const rows = listed.map((extent) => extentRow(extent, step));
+  const head = el("tr", "", ...names.map((name) => el("th", "", name)));
   return el("section", "panel", el("h2", "", "Extents"),
-    rows.length ? el("div", "scroll", el("table", "rows extents mono", el("tr", "", ...names.map((name) => el("th", "", name))), ...rows))
+    rows.length ? el("div", "scroll", el("table", "rows extents mono", head, ...rows))
       : el("p", "quiet", "none moves in this run"),
     ...listed.flatMap((extent) => extentAt(extent, step)[3].map(([move, where]) =>
-      el("p", "landing", `Extent ${extent} has landed at ${where}, its move ${move}, and its route has yet to learn it.`))));
+      el("p", "", `Extent ${extent} has landed at ${where}, its move ${move}, and its route has yet to learn it.`))));
 }
 
 // All completed calls stand in the page once; those that are yet to end are hidden.
@@ -66,7 +68,9 @@ function showCompleted(step) {
     const middle = (many + end) >> 1;
     if (run.completed[middle][0] <= step) many = middle + 1; else end = middle;
   }
-  for (let n = Math.min(many, completedShown); n < Math.max(many, completedShown); n++) serial.children[n].hidden = n >= many;
+  for (let n = Math.min(many, completedShown); n < Math.max(many, completedShown); n++) {
+    serial.children[n].hidden = n >= many;
+  }
   const last = many && run.completed[many - 1][0] === step ? serial.children[many - 1] : null;
   if (freshCall) freshCall.classList.remove("fresh");
   if (last) last.classList.add("fresh");
@@ -93,7 +97,7 @@ function runningCalls(step) {
 
 const completedHead = el("h3", ""), plainStep = el("p", "plain-step"), plainCalls = el("div", "plain-calls");
 const plainPanel = el("section", "panel plain", el("h2", "", "The plain world"),
-  el("small", "", "One database and its calls, without partitions, queues or moves. Each event is one step of it, or none."),
+  el("small", "", "One database and its calls, without partitions, queues or moves. An event is a step of it or none."),
   plainStep, el("h3", "", "Calls that run"), plainCalls, completedHead, serial);
 
 function showPlain(step) {

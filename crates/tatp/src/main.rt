@@ -13,7 +13,7 @@ use std::sync::Wait;
 use std::thread::Threads;
 use std::{env, fmt, io};
 use tatp_assembly::{run_asm, run_check, run_dis};
-use tatp_bench_report::{NoGate, Reporter, run_bench};
+use tatp_bench::{NoGate, Reporter, report_bench};
 use tatp_command_line::{not_explained, not_text, task_of};
 use tatp_console::{run_call, run_trace};
 use tatp_explanations::{run_explain, run_explain_all};
@@ -127,13 +127,13 @@ fn run<R: Input + Print + Eprint + Threads + Wait + Sync>(
         Task::Bench {
             plan,
             progress: false,
-        } => status(rt, run_bench(rt, alloc, writer, &plan, &NoGate)),
+        } => status(rt, report_bench(rt, alloc, writer, &plan, &NoGate)),
         Task::Bench {
             plan,
             progress: true,
         } => {
             let reporter = Reporter::new(rt, &plan);
-            status(rt, run_bench(rt, alloc, writer, &plan, &reporter))
+            status(rt, report_bench(rt, alloc, writer, &plan, &reporter))
         }
         Task::Explain(None) => status(rt, run_explain_all(alloc, writer)),
         Task::Explain(Some(number)) => explain(rt, alloc, number),

@@ -1,3 +1,4 @@
+-- trusted: read it
 -- What a run of the benchmark is of, and why it isn't settled.
 use Rattle.std.specs.Prelude.{◌≡◌, ℕ, List, map, count_by, length}
 use Rattle.std.specs.List.{range_with_len}

@@ -1,2 +1,4 @@
+pub mod Reports
 pub mod SettledRuns
 pub mod Benching
+pub mod Works

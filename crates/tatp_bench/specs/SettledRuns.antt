@@ -1,3 +1,4 @@
+-- trusted: read it
 -- A run whose sites, parcels, chapters and receipts are at hand: how it is settled, and why it
 -- isn't.
 use Rattle.std.specs.Prelude.{ℕ, List, All, Vec}
@@ -15,6 +16,7 @@ use Rattle.tatp_settle.specs.Closings.{closed_of, IsClosedSite, IsClosed}
 use Rattle.tatp_logs.specs.Receipts.{receipts_of}
 use Rattle.tatp_settle.specs.Runs.{Run, joined, lists_of}
 use Rattle.tatp_settle.specs.Settlements.{IsSettled, IsLeastMissing}
+use Rattle.tatp_settle.specs.Interleaving.{IsOneHistoryInAnyOrder}
 use Rattle.tatp_threads.specs.declared.outcome.RanParts.{RanParts}
 use Rattle.tatp_bench.specs.declared.fault.BenchFault.{BenchFault}
 use Rattle.tatp_bench.specs.declared.fault.BenchFault.TheVariants.{ExtentMissing, Unsettled, NoMemory, NoThread}
@@ -29,10 +31,12 @@ run_left population parts calls = record {
   calls = lists_of calls;
 }
 
--- all of it was gathered, and it is settled
+-- all of it was gathered, it is settled, and it is one history in every order that keeps each log's
+-- own, as the order in time of their entries does: so it is linearizable
 pub record SettlesRun (run : Run) (settled : Settled) : Type 0 where
   pub gathered : IsClosed run.closed
   pub settles : IsSettled run settled
+  pub any_order : IsOneHistoryInAnyOrder run
 
 -- ---- why it isn't settled
 -- of the extents that a site has a place for, this is the least that stands at no site and in no

@@ -1,75 +1,45 @@
 //! A run of the benchmark.
-ghost use Rattle.std.specs.Prelude.{◌≡◌, ◌+◌, ◌*◌, ◌⊎◌, IfOk, IfErr};
+ghost use Rattle.std.specs.Prelude.{◌≡◌, ◌+◌, ◌*◌, IfOk, IfErr};
 ghost use Rattle.tatp_tables.specs.Clean.{IsClean};
-ghost use Rattle.tatp_procs.specs.Standard.{standard_module};
-ghost use Rattle.tatp_settle.specs.Runs.{lists_of};
 ghost use Rattle.tatp_tasks.specs.Plans.{IsPlan};
-ghost use Rattle.tatp_drawing.specs.Drawing.{rows_drawn, calls_drawn};
+ghost use Rattle.tatp_drawing.specs.Drawing.{rows_drawn};
 ghost use Rattle.tatp_drawing.specs.DrawnRuns.{IsDrawn};
 ghost use Rattle.tatp_bench.specs.Benching.{SettlesPlan, RefusesBench, kinds_drawn};
+ghost use Rattle.tatp_bench.specs.Works.{IsWorkOf};
 
 use crate::freeing::free_calls;
-use crate::{BenchFault, BenchPlan, settle_run};
+use crate::{BenchFault, BenchPlan, Work, run_work, settle_run};
 use std::alloc::Global;
 use std::sync::Wait;
 use std::thread::Threads;
 use tatp_drawing::{Drawn, draw};
-use tatp_loader::Loaded;
-use tatp_procs::{Ask, standard};
+use tatp_procs::standard;
 use tatp_settle::Settled;
 use tatp_tables::Rows;
-use tatp_threads::{Gate, RunRefusal, run_clean_calls};
-use tatp_workers::Moves;
+use tatp_threads::Gate;
 
-/// Why a run isn't settled whose calls aren't run: drawn rows and calls are never refused.
-fn fault_of(refusal: RunRefusal) -> BenchFault
-    requires { (refusal ≡ RunRefusal.NoMemory) ⊎ (refusal ≡ RunRefusal.NoThread) }
-    ensures { ((refusal ≡ RunRefusal.NoMemory) × (result ≡ BenchFault.NoMemory))
-        ⊎ ((refusal ≡ RunRefusal.NoThread) × (result ≡ BenchFault.NoThread)) }
-{
-    match refusal {
-        RunRefusal::NoMemory => BenchFault::NoMemory,
-        RunRefusal::NoThread => BenchFault::NoThread,
-        _ => unreachable!(),
-    }
-}
-
-/// Runs the lists of calls of a plan on its population, and settles what the run left.
-fn run_lists<R: Threads + Wait + Sync, G: Gate + Sync>(
+/// Runs the work of a plan, and settles beside its population what the run left.
+fn run_and_settle<R: Threads + Wait + Sync, G: Gate + Sync>(
     rt: &R,
     alloc: Global,
     plan: &BenchPlan,
-    loaded: &Loaded,
     population: &Rows,
-    rows: Rows,
-    lists: &[Vec<Ask>],
-    moves: &Moves,
+    work: Work<'_, '_>,
     gate: &G,
 ) -> Result<Settled, BenchFault>
     requires plan { IsPlan plan.now }
-    requires standard { loaded.now ≡ standard_module }
     requires population { population.now ≡ rows_drawn plan.now }
-    requires rows { rows ≡ rows_drawn plan.now }
     requires clean { IsClean (rows_drawn plan.now) }
-    requires calls { lists_of lists.now ≡ calls_drawn plan.now }
+    requires work { IsWorkOf plan.now work }
     ensures settled { IfOk result (SettlesPlan plan.now) }
     ensures kinds { IfOk result (λ settled. settled.kinds ≡ kinds_drawn plan.now) }
     ensures calls { IfOk result
         (λ settled. settled.completed + settled.refused ≡ plan.now.clients * plan.now.calls) }
     ensures refusal { IfErr result (RefusesBench plan.now) }
 {
-    match run_clean_calls(
-        rt,
-        alloc,
-        loaded,
-        rows,
-        plan.partitions,
-        lists,
-        moves,
-        gate,
-        plan.chapter,
-    ) {
-        Err(refusal) => Err(fault_of(refusal)),
+    let lists = work.lists;
+    match run_work(rt, alloc, plan, work, gate) {
+        Err(fault) => Err(fault),
         Ok(ran) => settle_run(rt, alloc, population, ran.parts(), lists),
     }
 }
@@ -94,17 +64,15 @@ pub fn run_drawn<R: Threads + Wait + Sync, G: Gate + Sync>(
 {
     let loaded = standard(alloc)?;
     let (population, rows, lists, moves) = drawn.parts();
-    let settled = run_lists(
-        rt,
-        alloc,
-        plan,
-        &loaded,
-        &population,
+    let work = Work {
+        loaded: &loaded,
         rows,
-        lists.as_slice(),
-        &moves,
-        gate,
-    );
+        partitions: plan.partitions,
+        lists: lists.as_slice(),
+        moves: &moves,
+        chapter: plan.chapter,
+    };
+    let settled = run_and_settle(rt, alloc, plan, &population, work, gate);
     free_calls(rt, alloc, lists);
     settled
 }

@@ -1,4 +1,4 @@
-//! A concurrent run of the benchmark, and its settling.
+//! The command `bench`: a concurrent run of the benchmark, settled, and what is written of it.
 #![tactic(auto)]
 
 mod bench;
@@ -6,9 +6,18 @@ mod chapters;
 mod closing;
 mod fault;
 mod freeing;
+mod report;
+mod report_fault;
+mod reporter;
+mod work;
 
 pub use bench::{run_bench, run_drawn};
 pub use closing::settle_run;
 pub use fault::BenchFault;
+pub use report::report_bench;
+pub use report_fault::ReportFault;
+pub use reporter::{Progress, Reporter};
 pub use tatp_drawing::{Drawn, draw};
 pub use tatp_tasks::BenchPlan;
+pub use tatp_threads::NoGate;
+pub use work::{Work, run_work};

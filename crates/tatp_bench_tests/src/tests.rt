@@ -3,3 +3,4 @@ mod chapters;
 mod held_step;
 mod runs;
 mod unsettled;
+mod work;

@@ -7,8 +7,8 @@ ghost use Rattle.tatp_settle.specs.WholeLogs.{entry_in_part};
 
 use std::alloc::{AllocError, Global};
 use std::marker::Model;
-use tatp_logs::Log;
 use tatp_homes::Home;
+use tatp_logs::Log;
 use tatp_procs::{Ask, Entry, ReplyRef};
 
 /// A part of an extent's whole log: a chapter, or what was logged since the last of them.

@@ -6,10 +6,10 @@ use crate::sites::{begins, ended, lands, opened, spend_parcels, spend_site};
 use std::alloc::{AllocError, Global};
 use tatp_extents::Chapter;
 use tatp_loader::Loaded;
+use tatp_logs::{Receipt, Receipts};
 use tatp_numbers::Key;
 use tatp_partition::{Item, Parcel, Site, close_sites, discard_all};
 use tatp_procs::{Ask, Call, Raw, Reply};
-use tatp_logs::{Receipt, Receipts};
 
 /// What happens at a site.
 #[derive(Clone, Copy)]

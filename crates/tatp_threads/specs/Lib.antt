@@ -1,3 +1,6 @@
+pub mod Locked
+pub mod Copies
 pub mod Inboxes
 pub mod Calls
 pub mod Seats
+pub mod Partitions

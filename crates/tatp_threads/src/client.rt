@@ -1,16 +1,15 @@
 //! A client, which asks its calls one after another.
-ghost use Rattle.std.specs.Prelude.{◌≤◌, Option};
-ghost use Rattle.tatp_logs.specs.declared.receipt.Receipt.{Receipt};
-ghost use Rattle.tatp_workers.specs.Asking.{Receives};
+ghost use Rattle.std.specs.Prelude.{◌≤◌};
+ghost use Rattle.tatp_workers.specs.Asking.{Receives, receipt_delivered};
 
 use crate::admission::{Arities, Port};
 use crate::reserved::ClientSeat;
 use crate::shared::Shared;
 use std::mem;
 use std::sync::Wait;
+use tatp_logs::Receipts;
 use tatp_partition::Item;
 use tatp_procs::Ask;
-use tatp_logs::Receipts;
 use tatp_sync::Mailbox;
 use tatp_workers::{Delivery, Requester, ask_all};
 
@@ -36,7 +35,7 @@ impl<R: Wait, G, A: Arities> Requester for ClientEnds<'_, '_, '_, '_, R, G, A> {
 /// Puts the receipt that was delivered, if one was, behind the others. Whether one was.
 fn keep(delivery: &Delivery, receipts: &mut Receipts) -> bool
     requires { 1 ≤ receipts.old.room }
-    ensures { (receipt : Option Receipt) × Receives receipt result receipts.old receipts.new }
+    ensures { Receives (receipt_delivered delivery.now) result receipts.old receipts.new }
 {
     match delivery {
         Delivery::Got(receipt) => {

@@ -1,12 +1,16 @@
 //! The debugger, which stops one partition after another.
+ghost use Rattle.std.specs.Prelude.{◌≡◌, length};
+ghost use Rattle.tatp_debug.specs.Snapshots.{Looks};
+ghost use Rattle.tatp_partition.specs.Obstacles.{one_obstacle};
+ghost use Rattle.tatp_partition.specs.Running.{AdvancesUnless};
+ghost use Rattle.tatp_threads.specs.Partitions.{OfPartition, StopsWhether};
 
 use crate::admission::Arities;
 use crate::shared::Shared;
 use std::sync::Wait;
-use tatp_debug::look;
+use tatp_debug::{Snapshot, look};
 use tatp_partition::{Completion, SiteRefusal, Stepped};
-use tatp_slices::Gate;
-use tatp_workers::{Answering, Debugging, Delivery, debug_run};
+use tatp_workers::{Answering, Debugging, Delivery, Gate, debug_run};
 
 /// The sites under their locks, and the mailboxes.
 #[derive(Drop)]
@@ -30,20 +34,30 @@ impl<R: Wait, G: Gate, A: Arities> Answering for Inspector<'_, '_, '_, R, G, A> 
 }
 
 impl<R: Wait, G: Gate, A: Arities> Debugging for Inspector<'_, '_, '_, R, G, A> {
-    fn stop(&mut self, partition: u8) -> bool {
+    fn stop(&mut self, partition: u8) -> bool
+        ensures { OfPartition (length self.old.shared.now.partitions.now) partition
+            (λ s s'. StopsWhether s result s') }
+    {
         match self.shared.partition(partition) {
             None => false,
             Some(partition) => partition.stop(self.rt).is_ok(),
         }
     }
 
-    fn look(&mut self, partition: u8) {
-        if let Some(partition) = self.shared.partition(partition) {
-            let _snapshot = partition.read(self.rt, |site| look(site));
+    fn look(&mut self, partition: u8) -> Result<Snapshot, SiteRefusal>
+        ensures { OfPartition (length self.old.shared.now.partitions.now) partition
+            (λ s s'. Looks s result × (s' ≡ s)) }
+    {
+        match self.shared.partition(partition) {
+            None => Err(SiteRefusal::NotRunning),
+            Some(partition) => partition.read(self.rt, |site| look(site)),
         }
     }
 
-    fn one(&mut self, partition: u8) -> Result<Stepped, SiteRefusal> {
+    fn one(&mut self, partition: u8) -> Result<Stepped, SiteRefusal>
+        ensures { OfPartition (length self.old.shared.now.partitions.now) partition
+            (λ s s'. AdvancesUnless (one_obstacle s) s result s') }
+    {
         match self.shared.partition(partition) {
             None => Err(SiteRefusal::NotRunning),
             Some(partition) => partition.one(self.rt),

@@ -1,14 +1,19 @@
 //! The executor of one partition.
+ghost use Rattle.std.specs.Prelude.{◌≡◌, None};
+ghost use Rattle.tatp_threads.specs.Locked.{OfSomeSite};
+ghost use Rattle.tatp_workers.specs.Offering.{Offers};
+ghost use Rattle.tatp_workers.specs.Slices.{MakesSlice};
 
+use crate::Partition;
 use crate::admission::{Arities, Port, Reader};
 use crate::reserved::ExecutorSeat;
 use crate::shared::Shared;
 use std::sync::Wait;
 use tatp_extents::Chapter;
-use tatp_locks::Partition;
 use tatp_partition::{Completion, CompletionPlace, Item, SiteRefusal};
-use tatp_slices::{Checkpointed, Gate, Offered};
-use tatp_workers::{Answering, Delivery, Executing, Message, take_calls};
+use tatp_workers::{
+    Answering, Checkpointed, Delivery, Executing, Gate, Message, Offered, take_calls,
+};
 
 /// An executor's partition, the reader of its inbox, its ends at all inboxes and the chapters that
 /// it keeps, with what the threads share.
@@ -41,13 +46,17 @@ impl<R: Wait, G: Gate, A: Arities> Executing for ExecutorEnds<'_, '_, '_, '_, R,
         self.reader.take(self.rt)
     }
 
-    fn offer(&mut self, item: &Item) -> Offered {
+    fn offer(&mut self, item: &Item) -> Offered
+        ensures { OfSomeSite (λ s s'. Offers s item.now result s') }
+    {
         self.partition.offer(self.rt, self.shared.alloc, item)
     }
 
-    fn slice(&mut self, client: u64, ended: &mut CompletionPlace) -> Result<u64, SiteRefusal> {
-        self.partition
-            .slice(self.rt, self.shared.gate, client, ended)
+    fn slice(&mut self, ended: &mut CompletionPlace) -> Result<u64, SiteRefusal>
+        requires { ended.old ≡ None }
+        ensures { OfSomeSite (λ s s'. MakesSlice s result ended.new s') }
+    {
+        self.partition.slice(self.rt, self.shared.gate, ended)
     }
 
     /// Room for the chapter is taken before the lock.

@@ -1,5 +1,5 @@
-//! Running threads: one executor a partition, clients, a mover and a debugger over locked sites,
-//! locked routes and ruled inboxes.
+//! Running threads: one executor a partition, clients, a mover and a debugger over sites under their
+//! locks, locked routes and ruled inboxes.
 #![tactic(auto)]
 
 mod admission;
@@ -7,17 +7,19 @@ mod calls;
 mod client;
 mod debugger;
 mod executor;
+mod history;
 mod mover;
 mod outcome;
+mod partition;
 mod refusal;
 mod reserved;
 mod run;
 mod shared;
 mod starting;
 
+pub use history::copy_extent;
 pub use outcome::{Ran, RanParts, discard_chapters};
+pub use partition::Partition;
 pub use refusal::RunRefusal;
 pub use run::{run_calls, run_clean_calls};
-pub use tatp_locks::copy_extent;
-pub use tatp_slices::{Gate, NoGate};
-pub use tatp_workers::Moves;
+pub use tatp_workers::{Gate, Moves, NoGate};

@@ -1,4 +1,8 @@
 //! The mover, which moves one extent after another.
+ghost use Rattle.std.specs.Prelude.{◌≡◌, IfOk, IfErr, length};
+ghost use Rattle.tatp_extents.specs.Extents.{ExtentState};
+ghost use Rattle.tatp_partition.specs.Moving.{LandedState, Takes};
+ghost use Rattle.tatp_threads.specs.Partitions.{OfPartition, GivesOrBack};
 
 use crate::admission::Arities;
 use crate::shared::Shared;
@@ -20,14 +24,23 @@ impl<R: Wait, G, A: Arities> Carrying for Carrier<'_, '_, '_, R, G, A> {
         plan(&*lock(self.rt, self.shared.routes), extent, to)
     }
 
-    fn take(&mut self, from: u8, extent: u32) -> Result<Parcel, SiteRefusal> {
+    fn take(&mut self, from: u8, extent: u32) -> Result<Parcel, SiteRefusal>
+        ensures taken { OfPartition (length self.old.shared.now.partitions.now) from
+            (λ s s'. Takes s extent result s') }
+        ensures number { IfOk result (λ (parcel : ExtentState). parcel.number ≡ extent) }
+    {
         match self.shared.partition(from) {
             None => Err(SiteRefusal::NotHere),
             Some(partition) => partition.take(self.rt, extent),
         }
     }
 
-    fn give(&mut self, to: u8, parcel: Parcel) -> Result<Landed, Parcel> {
+    fn give(&mut self, to: u8, parcel: Parcel) -> Result<Landed, Parcel>
+        ensures given { OfPartition (length self.old.shared.now.partitions.now) to
+            (λ s s'. GivesOrBack s parcel result s') }
+        ensures landed { IfOk result (λ (landed : LandedState). landed.number ≡ parcel.number) }
+        ensures back { IfErr result (λ back. back ≡ parcel) }
+    {
         match self.shared.partition(to) {
             None => Err(parcel),
             Some(partition) => match partition.give(self.rt, parcel) {

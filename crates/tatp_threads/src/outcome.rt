@@ -2,8 +2,8 @@
 ghost use Rattle.std.specs.Prelude.{◌≡◌};
 
 use tatp_extents::Chapter;
-use tatp_partition::{Landed, Parcel, Site, discard_all};
 use tatp_logs::Receipts;
+use tatp_partition::{Landed, Parcel, Site, discard_all};
 
 /// What a run leaves. It can be neither copied nor dropped: [`Ran::parts`] spends it.
 pub struct Ran<'m> {

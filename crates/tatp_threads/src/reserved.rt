@@ -4,16 +4,16 @@ ghost use Rattle.tatp_procs.specs.Asked.{arities_of};
 ghost use Rattle.tatp_sync.specs.Inboxes.{IsNew};
 ghost use Rattle.tatp_threads.specs.Seats.{AreExecutors, AreClients};
 
+use crate::Partition;
 use crate::admission::{Admission, Arities, Port, Reader};
 use crate::calls::arities_of;
 use std::alloc::{AllocError, Global};
 use tatp_extents::Chapter;
 use tatp_limits::MAX_CLIENTS;
 use tatp_loader::Loaded;
-use tatp_locks::Partition;
+use tatp_logs::Receipts;
 use tatp_partition::{Parcel, Site};
 use tatp_procs::Ask;
-use tatp_logs::Receipts;
 use tatp_sync::{Mailbox, ends_of, open_inboxes};
 use tatp_workers::Delivery;
 
@@ -89,7 +89,7 @@ fn seat_clients<A: Arities>(
     lists: &[Vec<Ask>],
     ports: &mut [Port<A>],
 ) -> Result<Vec<ClientSeat<A>>, AllocError>
-    ensures seats { IfOk result (λ seats. AreClients (length lists.now) ports.old seats.items) }
+    ensures seats { IfOk result (λ seats. AreClients lists.now ports.old seats.items) }
     ensures count { IfOk result (λ seats. vec_len seats ≡ length lists.now) }
     ensures same { ports.new ≡ ports.old }
 {
@@ -160,7 +160,7 @@ impl<'m, A: Arities> Reserved<'m, A> {
         ensures executors { IfOk result
             (λ room. AreExecutors room.quit.items room.executors.items) }
         ensures clients { IfOk result
-            (λ room. AreClients (length lists.now) room.quit.items room.clients.items) }
+            (λ room. AreClients lists.now room.quit.items room.clients.items) }
         ensures count { IfOk result (λ room. vec_len room.clients ≡ length lists.now) }
         ensures mailboxes { IfOk result (λ room. vec_len room.mailboxes ≡ length lists.now) }
         ensures none { IfOk result (λ room. vec_len room.receipts ≡ 0) }

@@ -8,7 +8,7 @@ use crate::calls::obstacle_among;
 use crate::reserved::{ClientSeat, Reserved, calls_an_extent};
 use crate::shared::Shared;
 use crate::starting::{Crew, run_threads};
-use crate::{Ran, RanParts, RunRefusal, discard_chapters};
+use crate::{Partition, Ran, RanParts, RunRefusal, discard_chapters};
 use std::alloc::{AllocError, Global};
 use std::marker::Brand;
 use std::sync::{Mutex, Wait};
@@ -16,16 +16,14 @@ use std::thread::Threads;
 use tatp_extents::{Chapter, OpenError, admit, discard, open_clean, reserve_logs};
 use tatp_limits::{MAX_CLIENTS, MAX_PARTITIONS};
 use tatp_loader::Loaded;
-use tatp_locks::Partition;
+use tatp_logs::Receipts;
 use tatp_move::Routes;
 use tatp_numbers::Directory;
 use tatp_partition::{Site, close_sites, discard_parcels, open_sites};
 use tatp_procs::Ask;
-use tatp_logs::Receipts;
-use tatp_slices::Gate;
 use tatp_sync::Start;
 use tatp_tables::Rows;
-use tatp_workers::Moves;
+use tatp_workers::{Gate, Moves};
 
 /// Why a run is refused whose rows aren't opened.
 fn refusal_of(error: OpenError) -> RunRefusal

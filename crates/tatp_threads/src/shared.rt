@@ -1,10 +1,11 @@
 //! What the threads share.
+ghost use Rattle.std.specs.Prelude.{◌≤◌, IfNone, length};
 ghost use Rattle.tatp_threads.specs.Inboxes.{SendsCall};
 
+use crate::Partition;
 use crate::admission::{Admission, Arities, Port};
 use std::alloc::Global;
 use std::sync::{Mutex, Wait};
-use tatp_locks::Partition;
 use tatp_move::Routes;
 use tatp_numbers::Directory;
 use tatp_partition::{Completion, Item};
@@ -32,7 +33,9 @@ pub(crate) struct Shared<'a, 'm, G, A: Arities> {
 
 impl<'a, 'm, G, A: Arities> Shared<'a, 'm, G, A> {
     /// The partition of this number, if there is one.
-    pub(crate) fn partition(&self, number: u8) -> Option<&'a Partition<'m>> {
+    pub(crate) fn partition(&self, number: u8) -> Option<&'a Partition<'m>>
+        ensures { IfNone result (length self.now.partitions.now ≤ number) }
+    {
         self.partitions.get(number as usize)
     }
 

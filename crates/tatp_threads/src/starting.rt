@@ -16,9 +16,8 @@ use std::thread::Threads;
 use std::time::Duration;
 use tatp_partition::Parcel;
 use tatp_procs::Ask;
-use tatp_slices::Gate;
 use tatp_sync::pause;
-use tatp_workers::Message;
+use tatp_workers::{Gate, Message};
 
 /// For how many milliseconds the executors are alone. Where there are enough processors, the system
 /// then has each of them on its own, and leaves it there as long as it doesn't sleep.
@@ -45,7 +44,7 @@ pub(crate) fn run_threads<R: Threads + Wait + Sync, G: Gate + Sync, A: Arities +
 ) -> bool
     requires partitions { vec_len crew.quit ≡ length shared.now.partitions.now }
     requires executors { AreExecutors crew.quit.items crew.executors.items }
-    requires clients { AreClients (length crew.lists.now) crew.quit.items clients.old }
+    requires clients { AreClients crew.lists.now crew.quit.items clients.old }
     requires mailboxes { length shared.now.mailboxes.now ≡ length crew.lists.now }
 {
     let Crew {

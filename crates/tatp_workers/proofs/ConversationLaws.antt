@@ -6,9 +6,9 @@ use Rattle.tatp_numbers.specs.Listing.{Listing}
 use Rattle.tatp_logs.specs.declared.receipt.Receipt.{Receipt}
 use Rattle.tatp_logs.specs.Receipts.{ReceiptsState}
 use Rattle.tatp_workers.specs.declared.client.Exchange.{Exchange}
-use Rattle.tatp_slices.specs.Growing.{Grows}
+use Rattle.tatp_workers.specs.Growing.{Grows}
 use Rattle.tatp_workers.specs.Asking.{Conversation, Answered, Converses, Receives, item_of, seen_after, with_receipt}
-use Rattle.tatp_slices.proofs.GrowthLaws.{grown_twice, not_grown}
+use Rattle.tatp_workers.proofs.GrowthLaws.{grown_twice, not_grown}
 
 -- what a client has asked and got so far, from these exchanges and receipts to those
 abbrev pub Conversed : Listing → ℕ → List Ask → ℕ → ℕ → Option (List Exchange) → Option (List Exchange) → List Receipt → List Receipt → Type 0

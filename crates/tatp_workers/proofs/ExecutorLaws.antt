@@ -7,14 +7,14 @@ use Rattle.tatp_partition.specs.declared.item.Stepped.{Stepped}
 use Rattle.tatp_partition.specs.declared.refusal.SiteRefusal.{SiteRefusal}
 use Rattle.tatp_workers.specs.declared.message.Message.{Message}
 use Rattle.tatp_workers.specs.declared.message.Message.TheVariants.{Call}
-use Rattle.tatp_slices.specs.declared.offers.Offered.{Offered}
+use Rattle.tatp_workers.specs.declared.offers.Offered.{Offered}
 use Rattle.tatp_workers.specs.declared.effects.Effect.{Effect}
 use Rattle.tatp_workers.specs.declared.effects.Effect.TheVariants.{Receives, Offers, Slices}
-use Rattle.tatp_slices.specs.Growing.{Grows, Does}
+use Rattle.tatp_workers.specs.Growing.{Grows, Does}
 use Rattle.tatp_workers.specs.Effects.{Follows, concluding}
-use Rattle.tatp_slices.specs.Offering.{is_again, has_begun}
+use Rattle.tatp_workers.specs.Offering.{is_again, has_begun}
 use Rattle.tatp_workers.specs.Executing.{IsOfferedAgain, IsOffered, is_to_go_on, GoesOnAfter, ChecksFull, Completes, Finishes, RunsToItsEnd, RunsWhereItBegan, ExecutesCall, Executes, is_last, ExecutesUntilQuit}
-use Rattle.tatp_slices.proofs.GrowthLaws.{not_grown, grown_twice}
+use Rattle.tatp_workers.proofs.GrowthLaws.{not_grown, grown_twice}
 
 -- ---- a call is offered
 pub none_offered : (item : Item) (known : Option (List Effect)) → Does (All (IsOfferedAgain item)) known known
@@ -54,28 +54,28 @@ last_offered item offered began known mid offered_known known' before other answ
 )
 
 -- ---- a call runs
-pub none_sliced : (client : ℕ) (known : Option (List Effect)) → Does (All (GoesOnAfter client)) known known
-none_sliced client known = ([], All-nil (GoesOnAfter client), not_grown known)
+pub none_sliced : (known : Option (List Effect)) → Does (All GoesOnAfter) known known
+none_sliced known = ([], All-nil GoesOnAfter, not_grown known)
 
-pub one_more_sliced : (client : ℕ) (answer : Result Stepped SiteRefusal) (logged : ℕ) (known mid known' : Option (List Effect))
-    → Does (All (GoesOnAfter client)) known mid
+pub one_more_sliced : (answer : Result Stepped SiteRefusal) (logged : ℕ) (known mid known' : Option (List Effect))
+    → Does (All GoesOnAfter) known mid
     → is_to_go_on answer ≡ true
-    → Grows mid known' (Slices client answer logged ∷ [])
-    → Does (All (GoesOnAfter client)) known known'
-one_more_sliced client answer logged known mid known' before goes grows = (
-  before.0 ++ Slices client answer logged ∷ [],
-  All-push (GoesOnAfter client) before.0 (Slices client answer logged) before.1 (answer, logged, goes, refl),
-  grown_twice known mid known' before.0 (Slices client answer logged ∷ []) before.2 grows,
+    → Grows mid known' (Slices answer logged ∷ [])
+    → Does (All GoesOnAfter) known known'
+one_more_sliced answer logged known mid known' before goes grows = (
+  before.0 ++ Slices answer logged ∷ [],
+  All-push GoesOnAfter before.0 (Slices answer logged) before.1 (answer, logged, goes, refl),
+  grown_twice known mid known' before.0 (Slices answer logged ∷ []) before.2 grows,
 )
 
-pub last_sliced : (partition chapter client : ℕ) (answer : Result Stepped SiteRefusal) (logged : ℕ) (known mid sliced_known known' : Option (List Effect))
-    → Does (All (GoesOnAfter client)) known mid
+pub last_sliced : (partition chapter : ℕ) (answer : Result Stepped SiteRefusal) (logged : ℕ) (known mid sliced_known known' : Option (List Effect))
+    → Does (All GoesOnAfter) known mid
     → is_to_go_on answer ≡ false
-    → Grows mid sliced_known (Slices client answer logged ∷ [])
+    → Grows mid sliced_known (Slices answer logged ∷ [])
     → Does (Finishes partition chapter answer logged) sliced_known known'
-    → Does (RunsToItsEnd partition chapter client) known known'
-last_sliced partition chapter client answer logged known mid sliced_known known' before ended grows finished =
-    let these = Slices client answer logged ∷ finished.0 in (
+    → Does (RunsToItsEnd partition chapter) known known'
+last_sliced partition chapter answer logged known mid sliced_known known' before ended grows finished =
+    let these = Slices answer logged ∷ finished.0 in (
       before.0 ++ these,
       record {
         before = before.0;
@@ -87,7 +87,7 @@ last_sliced partition chapter client answer logged known mid sliced_known known'
         finished = finished.1;
         all = refl;
       },
-      grown_twice known mid known' before.0 these before.2 (grown_twice mid sliced_known known' (Slices client answer logged ∷ []) finished.0 grows finished.2),
+      grown_twice known mid known' before.0 these before.2 (grown_twice mid sliced_known known' (Slices answer logged ∷ []) finished.0 grows finished.2),
     )
 
 -- ---- a call that ended
@@ -104,7 +104,7 @@ completed partition chapter completion logged known concluded known' concludes c
 -- ---- one call after another
 pub executed : (partition chapter : ℕ) (item : Item) (began : Bool) (known mid known' : Option (List Effect))
     → Does (IsOffered item began) known mid
-    → Does (RunsWhereItBegan began partition chapter item.client) mid known'
+    → Does (RunsWhereItBegan began partition chapter) mid known'
     → Does (ExecutesCall partition chapter item) known known'
 executed partition chapter item began known mid known' offered runs = (
   offered.0 ++ runs.0,

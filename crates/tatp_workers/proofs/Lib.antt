@@ -1,3 +1,5 @@
+pub mod GrowthLaws
+pub mod SliceLaws
 pub mod DebuggerLaws
 pub mod ExecutorLaws
 pub mod MoverLaws

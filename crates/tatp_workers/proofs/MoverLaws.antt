@@ -10,9 +10,9 @@ use Rattle.tatp_move.specs.declared.plan.MoveRefusal.TheVariants.{NoExtent, NoPa
 use Rattle.tatp_move.specs.Routing.{RoutesState, route_of}
 use Rattle.tatp_workers.specs.declared.mover.MoveEffect.{MoveEffect}
 use Rattle.tatp_workers.specs.declared.mover.MoveEffect.TheVariants.{Plans, Takes}
-use Rattle.tatp_slices.specs.Growing.{Grows, Does}
+use Rattle.tatp_workers.specs.Growing.{Grows, Does}
 use Rattle.tatp_workers.specs.Carrying.{plan_to, IsPlanOf, Delivers, MakesMove, IsMade, MovesAll}
-use Rattle.tatp_slices.proofs.GrowthLaws.{grown_twice, Dealt}
+use Rattle.tatp_workers.proofs.GrowthLaws.{grown_twice, Dealt}
 
 -- ---- the plan
 -- what every obstacle leaves of an answer

@@ -8,6 +8,8 @@ use Rattle.tatp_logs.specs.declared.receipt.Receipt.{Receipt}
 use Rattle.tatp_logs.specs.declared.receipt.Receipt.TheVariants.{Done, Refused}
 use Rattle.tatp_logs.specs.Receipts.{ReceiptsState}
 use Rattle.tatp_workers.specs.declared.client.Exchange.{Exchange}
+use Rattle.tatp_workers.specs.declared.delivery.Delivery.{Delivery}
+use Rattle.tatp_workers.specs.declared.delivery.Delivery.TheVariants.{Got, Dropped}
 
 -- how many calls of a client were asked, and the last stamp that it has seen
 pub record Session : Type 0 where
@@ -28,6 +30,11 @@ item_of listing client session ask = record {
 abbrev pub seen_after : ℕ → Receipt → ℕ
 seen_after seen (Done client number reply extent stamp) = stamp
 seen_after seen (Refused client number) = seen
+
+-- the receipt that a client is handed, if it is handed one
+abbrev pub receipt_delivered : Delivery → Option Receipt
+receipt_delivered (Got receipt) = Some receipt
+receipt_delivered Dropped = None
 
 -- the receipt that a call got stands behind the others; or it got none, and the others are kept
 abbrev pub Receives : Option Receipt → Bool → ReceiptsState → ReceiptsState → Type 0

@@ -10,7 +10,7 @@ use Rattle.tatp_move.specs.Ranges.{plan_of}
 use Rattle.tatp_move.specs.Routing.{RoutesState, route_of}
 use Rattle.tatp_workers.specs.declared.mover.MoveEffect.{MoveEffect}
 use Rattle.tatp_workers.specs.declared.mover.MoveEffect.TheVariants.{Plans, Takes, Gives, Settles}
-use Rattle.tatp_slices.specs.Growing.{Grows, InTurn}
+use Rattle.tatp_workers.specs.Growing.{Grows, InTurn}
 
 -- ---- what is told of an answer
 -- why an extent wasn't taken

@@ -10,8 +10,8 @@ use Rattle.tatp_logs.specs.declared.receipt.Receipt.TheVariants.{Done, Refused}
 use Rattle.tatp_workers.specs.declared.delivery.Delivery.TheVariants.{Got, Dropped}
 use Rattle.tatp_workers.specs.declared.effects.Effect.{Effect}
 use Rattle.tatp_workers.specs.declared.effects.Effect.TheVariants.{Sends, Answers, Tells}
-use Rattle.tatp_slices.specs.declared.offers.Offered.{Offered}
-use Rattle.tatp_slices.specs.declared.offers.Offered.TheVariants as offered
+use Rattle.tatp_workers.specs.declared.offers.Offered.{Offered}
+use Rattle.tatp_workers.specs.declared.offers.Offered.TheVariants as offered
 
 -- the receipt of a completed call: what its entry says, and in which extent's log it stands
 abbrev pub receipt_of : Completion → Receipt

@@ -6,11 +6,11 @@ use Rattle.tatp_partition.specs.declared.item.Stepped.{Stepped}
 use Rattle.tatp_partition.specs.declared.item.Stepped.TheVariants.{Moved, Ended}
 use Rattle.tatp_partition.specs.declared.refusal.SiteRefusal.{SiteRefusal}
 use Rattle.tatp_partition.specs.declared.refusal.SiteRefusal.TheVariants.{NotRunning}
-use Rattle.tatp_slices.specs.declared.checkpoints.Checkpointed.{Checkpointed}
+use Rattle.tatp_workers.specs.declared.checkpoints.Checkpointed.{Checkpointed}
 use Rattle.tatp_workers.specs.declared.message.Message.{Message}
 use Rattle.tatp_workers.specs.declared.message.Message.TheVariants.{Quit, Call}
-use Rattle.tatp_slices.specs.declared.offers.Offered.{Offered}
-use Rattle.tatp_slices.specs.Offering.{is_again, has_begun}
+use Rattle.tatp_workers.specs.declared.offers.Offered.{Offered}
+use Rattle.tatp_workers.specs.Offering.{is_again, has_begun}
 use Rattle.tatp_workers.specs.declared.effects.Effect.{Effect}
 use Rattle.tatp_workers.specs.declared.effects.Effect.TheVariants.{Receives, Offers, Slices, Checkpoints}
 use Rattle.tatp_workers.specs.Effects.{Follows, concluding}
@@ -45,12 +45,12 @@ is_to_go_on (Ok Moved) = true
 is_to_go_on (Ok (Ended completion)) = false
 is_to_go_on (Err refusal) = not (is_not_running refusal)
 
--- steps of the client's call were made, and more are to be
-abbrev pub GoesOnAfter : ℕ → Effect → Type 0
-GoesOnAfter client effect =
+-- steps of the running call were made, and more are to be
+abbrev pub GoesOnAfter : Effect → Type 0
+GoesOnAfter effect =
     (answer : Result Stepped SiteRefusal) × (logged : ℕ)
     × (is_to_go_on answer ≡ true)
-    × (effect ≡ Slices client answer logged)
+    × (effect ≡ Slices answer logged)
 
 -- of a log with so many entries nothing more is done, where a chapter has to have more; otherwise
 -- it is to be handed out
@@ -77,20 +77,19 @@ Finishes partition chapter (Err refusal) logged effects = effects ≡ []
 
 -- steps are made until the call has ended, or doesn't run any more since the debugger ended it;
 -- where it ended here it is completed
-pub record RunsToItsEnd (partition chapter client : ℕ) (effects : List Effect) : Type 0 where
+pub record RunsToItsEnd (partition chapter : ℕ) (effects : List Effect) : Type 0 where
   pub before : List Effect
   pub last : Result Stepped SiteRefusal
   pub logged : ℕ
   pub following : List Effect
-  pub going_on : All (GoesOnAfter client) before
+  pub going_on : All GoesOnAfter before
   pub ended : is_to_go_on last ≡ false
   pub finished : Finishes partition chapter last logged following
-  pub all : effects ≡ before ++ Slices client last logged ∷ following
+  pub all : effects ≡ before ++ Slices last logged ∷ following
 
-abbrev pub RunsWhereItBegan : Bool → ℕ → ℕ → ℕ → List Effect → Type 0
-RunsWhereItBegan true partition chapter client effects =
-    RunsToItsEnd partition chapter client effects
-RunsWhereItBegan false partition chapter client effects = effects ≡ []
+abbrev pub RunsWhereItBegan : Bool → ℕ → ℕ → List Effect → Type 0
+RunsWhereItBegan true partition chapter effects = RunsToItsEnd partition chapter effects
+RunsWhereItBegan false partition chapter effects = effects ≡ []
 
 -- ---- one call after another
 -- a call is offered, and runs to its end where it began
@@ -100,7 +99,7 @@ pub record ExecutesCall (partition chapter : ℕ) (item : Item) (effects : List 
   pub offering : List Effect
   pub running : List Effect
   pub offered : IsOffered item began offering
-  pub runs : RunsWhereItBegan began partition chapter item.client running
+  pub runs : RunsWhereItBegan began partition chapter running
   pub all : effects ≡ offering ++ running
 
 -- so many calls were taken out of the inbox one after another, and each was executed before the

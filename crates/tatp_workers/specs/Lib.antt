@@ -1,3 +1,7 @@
+pub mod Growing
+pub mod Offering
+pub mod FullLogs
+pub mod Slices
 pub mod Effects
 pub mod Asking
 pub mod Executing

@@ -1,13 +1,13 @@
 //! What a client does: it asks its calls one after another.
 ghost use Rattle.std.specs.Prelude.{◌≡◌, ◌++◌, ◌∷◌, [], ◌≤◌, ◌<◌, List, Option, None, length};
-ghost use Rattle.tatp_slices.specs.Growing.{Grows};
+ghost use Rattle.tatp_workers.specs.Growing.{Grows};
 ghost use Rattle.tatp_workers.specs.declared.client.Exchange.{Exchange};
 ghost use Rattle.tatp_workers.specs.Asking.{Converses, Conversation, Receives, item_of, seen_after};
 
+use tatp_logs::{Receipt, ReceiptRef, Receipts};
 use tatp_numbers::Directory;
 use tatp_partition::Item;
 use tatp_procs::Ask;
-use tatp_logs::{Receipt, ReceiptRef, Receipts};
 
 /// A call that was asked, and what came of it: none where it came to nothing.
 #[derive(Clone, Copy, Debug)]

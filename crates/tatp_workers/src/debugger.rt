@@ -1,13 +1,15 @@
 //! What the debugger does: it stops one partition after another.
 ghost use Rattle.std.specs.Prelude.{◌≡◌, Result, length, [], ◌∷◌};
+ghost use Rattle.tatp_debug.specs.declared.snapshot.Snapshot.{Snapshot};
 ghost use Rattle.tatp_partition.specs.declared.item.Stepped.{Stepped};
 ghost use Rattle.tatp_partition.specs.declared.refusal.SiteRefusal.{SiteRefusal};
-ghost use Rattle.tatp_slices.specs.Growing.{Grows, Does, InTurn};
+ghost use Rattle.tatp_workers.specs.Growing.{Grows, Does, InTurn};
 ghost use Rattle.tatp_workers.specs.Debugging.{effects_of_inspection, IsDebugged};
 ghost use Rattle.tatp_workers.specs.declared.effects.Effect.TheVariants.{Stops, Looks, Steps, Resumes};
 
 use crate::effects::follow_step;
 use crate::{Answering, Moves};
+use tatp_debug::Snapshot;
 use tatp_partition::{SiteRefusal, Stepped};
 
 /// Stops sites, looks at them, has their calls make a step, and resumes them.
@@ -18,8 +20,9 @@ pub trait Debugging: Answering {
             (Stops partition result ∷ []) };
 
     /// Looks at the running call.
-    fn look(&mut self, partition: u8)
-        ensures { Grows (Self.effects self.old) (Self.effects self.new) (Looks partition ∷ []) };
+    fn look(&mut self, partition: u8) -> Result<Snapshot, SiteRefusal>
+        ensures { Grows (Self.effects self.old) (Self.effects self.new)
+            (Looks partition result ∷ []) };
 
     /// Has the running call make one step, though its site is stopped.
     fn one(&mut self, partition: u8) -> Result<Stepped, SiteRefusal>
@@ -33,11 +36,11 @@ pub trait Debugging: Answering {
 
 /// Looks at a stopped site, has its call make one step, and resumes it.
 fn inspect<D: Debugging>(debugging: &mut D, partition: u8)
-    ensures { (answer : Result Stepped SiteRefusal)
+    ensures { (seen : Result Snapshot SiteRefusal) × (answer : Result Stepped SiteRefusal)
         × Grows (D.effects debugging.old) (D.effects debugging.new)
-        (effects_of_inspection partition answer) }
+        (effects_of_inspection partition seen answer) }
 {
-    debugging.look(partition);
+    let _seen = debugging.look(partition);
     let stepped = debugging.one(partition);
     follow_step(debugging, partition, &stepped);
     debugging.resume(partition);

@@ -3,8 +3,8 @@ ghost use Rattle.std.specs.Prelude.{◌≡◌};
 ghost use Rattle.tatp_workers.specs.Effects.{receipt_of};
 
 use std::slice;
-use tatp_partition::Completion;
 use tatp_logs::Receipt;
+use tatp_partition::Completion;
 
 /// What a client waits for.
 #[derive(Clone, Copy, Debug)]

@@ -2,17 +2,17 @@
 ghost use Rattle.std.specs.Prelude.{◌≡◌, List, Option, None, Ok, [], ◌∷◌};
 ghost use Rattle.std.specs.Result.{result_and};
 ghost use Rattle.tatp_partition.specs.Running.{stepped_of};
-ghost use Rattle.tatp_slices.specs.Growing.{Grows, Does};
+ghost use Rattle.tatp_workers.specs.Growing.{Grows, Does};
 ghost use Rattle.tatp_workers.specs.Effects.{Follows, receipt_of, concluding, effects_of_step};
-ghost use Rattle.tatp_slices.specs.Slices.{logged_by};
+ghost use Rattle.tatp_workers.specs.Slices.{logged_by};
 ghost use Rattle.tatp_workers.specs.declared.delivery.Delivery.TheVariants.{Got};
 ghost use Rattle.tatp_workers.specs.declared.effects.Effect.{Effect};
 ghost use Rattle.tatp_workers.specs.declared.effects.Effect.TheVariants.{Sends, Answers, Tells, Receives, Offers, Slices, Checkpoints};
 
-use crate::{Delivery, Message};
-use tatp_partition::{Completion, CompletionPlace, Item, SiteRefusal, Stepped};
+use crate::{Checkpointed, Delivery, Message, Offered};
+use tatp_debug::Snapshot;
 use tatp_logs::Receipt;
-use tatp_slices::{Checkpointed, Offered};
+use tatp_partition::{Completion, CompletionPlace, Item, SiteRefusal, Stepped};
 
 /// What an executor or the debugger did.
 #[derive(Clone, Copy)]
@@ -27,16 +27,16 @@ pub enum Effect {
     Receives(Option<Message>),
     /// A call was offered to the site.
     Offers(Item, Offered),
-    /// Steps of a client's call were made, what the last of them answered, and how many entries the
-    /// log of the call's extent has where that ended it.
-    Slices(u64, Result<Stepped, SiteRefusal>, u64),
+    /// Steps of the running call were made, what the last of them answered, and how many entries
+    /// the log of the call's extent has where that ended it.
+    Slices(Result<Stepped, SiteRefusal>, u64),
     /// The log of an extent was to be handed out where it has as many entries as a chapter has to
     /// have, or more, and what became of it.
     Checkpoints(u32, u64, Checkpointed),
     /// The site of a partition was to be stopped, and whether it was.
     Stops(u8, bool),
-    /// A stopped site was looked at.
-    Looks(u8),
+    /// A stopped site was looked at, and what was seen of its running call.
+    Looks(u8, Result<Snapshot, SiteRefusal>),
     /// A stopped site made one step.
     Steps(u8, Result<Stepped, SiteRefusal>),
     /// A stopped site was resumed.
@@ -73,13 +73,12 @@ pub trait Executing: Answering {
         ensures { Grows (Self.effects self.old) (Self.effects self.new)
             (Offers item.now result ∷ []) };
 
-    /// Makes steps of a client's call at the site. Where the call ends, its completion is left in
+    /// Makes steps of the running call at the site. Where the call ends, its completion is left in
     /// its place, and the answer is how many entries the log of its extent has then.
-    fn slice(&mut self, client: u64, ended: &mut CompletionPlace) -> Result<u64, SiteRefusal>
+    fn slice(&mut self, ended: &mut CompletionPlace) -> Result<u64, SiteRefusal>
         requires { ended.old ≡ None }
         ensures { Grows (Self.effects self.old) (Self.effects self.new)
-            (Slices client (result_and result (Ok (stepped_of ended.new))) (logged_by result)
-            ∷ []) };
+            (Slices (result_and result (Ok (stepped_of ended.new))) (logged_by result) ∷ []) };
 
     /// Hands out the log of an extent at the site, where it has as many entries as a chapter has to
     /// have, or more, and keeps the chapter.
@@ -93,7 +92,7 @@ pub trait Executing: Answering {
 }
 
 /// Gives a completed call's receipt to its client, and then tells the gate.
-#[tactic(auto, using(tatp_slices::proofs::GrowthLaws::grown_by_two))]
+#[tactic(auto, using(crate::proofs::GrowthLaws::grown_by_two))]
 pub(crate) fn conclude<A: Answering>(answering: &mut A, partition: u8, completion: &Completion)
     ensures { Grows (A.effects answering.old) (A.effects answering.new)
         (concluding partition completion.now) }

@@ -2,9 +2,9 @@
 ghost use Rattle.std.specs.Prelude.{◌≡◌, Ok};
 ghost use Rattle.std.specs.Result.{result_and};
 ghost use Rattle.tatp_partition.specs.Running.{stepped_of};
-ghost use Rattle.tatp_slices.specs.Growing.{Does};
+ghost use Rattle.tatp_workers.specs.Growing.{Does};
 ghost use Rattle.tatp_workers.specs.Executing.{IsOffered, ChecksFull, Completes, Finishes, RunsToItsEnd, ExecutesCall, ExecutesUntilQuit, is_not_running, is_to_go_on};
-ghost use Rattle.tatp_slices.specs.Slices.{logged_by};
+ghost use Rattle.tatp_workers.specs.Slices.{logged_by};
 
 use crate::effects::{conclude, follow};
 use crate::{Executing, Message};
@@ -45,7 +45,7 @@ fn execute_call<R: Wait, E: Executing>(
         (E.effects executing.new) }
 {
     if begin(rt, executing, item) {
-        run(rt, executing, partition, chapter, item.client, ended);
+        run(rt, executing, partition, chapter, ended);
     }
 }
 
@@ -134,15 +134,14 @@ fn run<R: Wait, E: Executing>(
     executing: &mut E,
     partition: u8,
     chapter: u64,
-    client: u64,
     ended: &mut CompletionPlace,
 )
-    ensures { Does (RunsToItsEnd partition chapter client) (E.effects executing.old)
+    ensures { Does (RunsToItsEnd partition chapter) (E.effects executing.old)
         (E.effects executing.new) }
 {
     for _round in rt.forever() {
         ended.clear();
-        let made = executing.slice(client, ended);
+        let made = executing.slice(ended);
         if is_to_go_on(&made, ended) {
             if made.is_err() {
                 thread::yield_now();

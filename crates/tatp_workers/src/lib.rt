@@ -1,22 +1,34 @@
 //! What executors, clients, the mover and the debugger do, whatever surrounds them: each works over
-//! a trait, by which it takes and hands on, and its contract says what it does there, in order.
+//! a trait, by which it takes and hands on, and its contract says what it does there, in order. And
+//! what an executor does at a site under one hold of its lock: a call is offered, steps of it are
+//! made, which an observer sees, and a full log is handed out.
 #![tactic(auto)]
 
+mod checkpoints;
 mod client;
 mod debugger;
 mod delivery;
 mod effects;
 mod executor;
+mod gate;
 mod message;
 mod mover;
 mod moves;
+mod observer;
+mod offers;
 mod recorded;
+mod slices;
 
+pub use checkpoints::{Checkpointed, checkpoint_full};
 pub use client::{Exchange, Requester, ask_all};
 pub use debugger::{Debugging, debug_run};
 pub use delivery::Delivery;
 pub use effects::{Answering, Effect, Executing};
 pub use executor::take_calls;
+pub use gate::{Gate, NoGate};
 pub use message::Message;
 pub use mover::{Carrying, MoveEffect, move_run, plan};
 pub use moves::Moves;
+pub use observer::{Gated, Observer, StepAhead};
+pub use offers::{Offered, offer};
+pub use slices::{is_wanted, slice};

@@ -2,7 +2,7 @@
 ghost use Rattle.std.specs.Prelude.{◌≡◌, ◌<◌, ◌∷◌, [], List, Option, None, IfOk, IfErr, vec_len, vec_capacity};
 ghost use Rattle.tatp_extents.specs.Extents.{ExtentState};
 ghost use Rattle.tatp_partition.specs.Moving.{LandedState};
-ghost use Rattle.tatp_slices.specs.Growing.{Grows, Does};
+ghost use Rattle.tatp_workers.specs.Growing.{Grows, Does};
 ghost use Rattle.tatp_workers.specs.Carrying.{refusal_in, is_landed, plan_to, IsPlanOf, Delivers, MakesMove, MovesAll};
 ghost use Rattle.tatp_workers.specs.declared.mover.MoveEffect.{MoveEffect};
 ghost use Rattle.tatp_workers.specs.declared.mover.MoveEffect.TheVariants.{Plans, Takes, Gives, Settles};

@@ -3,30 +3,31 @@
 //! workers say something, and are shown to be met.
 ghost use Rattle.std.specs.Prelude.{◌≡◌, [], ◌∷◌, List, None, Ok, false, length, vec_len, vec_capacity, ◌<◌, ◌≤◌, ◌++◌};
 ghost use Rattle.tatp_extents.specs.Extents.{ExtentState};
-ghost use Rattle.tatp_slices.specs.Growing.{Grows, InTurn, known_unless};
+ghost use Rattle.tatp_workers.specs.Growing.{Grows, InTurn, known_unless};
 ghost use Rattle.tatp_workers.specs.Asking.{Conversation, Converses};
 ghost use Rattle.tatp_workers.specs.Carrying.{MakesMoves};
 ghost use Rattle.tatp_workers.specs.Debugging.{IsDebugged};
 ghost use Rattle.tatp_workers.specs.Executing.{ExecutesUntilQuit};
 ghost use Rattle.std.specs.Result.{result_and};
 ghost use Rattle.tatp_partition.specs.Running.{stepped_of};
-ghost use Rattle.tatp_slices.specs.Slices.{IsSlice};
+ghost use Rattle.tatp_workers.specs.Slices.{IsSlice};
 
 use crate::{
-    Answering, Carrying, Debugging, Delivery, Effect, Exchange, Executing, Message, MoveEffect,
-    Moves, Requester, ask_all, debug_run, move_run, take_calls,
+    Answering, Carrying, Checkpointed, Debugging, Delivery, Effect, Exchange, Executing, Message,
+    MoveEffect, Moves, Observer, Offered, Requester, StepAhead, ask_all, debug_run, move_run,
+    slice, take_calls,
 };
 use std::alloc::Global;
 use std::sync::Wait;
 use std::sync::atomic::AtomicU64;
+use tatp_debug::Snapshot;
+use tatp_logs::Receipts;
 use tatp_move::{MoveRefusal, Plan};
 use tatp_numbers::Directory;
 use tatp_partition::{
     Completion, CompletionPlace, Item, Landed, Parcel, Site, SiteRefusal, Stepped,
 };
 use tatp_procs::Ask;
-use tatp_logs::Receipts;
-use tatp_slices::{Checkpointed, Observer, Offered, StepAhead, slice};
 
 /// What was done, kept as long as there is memory for it.
 #[derive(Drop)]
@@ -50,7 +51,7 @@ impl<T> Record<T> {
 
 impl<T: Copy> Record<T> {
     /// One thing more was done.
-    #[tactic(auto, using(tatp_slices::proofs::GrowthLaws::grows_by))]
+    #[tactic(auto, using(crate::proofs::GrowthLaws::grows_by))]
     fn keep(&mut self, it: T)
         ensures { Grows (known_unless self.old.is_lost self.old.kept.items)
             (known_unless self.new.is_lost self.new.kept.items) (it ∷ []) }
@@ -133,15 +134,16 @@ impl Answering for Record<Effect> {
     }
 }
 
-/// Each site is stopped, and its call makes its step.
+/// Each site is stopped; a look at it is refused, and its call makes its step.
 impl Debugging for Record<Effect> {
     fn stop(&mut self, partition: u8) -> bool {
         self.keep(Effect::Stops(partition, true));
         true
     }
 
-    fn look(&mut self, partition: u8) {
-        self.keep(Effect::Looks(partition));
+    fn look(&mut self, partition: u8) -> Result<Snapshot, SiteRefusal> {
+        self.keep(Effect::Looks(partition, Err(SiteRefusal::NotRunning)));
+        Err(SiteRefusal::NotRunning)
     }
 
     fn one(&mut self, partition: u8) -> Result<Stepped, SiteRefusal> {
@@ -166,8 +168,8 @@ impl Executing for Record<Effect> {
         Offered::Dropped
     }
 
-    fn slice(&mut self, client: u64, _ended: &mut CompletionPlace) -> Result<u64, SiteRefusal> {
-        self.keep(Effect::Slices(client, Err(SiteRefusal::NotRunning), 0));
+    fn slice(&mut self, _ended: &mut CompletionPlace) -> Result<u64, SiteRefusal> {
+        self.keep(Effect::Slices(Err(SiteRefusal::NotRunning), 0));
         Err(SiteRefusal::NotRunning)
     }
 
@@ -183,7 +185,7 @@ impl Executing for Record<Effect> {
 }
 
 /// An executor runs calls.
-#[tactic(auto, using(tatp_slices::proofs::GrowthLaws::all_recorded))]
+#[tactic(auto, using(crate::proofs::GrowthLaws::all_recorded))]
 fn execute_each<R: Wait>(rt: &R, alloc: Global) -> Record<Effect>
     ensures { result.is_lost ≡ false → ExecutesUntilQuit 0 1 result.kept.items }
 {
@@ -193,7 +195,7 @@ fn execute_each<R: Wait>(rt: &R, alloc: Global) -> Record<Effect>
 }
 
 /// The debugger makes stops.
-#[tactic(auto, using(tatp_slices::proofs::GrowthLaws::all_recorded))]
+#[tactic(auto, using(crate::proofs::GrowthLaws::all_recorded))]
 fn debug_each(alloc: Global, moves: &Moves) -> Record<Effect>
     ensures { result.is_lost ≡ false
         → InTurn IsDebugged moves.now.stops.items (length moves.now.stops.items) result.kept.items }
@@ -204,7 +206,7 @@ fn debug_each(alloc: Global, moves: &Moves) -> Record<Effect>
 }
 
 /// The mover makes moves.
-#[tactic(auto, using(tatp_slices::proofs::GrowthLaws::all_recorded))]
+#[tactic(auto, using(crate::proofs::GrowthLaws::all_recorded))]
 fn move_each(alloc: Global, moves: &Moves, hand: &mut Vec<Parcel>) -> Record<MoveEffect>
     requires room { vec_len hand.old < vec_capacity hand.old }
     ensures { (kept : List ExtentState)
@@ -217,7 +219,7 @@ fn move_each(alloc: Global, moves: &Moves, hand: &mut Vec<Parcel>) -> Record<Mov
 }
 
 /// A client asks calls.
-#[tactic(auto, using(tatp_slices::proofs::GrowthLaws::all_recorded))]
+#[tactic(auto, using(crate::proofs::GrowthLaws::all_recorded))]
 fn ask_each(
     alloc: Global,
     directory: &Directory,
@@ -235,20 +237,19 @@ fn ask_each(
 }
 
 /// A call makes steps at a site.
-#[tactic(auto, using(tatp_slices::proofs::GrowthLaws::all_recorded))]
+#[tactic(auto, using(crate::proofs::GrowthLaws::all_recorded))]
 fn slice_once(
     site: &mut Site<'_>,
     alloc: Global,
-    client: u64,
     wanted: &AtomicU64,
     ended: &mut CompletionPlace,
 ) -> (Record<StepAhead>, Result<u64, SiteRefusal>)
     requires { ended.old ≡ None }
     ensures { result.0.is_lost ≡ false
-        → IsSlice client site.old (result_and result.1 (Ok (stepped_of ended.new))) site.new
+        → IsSlice site.old (result_and result.1 (Ok (stepped_of ended.new))) site.new
         result.0.kept.items }
 {
     let mut observer = Record::new(alloc);
-    let made = slice(site, &mut observer, client, wanted, ended);
+    let made = slice(site, &mut observer, wanted, ended);
     (observer, made)
 }

@@ -3,10 +3,10 @@
 use std::alloc::{AllocError, Global};
 use std::test::*;
 use std::thread::Threads;
-use tatp_audits::audit;
+use tatp_audits::{Verdict, audit};
 use tatp_bench::{BenchFault, settle_run};
 use tatp_partition::{close_sites, discard_all};
-use tatp_settle::Settled;
+use tatp_settle::{Settled, Unsettled};
 use tatp_settle_tests::events::{Event, Left, are_few, left_at, readings};
 use tatp_settle_tests::rows::clean_rows;
 use tatp_settle_tests::sites::{module, spend_parcels};
@@ -75,5 +75,14 @@ fn runs_that_are_not_settled(rt: HostRuntime) -> Result<(), Fail> {
             }
         }
     }
+    Ok(())
+}
+
+// No run here leaves rows that aren't clean: what is told of them is seen of the fault alone.
+#[test]
+fn the_verdict_on_rows_that_are_not_clean_is_told(rt: HostRuntime) -> Result<(), Fail> {
+    let fault = BenchFault::Unsettled(Unsettled::Audit(Verdict::Counts(7)));
+    let said = format!(in rt.alloc(); "{fault}")?;
+    assert_eq!(rt; said.as_str(), "45 Unsettled Audit A6 7");
     Ok(())
 }

@@ -50,6 +50,13 @@ impl<'m> Site<'m> {
         self.running.machine()
     }
 
+    /// Whose call runs.
+    pub fn client(&self) -> Option<u64>
+        ensures { result ≡ option_map (λ (r : RunningCall). r.client) self.now.running }
+    {
+        self.running.client()
+    }
+
     /// The extent of this number, where it is here and no call runs on one of its homes.
     pub fn extent(&self, e: u32) -> Option<&Extent>
         ensures { option_copied result ≡ extent_at_rest self.now e }

@@ -12,9 +12,9 @@ use std::test::Fail;
 use std::thread::Threads;
 use tatp_audits::audit;
 use tatp_extents::Chapter;
+use tatp_logs::Receipts;
 use tatp_partition::{close_sites, discard_all};
 use tatp_procs::Ask;
-use tatp_logs::Receipts;
 use tatp_settle::{Closed, NotGathered, NotSettled, Settled, gather, settle};
 use tatp_tables::Rows;
 

@@ -8,9 +8,9 @@ use std::sync::{Mutex, Wait};
 use std::test::*;
 use std::thread::Threads;
 use tatp_extents::ExtentParts;
-use tatp_partition::Site;
-use tatp_procs::{Ask, Call, ReplyRef};
 use tatp_logs::{ReceiptRef, Receipts};
+use tatp_partition::{Site, close_sites};
+use tatp_procs::{Ask, Call, ReplyRef};
 use tatp_settle_tests::rows::clean_rows;
 use tatp_settle_tests::sites::{module, spend_parcels};
 use tatp_threads::{Gate, Moves, NoGate, Ran, RanParts, copy_extent, discard_chapters, run_calls};
@@ -32,6 +32,23 @@ pub fn unpack<'m>(ran: Ran<'m>) -> (Vec<Site<'m>>, usize, Vec<Receipts>)
     let parcels_left = parcels.len();
     spend_parcels(parcels);
     (sites, parcels_left, receipts)
+}
+
+/// Spends what a run leaves.
+pub fn spend(parts: RanParts<'_>)
+    requires { vec_len parts.landings ≡ 0 }
+{
+    let RanParts {
+        sites,
+        parcels,
+        landings,
+        chapters,
+        receipts: _,
+    } = parts;
+    landings.destroy_empty();
+    discard_chapters(chapters);
+    spend_parcels(parcels);
+    close_sites(sites);
 }
 
 /// Moves to both partitions and to none, and stops of each.
@@ -140,6 +157,27 @@ fn left_by_run<R: Threads + Wait + Sync, G: Gate + Sync>(
     }
 }
 
+/// How many receipts each client gets in a run, and how often each site was stopped, that of the
+/// last partition first.
+pub fn receipts_and_stops<R: Threads + Wait + Sync, G: Gate + Sync>(
+    rt: &R,
+    alloc: Global,
+    lists: &[Vec<Ask>],
+    moves: &Moves,
+    gate: &G,
+) -> Result<(Vec<usize>, Vec<u64>), Fail>
+    requires some_clients { 1 ≤ length lists.now }
+    requires few_clients { length lists.now ≤ 64 }
+{
+    let left = left_by_run(rt, alloc, lists, moves, gate)?;
+    let mut counts = Vec::new(alloc);
+    for receipts in &left.receipts {
+        counts.push(receipts.len())?;
+    }
+    let Left { stops, .. } = left;
+    Ok((counts, stops))
+}
+
 /// How many receipts each client gets in a run with no moves and no stops.
 pub fn receipts_of_run<R: Threads + Wait + Sync, G: Gate + Sync>(
     rt: &R,
@@ -154,11 +192,7 @@ pub fn receipts_of_run<R: Threads + Wait + Sync, G: Gate + Sync>(
         moves: Vec::new(alloc),
         stops: Vec::new(alloc),
     };
-    let left = left_by_run(rt, alloc, lists, &at_rest, gate)?;
-    let mut counts = Vec::new(alloc);
-    for receipts in &left.receipts {
-        counts.push(receipts.len())?;
-    }
+    let (counts, _stops) = receipts_and_stops(rt, alloc, lists, &at_rest, gate)?;
     Ok(counts)
 }
 

@@ -1,7 +1,8 @@
-use Rattle.std.proofs.Common.{◌+◌, length, ap, ◌∙◌, arith}
+use Rattle.std.proofs.Common.{◌+◌, length, slice_get, refl, ap, ◌∙◌, arith}
 use Rattle.std.proofs.lemmas.List.{length_push, map_push}
+use Rattle.std.proofs.lemmas.Option.{slice_get_read}
 use Rattle.tatp_threads.specs.Seats.{numbers_of}
-use Rattle.tatp_threads.proofs.SeatLaws.{one_more_with_ends, one_more_numbered}
+use Rattle.tatp_threads.proofs.SeatLaws.{one_more_with_ends, one_more_numbered, one_more_with_room}
 use Rattle.tatp_threads.proofs.reserved.seat_clients.Goals as goal
 
 pub loop-list-preserved : goal.loop-list-preserved
@@ -11,5 +12,9 @@ loop-list-preserved g c = record {
       ∙ one_more_numbered c.loop-list.list-index _ (numbers_of c.loop-list.seats.items) c.loop-list.invariant.numbers
       (omega (arith, c.len-in-loop-list.ensures, c.loop-list.invariant.count, c.loop-list.seats.ok.0)));
   ports = one_more_with_ends (λ seat. seat.ports) c.loop-list.ports c.ends_of.new.ports c.loop-list.seats.items c.push.new.self.items _ c.in_ok-push.ensures.items c.ends_of.ensures.same c.loop-list.invariant.ports c.in_ok-ends_of.ensures.beside;
+  room = one_more_with_room c.args.lists.now c.loop-list.seats.items c.push.new.self.items c.list-item.result _ c.in_ok-push.ensures.items c.loop-list.invariant.room
+      (ap (slice_get c.args.lists.now) c.loop-list.invariant.count
+      ∙ slice_get_read c.args.lists.now (length c.args.lists.now) c.loop-list.list-index c.list-item.result refl c.loop-list-test.true c.list-item.is)
+      (c.in_ok-with_room.ensures.receipts, omega (arith, c.in_ok-with_room.ensures.room, c.len.ensures, c.len-in-loop-list.ensures, c.list-item.result.ok.0));
   same = c.ends_of.ensures.same ∙ c.loop-list.invariant.same;
 }

@@ -2,7 +2,7 @@ use Rattle.std.proofs.Common.{◌≡◌, ℕ, ◌+◌, [], ◌∷◌, List, Opti
 use Rattle.std.proofs.lemmas.Option.{slice_get_read}
 use Rattle.tatp_partition.specs.declared.item.Item.{Item}
 use Rattle.tatp_logs.specs.declared.receipt.Receipt.{Receipt}
-use Rattle.tatp_slices.specs.Growing.{Grows}
+use Rattle.tatp_workers.specs.Growing.{Grows}
 use Rattle.tatp_workers.proofs.ConversationLaws.{Conversed, Says, none_asked, one_more_asked, all_asked, last_unanswered, none_got, one_got}
 use Rattle.tatp_workers.proofs.client.ask_all.Goals as goal
 

@@ -1,7 +1,7 @@
 use Rattle.std.proofs.Common.{◌≡◌, Some, slice_get, slice_index, arith}
 use Rattle.std.proofs.lemmas.Option.{slice_get-get_or}
 use Rattle.tatp_workers.specs.Debugging.{IsDebugged}
-use Rattle.tatp_slices.proofs.GrowthLaws.{one_more_dealt}
+use Rattle.tatp_workers.proofs.GrowthLaws.{one_more_dealt}
 use Rattle.tatp_workers.proofs.debugger.debug_all.Goals as goal
 
 pub loop-number-preserved : goal.loop-number-preserved

@@ -1,5 +1,5 @@
 use Rattle.tatp_workers.specs.Debugging.{IsDebugged}
-use Rattle.tatp_slices.proofs.GrowthLaws.{Dealt}
+use Rattle.tatp_workers.proofs.GrowthLaws.{Dealt}
 use Rattle.tatp_workers.proofs.debugger.debug_all.Given as goal
 
 abbrev pub invariant-loop-number : goal.invariant-loop-number

@@ -1,11 +1,11 @@
 use Rattle.std.proofs.Common.{◌≡◌, Bool, false, List, [], ◌∷◌, refl, sym, subst, rules}
-use Rattle.tatp_slices.specs.Growing.{Grows}
+use Rattle.tatp_workers.specs.Growing.{Grows}
 use Rattle.tatp_workers.specs.Effects.{Follows}
-use Rattle.tatp_slices.specs.declared.offers.Offered.{Offered}
+use Rattle.tatp_workers.specs.declared.offers.Offered.{Offered}
 use Rattle.tatp_workers.specs.declared.effects.Effect.{Effect}
 use Rattle.tatp_workers.specs.declared.effects.Effect.TheVariants.{Sends, Answers}
 use Rattle.tatp_workers.specs.declared.delivery.Delivery.TheVariants.{Dropped}
-use Rattle.tatp_slices.proofs.GrowthLaws.{grown_twice}
+use Rattle.tatp_workers.proofs.GrowthLaws.{grown_twice}
 use Rattle.tatp_workers.proofs.effects.follow.Goals as goal
 
 pub returns-then-not-send : goal.returns-then-not-send

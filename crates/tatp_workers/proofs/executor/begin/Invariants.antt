@@ -1,6 +1,6 @@
 use Rattle.std.proofs.Common.{All}
 use Rattle.tatp_workers.specs.Executing.{IsOfferedAgain}
-use Rattle.tatp_slices.specs.Growing.{Does}
+use Rattle.tatp_workers.specs.Growing.{Does}
 use Rattle.tatp_workers.proofs.executor.begin.Given as goal
 
 abbrev pub invariant-loop-round : goal.invariant-loop-round

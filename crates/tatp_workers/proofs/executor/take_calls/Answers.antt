@@ -2,7 +2,7 @@ use Rattle.std.proofs.Common.{[], ◌∷◌, Some, None, refl, subst}
 use Rattle.tatp_workers.specs.declared.message.Message.{Message}
 use Rattle.tatp_workers.specs.declared.message.Message.TheVariants.{Quit}
 use Rattle.tatp_workers.specs.declared.effects.Effect.TheVariants.{Receives}
-use Rattle.tatp_slices.specs.Growing.{Grows}
+use Rattle.tatp_workers.specs.Growing.{Grows}
 use Rattle.tatp_workers.proofs.ExecutorLaws.{one_more_executed, last_received}
 use Rattle.tatp_workers.proofs.executor.take_calls.Goals as goal
 

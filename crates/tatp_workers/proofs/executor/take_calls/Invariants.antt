@@ -1,5 +1,5 @@
 use Rattle.tatp_workers.proofs.ExecutorLaws.{ExecutesSome}
-use Rattle.tatp_slices.specs.Growing.{Does}
+use Rattle.tatp_workers.specs.Growing.{Does}
 use Rattle.tatp_workers.proofs.executor.take_calls.Given as goal
 
 abbrev pub invariant-loop-round : goal.invariant-loop-round

@@ -2,7 +2,7 @@ use Rattle.std.proofs.Common.{◌≡◌, Some, get_or, slice_get, refl, ap, ◌�
 use Rattle.std.proofs.lemmas.Option.{slice_get-get_or}
 use Rattle.tatp_extents.specs.Extents.{ExtentState}
 use Rattle.tatp_workers.specs.Carrying.{IsMade}
-use Rattle.tatp_slices.proofs.GrowthLaws.{none_dealt, one_more_dealt}
+use Rattle.tatp_workers.proofs.GrowthLaws.{none_dealt, one_more_dealt}
 use Rattle.tatp_workers.proofs.MoverLaws.{all_moved, last_moved}
 use Rattle.tatp_workers.proofs.mover.move_all.Goals as goal
 

@@ -1,6 +1,6 @@
 use Rattle.std.proofs.Common.{◌≡◌, ◌<◌, vec_len, vec_capacity}
 use Rattle.tatp_workers.specs.Carrying.{IsMade}
-use Rattle.tatp_slices.proofs.GrowthLaws.{Dealt}
+use Rattle.tatp_workers.proofs.GrowthLaws.{Dealt}
 use Rattle.tatp_workers.proofs.mover.move_all.Given as goal
 
 abbrev pub invariant-loop-number : goal.invariant-loop-number

@@ -29,4 +29,4 @@ returns-clause-executors g c =
 
 pub returns-clause-clients : goal.returns-clause-clients
 returns-clause-clients g c =
-    subst (λ inboxes. AreClients (length c.args.lists.now) inboxes c.in_ok-clients.clients.items) (after_executors g c ∙ sym (after_clients g c _ c.as_mut_slice-2.ensures.value)) c.in_ok-clients.ensures.seats
+    subst (λ inboxes. AreClients c.args.lists.now inboxes c.in_ok-clients.clients.items) (after_executors g c ∙ sym (after_clients g c _ c.as_mut_slice-2.ensures.value)) c.in_ok-clients.ensures.seats

@@ -1,0 +1,48 @@
+use Rattle.std.proofs.Common.{◌≡◌, None, length, sym, ◌∙◌, subst, arith, inl, inr}
+use Rattle.tatp_settle.specs.Runs.{lists_of}
+use Rattle.tatp_threads.specs.Calls.{obstacle_among}
+use Rattle.tatp_drawing.specs.Drawing.{calls_drawn}
+use Rattle.tatp_bench.proofs.PlanLaws.{calls_are_run, rows_are_opened, clients_listed}
+use Rattle.tatp_bench.proofs.work.run_work.Given as given
+use Rattle.tatp_bench.proofs.work.run_work.Goals as goal
+
+pub run_clean_calls-requires-clause-some_partitions : goal.run_clean_calls-requires-clause-some_partitions
+run_clean_calls-requires-clause-some_partitions g c κs within = omega (arith, c.requires.work.partitions, c.requires.plan.partitions.0)
+
+pub run_clean_calls-requires-clause-few_partitions : goal.run_clean_calls-requires-clause-few_partitions
+run_clean_calls-requires-clause-few_partitions g c κs within = omega (arith, c.requires.work.partitions, c.requires.plan.partitions.1)
+
+pub run_clean_calls-requires-clause-some_clients : goal.run_clean_calls-requires-clause-some_clients
+run_clean_calls-requires-clause-some_clients g c κs within =
+    let same : lists_of c.args.work.lists.now ≡ calls_drawn c.args.plan.now = c.requires.work.calls in
+    omega (arith, clients_listed c.args.plan.now c.args.work.lists.now same, c.requires.plan.clients.0)
+
+pub run_clean_calls-requires-clause-few_clients : goal.run_clean_calls-requires-clause-few_clients
+run_clean_calls-requires-clause-few_clients g c κs within =
+    let same : lists_of c.args.work.lists.now ≡ calls_drawn c.args.plan.now = c.requires.work.calls in
+    omega (arith, clients_listed c.args.plan.now c.args.work.lists.now same, c.requires.plan.clients.1)
+
+pub run_clean_calls-requires-clause-rows : goal.run_clean_calls-requires-clause-rows
+run_clean_calls-requires-clause-rows g c κs within =
+    rows_are_opened c.args.plan.now c.args.work.rows c.requires.plan c.requires.clean c.requires.work.rows
+
+pub run_clean_calls-requires-clause-calls : goal.run_clean_calls-requires-clause-calls
+run_clean_calls-requires-clause-calls g c κs within =
+    let plan = c.args.plan.now in
+    let lists = c.args.work.lists.now in
+    let same : lists_of lists ≡ calls_drawn plan = c.requires.work.calls in
+    subst (λ modul. obstacle_among modul lists ≡ None) (sym c.requires.work.standard) (calls_are_run plan lists c.requires.plan same)
+
+pub returns-in-Ok-clause-sites : goal.returns-in-Ok-clause-sites
+returns-in-Ok-clause-sites g c = c.in-Ok.ensures.sites ∙ c.requires.work.partitions
+
+pub returns-in-Ok-clause-receipts : goal.returns-in-Ok-clause-receipts
+returns-in-Ok-clause-receipts g c =
+    let same : lists_of c.args.work.lists.now ≡ calls_drawn c.args.plan.now = c.requires.work.calls in
+    c.in-Ok.ensures.receipts ∙ clients_listed c.args.plan.now c.args.work.lists.now same
+
+pub returns-in-Err-clause-refusal : goal.returns-in-Err-clause-refusal
+returns-in-Err-clause-refusal g c = elim c.fault_of.ensures [
+  | inl is ↦ inl is.1
+  | inr is ↦ inr is.1
+]

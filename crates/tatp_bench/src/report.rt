@@ -1,0 +1,72 @@
+//! A concurrent run of the benchmark, settled, and what is written of it.
+ghost use Rattle.std.specs.Prelude.{◌≡◌, Some, IfOk, IfErr, OnOk};
+ghost use Rattle.std.specs.List.{flat_map};
+ghost use Rattle.std.specs.String.{string_bytes};
+ghost use Rattle.tatp_audits.specs.Printing.{field};
+ghost use Rattle.tatp_streams.specs.Writing.{WritesText};
+ghost use Rattle.tatp_tasks.specs.Plans.{IsPlan};
+ghost use Rattle.tatp_bench.specs.Reports.{settled_text, TellsSettled, LeavesSettled};
+
+use crate::{Progress, ReportFault, draw, run_drawn};
+use std::alloc::{AllocError, Global};
+use std::fmt;
+use std::io::Write;
+use std::sync::Wait;
+use std::thread::Threads;
+use tatp_settle::Settled;
+use tatp_streams::write_last;
+use tatp_tasks::BenchPlan;
+
+/// Counts, each after a space.
+#[derive(Clone, Copy)]
+struct Counts<'a>(&'a [u64]);
+
+impl fmt::Display for Counts<'_> {
+    ghost output = { λ counts. Some (flat_map field counts.0.now) };
+
+    fn fmt<W: fmt::Write>(&self, f: &mut fmt::Formatter<W>) -> fmt::Result {
+        for count in self.0 {
+            write!(f, " {count}")?;
+        }
+        Ok(())
+    }
+}
+
+/// The three lines of what a settled run counts.
+fn lines_of(alloc: Global, settled: &Settled) -> Result<String, AllocError>
+    ensures { IfOk result (λ text. string_bytes text ≡ settled_text settled.now) }
+{
+    let completed = settled.completed();
+    let refused = settled.refused();
+    let kinds = settled.kinds();
+    let kinds = Counts(&kinds);
+    let verdict = settled.verdict();
+    format!(in alloc; "SETTLED {completed} {refused}\nMIX{kinds}\n{verdict}\n")
+}
+
+/// Runs the calls of a plan's clients, settles what they leave, and writes what the settled run
+/// counts: how many calls were completed and how many were refused memory, how many there were of
+/// each kind, and the verdict on the rows. How the run goes on is told to `progress`.
+///
+/// A run that isn't settled is a fault, and nothing of it is written.
+pub fn report_bench<R: Threads + Wait + Sync, P: Progress + Sync, W: Write>(
+    rt: &R,
+    alloc: Global,
+    writer: &mut W,
+    plan: &BenchPlan,
+    progress: &P,
+) -> Result<(), ReportFault>
+    requires plan { IsPlan plan.now }
+    ensures written { OnOk result
+        (WritesText (TellsSettled plan.now) (W.contents writer.old) (W.contents writer.new)) }
+    ensures faults { IfErr result
+        (LeavesSettled plan.now (W.contents writer.old) (W.contents writer.new)) }
+{
+    let drawn = draw(rt, alloc, plan)?;
+    progress.tell("rows drawn");
+    let settled = run_drawn(rt, alloc, plan, drawn, progress)?;
+    progress.tell("settled");
+    let text = lines_of(alloc, &settled)?;
+    write_last(writer, text.as_bytes())?;
+    Ok(())
+}

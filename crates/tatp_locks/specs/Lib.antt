@@ -1,2 +1,0 @@
-pub mod Locked
-pub mod Copies

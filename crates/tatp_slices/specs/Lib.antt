@@ -1,4 +1,0 @@
-pub mod Growing
-pub mod Offering
-pub mod FullLogs
-pub mod Slices

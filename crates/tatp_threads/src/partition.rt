@@ -1,0 +1,221 @@
+//! What is done at the site of one partition under its lock. What the site was before isn't known,
+//! but that it was a site; so contracts say that the answer is that of some site.
+ghost use Rattle.std.specs.Fn.{FnOnceReturnsAt};
+ghost use Rattle.std.specs.Prelude.{◌≡◌, ◌<◌, None, IfOk, IfErr, vec_len, vec_capacity};
+ghost use Rattle.tatp_extents.specs.Extents.{ExtentState};
+ghost use Rattle.tatp_partition.specs.Moving.{LandedState, Takes, Gives};
+ghost use Rattle.tatp_partition.specs.declared.refusal.NotGiven.{NotGiven};
+ghost use Rattle.tatp_partition.specs.Obstacles.{one_obstacle};
+ghost use Rattle.tatp_partition.specs.Running.{AdvancesUnless};
+ghost use Rattle.tatp_partition.specs.Stopping.{Stops, Resumes};
+ghost use Rattle.tatp_workers.specs.FullLogs.{ChecksLog};
+ghost use Rattle.tatp_workers.specs.Offering.{Offers};
+ghost use Rattle.tatp_workers.specs.Slices.{MakesSlice};
+ghost use Rattle.tatp_threads.specs.Locked.{OfSomeSite};
+
+use crossbeam_utils::CachePadded;
+use std::alloc::Global;
+use std::sync::atomic::{AtomicU64, Ordering};
+use std::sync::{Mutex, Wait};
+use std::{mem, thread};
+use tatp_extents::Chapter;
+use tatp_partition::{
+    CompletionPlace, Item, Landed, NotGiven, Parcel, Site, SiteRefusal, Stepped, discard_all,
+    what_holds_of_every_site,
+};
+use tatp_sync::lock;
+use tatp_workers::{Checkpointed, Gate, Gated, Offered, checkpoint_full, is_wanted, offer, slice};
+
+/// One partition: its site under its lock, how many other threads want that lock, and where its
+/// executor leaves its chapters at the end.
+pub struct Partition<'m> {
+    /// Its number.
+    pub number: u8,
+    site: Mutex<Site<'m>>,
+    /// Apart from all else: its executor reads it before each step.
+    wanted: CachePadded<AtomicU64>,
+    chapters: Mutex<Vec<Chapter>>,
+}
+
+impl<'m> Partition<'m> {
+    /// The partition of this site, whose lock nobody wants.
+    pub fn new(alloc: Global, site: Site<'m>) -> Partition<'m> {
+        Partition {
+            number: site.partition(),
+            site: Mutex::new(site),
+            wanted: CachePadded::new(AtomicU64::new(0)),
+            chapters: Mutex::new(Vec::new(alloc)),
+        }
+    }
+
+    /// Its site, and the chapters that were left.
+    pub fn into_parts(self) -> (Site<'m>, Vec<Chapter>) {
+        let Partition {
+            number: _,
+            site,
+            wanted: _,
+            chapters,
+        } = self;
+        (site.into_inner(), chapters.into_inner())
+    }
+
+    /// Leaves chapters, in place of those that were left before.
+    pub fn leave<R: Wait>(&self, rt: &R, chapters: Vec<Chapter>) {
+        let others = mem::replace(&mut *self.chapters.lock(rt), chapters);
+        discard_all(others);
+    }
+
+    /// Offers a call.
+    pub fn offer<R: Wait>(&self, rt: &R, alloc: Global, item: &Item) -> Offered
+        ensures { OfSomeSite (λ s s'. Offers s item.now result s') }
+    {
+        let mut locked = lock(rt, &self.site);
+        let site = &mut *locked;
+        what_holds_of_every_site(site);
+        let offered = offer(site, alloc, item);
+        what_holds_of_every_site(site);
+        offered
+    }
+
+    /// Makes steps of the running call, the gate before each. Where the call ends, its completion
+    /// is left in its place, and the answer is how many entries the log of its extent has then.
+    pub fn slice<R: Wait, G: Gate>(
+        &self,
+        rt: &R,
+        gate: &G,
+        ended: &mut CompletionPlace,
+    ) -> Result<u64, SiteRefusal>
+        requires { ended.old ≡ None }
+        ensures { OfSomeSite (λ s s'. MakesSlice s result ended.new s') }
+    {
+        let mut observer = Gated { gate };
+        let made = {
+            let mut locked = lock(rt, &self.site);
+            let site = &mut *locked;
+            what_holds_of_every_site(site);
+            let made = slice(site, &mut observer, &self.wanted, ended);
+            what_holds_of_every_site(site);
+            made
+        };
+        self.give_way(&made, ended);
+        made
+    }
+
+    /// Lets other threads go on, where the call goes on and one of them wants the lock.
+    fn give_way(&self, made: &Result<u64, SiteRefusal>, ended: &CompletionPlace) {
+        if made.is_ok() && !ended.is_some() && is_wanted(&self.wanted) {
+            thread::yield_now();
+        }
+    }
+
+    /// Hands out the log of an extent, where it has as many entries as a chapter has to have, or
+    /// more, and keeps the chapter behind the others.
+    pub fn checkpoint<R: Wait>(
+        &self,
+        rt: &R,
+        alloc: Global,
+        extent: u32,
+        chapter: u64,
+        chapters: &mut Vec<Chapter>,
+    ) -> Checkpointed
+        requires { vec_len chapters.old < vec_capacity chapters.old }
+        ensures { OfSomeSite (λ s s'.
+            ChecksLog s extent chapter chapters.old.items result s' chapters.new.items) }
+    {
+        let mut locked = lock(rt, &self.site);
+        let site = &mut *locked;
+        what_holds_of_every_site(site);
+        let checkpointed = checkpoint_full(site, alloc, extent, chapter, chapters);
+        what_holds_of_every_site(site);
+        checkpointed
+    }
+
+    /// The extent leaves.
+    pub fn take<R: Wait>(&self, rt: &R, extent: u32) -> Result<Parcel, SiteRefusal>
+        ensures takes { OfSomeSite (λ s s'. Takes s extent result s') }
+        ensures number { IfOk result (λ (parcel : ExtentState). parcel.number ≡ extent) }
+    {
+        self.want();
+        let taken = {
+            let mut locked = lock(rt, &self.site);
+            let site = &mut *locked;
+            what_holds_of_every_site(site);
+            site.take(extent)
+        };
+        self.want_no_more();
+        taken
+    }
+
+    /// The extent lands, or comes back where there is no place for it.
+    pub fn give<R: Wait>(&self, rt: &R, parcel: Parcel) -> Result<Landed, NotGiven>
+        ensures gives { OfSomeSite (λ s s'. Gives s parcel result s') }
+        ensures landed { IfOk result (λ (landed : LandedState). landed.number ≡ parcel.number) }
+        ensures back { IfErr result (λ (back : NotGiven). back.parcel ≡ parcel) }
+    {
+        self.want();
+        let given = {
+            let mut locked = lock(rt, &self.site);
+            let site = &mut *locked;
+            what_holds_of_every_site(site);
+            site.give(parcel)
+        };
+        self.want_no_more();
+        given
+    }
+
+    /// Stops the site.
+    pub fn stop<R: Wait>(&self, rt: &R) -> Result<(), SiteRefusal>
+        ensures { OfSomeSite (λ s s'. Stops s result s') }
+    {
+        self.want();
+        let stopped = {
+            let mut locked = lock(rt, &self.site);
+            let site = &mut *locked;
+            what_holds_of_every_site(site);
+            site.stop()
+        };
+        self.want_no_more();
+        stopped
+    }
+
+    /// Lends the site to who only reads it, and gives what was read.
+    pub fn read<R: Wait, T, F: FnOnce(&Site<'m>) -> T>(&self, rt: &R, reading: F) -> T
+        requires { F.IsAlwaysCallable reading }
+        ensures { OfSomeSite (λ s s'. FnOnceReturnsAt F.FnOnce reading s result × (s' ≡ s)) }
+    {
+        let locked = lock(rt, &self.site);
+        let site = &*locked;
+        what_holds_of_every_site(site);
+        reading(site)
+    }
+
+    /// One step of the running call, though the site is stopped.
+    pub fn one<R: Wait>(&self, rt: &R) -> Result<Stepped, SiteRefusal>
+        ensures { OfSomeSite (λ s s'. AdvancesUnless (one_obstacle s) s result s') }
+    {
+        let mut locked = lock(rt, &self.site);
+        let site = &mut *locked;
+        what_holds_of_every_site(site);
+        site.one()
+    }
+
+    /// Ends a stop.
+    pub fn resume<R: Wait>(&self, rt: &R) -> Result<(), SiteRefusal>
+        ensures { OfSomeSite (λ s s'. Resumes s result s') }
+    {
+        let mut locked = lock(rt, &self.site);
+        let site = &mut *locked;
+        what_holds_of_every_site(site);
+        site.resume()
+    }
+
+    /// The executor is asked to leave the lock.
+    fn want(&self) {
+        self.wanted.fetch_add(1, Ordering::SeqCst);
+    }
+
+    /// It needn't any more.
+    fn want_no_more(&self) {
+        self.wanted.fetch_sub(1, Ordering::SeqCst);
+    }
+}

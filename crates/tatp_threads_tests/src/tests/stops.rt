@@ -1,0 +1,182 @@
+//! What the debugger does at the sites that it stops. The gate sees the steps of executors and not
+//! the debugger's: so those of a call that it doesn't see are the debugger's.
+
+use std::alloc::{AllocError, Global};
+use std::process::Abort;
+use std::sync::Wait;
+use std::sync::atomic::{AtomicU64, Ordering};
+use std::test::*;
+use std::thread::Threads;
+use std::thread;
+use std::time::{Clock, Duration};
+use super::threads::receipts_and_stops;
+use tatp_procs::{Ask, Call};
+use tatp_threads::{Gate, Moves};
+
+/// How many steps a call makes that reads a subscriber.
+const STEPS: u64 = 72;
+
+/// How often the partition of the slow call is stopped.
+const STOPS: u64 = 8;
+
+/// Stops of partition 1, in which no call is: in that time a call of partition 0 begins.
+const BEFORE: u64 = 5000;
+
+/// Counts steps, and takes a millisecond before each.
+#[derive(Drop)]
+struct SlowSteps<'a, R: Clock> {
+    clock: &'a R,
+    steps: AtomicU64,
+}
+
+impl<R: Clock> Gate for SlowSteps<'_, R> {
+    fn before_step(&self, _partition: u8, _client: u64, _pc: usize) {
+        self.steps.fetch_add(1, Ordering::SeqCst);
+        thread::sleep(self.clock, Duration::from_millis(1));
+    }
+
+    fn after_end(&self, _partition: u8, _client: u64) {}
+}
+
+/// So many stops of partition 1, and then of partition 0.
+fn stops_of(alloc: Global, in_second: u64, in_first: u64) -> Result<Moves, AllocError> {
+    let mut stops = Vec::new(alloc);
+    for _ in 0..in_second {
+        stops.push(1)?;
+    }
+    for _ in 0..in_first {
+        stops.push(0)?;
+    }
+    Ok(Moves {
+        moves: Vec::new(alloc),
+        stops,
+    })
+}
+
+/// How many steps of a slow call the debugger makes at the stops of its partition.
+fn debugged_steps<R: Threads + Wait + Clock + Sync>(rt: &R, alloc: Global) -> Result<u64, Fail> {
+    let gate = SlowSteps {
+        clock: rt,
+        steps: AtomicU64::new(0),
+    };
+    let lists = vec![in alloc; vec![in alloc; Ask::Txn(Call::GetSubscriberData { s_id: 1 })]?]?;
+    let moves = stops_of(alloc, BEFORE, STOPS)?;
+    let (receipts, stops) = receipts_and_stops(rt, alloc, lists.as_slice(), &moves, &gate)?;
+    if receipts.as_slice() != [1].as_slice() || stops.as_slice() != [BEFORE, STOPS].as_slice() {
+        return Err("other receipts or stops".into());
+    }
+    Ok(STEPS.saturating_sub(gate.steps.load(Ordering::SeqCst)))
+}
+
+// At each stop of the partition of a running call the debugger makes one step of it. A stop that
+// comes before the call has begun makes none: so several runs are tried, but none makes more.
+#[test]
+fn a_stop_makes_one_step(rt: HostRuntime) -> Result<(), Fail> {
+    let mut most: u64 = 0;
+    for _ in 0..20 {
+        if most < STOPS {
+            most = debugged_steps(&rt, rt.alloc())?.max(most);
+        }
+    }
+    assert_eq!(rt; most, STOPS);
+    Ok(())
+}
+
+/// How many calls the client makes in each of two partitions, by turns.
+const TURNS: u64 = 40;
+
+/// The position from which a call that sets a location makes its last step.
+const LAST: usize = 5;
+
+/// Counts the ends, and the last steps in partition 0. Holds each end there until the client's next
+/// call, in partition 1, makes its first step, but none once one was held too long.
+#[derive(Drop)]
+struct HoldAnswers<'a, R: Clock> {
+    clock: &'a R,
+    last_steps: AtomicU64,
+    /// How many calls of partition 1 made their first steps: it isn't stopped, so all are seen.
+    firsts: AtomicU64,
+    ends: AtomicU64,
+    ends_in_first: AtomicU64,
+    /// Whether an end was let go before that.
+    late: AtomicU64,
+}
+
+impl<R: Clock> Gate for HoldAnswers<'_, R> {
+    fn before_step(&self, partition: u8, _client: u64, pc: usize) {
+        if partition == 1 {
+            if pc == 0 {
+                self.firsts.fetch_add(1, Ordering::SeqCst);
+            }
+            return;
+        }
+        if pc == LAST {
+            self.last_steps.fetch_add(1, Ordering::SeqCst);
+        }
+        thread::sleep(self.clock, Duration::from_millis(1));
+    }
+
+    fn after_end(&self, partition: u8, _client: u64) {
+        self.ends.fetch_add(1, Ordering::SeqCst);
+        if partition == 1 {
+            return;
+        }
+        let before = self.ends_in_first.fetch_add(1, Ordering::SeqCst);
+        for _ in 0..20_000 {
+            let firsts = self.firsts.load(Ordering::SeqCst);
+            if firsts > before || self.late.load(Ordering::SeqCst) == 1 {
+                return;
+            }
+            thread::sleep(self.clock, Duration::from_millis(1));
+        }
+        self.late.store(1, Ordering::SeqCst);
+    }
+}
+
+/// Calls in both partitions by turns.
+fn calls_by_turns(alloc: Global) -> Result<Vec<Ask>, AllocError> {
+    let mut asks = Vec::new(alloc);
+    for _ in 0..TURNS {
+        asks.push(Ask::Txn(Call::UpdateLocation {
+            sub_nbr: 1,
+            vlr_location: 7,
+        }))?;
+        asks.push(Ask::Txn(Call::UpdateLocation {
+            sub_nbr: 65,
+            vlr_location: 7,
+        }))?;
+    }
+    Ok(asks)
+}
+
+/// Each call has ended, none was told before its answer, and the debugger made last steps.
+fn expect_ends<R: Clock>(rt: &impl Abort, gate: &HoldAnswers<'_, R>) {
+    let ends = gate.ends.load(Ordering::SeqCst);
+    let in_first = gate.ends_in_first.load(Ordering::SeqCst);
+    let late = gate.late.load(Ordering::SeqCst);
+    assert_eq!(rt; (ends, in_first, late), (TURNS * 2, TURNS, 0));
+    let seen = gate.last_steps.load(Ordering::SeqCst);
+    assert!(rt; seen < TURNS);
+}
+
+// Where the debugger makes the last step of a call, its client is answered, and then the gate is
+// told.
+#[test]
+fn ends_by_the_debugger_are_told_once_the_reply_can_be_taken(rt: HostRuntime) -> Result<(), Fail> {
+    let alloc = rt.alloc();
+    let gate = HoldAnswers {
+        clock: &rt,
+        last_steps: AtomicU64::new(0),
+        firsts: AtomicU64::new(0),
+        ends: AtomicU64::new(0),
+        ends_in_first: AtomicU64::new(0),
+        late: AtomicU64::new(0),
+    };
+    let lists = vec![in alloc; calls_by_turns(alloc)?]?;
+    let moves = stops_of(alloc, 0, 20_000)?;
+    let (receipts, stops) = receipts_and_stops(&rt, alloc, lists.as_slice(), &moves, &gate)?;
+    assert_eq!(rt; receipts.as_slice(), [TURNS as usize * 2].as_slice());
+    assert_eq!(rt; stops.as_slice(), [0, 20_000].as_slice());
+    expect_ends(&rt, &gate);
+    Ok(())
+}

@@ -1,0 +1,118 @@
+//! Steps of a call under one hold of its site's lock.
+ghost use Rattle.std.specs.Prelude.{◌≡◌, None, Ok, IfOk, OnErr};
+ghost use Rattle.std.specs.Result.{result_and};
+ghost use Rattle.tatp_partition.specs.Obstacles.{step_obstacle};
+ghost use Rattle.tatp_partition.specs.Running.{AdvancesUnless, stepped_of};
+ghost use Rattle.tatp_workers.specs.Growing.{Grows, Does};
+ghost use Rattle.tatp_workers.specs.Slices.{IsSlice, step_ahead, steps_ahead, logged_at};
+
+use crate::{Observer, StepAhead};
+use std::sync::atomic::{AtomicU64, Ordering};
+use tatp_partition::{CompletionPlace, Site, SiteRefusal, StepKind};
+
+/// The most steps of one call under one hold of the lock.
+const MOST_STEPS: u32 = 16;
+
+/// Whether another thread wants the lock.
+pub fn is_wanted(wanted: &AtomicU64) -> bool {
+    wanted.load(Ordering::SeqCst) != 0
+}
+
+/// The running call's next step.
+#[inline(always)]
+fn step_ahead(site: &Site<'_>) -> Option<StepAhead>
+    ensures { result ≡ step_ahead site.now }
+{
+    match site.machine() {
+        None => None,
+        Some(machine) => match site.client() {
+            None => None,
+            Some(client) => Some(StepAhead {
+                partition: site.partition(),
+                client,
+                pc: machine.pc(),
+            }),
+        },
+    }
+}
+
+/// One step of the running call, which its observer sees before. A step that is refused isn't seen.
+/// Where the call ends, its completion is left in its place.
+#[inline(always)]
+fn observed_step<O: Observer>(
+    site: &mut Site<'_>,
+    observer: &mut O,
+    ended: &mut CompletionPlace,
+) -> Result<(), SiteRefusal>
+    requires { ended.old ≡ None }
+    ensures step { AdvancesUnless (step_obstacle site.old) site.old
+        (result_and result (Ok (stepped_of ended.new))) site.new }
+    ensures refused { OnErr result (ended.new ≡ None) }
+    ensures observed { Grows (O.observed observer.old) (O.observed observer.new)
+        (steps_ahead site.old) }
+{
+    if let Err(refusal) = site.check_step() {
+        return Err(refusal);
+    }
+    if let Some(step) = step_ahead(site) {
+        observer.before_step(step);
+    }
+    site.step_into(StepKind::Step, ended)
+}
+
+/// Makes steps of the running call: up to the first that doesn't go on, and no more where another
+/// thread wants the lock. Where the call ends, its completion is left in its place.
+fn make_steps<O: Observer>(
+    site: &mut Site<'_>,
+    observer: &mut O,
+    wanted: &AtomicU64,
+    ended: &mut CompletionPlace,
+) -> Result<(), SiteRefusal>
+    requires { ended.old ≡ None }
+    ensures { Does
+        (IsSlice site.old (result_and result (Ok (stepped_of ended.new))) site.new)
+        (O.observed observer.old) (O.observed observer.new) }
+{
+    for _made in 0..MOST_STEPS - 1 {
+        match observed_step(site, observer, ended) {
+            Ok(()) => {
+                if ended.is_some() || is_wanted(wanted) {
+                    return Ok(());
+                }
+            }
+            Err(refusal) => return Err(refusal),
+        }
+    }
+    observed_step(site, observer, ended)
+}
+
+/// How many entries the log of the extent has on which a call ended; 0 where it goes on.
+fn logged_at(site: &Site<'_>, ended: &CompletionPlace) -> u64
+    ensures { result ≡ logged_at site.now ended.now }
+{
+    match ended.get() {
+        None => 0,
+        Some(completion) => site.log_len(completion.extent),
+    }
+}
+
+/// Makes steps of the running call at a site whose lock is held: up to the first that doesn't go
+/// on, and no more where another thread wants the lock. Where the call ends, its completion is left
+/// in its place, and the answer is how many entries the log of its extent has then.
+pub fn slice<O: Observer>(
+    site: &mut Site<'_>,
+    observer: &mut O,
+    wanted: &AtomicU64,
+    ended: &mut CompletionPlace,
+) -> Result<u64, SiteRefusal>
+    requires { ended.old ≡ None }
+    ensures steps { Does
+        (IsSlice site.old (result_and result (Ok (stepped_of ended.new))) site.new)
+        (O.observed observer.old) (O.observed observer.new) }
+    ensures logged { IfOk result (λ logged. logged ≡ logged_at site.new ended.new) }
+{
+    match make_steps(site, observer, wanted, ended) {
+        Ok(()) => Ok(logged_at(site, ended)),
+        Err(refusal) => Err(refusal),
+    }
+}

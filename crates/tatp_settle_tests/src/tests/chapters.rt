@@ -1,11 +1,11 @@
 //! Chapters that are the cause why a run isn't settled.
 
+use super::told::{Beside, Run, expect_cause, told_of};
 use crate::events::Event;
 use crate::rows::clean_rows;
 use std::alloc::{AllocError, Global};
 use std::test::Fail;
 use std::thread::Threads;
-use super::told::{Beside, Run, expect_cause, told_of};
 use tatp_settle::Settled;
 
 /// Events, those of the run beside, and the text of the cause.

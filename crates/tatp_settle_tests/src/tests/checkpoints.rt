@@ -1,9 +1,9 @@
 //! Chapters that a site hands out, and checkpoints that are refused.
 
+use super::calls::told;
 use crate::sites::{begins, module, opened, spend_site};
 use std::alloc::Global;
 use std::test::Fail;
-use super::calls::told;
 use tatp_extents::Chapter;
 use tatp_numbers::Key;
 use tatp_partition::{Item, Site, SiteRefusal};

@@ -1,8 +1,8 @@
 //! Calls, receipts and entries that are the cause why a run isn't settled.
 
+use super::told::{expect_cause, told_of_calls};
 use crate::events::{Event, Got};
 use std::test::Fail;
-use super::told::{expect_cause, told_of_calls};
 
 /// Events, calls, receipts, and the text of the cause.
 type Case<'a> = (&'a [Event], &'a [&'a [u64]], &'a [&'a [Got]], &'a str);

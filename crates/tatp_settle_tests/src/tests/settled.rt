@@ -1,9 +1,9 @@
 //! What a settled run counts.
 
+use super::told::told_of_calls;
 use crate::events::{Event, Got};
 use std::process::Abort;
 use std::test::Fail;
-use super::told::told_of_calls;
 use tatp_audits::Verdict;
 use tatp_settle::Settled;
 

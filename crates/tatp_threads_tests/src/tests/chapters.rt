@@ -1,9 +1,9 @@
 //! The chapters that a run leaves, under the executors that kept them.
 ghost use Rattle.std.specs.Prelude.{◌≡◌, vec_len};
 
+use super::threads::spend;
 use std::alloc::{AllocError, Global};
 use std::test::*;
-use super::threads::spend;
 use tatp_extents::Chapter;
 use tatp_procs::{Ask, Call};
 use tatp_settle_tests::rows::clean_rows;

@@ -1,12 +1,12 @@
 //! Runs under gates that hold a second step or an end.
 
+use super::threads::receipts_of_run;
 use std::alloc::{AllocError, Global};
 use std::process::Abort;
 use std::sync::atomic::{AtomicU64, Ordering};
 use std::test::*;
 use std::thread;
 use std::time::{Clock, Duration};
-use super::threads::receipts_of_run;
 use tatp_procs::{Ask, Call};
 use tatp_threads::Gate;
 

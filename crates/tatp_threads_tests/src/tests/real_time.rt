@@ -2,13 +2,13 @@
 //! after another in that order, get the same replies and leave the same rows.
 ghost use Rattle.std.specs.Prelude.{◌≡◌, ◌≤◌, length, vec_len};
 
+use super::threads::unpack;
 use std::alloc::{AllocError, Global};
 use std::process::Abort;
 use std::sync::Wait;
 use std::sync::atomic::{AtomicU64, Ordering};
 use std::test::*;
 use std::thread::Threads;
-use super::threads::unpack;
 use tatp_dispatch::World;
 use tatp_logs::{ReceiptRef, Receipts};
 use tatp_partition::{Site, close_sites};

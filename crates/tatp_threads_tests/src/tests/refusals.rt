@@ -1,11 +1,11 @@
 //! What is told of runs that are refused.
 ghost use Rattle.std.specs.Prelude.{◌≤◌, length};
 
+use super::threads::unpack;
 use std::alloc::{AllocError, Global};
 use std::sync::Wait;
 use std::test::*;
 use std::thread::Threads;
-use super::threads::unpack;
 use tatp_numbers::Key;
 use tatp_partition::close_sites;
 use tatp_procs::{Ask, Call, Raw};

@@ -1,15 +1,15 @@
 //! What the debugger does at the sites that it stops. The gate sees the steps of executors and not
 //! the debugger's: so those of a call that it doesn't see are the debugger's.
 
+use super::threads::receipts_and_stops;
 use std::alloc::{AllocError, Global};
 use std::process::Abort;
 use std::sync::Wait;
 use std::sync::atomic::{AtomicU64, Ordering};
 use std::test::*;
-use std::thread::Threads;
 use std::thread;
+use std::thread::Threads;
 use std::time::{Clock, Duration};
-use super::threads::receipts_and_stops;
 use tatp_procs::{Ask, Call};
 use tatp_threads::{Gate, Moves};
 

@@ -1,5 +1,5 @@
-//! Running threads: one executor a partition, clients, a mover and a debugger over sites under their
-//! locks, locked routes and ruled inboxes.
+//! Running threads: one executor a partition, clients, a mover and a debugger, over sites under
+//! their locks, locked routes and ruled inboxes.
 #![tactic(auto)]
 
 mod admission;

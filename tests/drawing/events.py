@@ -51,7 +51,7 @@ class Drawing(Damage):
         lines = []
         for p, site in enumerate(self.whole.sites):
             if site.call:
-                # (what a breakpoint or a stop holds goes on by one step at a time)
+                # (nothing holds it any longer)
                 lines += ["resume %d" % p] * site.is_stopped
                 lines += ["clear %d %d %d" % (p, *place) for place in sorted(site.breaks)]
                 lines += ["steps %d %d" % (p, steps_left(site.call))]

@@ -6,6 +6,7 @@ It is spoken to through two pipes by its own protocol, so nothing but the browse
 import base64
 import json
 import os
+import select
 import shutil
 import subprocess
 import time
@@ -43,8 +44,10 @@ class Browser:
             self.ask(domain + ".enable")
 
     def _read(self):
-        """The next message of the browser."""
+        """The next message of the browser, which is to come in two minutes."""
         while b"\0" not in self._rest:
+            if not select.select([self._answers], [], [], 120)[0]:
+                raise EOFError("the browser says nothing any more")
             more = os.read(self._answers, 1 << 20)
             if not more:
                 raise EOFError("the browser has ended")
@@ -116,5 +119,10 @@ class Browser:
 
     def close(self):
         """Ends the browser."""
-        self.process.terminate()
-        self.process.wait()
+        self._session = None
+        try:
+            self.ask("Browser.close")
+            self.process.wait(timeout=20)
+        except (EOFError, OSError, RuntimeError, subprocess.TimeoutExpired):
+            self.process.kill()
+            self.process.wait()

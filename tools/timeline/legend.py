@@ -1,6 +1,6 @@
 """The legend of a picture: what occurs in it, and a colour for each client."""
 
-from shapes import point, text_width
+from shapes import Layers, point, text_width
 from style import COLOURS, colour
 
 ENTRIES = [
@@ -68,6 +68,16 @@ class Legend:
         draw(self.left + 8, self.bottom - 4)
         self.layers.text("legend", "key", self.left + 22, self.bottom, text)
         self.left += wide + 12
+
+
+def legend_alone(story, width):
+    """The lines of a picture that is the legend."""
+    layers = Layers("legend")
+    legend = Legend(layers, width, 16)
+    legend.write(story)
+    size = f'viewBox="0 0 {width} {legend.bottom + 10}" width="{width}" height="{legend.bottom + 10}"'
+    return [f'<svg xmlns="http://www.w3.org/2000/svg" {size} role="img" aria-label="What the marks are.">',
+            *layers.lines(), "</svg>"]
 
 
 def _key(layers, kind, x, y):

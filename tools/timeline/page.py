@@ -8,6 +8,7 @@ import json
 from html import escape
 from pathlib import Path
 
+from legend import legend_alone
 from picture import GUTTER, summary
 
 BROWSER = Path(__file__).resolve().parent / "browser"
@@ -23,9 +24,12 @@ def page(title, picture, watcher, source, explain):
     yield from _head(title, script)
     yield f"<p>{summary(picture.events, picture.story)}</p></header>"
     yield '<section id="now" aria-live="polite" hidden></section>'
-    yield '<div id="strip">'
+    yield '<div id="strip" class="picture">'
     yield from strip
     yield "</div>"
+    yield '<details id="marks" class="picture"><summary>What the marks are</summary>'
+    yield from legend_alone(picture.story, 1080)
+    yield "</details>"
     yield '<main id="board" hidden></main>'
     yield '<section id="list"><h2>Events and answers</h2>'
     yield '<ol id="events">'

@@ -81,7 +81,7 @@ class Picture:
         yield f'<svg xmlns="http://www.w3.org/2000/svg" {size} {label}>'
         yield f"<title>A run of {self.title}</title>"
         yield "<style>"
-        yield from style_sheet("#strip" if self.strip else "")
+        yield from style_sheet(".picture" if self.strip else "")
         yield "</style>"
         yield HATCH
         if not self.strip:

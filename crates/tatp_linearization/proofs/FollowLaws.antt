@@ -14,82 +14,52 @@ use Rattle.tatp_history.proofs.LeadLaws.{leads, led, led_on, led_by}
 use Rattle.tatp_history.proofs.JustInTimeLaws.{just_in_time}
 use Rattle.tatp_linearization.specs.declared.configuration.Configuration.{Configuration as Held}
 use Rattle.tatp_linearization.specs.declared.explanations.Explanations.{Explanations}
-use Rattle.tatp_linearization.specs.Held.{seen, Has, AreReady, IsAt, AddsFollowing, FollowAll}
+use Rattle.tatp_linearization.specs.Held.{seen, Has, AreReady, Adds, IsAt, Effects, FollowAll}
 use Rattle.tatp_linearization.specs.Reached.{AreReached}
-use Rattle.tatp_linearization.proofs.HeldLaws.{has_more, no_effects, below_or_is}
+use Rattle.tatp_linearization.proofs.HeldLaws.{no_effects}
 
 -- ---- one configuration
-pub asks_follow : (c d : Held) (event : Event) (x : Observed) (old new : List Held) → event ≡ Asks x → d.home ≡ c.home → d.opened.items ≡ x ∷ c.opened.items → new ≡ old ++ d ∷ [] → AddsFollowing c event old new
-asks_follow c d event x old new is home opened pushed e =
+pub asks_follow : (c d : Held) (event : Event) (x : Observed) (old new : List Held) → event ≡ Asks x → d.home ≡ c.home → d.opened.items ≡ x ∷ c.opened.items → Adds old (λ e. e ≡ seen d) new → Adds old (Follows event (seen c)) new
+asks_follow c d event x old new is home opened adds e =
     let there : seen d ≡ record { rows = c.home.tables; opened = x ∷ c.opened.items } = λ k. record { rows = (home k).tables; opened = opened k } in (
-      λ h. elim ((has_more old d e).0 (subst (λ cs. Has cs e) pushed h)) [
+      λ h. elim ((adds e).0 h) [
         | inl k ↦ inl k
         | inr k ↦ inr (subst (λ (v : Event). Follows v (seen c) e) (sym is) (k ∙ there))
       ],
-      λ h. subst (λ cs. Has cs e) (sym pushed) ((has_more old d e).1 (elim h [
+      λ h. (adds e).1 (elim h [
         | inl k ↦ inl k
         | inr k ↦ inr (subst (λ (v : Event). Follows v (seen c) e) is k ∙ sym there)
-      ])),
+      ]),
     )
 
-pub none_follows : (c d : Held) (event : Event) (asked at : ℕ) (old new : List Held) → event ≡ Ends asked at → NoneAskedAt asked c.opened.items → seen d ≡ seen c → new ≡ old ++ d ∷ [] → AddsFollowing c event old new
-none_follows c d event asked at old new is none same pushed e = (
-  λ h. elim ((has_more old d e).0 (subst (λ cs. Has cs e) pushed h)) [
+pub none_follows : (c d : Held) (event : Event) (asked at : ℕ) (old new : List Held) → event ≡ Ends asked at → NoneAskedAt asked c.opened.items → seen d ≡ seen c → Adds old (λ e. e ≡ seen d) new → Adds old (Follows event (seen c)) new
+none_follows c d event asked at old new is none same adds e = (
+  λ h. elim ((adds e).0 h) [
     | inl k ↦ inl k
     | inr k ↦ inr (subst (λ (v : Event). Follows v (seen c) e) (sym is) (inl (none, k ∙ same)))
   ],
-  λ h. subst (λ cs. Has cs e) (sym pushed) ((has_more old d e).1 (elim h [
+  λ h. (adds e).1 (elim h [
     | inl k ↦ inl k
     | inr k ↦ let there : Follows (Ends asked at) (seen c) e = subst (λ (v : Event). Follows v (seen c) e) is k in elim there [
       | inl q ↦ inr (q.1 ∙ sym same)
       | inr q ↦ absurd (no_effects (length c.opened.items) asked (IsAt e) c.home.tables c.opened.items none q)
     ]
-  ])),
+  ]),
 )
 
--- ---- a list of them
-pub record FollowedBelow (event : Event) (set : List Held) (i : ℕ) (after : List Held) : Type 0 where
-  pub sound : (d : Configuration) → Has after d → (c : Configuration) × Has set c × Follows event c d
-  pub found : (d : Configuration) (j : ℕ) (c : Held) → j < i → slice_get set j ≡ Some c → Follows event (seen c) d → Has after d
-  pub ready : AreReady after
-
-pub followed_none : (event : Event) (set after : List Held) → after ≡ [] → FollowedBelow event set 0 after
-followed_none event set after is = record {
-  sound = λ d h. absurd (subst (λ cs. Has cs d) is h);
-  found = λ d j c lt at f. absurd (omega (arith, lt));
-  ready = subst AreReady (sym is) tt;
-}
-
-get_has : (set : List Held) (i : ℕ) (c : Held) → slice_get set i ≡ Some c → Has set (seen c)
-get_has [] i c at = absurd cc
-get_has (b ∷ bs) zero c at = let is : b ≡ c = cc in inl (ap seen (sym is))
-get_has (b ∷ bs) (suc i) c at = inr (get_has bs i c at)
-
-has_get : (set : List Held) (d : Configuration) → Has set d → (i : ℕ) × (i < length set) × (c : Held) × (slice_get set i ≡ Some c) × (d ≡ seen c)
-has_get [] d h = absurd h
-has_get (b ∷ bs) d h = elim h [
-  | inl e ↦ (0, omega arith, b, refl, e)
-  | inr k ↦ let r = has_get bs d k in let lt = r.1 in (suc r.0, omega (arith, lt), r.2, r.3, r.4)
-]
-
-same_held : (set : List Held) (i : ℕ) (b c : Held) → slice_get set i ≡ Some b → slice_get set i ≡ Some c → b ≡ c
-same_held set i b c e f = let h : Some b ≡ Some c = sym e ∙ f in cc
-
-pub followed_more : (event : Event) (set : List Held) (i : ℕ) (c : Held) (after new : List Held) → FollowedBelow event set i after → slice_get set i ≡ Some c → AddsFollowing c event after new
-    → (AreReady after → AreReady new) → FollowedBelow event set (i + 1) new
-followed_more event set i c after new p at adds readies = record {
-  sound = λ d h. elim ((adds d).0 h) [ inl k ↦ p.sound d k | inr k ↦ (seen c, get_has set i c at, k) ];
-  found = λ d j b lt there f. (adds d).1 (elim (below_or_is j i lt) [
-    | inl k ↦ inl (p.found d j b k there f)
-    | inr e ↦ let one : b ≡ c = same_held set i b c (subst (λ k. slice_get set k ≡ Some b) e there) at in inr (subst (λ (q : Held). Follows event (seen q) d) one f)
-  ]);
-  ready = readies p.ready;
-}
-
-pub followed_all : (event : Event) (set : List Held) (i : ℕ) (after : List Held) → FollowedBelow event set i after → length set ≤ i → FollowAll event set after
-followed_all event set i after p le d = (
-  p.sound d,
-  λ h. let at = has_get set h.0 h.1 in let lt = at.1 in p.found d at.0 at.2 (omega (arith, lt, le)) at.3 (subst (λ (q : Configuration). Follows event q d) at.4 h.2),
+pub effects_follow : (c : Held) (event : Event) (asked at : ℕ) (old new : List Held) → event ≡ Ends asked at → (NoneAskedAt asked c.opened.items → ⊥) → Adds old (Effects (length c.opened.items) asked (seen c)) new → Adds old (Follows event (seen c)) new
+effects_follow c event asked at old new is some adds e = (
+  λ h. elim ((adds e).0 h) [
+    | inl k ↦ inl k
+    | inr k ↦ inr (subst (λ (v : Event). Follows v (seen c) e) (sym is) (inr k))
+  ],
+  λ h. (adds e).1 (elim h [
+    | inl k ↦ inl k
+    | inr k ↦ let there : Follows (Ends asked at) (seen c) e = subst (λ (v : Event). Follows v (seen c) e) is k in elim there [
+      | inl q ↦ absurd (some q.0)
+      | inr q ↦ inr q
+    ]
+  ]),
 )
 
 -- ---- explanations

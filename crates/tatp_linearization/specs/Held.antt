@@ -9,7 +9,7 @@ use Rattle.tatp_history.specs.declared.event.Event.TheVariants.{Asks, Ends}
 use Rattle.tatp_history.specs.declared.observed.Observed.{Observed}
 use Rattle.tatp_history.specs.Histories.{MayHaveReply}
 use Rattle.tatp_history.specs.Locality.{AreAccepted}
-use Rattle.tatp_history.specs.JustInTime.{TakeEffect}
+use Rattle.tatp_history.specs.JustInTime.{Chooses, TakeEffect}
 use Rattle.tatp_history.specs.Configurations.{Configuration, Follows}
 use Rattle.tatp_linearization.specs.declared.configuration.Configuration.{Configuration as Held}
 
@@ -46,21 +46,37 @@ Takes c i None =
     → MayHaveReply x.outcome (transaction x.call c.home.tables).reply → ⊥
 
 -- ---- lists of configurations
+-- the new list has those of the old, and those of which this holds
+abbrev pub Adds : List Held → (Configuration → Type 0) → List Held → Type 0
+Adds old Holds new = (d : Configuration) → Has new d ↔ (Has old d ⊎ Holds d)
+
+-- this holds of the configuration and one of the list
+abbrev pub HoldsOfOne
+    : (Configuration → Configuration → Type 0) → List Held → Configuration → Type 0
+HoldsOfOne Holds set d = (c : Configuration) × Has set c × Holds c d
+
+-- ---- what may be by one open call
+-- the second is the first after one of its open calls, of which this holds, took effect
+abbrev pub TakesOne : (Observed → Type 0) → Configuration → Configuration → Type 0
+TakesOne Holds c d =
+    (x : Observed) × (left : List Observed) × Chooses c.opened x left
+    × MayHaveReply x.outcome (transaction x.call c.rows).reply
+    × Holds x × (d ≡ record { rows = (transaction x.call c.rows).database; opened = left })
+
+abbrev pub IsAskedAt : ℕ → Observed → Type 0
+IsAskedAt asked x = x.asked ≡ asked
+
+abbrev pub IsAskedElsewhen : ℕ → Observed → Type 0
+IsAskedElsewhen asked x = x.asked ≡ asked → ⊥
+
+-- ---- what may be at an event
 abbrev pub IsAt : Configuration → Database → List Observed → Type 0
 IsAt d u opened = d ≡ record { rows = u; opened = opened }
 
--- what may be where the call that was asked then took effect
-abbrev pub Effects : Held → ℕ → Configuration → Type 0
-Effects c asked d = TakeEffect (length c.opened.items) (IsAt d) asked c.home.tables c.opened.items
-
-abbrev pub AddsEffects : Held → ℕ → List Held → List Held → Type 0
-AddsEffects c asked old new = (d : Configuration) → Has new d ↔ (Has old d ⊎ Effects c asked d)
-
-abbrev pub AddsFollowing : Held → Event → List Held → List Held → Type 0
-AddsFollowing c event old new =
-    (d : Configuration) → Has new d ↔ (Has old d ⊎ Follows event (seen c) d)
+-- after at most so many open calls, the last of which is the one that was asked then
+abbrev pub Effects : ℕ → ℕ → Configuration → Configuration → Type 0
+Effects n asked c d = TakeEffect n (IsAt d) asked c.rows c.opened
 
 -- exactly what may follow on one of these
 abbrev pub FollowAll : Event → List Held → List Held → Type 0
-FollowAll event set new =
-    (d : Configuration) → Has new d ↔ ((c : Configuration) × Has set c × Follows event c d)
+FollowAll event set new = (d : Configuration) → Has new d ↔ HoldsOfOne (Follows event) set d

@@ -1,9 +1,10 @@
 //! What may follow on configurations at an event.
 ghost use Rattle.std.specs.Prelude.{IfOk, OnOk};
+ghost use Rattle.tatp_history.specs.Configurations.{Follows};
 ghost use Rattle.tatp_history.specs.Locality.{AreAccepted};
-ghost use Rattle.tatp_linearization.specs.Held.{IsAcceptedEvent, AreReady, AddsFollowing, FollowAll};
+ghost use Rattle.tatp_linearization.specs.Held.{Adds, AreReady, FollowAll, IsAcceptedEvent, seen};
 
-use crate::configuration::{Configuration, copy, none_asked};
+use crate::configuration::{Configuration, add, copy, none_asked};
 use crate::effects::take_effect;
 use std::alloc::{AllocError, Global};
 use tatp_history::Event;
@@ -17,7 +18,8 @@ fn follow(
 ) -> Result<(), AllocError>
     requires ready { AreAccepted c.now.opened.items }
     requires accepted { IsAcceptedEvent event.now }
-    ensures added { OnOk result (AddsFollowing c.now event.now after.old.items after.new.items) }
+    ensures added { OnOk result (Adds after.old.items
+        (Follows event.now (seen c.now)) after.new.items) }
     ensures ready { OnOk result (AreReady after.old.items → AreReady after.new.items) }
 {
     match event {
@@ -25,14 +27,12 @@ fn follow(
             let mut opened = Vec::new(alloc);
             opened.push(*x)?;
             opened.extend_from_slice(c.opened.as_slice())?;
-            after.push(Configuration {
-                home: c.home.copy(),
-                opened,
-            })?;
+            let home = c.home.copy();
+            add(after, Configuration { home, opened })?;
         }
         Event::Ends { asked, .. } => {
             if none_asked(c.opened.as_slice(), *asked) {
-                after.push(copy(alloc, c)?)?;
+                add(after, copy(alloc, c)?)?;
             } else {
                 take_effect(alloc, c, *asked, after)?;
             }

@@ -1,6 +1,7 @@
 //! Whether the calls of one subscriber, as clients saw them, are strictly serializable.
 #![tactic(auto)]
 
+mod comparing;
 mod configuration;
 mod effects;
 mod explanations;

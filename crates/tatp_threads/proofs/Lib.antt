@@ -2,3 +2,4 @@ mod RefusalLaws
 pub mod ObstacleLaws
 pub mod SendingLaws
 pub mod SeatLaws
+pub mod ReceivingLaws

@@ -6,7 +6,8 @@ const KEYS = {
 };
 
 document.addEventListener("keydown", (event) => {
-  if (event.ctrlKey || event.metaKey || event.altKey || !KEYS[event.key] || event.target.tagName === "SUMMARY") return;
+  if (event.ctrlKey || event.metaKey || event.altKey || !KEYS[event.key]) return;
+  if (event.key === " " && event.target.tagName === "SUMMARY") return;
   event.preventDefault();
   KEYS[event.key]();
 });

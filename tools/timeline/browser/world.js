@@ -19,7 +19,7 @@ function extentsAt(p, step) {
     rest = Math.max(Math.floor((allExtents - 1 - p) / run.partitions) + 1 - moving, 0);
   }
   const some = here.length ? here.join(", ") : rest ? "" : "none";
-  return some + (rest ? `${some ? ", and " : ""}${rest.toLocaleString("en")} that never move` : "");
+  return some + (rest ? `${some ? ", and " : ""}${rest.toLocaleString("en")} that don't move` : "");
 }
 
 function partitionPanel(p, step, touched) {

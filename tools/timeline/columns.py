@@ -3,7 +3,9 @@
 A place on it is a pixel of all bands, laid end to end.
 """
 
+# How wide a band is at most; one that isn't folded fits into a page of 1,280 where all of it can.
 MOST = 1080
+FITTING = 1070
 
 
 class Columns:
@@ -12,7 +14,7 @@ class Columns:
     def __init__(self, events, fold=True):
         natural = [_natural_width(event) for event in events]
         total = sum(natural)
-        scale = _scale(total)
+        scale = _scale(total, MOST if fold else FITTING)
         self.line_width = 30 * scale
         wanted = total * scale
         self.band_width = max(wanted if wanted + 0.5 < MOST or not fold else MOST, 600)
@@ -50,11 +52,11 @@ def _natural_width(event):
     return 10 * event.different() if event.different() > 3 else 30
 
 
-def _scale(total):
-    """How many pixels one is of the natural widths, which together are so many: as far as a band has room for all."""
+def _scale(total, room):
+    """How many pixels one is of the natural widths, which together are so many: as far as there is room for all."""
     if total == 0:
         return 1
-    scale = min(MOST / total, 2.4)
+    scale = min(room / total, 2.4)
     if scale >= 0.5:
         return scale
     return max(min(12 * scale, 0.5), 0.25)

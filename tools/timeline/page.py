@@ -28,7 +28,7 @@ def page(title, picture, watcher, source, explain):
     yield from strip
     yield "</div>"
     yield '<details id="marks" class="picture"><summary>What the marks are</summary>'
-    yield from legend_alone(picture.story, 1080)
+    yield from legend_alone(picture.story, 660)
     yield "</details>"
     yield '<main id="board" hidden></main>'
     yield '<section id="list"><h2>Events and answers</h2>'

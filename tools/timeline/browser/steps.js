@@ -52,7 +52,8 @@ const cursor = el("div", "cursor");
 cursor.style.height = `${svg.height.baseVal.value}px`;
 $("strip").append(cursor);
 
-// The names of lanes stay where they are when the timeline is scrolled.
+// The names of lanes stay in view when the timeline is scrolled past them.
+$("strip").addEventListener("scroll", () => $("strip").classList.toggle("scrolled", $("strip").scrollLeft > 80));
 $("strip").prepend(el("div", "lane-names", ...run.lanes.map(([top], p) => {
   const name = el("span", "", `partition ${p}`);
   name.style.top = `${top + 3}px`;

@@ -19,6 +19,22 @@ def timeline(words, text):
                           env={**os.environ, "TATP": PROGRAM})
 
 
+def many_events():
+    """2,000 events of 64 clients in 16 partitions: calls are asked for, begin and run to their end."""
+    lines = []
+    for turn in range(500):
+        client, subscriber = turn % 64, 1 + turn * 37 % 1024
+        partition = (subscriber - 1) // 64 % 16
+        call = ("GET_ACCESS_DATA {} 1", "UPDATE_SUBSCRIBER_DATA {} 1 2 9", "UPDATE_LOCATION {:015d} 7")[turn % 3]
+        lines += [f"submit {client} {call.format(subscriber)}", f"begin {partition}", f"run {partition}"]
+        lines += [f"home {partition} {subscriber}"]
+    return "\n".join(lines) + "\n"
+
+
+# What the largest page is made of: the words and the input.
+MANY_EVENTS = (["--gen", "1024", "--partitions", "16", "--clients", "64"], many_events().encode())
+
+
 class Walk:
     """Walks through pages; counts what passed and what failed."""
 

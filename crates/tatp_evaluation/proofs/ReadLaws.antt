@@ -1,12 +1,11 @@
 -- The columns of a home's rows are what the transactions that read a row reply.
-use Rattle.std.specs.Prelude.{◌≡◌, ℕ, ◌-◌, ◌<◌, nat_lt, true, cond, List, [], ◌∷◌, drop, length, Option, Some, None, is_some, unwrap_or, slice_index}
+use Rattle.std.specs.Prelude.{◌≡◌, ℕ, ◌-◌, ◌<◌, nat_lt, true, cond, List, [], ◌∷◌, drop, length, Some, None, is_some, unwrap_or, slice_index}
 use Rattle.std.specs.Option.{option_map}
 use Rattle.std.proofs.Common.{refl, sym, ap, ◌∙◌, arith, true≢false, lt-ltb, le-leb}
 use Rattle.tatp_tables.specs.Tuples.{Tuple}
 use Rattle.tatp_tables.specs.Keys.{row_at}
 use Rattle.tatp_tables.specs.Columns.{first_column, table_of, place_of}
 use Rattle.tatp_tables.specs.Database.{Database, current_row}
-use Rattle.tatp_tables.specs.declared.table.Table.{Table}
 use Rattle.tatp_tables.specs.declared.table.Table.TheVariants.{Subscriber, AccessInfo, SpecialFacility, CallForwarding}
 use Rattle.tatp_tables.proofs.KeyLaws.{row_at-has}
 use Rattle.tatp_homes.specs.Changes.{cell}

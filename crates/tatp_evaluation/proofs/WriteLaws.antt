@@ -3,7 +3,7 @@ use Rattle.std.specs.Prelude.{◌≡◌, ℕ, true, [], ◌∷◌, Option, Some,
 use Rattle.std.specs.Option.{option_map}
 use Rattle.std.proofs.Common.{refl, sym, ap, ◌∙◌, arith, true≢false}
 use Rattle.std.proofs.lemmas.Bool.{and_parts}
-use Rattle.tatp_tables.specs.Tuples.{Tuple, Tuples}
+use Rattle.tatp_tables.specs.Tuples.{Tuple}
 use Rattle.tatp_tables.specs.Keys.{has_key, row_at, row_with_number}
 use Rattle.tatp_tables.specs.Domains.{is_in_domain, are_in_domain}
 use Rattle.tatp_tables.specs.Database.{Database}

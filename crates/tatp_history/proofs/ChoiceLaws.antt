@@ -1,5 +1,5 @@
 -- A call chosen among open calls, and the others.
-use Rattle.std.proofs.Common.{◌≡◌, ℕ, suc, ◌⊎◌, ◌==◌, Bool, true, false, List, [], ◌∷◌, length, refl, sym, ◌∙◌, ap, subst, eqb-true, eq-eqb, true≢false, inl, inr}
+use Rattle.std.proofs.Common.{◌≡◌, ℕ, suc, ◌⊎◌, ◌==◌, true, false, List, [], ◌∷◌, length, refl, sym, ◌∙◌, ap, subst, eqb-true, eq-eqb, true≢false, inl, inr}
 use Rattle.std.specs.List.{AllByRecursion}
 use Rattle.tatp_history.specs.declared.observed.Observed.{Observed}
 use Rattle.tatp_history.specs.Histories.{IsIn, AreAskedApart}

@@ -1,16 +1,14 @@
 -- A history cut between two lines, where no call on a subscriber is open: its events are those of both parts.
-use Rattle.std.proofs.Common.{◌≡◌, ◌≢◌, ℕ, suc, ◌+◌, ◌⊎◌, ◌↔◌, ◌==◌, Bool, true, false, cond, List, [], ◌∷◌, ◌++◌, length, Option, Some, None, refl, sym, ◌∙◌, ap, subst, arith, eq-eqb, ne_eqb, inl, inr}
+use Rattle.std.proofs.Common.{◌≡◌, ◌≢◌, ℕ, suc, ◌+◌, ◌⊎◌, ◌↔◌, true, false, cond, List, [], ◌∷◌, ◌++◌, length, Option, Some, None, refl, sym, ◌∙◌, ap, subst, arith, eq-eqb, ne_eqb, inl, inr}
 use Rattle.tatp_tables.specs.Database.{Database}
 use Rattle.tatp_history.specs.declared.line.Line.{Line}
 use Rattle.tatp_history.specs.declared.line.Line.TheVariants.{Ask, End, Abort, Lost}
 use Rattle.tatp_history.specs.declared.event.Event.{Event}
-use Rattle.tatp_history.specs.declared.event.Event.TheVariants.{Asks, Ends}
-use Rattle.tatp_history.specs.declared.observed.Outcome.{Outcome}
-use Rattle.tatp_history.specs.declared.observed.Observed.{Observed}
+use Rattle.tatp_history.specs.declared.event.Event.TheVariants.{Asks}
 use Rattle.tatp_history.specs.HistoryLines.{client_of, end_at, end_of, call_at}
 use Rattle.tatp_history.specs.Locality.{is_on}
 use Rattle.tatp_history.specs.JustInTime.{Explains}
-use Rattle.tatp_history.specs.Configurations.{starting, Lead, LeadToSome}
+use Rattle.tatp_history.specs.Configurations.{starting, LeadToSome}
 use Rattle.tatp_history.specs.SubscriberEvents.{OpenCalls, no_calls, with_call, opened_by, opened_after, NothingIsOpen, end_before, events_with, events_from, events_of}
 use Rattle.tatp_history.proofs.LeadLaws.{leads, led, led_on, led_by}
 use Rattle.tatp_history.proofs.SubscriberEventLaws.{same_or_not, with_same, with_other}

@@ -1,21 +1,18 @@
 -- Histories with the rows at the end.
-use Rattle.std.proofs.Common.{◌≡◌, ℕ, Bool, true, false, ◌&&◌, ◌==◌, List, [], ◌∷◌, Some, None, Ok, refl, sym, ◌∙◌, ap, subst, eq-eqb, true≢false}
-use Rattle.std.specs.List.{AllByRecursion}
+use Rattle.std.proofs.Common.{◌≡◌, ℕ, Bool, true, false, ◌&&◌, List, [], ◌∷◌, refl, sym, ◌∙◌, ap, eq-eqb, true≢false}
 use Rattle.tatp_tables.specs.Tuples.{Tuple, Tuples, has}
-use Rattle.tatp_tables.specs.Keys.{has_key}
 use Rattle.tatp_tables.specs.Domains.{is_row}
-use Rattle.tatp_tables.specs.Database.{Database, in_table, rows_with_s_id, of_subscriber}
+use Rattle.tatp_tables.specs.Database.{Database, rows_with_s_id, of_subscriber}
 use Rattle.tatp_tables.specs.declared.table.Table.{Table}
 use Rattle.tatp_tables.specs.declared.table.Table.TheVariants.{Subscriber, AccessInfo, SpecialFacility, CallForwarding}
 use Rattle.tatp_tables.proofs.TupleLaws.{same_tuples}
 use Rattle.tatp_homes.specs.Home.{AreRows}
 use Rattle.tatp_homes.proofs.SubscriberLaws.{has-rows_with_s_id}
-use Rattle.tatp_procs.specs.Arguments.{arguments_accepted}
 use Rattle.tatp_procs.specs.Transactions.{transaction}
 use Rattle.tatp_procs.specs.Consistent.{IsConsistent}
 use Rattle.tatp_procs.proofs.ConsistentAfterLaws.{consistent_after}
 use Rattle.tatp_history.specs.declared.observed.Observed.{Observed}
-use Rattle.tatp_history.specs.Histories.{IsIn, IsSerialOrder, rows_after, IsStrictlySerializableTo}
+use Rattle.tatp_history.specs.Histories.{rows_after, IsStrictlySerializableTo}
 use Rattle.tatp_history.specs.Locality.{AreAccepted, AreCalls, calls_on, IsSerializableAtEach, IsSerializableToEach}
 use Rattle.tatp_history.proofs.RunLaws.{rows_at_each}
 use Rattle.tatp_history.proofs.LocalityLaws.{all_accepted, part, parted, combined, combined_orders}

@@ -1,9 +1,8 @@
 -- What the search on each subscriber's events says of a history.
-use Rattle.std.proofs.Common.{◌≡◌, ℕ, ◌↔◌, List, [], sym, subst}
+use Rattle.std.proofs.Common.{ℕ, ◌↔◌, List, [], sym, subst}
 use Rattle.tatp_tables.specs.Database.{Database, of_subscriber}
 use Rattle.tatp_procs.specs.Consistent.{IsConsistent}
 use Rattle.tatp_history.specs.declared.line.Line.{Line}
-use Rattle.tatp_history.specs.declared.observed.Observed.{Observed}
 use Rattle.tatp_history.specs.Histories.{IsStrictlySerializable}
 use Rattle.tatp_history.specs.HistoryLines.{calls_of, AreAcceptedLines}
 use Rattle.tatp_history.specs.Locality.{FailWithout, AreCalls, IsSerializableAtEach}

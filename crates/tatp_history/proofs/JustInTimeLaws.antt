@@ -2,11 +2,10 @@
 -- the second part goes on from the configurations to which the first leads.
 use Rattle.std.proofs.Common.{◌≡◌, ◌⊎◌, ◌↔◌, List, [], ◌∷◌, ◌++◌, sym, subst, inl, inr}
 use Rattle.std.proofs.lemmas.List.{append-nil}
-use Rattle.std.specs.List.{AllByRecursion}
 use Rattle.tatp_tables.specs.Database.{Database}
 use Rattle.tatp_history.specs.declared.event.Event.{Event}
 use Rattle.tatp_history.specs.declared.observed.Observed.{Observed}
-use Rattle.tatp_history.specs.Histories.{IsIn, IsAnswered, IsSerialOrder, IsStrictlySerializable, rows_after, IsStrictlySerializableTo}
+use Rattle.tatp_history.specs.Histories.{IsIn, IsAnswered, IsSerialOrder, IsStrictlySerializable, IsStrictlySerializableTo}
 use Rattle.tatp_history.specs.Events.{asked_in, TimesRise, HaveEnds}
 use Rattle.tatp_history.specs.JustInTime.{Explains, AreOpen}
 use Rattle.tatp_history.specs.Configurations.{Configuration, starting, Lead, LeadToSome, AreUnanswered}

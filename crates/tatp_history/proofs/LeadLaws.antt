@@ -1,12 +1,12 @@
 -- Configurations to which events lead, and serial orders of what remains there.
-use Rattle.std.proofs.Common.{◌≡◌, ℕ, zero, suc, ◌⊎◌, List, [], ◌∷◌, ◌++◌, length, refl, sym, subst, arith, inl, inr}
+use Rattle.std.proofs.Common.{◌≡◌, ℕ, zero, suc, List, [], ◌∷◌, ◌++◌, length, refl, sym, subst, arith, inl, inr}
 use Rattle.tatp_tables.specs.Database.{Database}
 use Rattle.tatp_procs.specs.Transactions.{transaction}
 use Rattle.tatp_history.specs.declared.event.Event.{Event}
 use Rattle.tatp_history.specs.declared.event.Event.TheVariants.{Asks, Ends}
 use Rattle.tatp_history.specs.declared.observed.Observed.{Observed}
 use Rattle.tatp_history.specs.Events.{TimesRise, HaveEnds}
-use Rattle.tatp_history.specs.JustInTime.{NoneAskedAt, TakeEffect, Explains, AreOpen}
+use Rattle.tatp_history.specs.JustInTime.{TakeEffect, Explains, AreOpen}
 use Rattle.tatp_history.specs.Configurations.{Configuration, Follows, Lead}
 use Rattle.tatp_history.proofs.ChoiceLaws.{find_asked}
 use Rattle.tatp_history.proofs.RemainingLaws.{HasOrder, open_asked, open_chosen, open_ended, others_go_on, order_asks, asks_order, order_ends, ends_order, effects_sound, effects_complete}

@@ -1,16 +1,13 @@
 -- Lines of a history, and the calls that they tell of.
-use Rattle.std.proofs.Common.{◌≡◌, ℕ, suc, ◌+◌, ◌<◌, ◌≤◌, ◌==◌, nat_le, Bool, true, false, cond, List, [], ◌∷◌, ◌++◌, length, map, filter, Ok, refl, ◌∙◌, ap, arith, le_refl, leb-true, le-leb}
+use Rattle.std.proofs.Common.{◌≡◌, ℕ, suc, ◌+◌, ◌<◌, ◌≤◌, ◌==◌, nat_le, true, false, cond, List, [], ◌∷◌, ◌++◌, length, map, filter, refl, ◌∙◌, ap, arith, le_refl, leb-true, le-leb}
 use Rattle.std.specs.List.{AllByRecursion}
-use Rattle.tatp_tables.specs.Database.{Database}
-use Rattle.tatp_procs.specs.declared.call.Call.{Call}
-use Rattle.tatp_procs.specs.Arguments.{arguments_accepted}
 use Rattle.tatp_history.specs.declared.line.Line.{Line}
 use Rattle.tatp_history.specs.declared.line.Line.TheVariants.{Ask, End, Abort, Lost}
 use Rattle.tatp_history.specs.declared.observed.Outcome.{Outcome}
 use Rattle.tatp_history.specs.declared.observed.Outcome.TheVariants.{Answered, Aborted, Unknown}
 use Rattle.tatp_history.specs.declared.observed.Observed.{Observed}
-use Rattle.tatp_history.specs.Histories.{IsAnsweredBefore, Precedes, AreAskedApart, IsStrictlySerializable}
-use Rattle.tatp_history.specs.HistoryLines.{client_of, end_at, end_of, call_at, calls_from, calls_of, AreAcceptedLines}
+use Rattle.tatp_history.specs.Histories.{IsAnsweredBefore, AreAskedApart}
+use Rattle.tatp_history.specs.HistoryLines.{client_of, end_at, end_of, call_at, calls_from, AreAcceptedLines}
 use Rattle.tatp_history.specs.Locality.{AreInTime, AreAccepted, AreCalls}
 use Rattle.tatp_history.specs.Prefixes.{outcome_by, call_by, calls_by}
 use Rattle.tatp_history.proofs.OrderLaws.{all_map}

@@ -1,6 +1,6 @@
 -- Strict serializability is local: orders of each subscriber's calls merge, by points in time, to one of all calls, and
 -- an order of all calls has an order of each subscriber's.
-use Rattle.std.proofs.Common.{◌≡◌, ◌≢◌, ℕ, zero, suc, ◌+◌, ◌<◌, ◌≤◌, ◌⊎◌, Bool, true, false, cond, ◌&&◌, ◌==◌, nat_lt, nat_le, List, [], ◌∷◌, map, filter, Option, Some, None, Ok, refl, sym, ◌∙◌, ap, subst, arith, le_refl, le_trans, lt_irrefl, lt_of_lt_of_le, eqb-true, eq-eqb, ne_eqb, ltb-true, ltb-false, true≢false, inl, inr}
+use Rattle.std.proofs.Common.{◌≡◌, ◌≢◌, ℕ, zero, suc, ◌+◌, ◌<◌, ◌≤◌, Bool, true, false, ◌==◌, nat_lt, List, [], ◌∷◌, map, filter, Option, Some, None, Ok, refl, sym, ◌∙◌, ap, subst, arith, le_refl, lt_of_lt_of_le, eqb-true, eq-eqb, ne_eqb, ltb-true, ltb-false, true≢false}
 use Rattle.std.specs.List.{AllByRecursion}
 use Rattle.tatp_tables.specs.Database.{Database, of_subscriber}
 use Rattle.tatp_procs.specs.declared.reply.Reply.TheVariants.{Failed}
@@ -8,12 +8,12 @@ use Rattle.tatp_procs.specs.Arguments.{arguments_accepted}
 use Rattle.tatp_procs.specs.Consistent.{IsConsistent}
 use Rattle.tatp_history.specs.declared.observed.Outcome.{Outcome}
 use Rattle.tatp_history.specs.declared.observed.Observed.{Observed}
-use Rattle.tatp_history.specs.Histories.{IsIn, IsAnswered, IsAnsweredBefore, Precedes, AreAskedApart, KeepsRealTime, MayHaveReply, AreAnsweredInOrder, IsSerialOrder, IsStrictlySerializable}
+use Rattle.tatp_history.specs.Histories.{IsIn, IsAnswered, IsAnsweredBefore, Precedes, AreAskedApart, MayHaveReply, AreAnsweredInOrder, IsSerialOrder, IsStrictlySerializable}
 use Rattle.tatp_history.specs.declared.observed.Outcome.TheVariants.{Answered, Aborted, Unknown}
 use Rattle.tatp_history.specs.Locality.{subscriber_of, is_this, is_on, calls_on, AreAccepted, FailsWithout, AreCalls, IsSerializableAtEach}
 use Rattle.tatp_history.proofs.OrderLaws.{all_map, all_both, all_filter, filter_tests, all_in, in_all, in_filter, of_filter, apart_filter, real_time_filter, apart_is}
-use Rattle.tatp_history.proofs.PointLaws.{Timed, calls_at, RisesFrom, IsWithin, timed, merge, picks, timed_rises, timed_calls, timed_all, timed_within, all_calls, calls_all, picks_calls, picks_none, rising_keeps, all_merge, rises_merge, merge_other, merge_own, apart_merge, in_merge_first, in_merge_second}
-use Rattle.tatp_history.proofs.RunLaws.{FailsAlone, SameKeys, runs_at_each, runs_together, runs_fail}
+use Rattle.tatp_history.proofs.PointLaws.{Timed, calls_at, RisesFrom, IsWithin, timed, merge, picks, timed_rises, timed_calls, timed_all, timed_within, all_calls, picks_calls, picks_none, rising_keeps, all_merge, rises_merge, merge_other, merge_own, apart_merge, in_merge_first, in_merge_second}
+use Rattle.tatp_history.proofs.RunLaws.{FailsAlone, runs_at_each, runs_together, runs_fail}
 
 -- whether a call is on the subscriber
 abbrev pub is_of : Database → ℕ → Observed → Bool

@@ -1,9 +1,8 @@
 -- Points in time at which calls take effect. An order that keeps real time has such points, which rise along it: the
 -- point of a call is the latest time at which it, or one before it, was asked. Orders with points merge by them, and what
 -- has rising points keeps real time.
-use Rattle.std.proofs.Common.{◌≡◌, ℕ, ◌<◌, ◌≤◌, Bool, true, false, cond, nat_lt, nat_le, List, [], ◌∷◌, map, filter, refl, sym, ◌∙◌, ap, subst, arith, le_refl, le_trans, zero-le, lt_of_lt_of_le, ltb-true, ltb-false, leb-true, leb-false, true≢false, inl, inr}
+use Rattle.std.proofs.Common.{◌≡◌, ℕ, ◌≤◌, Bool, true, false, cond, nat_lt, nat_le, List, [], ◌∷◌, map, filter, refl, sym, ◌∙◌, ap, subst, arith, le_refl, le_trans, zero-le, lt_of_lt_of_le, ltb-true, ltb-false, leb-true, leb-false, inl, inr}
 use Rattle.std.specs.List.{AllByRecursion}
-use Rattle.tatp_procs.specs.declared.reply.Reply.{Reply}
 use Rattle.tatp_history.specs.declared.observed.Outcome.{Outcome}
 use Rattle.tatp_history.specs.declared.observed.Observed.{Observed}
 use Rattle.tatp_history.specs.Histories.{IsIn, IsAnsweredBefore, Precedes, AreAskedApart, KeepsRealTime}

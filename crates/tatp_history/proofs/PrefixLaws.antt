@@ -1,16 +1,16 @@
 -- What clients had seen by any time is strictly serializable where all that they saw is: of its order the part up to the
 -- last call that had been answered is one.
-use Rattle.std.proofs.Common.{◌≡◌, ℕ, ◌<◌, ◌≤◌, ◌⊎◌, ◌||◌, nat_lt, nat_le, Bool, true, false, cond, List, [], ◌∷◌, map, filter, refl, sym, ◌∙◌, ap, subst, arith, le_trans, leb-true, le-leb, ltb-true, ltb-false, true≢false, inl, inr}
+use Rattle.std.proofs.Common.{◌≡◌, ℕ, ◌<◌, ◌≤◌, ◌||◌, nat_lt, nat_le, Bool, true, false, cond, List, [], ◌∷◌, map, filter, refl, sym, ◌∙◌, ap, subst, le_trans, leb-true, le-leb, ltb-true, ltb-false, true≢false, inl, inr}
 use Rattle.std.specs.List.{AllByRecursion, list_any}
 use Rattle.tatp_tables.specs.Database.{Database}
 use Rattle.tatp_procs.specs.declared.reply.Reply.{Reply}
 use Rattle.tatp_procs.specs.Transactions.{transaction}
 use Rattle.tatp_history.specs.declared.observed.Outcome.{Outcome}
 use Rattle.tatp_history.specs.declared.observed.Observed.{Observed}
-use Rattle.tatp_history.specs.Histories.{IsIn, IsAnswered, IsAnsweredBefore, Precedes, AreAskedApart, KeepsRealTime, MayHaveReply, AreAnsweredInOrder, IsSerialOrder, IsStrictlySerializable}
+use Rattle.tatp_history.specs.Histories.{IsIn, IsAnswered, IsAnsweredBefore, Precedes, AreAskedApart, KeepsRealTime, MayHaveReply, AreAnsweredInOrder, IsStrictlySerializable}
 use Rattle.tatp_history.specs.declared.observed.Outcome.TheVariants.{Answered, Aborted, Unknown}
 use Rattle.tatp_history.specs.Prefixes.{outcome_by, call_by, calls_by}
-use Rattle.tatp_history.proofs.OrderLaws.{all_map, all_in, in_all, in_filter, of_filter}
+use Rattle.tatp_history.proofs.OrderLaws.{in_all, in_filter, of_filter}
 
 -- ---- outcomes
 abbrev pub answered_by : ℕ → Outcome → Bool

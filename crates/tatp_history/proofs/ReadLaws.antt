@@ -1,5 +1,5 @@
 -- A read whose reply fits may take effect at once.
-use Rattle.std.proofs.Common.{◌≡◌, ℕ, ◌<◌, ◌⊎◌, ◌↔◌, ◌==◌, not, Bool, true, false, cond, Option, Some, None, List, [], ◌∷◌, drop, filter, refl, sym, ◌∙◌, ap, subst, arith, eqb-true, eq-eqb, true≢false, inl, inr}
+use Rattle.std.proofs.Common.{◌≡◌, ℕ, ◌<◌, ◌↔◌, ◌==◌, not, Bool, true, false, cond, Option, Some, None, List, [], ◌∷◌, drop, filter, refl, sym, ◌∙◌, ap, subst, arith, eqb-true, eq-eqb, true≢false, inl, inr}
 use Rattle.std.specs.List.{AllByRecursion}
 use Rattle.tatp_tables.specs.Tuples.{Tuple}
 use Rattle.tatp_tables.specs.Keys.{row_at}
@@ -8,7 +8,7 @@ use Rattle.tatp_procs.specs.declared.call.Call.TheVariants.{GetSubscriberData, G
 use Rattle.tatp_procs.specs.Transactions.{reads, some_of, destinations, transaction}
 use Rattle.tatp_history.specs.declared.event.Event.{Event}
 use Rattle.tatp_history.specs.declared.observed.Observed.{Observed}
-use Rattle.tatp_history.specs.Histories.{IsIn, IsAnswered, AreAskedApart, MayHaveReply, AreAnsweredInOrder}
+use Rattle.tatp_history.specs.Histories.{MayHaveReply, AreAnsweredInOrder}
 use Rattle.tatp_history.specs.Events.{TimesRise, HaveEnds}
 use Rattle.tatp_history.specs.JustInTime.{Chooses, Explains, AreOpen}
 use Rattle.tatp_history.specs.Configurations.{IsRead}

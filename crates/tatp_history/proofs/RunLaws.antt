@@ -1,8 +1,7 @@
 -- Calls run one after another on a database are, for each subscriber, its calls run one after another on its rows.
-use Rattle.std.proofs.Common.{◌≡◌, ◌≢◌, ℕ, Bool, true, false, cond, ◌==◌, List, [], ◌∷◌, Option, Some, None, Ok, refl, sym, ◌∙◌, ap, subst, eqb-true, eq-eqb, true≢false}
+use Rattle.std.proofs.Common.{◌≡◌, ◌≢◌, ℕ, true, false, cond, ◌==◌, List, [], ◌∷◌, Some, None, Ok, refl, sym, ◌∙◌, ap, subst, eqb-true, eq-eqb, true≢false}
 use Rattle.std.specs.List.{AllByRecursion}
 use Rattle.tatp_tables.specs.Database.{Database, of_subscriber}
-use Rattle.tatp_homes.specs.Home.{HaveSId}
 use Rattle.tatp_homes.proofs.SubscriberLaws.{of_subscriber-with_subscriber, of_subscriber-with_other}
 use Rattle.tatp_numbers.specs.declared.key.Key.{Key}
 use Rattle.tatp_numbers.specs.Homes.{home_of_key}
@@ -12,7 +11,6 @@ use Rattle.tatp_procs.specs.Arguments.{arguments_accepted}
 use Rattle.tatp_procs.specs.Calls.{key_of_call}
 use Rattle.tatp_procs.specs.Transactions.{Answer, transaction}
 use Rattle.tatp_procs.specs.Consistent.{IsConsistent}
-use Rattle.tatp_procs.specs.Locality.{with_answer}
 use Rattle.tatp_procs.proofs.ConsistentAfterLaws.{consistent_after, keys_after}
 use Rattle.tatp_procs.proofs.LocalityLaws.{transactions_are_local, rows_stay_own, fails_without_home}
 use Rattle.tatp_history.specs.declared.observed.Observed.{Observed}

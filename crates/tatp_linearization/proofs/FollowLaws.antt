@@ -1,6 +1,5 @@
 -- What follows on configurations at an event, and after all events.
-use Rattle.std.proofs.Common.{◌≡◌, ℕ, zero, suc, ◌+◌, ◌<◌, ◌≤◌, ◌⊎◌, ◌↔◌, Bool, true, false, not, List, [], ◌∷◌, ◌++◌, take, length, Option, Some, None, slice_get, refl, sym, ◌∙◌, ap, subst, arith, true≢false, inl, inr}
-use Rattle.std.specs.List.{AllByRecursion}
+use Rattle.std.proofs.Common.{◌≡◌, ℕ, zero, suc, ◌+◌, ◌<◌, ◌↔◌, Bool, true, false, List, [], ◌∷◌, ◌++◌, take, length, Some, slice_get, refl, sym, ◌∙◌, ap, subst, arith, true≢false, inl, inr}
 use Rattle.tatp_tables.specs.Database.{Database}
 use Rattle.tatp_history.specs.declared.observed.Observed.{Observed}
 use Rattle.tatp_history.specs.declared.event.Event.{Event}
@@ -9,7 +8,7 @@ use Rattle.tatp_history.specs.Locality.{AreAccepted}
 use Rattle.tatp_history.specs.Events.{asked_in, TimesRise, HaveEnds}
 use Rattle.tatp_history.specs.JustInTime.{NoneAskedAt}
 use Rattle.tatp_history.specs.Histories.{IsStrictlySerializable}
-use Rattle.tatp_history.specs.Configurations.{Configuration, starting, Follows, Lead}
+use Rattle.tatp_history.specs.Configurations.{Configuration, starting, Follows}
 use Rattle.tatp_history.proofs.LeadLaws.{leads, led, led_on, led_by}
 use Rattle.tatp_history.proofs.JustInTimeLaws.{just_in_time}
 use Rattle.tatp_linearization.specs.declared.configuration.Configuration.{Configuration as Held}

@@ -1,5 +1,5 @@
 -- Places in lists, and configurations as the search holds them.
-use Rattle.std.proofs.Common.{◌≡◌, ℕ, zero, suc, ◌<◌, ◌⊎◌, ◌↔◌, ◌+◌, ◌-◌, ◌≤◌, Bool, true, false, nat_lt, ltb-true, ltb-false, List, [], ◌∷◌, ◌++◌, take, length, Option, Some, None, Ok, get_or, slice_get, remove, refl, sym, ◌∙◌, ap, subst, arith, inl, inr}
+use Rattle.std.proofs.Common.{◌≡◌, ℕ, zero, suc, ◌<◌, ◌⊎◌, ◌↔◌, ◌+◌, ◌≤◌, true, false, nat_lt, ltb-true, ltb-false, List, [], ◌∷◌, ◌++◌, take, length, Some, None, Ok, get_or, slice_get, remove, refl, sym, ◌∙◌, ap, subst, arith, inl, inr}
 use Rattle.std.specs.List.{AllByRecursion}
 use Rattle.tatp_tables.specs.Database.{Database}
 use Rattle.tatp_procs.specs.Arguments.{arguments_accepted}
@@ -10,7 +10,7 @@ use Rattle.tatp_history.specs.Locality.{AreAccepted}
 use Rattle.tatp_history.specs.JustInTime.{Chooses, NoneAskedAt, TakeEffect}
 use Rattle.tatp_history.specs.Configurations.{Configuration}
 use Rattle.tatp_linearization.specs.declared.configuration.Configuration.{Configuration as Held}
-use Rattle.tatp_linearization.specs.Held.{seen, Has, AreReady, TakesAt, Takes, Adds, HoldsOfOne, TakesOne, IsAskedAt, IsAskedElsewhen, IsAt, Effects}
+use Rattle.tatp_linearization.specs.Held.{seen, Has, AreReady, Takes, Adds, HoldsOfOne, TakesOne, IsAskedAt, IsAskedElsewhen, Effects}
 
 -- ---- places
 pub get_at : {X : Type 0} (xs : List X) (i : ℕ) (x : X) → i < length xs → x ≡ get_or xs i x → slice_get xs i ≡ Some x

@@ -1,4 +1,4 @@
-use Rattle.tatp_linearization.proofs.HeldLaws.{added_pushed, added_already}
+use Rattle.tatp_linearization.proofs.HeldLaws.{added_pushed}
 use Rattle.tatp_linearization.proofs.configuration.add.Goals as goal
 
 pub returns-clause-added : goal.returns-clause-added

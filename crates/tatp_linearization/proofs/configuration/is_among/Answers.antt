@@ -1,4 +1,4 @@
-use Rattle.std.proofs.Common.{refl, sym, subst}
+use Rattle.std.proofs.Common.{subst}
 use Rattle.tatp_linearization.specs.Held.{Has}
 use Rattle.tatp_linearization.proofs.HeldLaws.{get_at, get_has}
 use Rattle.tatp_linearization.proofs.configuration.is_among.Goals as goal

@@ -1,5 +1,4 @@
 use Rattle.std.proofs.Common.{sym, ◌∙◌}
-use Rattle.tatp_homes.specs.Home.{SubscriberRows}
 use Rattle.tatp_linearization.proofs.configuration.is_same.Goals as goal
 
 pub returns-then-eq : goal.returns-then-eq

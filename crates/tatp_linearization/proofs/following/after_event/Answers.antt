@@ -1,4 +1,4 @@
-use Rattle.std.proofs.Common.{◌≡◌, ◌<◌, ◌≤◌, [], length, Some, slice_get, arith}
+use Rattle.std.proofs.Common.{◌≡◌, [], Some, slice_get}
 use Rattle.tatp_history.specs.Configurations.{Follows}
 use Rattle.tatp_history.specs.Locality.{AreAccepted}
 use Rattle.tatp_linearization.specs.declared.configuration.Configuration.{Configuration as Held}

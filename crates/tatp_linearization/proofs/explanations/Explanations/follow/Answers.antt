@@ -1,5 +1,4 @@
 use Rattle.std.proofs.Common.{subst}
-use Rattle.tatp_linearization.specs.declared.configuration.Configuration.{Configuration as Held}
 use Rattle.tatp_linearization.specs.Held.{FollowAll}
 use Rattle.tatp_linearization.proofs.FollowLaws.{reached_more}
 use Rattle.tatp_linearization.proofs.explanations.Explanations.follow.Goals as goal

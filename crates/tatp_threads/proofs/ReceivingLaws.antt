@@ -1,7 +1,7 @@
 -- A client gets a receipt.
 use Rattle.std.proofs.Common.{◌≡◌, ◌≤◌, Bool, List, [], ◌∷◌, ◌++◌, Option, Some, None, ap, ◌∙◌, arith}
-use Rattle.tatp_receipts.specs.declared.receipt.Receipt.{Receipt}
-use Rattle.tatp_receipts.specs.Receipts.{ReceiptsState}
+use Rattle.tatp_logs.specs.declared.receipt.Receipt.{Receipt}
+use Rattle.tatp_logs.specs.Receipts.{ReceiptsState}
 use Rattle.tatp_workers.specs.Asking.{Receives}
 
 -- the receipts were touched before it was put behind them

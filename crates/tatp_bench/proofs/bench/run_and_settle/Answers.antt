@@ -13,7 +13,7 @@ use Rattle.tatp_bench.proofs.bench.run_and_settle.Goals as goal
 use Rattle.tatp_bench.proofs.bench.run_and_settle.Goals.{After-settle_run}
 
 pub returns-in-Err-clause-refusal : goal.returns-in-Err-clause-refusal
-returns-in-Err-clause-refusal g c = elim c.in-Err.ensures as (λ _. RefusesBench c.args.plan.now c.in-Err.fault) [
+returns-in-Err-clause-refusal g c = elim c.in-Err.ensures.refusal as (λ _. RefusesBench c.args.plan.now c.in-Err.fault) [
   | inl is ↦ subst (RefusesBench c.args.plan.now) (sym is) tt
   | inr is ↦ subst (RefusesBench c.args.plan.now) (sym is) tt
 ]

@@ -1,6 +1,6 @@
 use Rattle.std.proofs.Common.{◌≡◌, ◌-◌, false, Some}
 use Rattle.tatp_homes.specs.Home.{IsHome}
-use Rattle.tatp_machine.specs.declared.progress.TheConstants.{MAX_STEPS}
+use Rattle.tatp_limits.specs.declared.limits.TheConstants.{MAX_STEPS}
 use Rattle.tatp_evaluation_tests.proofs.tests.machine.finish.Given as goal
 
 abbrev pub invariant-steps : goal.invariant-steps

@@ -61,6 +61,7 @@ def opened(rows, edit=None, kind=Database):
 
 
 def replies_of(database, calls):
+    """The replies of the database to the calls, one after another."""
     return [database.answer(call) for call in calls]
 
 

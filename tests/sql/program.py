@@ -36,6 +36,7 @@ def lines_of(done):
 
 
 def text_of(lines):
+    """Lines as the bytes of an input."""
     return "".join(line + "\n" for line in lines).encode()
 
 
@@ -51,6 +52,7 @@ def replies_on_drawn(program, seed, n, calls):
 
 
 def subscribers(rows):
+    """How many subscribers the rows have."""
     return sum(row.startswith("S ") for row in rows)
 
 

@@ -63,6 +63,7 @@ class Database:
         self.transactions = transactions_of(transactions or text_of("transactions.sql"))
 
     def create(self, schema=None):
+        """Makes the tables."""
         self.connection.executescript(schema or text_of("schema.sql"))
 
     def load(self, lines):
@@ -113,6 +114,7 @@ class Database:
         raise error
 
     def undo(self):
+        """Takes back what a call did."""
         self.connection.execute("ROLLBACK")
 
     def rows(self):
@@ -130,16 +132,19 @@ class Database:
 
 # ---- words
 def load(database):
+    """Makes the tables, and loads what comes."""
     database.create()
     database.load(sys.stdin)
 
 
 def call(database):
+    """Answers each line that comes."""
     for line in sys.stdin:
         print(database.answer(line))
 
 
 def rows(database):
+    """Writes all rows."""
     for line in database.rows():
         print(line)
 

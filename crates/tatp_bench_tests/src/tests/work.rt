@@ -39,12 +39,15 @@ const LOGGED: BenchPlan = BenchPlan {
     chapter: 7,
 };
 
-/// How often each site was stopped, that of partition 0 first.
-fn stops_made(sites: &[Site<'_>]) -> [u64; 3] {
-    let mut made = [0u64; 3];
+/// How often the sites of partitions 0, 1 and 2 were stopped.
+fn stops_made(sites: &[Site<'_>]) -> (u64, u64, u64) {
+    let mut made: (u64, u64, u64) = (0, 0, 0);
     for site in sites {
-        if let Some(times) = made.get_mut(site.partition() as usize) {
-            *times = site.stops();
+        match site.partition() {
+            0 => made.0 = site.stops(),
+            1 => made.1 = site.stops(),
+            2 => made.2 = site.stops(),
+            _ => {}
         }
     }
     made
@@ -76,8 +79,8 @@ fn first_asked(receipts: &[Receipts]) -> Option<u32> {
 /// What is seen of the work of a plan.
 #[derive(Drop)]
 struct Seen {
-    /// How often each partition was stopped.
-    stops: [u64; 3],
+    /// How often partitions 0, 1 and 2 were stopped.
+    stops: (u64, u64, u64),
     /// How often extents were moved.
     moves: u64,
     /// How many chapters were kept, and how many of these have the plan's number of calls.
@@ -130,7 +133,7 @@ fn seen_of<R: Threads + Wait + Sync>(rt: &R, alloc: Global, plan: &BenchPlan) ->
 fn extents_are_moved_and_partitions_stopped_as_drawn(rt: HostRuntime) -> Result<(), Fail> {
     let seen = seen_of(&rt, rt.alloc(), &MOVED)?;
     assert!(rt; !seen.may_be_held);
-    assert_eq!(rt; (seen.stops, seen.moves), ([9, 14, 7], 37));
+    assert_eq!(rt; (seen.stops, seen.moves), ((9, 14, 7), 37));
     Ok(())
 }
 
@@ -139,6 +142,6 @@ fn extents_are_moved_and_partitions_stopped_as_drawn(rt: HostRuntime) -> Result<
 fn logs_are_handed_out_at_the_plans_number_of_calls(rt: HostRuntime) -> Result<(), Fail> {
     let seen = seen_of(&rt, rt.alloc(), &LOGGED)?;
     assert_eq!(rt; seen.chapters, (8, 8));
-    assert_eq!(rt; (seen.stops, seen.moves), ([0, 0, 0], 0));
+    assert_eq!(rt; (seen.stops, seen.moves), ((0, 0, 0), 0));
     Ok(())
 }

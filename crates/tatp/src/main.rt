@@ -18,6 +18,7 @@ use tatp_command_line::{not_explained, not_text, task_of};
 use tatp_console::{run_call, run_trace};
 use tatp_explanations::{run_explain, run_explain_all};
 use tatp_inputs::run_audit;
+use tatp_load::{run_calls, run_rows};
 use tatp_streams::StreamFault;
 use tatp_tasks::Task;
 
@@ -135,6 +136,8 @@ fn run<R: Input + Print + Eprint + Threads + Wait + Sync>(
             let reporter = Reporter::new(rt, &plan);
             status(rt, report_bench(rt, alloc, writer, &plan, &reporter))
         }
+        Task::Rows(plan) => status(rt, run_rows(alloc, writer, &plan)),
+        Task::Calls(plan) => status(rt, run_calls(alloc, writer, &plan)),
         Task::Explain(None) => status(rt, run_explain_all(alloc, writer)),
         Task::Explain(Some(number)) => explain(rt, alloc, number),
     }

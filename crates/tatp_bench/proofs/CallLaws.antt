@@ -19,6 +19,7 @@ use Rattle.tatp_procs.specs.Standard.{standard_module}
 use Rattle.tatp_driver.specs.declared.distribution.Distribution.{Distribution}
 use Rattle.tatp_driver.specs.declared.distribution.Distribution.TheVariants.{Skewed, Uniform}
 use Rattle.tatp_driver.specs.DrawnCall.{drawn_subscriber, drawn_call}
+use Rattle.tatp_driver.specs.DrawnCalls.{next_calls}
 use Rattle.tatp_driver.specs.DrawnWords.{next_words}
 use Rattle.tatp_driver.proofs.DrawnCallLaws.{call_on_accepted}
 use Rattle.tatp_procs.specs.Asked.{has_procedure, bad_argument}
@@ -26,7 +27,6 @@ use Rattle.tatp_settle.specs.Runs.{joined, lists_of}
 use Rattle.tatp_threads.specs.declared.refusal.RunRefusal.{RunRefusal}
 use Rattle.tatp_threads.specs.declared.refusal.RunRefusal.TheVariants.{NoProcedure, BadArgument}
 use Rattle.tatp_threads.specs.Calls.{obstacle_to, first_of, obstacle_in, obstacle_among}
-use Rattle.tatp_drawing.specs.Drawing.{next_calls}
 
 -- ---- how many
 pub count_of_calls : (distribution : Distribution) (subscribers n : ℕ) (stream : Stream) → length (next_calls distribution subscribers n stream).0 ≡ n

@@ -12,12 +12,13 @@ use Rattle.tatp_procs.specs.declared.ask.Ask.{Ask}
 use Rattle.tatp_procs.specs.declared.ask.Ask.TheVariants.{Txn}
 use Rattle.tatp_procs.specs.Standard.{standard_module}
 use Rattle.tatp_population.proofs.PopulatedLaws.{populated}
+use Rattle.tatp_driver.specs.DrawnCalls.{next_calls}
 use Rattle.tatp_driver.specs.DrawnWords.{words_of, client_generator}
 use Rattle.tatp_settle.specs.Runs.{joined, lists_of}
 use Rattle.tatp_threads.specs.Calls.{obstacle_among, AreOpened}
 use Rattle.tatp_tasks.specs.declared.plan.BenchPlan.{BenchPlan}
 use Rattle.tatp_tasks.specs.Plans.{IsPlan}
-use Rattle.tatp_drawing.specs.Drawing.{stream_numbered, rows_drawn, next_calls, client_calls, calls_drawn}
+use Rattle.tatp_drawing.specs.Drawing.{stream_numbered, rows_drawn, client_calls, calls_drawn}
 use Rattle.tatp_bench.proofs.CallLaws.{count_of_calls, count_joined, has_standard, calls_run, lists_run}
 
 -- ---- the calls

@@ -3,10 +3,10 @@ use Rattle.std.specs.Prelude.{◌≡◌, List, IsSomeAnd, codes}
 use Rattle.clap.specs.Walk.{Row, Text}
 use Rattle.clap.specs.Simple.{subcommand_of}
 use Rattle.tatp_tasks.specs.declared.task.Task.{Task}
-use Rattle.tatp_tasks.specs.declared.task.Task.TheVariants.{Call, Trace, Bench, Explain}
+use Rattle.tatp_tasks.specs.declared.task.Task.TheVariants.{Call, Trace, Bench, Rows, Calls, Explain}
 use Rattle.tatp_tasks.specs.Tasks.{name_of}
 use Rattle.tatp_command_line.specs.Numbers.{HasNumber, number_asked, HasNumberIfGiven, number_if_given}
-use Rattle.tatp_command_line.specs.Options.{partitions, number, is_given, HasPopulation, population_asked, HasSetup, setup_asked, HasPlan, plan_asked}
+use Rattle.tatp_command_line.specs.Options.{partitions, number, is_given, HasPopulation, population_asked, HasSetup, setup_asked, HasPlan, plan_asked, HasRowsPlan, rows_plan_asked, HasCallsPlan, calls_plan_asked}
 use Rattle.tatp_command_line.specs.CommandLine.{command_line}
 
 -- the options of the task's command have their values, and each field of the task is what they ask
@@ -18,6 +18,8 @@ IsAskedBy given (Call population over) =
 IsAskedBy given (Trace setup) = HasSetup given × (setup ≡ setup_asked given)
 IsAskedBy given (Bench plan progress) =
     HasPlan given × (plan ≡ plan_asked given) × (progress ≡ is_given (codes "progress") given)
+IsAskedBy given (Rows plan) = HasRowsPlan given × (plan ≡ rows_plan_asked given)
+IsAskedBy given (Calls plan) = HasCallsPlan given × (plan ≡ calls_plan_asked given)
 IsAskedBy given (Explain explained) =
     HasNumberIfGiven number given × (explained ≡ number_if_given number given)
 IsAskedBy given task = Unit {0}

@@ -7,7 +7,7 @@ use Rattle.clap.specs.declared.builder.action.ArgAction.TheVariants.{SetTrue}
 use Rattle.clap.specs.declared.builder.command.Command.{Command}
 use Rattle.clap.specs.declared.builder.command.Command.TheViews.{out-Command}
 use Rattle.tatp_command_line.specs.Numbers.{Ranged}
-use Rattle.tatp_command_line.specs.Options.{gen, subscribers, seed, partitions, clients, calls, moves, stops, chapter, number}
+use Rattle.tatp_command_line.specs.Options.{gen, subscribers, seed, partitions, clients, calls, moves, stops, chapter, rows_gen, drawn_calls, client, number}
 
 -- ---- what the parse of the words goes by
 -- an option that takes a number: any text, which is read afterwards
@@ -41,6 +41,13 @@ abbrev pub meanwhile_rules : List Rule
 meanwhile_rules = switch_rule (codes "uniform") ∷ number_rule moves ∷ number_rule stops
     ∷ number_rule chapter ∷ switch_rule (codes "progress") ∷ []
 
+abbrev pub drawn_rows_rules : List Rule
+drawn_rows_rules = number_rule rows_gen ∷ number_rule seed ∷ []
+
+abbrev pub drawn_calls_rules : List Rule
+drawn_calls_rules = number_rule subscribers ∷ number_rule drawn_calls ∷ number_rule client
+    ∷ number_rule seed ∷ switch_rule (codes "uniform") ∷ []
+
 abbrev pub commands : List Shape
 commands =
     command_with rows_rules (codes "call")
@@ -50,6 +57,8 @@ commands =
     ∷ command_with [] (codes "check")
     ∷ command_with [] (codes "audit")
     ∷ command_with (bench_rules ++ meanwhile_rules) (codes "bench")
+    ∷ command_with drawn_rows_rules (codes "rows")
+    ∷ command_with drawn_calls_rules (codes "calls")
     ∷ command_with (number_rule number ∷ []) (codes "explain")
     ∷ []
 

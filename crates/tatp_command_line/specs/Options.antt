@@ -5,6 +5,9 @@ use Rattle.clap.specs.Walk.{Row, first_of}
 use Rattle.tatp_limits.specs.declared.limits.TheConstants.{MAX_BENCH_CALLS, MAX_BENCH_CHAPTER, MAX_BENCH_MOVES, MAX_BENCH_STOPS, MAX_CLIENTS, MAX_PARTITIONS, MAX_SUBSCRIBERS}
 use Rattle.tatp_driver.specs.declared.distribution.Distribution.{Distribution}
 use Rattle.tatp_driver.specs.declared.distribution.Distribution.TheVariants.{Skewed, Uniform}
+use Rattle.tatp_tasks.specs.declared.load.CallsPlan.{CallsPlan}
+use Rattle.tatp_tasks.specs.declared.load.RowsPlan.{RowsPlan}
+use Rattle.tatp_tasks.specs.declared.load.TheConstants.{MAX_DRAWN_CALLS}
 use Rattle.tatp_tasks.specs.declared.plan.BenchPlan.{BenchPlan}
 use Rattle.tatp_tasks.specs.declared.population.Population.{Population}
 use Rattle.tatp_tasks.specs.declared.population.Population.TheVariants.{Read, Generated}
@@ -62,6 +65,17 @@ stops = optional_from 0 MAX_BENCH_STOPS (Some (codes "0")) (codes "stops")
 
 abbrev pub chapter : Ranged
 chapter = optional_from 1 MAX_BENCH_CHAPTER (Some (codes "1000")) (codes "chapter")
+
+-- of `rows`, which has to be told how many subscribers
+abbrev pub rows_gen : Ranged
+rows_gen = required_from 1 MAX_SUBSCRIBERS (codes "gen")
+
+-- of `calls`
+abbrev pub drawn_calls : Ranged
+drawn_calls = required_from 1 MAX_DRAWN_CALLS (codes "calls")
+
+abbrev pub client : Ranged
+client = optional_from 0 (MAX_CLIENTS - 1) (Some (codes "0")) (codes "client")
 
 -- the number that is to be explained, a word without an option before it
 abbrev pub number : Ranged
@@ -130,4 +144,31 @@ plan_asked given = record {
   moves = number_asked moves given;
   stops = number_asked stops given;
   chapter = number_asked chapter given;
+}
+
+-- ---- rows that are drawn and written
+pub record HasRowsPlan (given : List Row) : Type 0 where
+  pub subscribers : HasNumber rows_gen given
+  pub seed : HasNumber seed given
+
+abbrev pub rows_plan_asked : List Row → RowsPlan
+rows_plan_asked given = record {
+  subscribers = number_asked rows_gen given;
+  seed = number_asked seed given;
+}
+
+-- ---- calls that are drawn and written
+pub record HasCallsPlan (given : List Row) : Type 0 where
+  pub subscribers : HasNumber subscribers given
+  pub calls : HasNumber drawn_calls given
+  pub client : HasNumber client given
+  pub seed : HasNumber seed given
+
+abbrev pub calls_plan_asked : List Row → CallsPlan
+calls_plan_asked given = record {
+  subscribers = number_asked subscribers given;
+  calls = number_asked drawn_calls given;
+  client = number_asked client given;
+  seed = number_asked seed given;
+  distribution = distribution_asked given;
 }

@@ -1,12 +1,13 @@
 //! The commands of the command line, with their options.
 ghost use Rattle.std.specs.Prelude.{◌≡◌, ◌++◌, [], ◌∷◌, true, false, IfOk, codes};
 ghost use Rattle.clap.specs.Walk.{rule_of};
-ghost use Rattle.tatp_command_line.specs.CommandLine.{number_rule, switch_rule, command_with, rows_rules, trace_rules, bench_rules, meanwhile_rules, program, command_line, IsApp, IsLeaf};
+ghost use Rattle.tatp_command_line.specs.CommandLine.{number_rule, switch_rule, command_with, rows_rules, trace_rules, bench_rules, meanwhile_rules, drawn_rows_rules, drawn_calls_rules, program, command_line, IsApp, IsLeaf};
 ghost use Rattle.tatp_command_line.specs.Options.{number};
 
-use crate::help::{ASM, AUDIT, BENCH, CALL, CHECK, DIS, EXPLAIN, PROGRAM, TRACE};
+use crate::help::{ASM, AUDIT, BENCH, CALL, CALLS_HELP, CHECK, DIS, EXPLAIN, PROGRAM, ROWS, TRACE};
 use crate::options::{
-    CALLS, CHAPTER, CLIENTS, GEN, MOVES, NUMBER, PARTITIONS, SEED, STOPS, SUBSCRIBERS,
+    CALLED, CALLS, CHAPTER, CLIENT, CLIENTS, DRAWN_CALLS, GEN, MOVES, NUMBER, PARTITIONS, ROWS_GEN,
+    SEED, STOPS, SUBSCRIBERS,
 };
 use clap::{Arg, ArgAction, Command};
 use std::alloc::{AllocError, Global};
@@ -95,6 +96,33 @@ fn bench_with_moves<'a>(alloc: Global) -> Result<Command<'a>, AllocError>
         ))
 }
 
+fn rows<'a>(alloc: Global) -> Result<Command<'a>, AllocError>
+    ensures { IfOk result (IsLeaf (command_with drawn_rows_rules (codes "rows"))) }
+{
+    Command::new(alloc, "rows")
+        .about("Write the rows of a drawn population, as the other commands draw and read them")
+        .after_help(ROWS)
+        .arg(ROWS_GEN.arg(alloc))?
+        .arg(SEED.arg(alloc))
+}
+
+fn calls<'a>(alloc: Global) -> Result<Command<'a>, AllocError>
+    ensures { IfOk result (IsLeaf (command_with drawn_calls_rules (codes "calls"))) }
+{
+    Command::new(alloc, "calls")
+        .about("Write the calls that a client of bench draws, as call reads them")
+        .after_help(CALLS_HELP)
+        .arg(CALLED.arg(alloc))?
+        .arg(DRAWN_CALLS.arg(alloc))?
+        .arg(CLIENT.arg(alloc))?
+        .arg(SEED.arg(alloc))?
+        .arg(switch(
+            alloc,
+            "uniform",
+            "Call all subscribers about as often; without it some are called far oftener",
+        ))
+}
+
 fn explain<'a>(alloc: Global) -> Result<Command<'a>, AllocError>
     ensures { IfOk result (IsLeaf (command_with (number_rule number ∷ []) (codes "explain"))) }
 {
@@ -146,5 +174,7 @@ pub(crate) fn command<'a>(alloc: Global) -> Result<Command<'a>, AllocError>
             AUDIT,
         ))?
         .subcommand(bench_with_moves(alloc)?)?
+        .subcommand(rows(alloc)?)?
+        .subcommand(calls(alloc)?)?
         .subcommand(explain(alloc)?)
 }

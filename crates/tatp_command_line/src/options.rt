@@ -94,6 +94,28 @@ pub(crate) const CHAPTER: NumberOption = number_option!(
     "Checkpoint an extent when a call on it has ended and its log has K calls or more"
 );
 
+/// Of `rows`, which has to be told how many subscribers.
+pub(crate) const ROWS_GEN: NumberOption = number_option!(
+    "gen" "N" in 1 to 1000000, None, true,
+    "Draw the rows of N subscribers"
+);
+
+/// Of `calls`, which draws no rows.
+pub(crate) const CALLED: NumberOption = number_option!(
+    "subscribers" "N" in 1 to 1000000, None, true,
+    "Draw calls on N subscribers"
+);
+
+pub(crate) const DRAWN_CALLS: NumberOption = number_option!(
+    "calls" "K" in 1 to 1000000000, None, true,
+    "Draw K calls"
+);
+
+pub(crate) const CLIENT: NumberOption = number_option!(
+    "client" "C" in 0 to 63, Some("0"), false,
+    "Draw the calls of client C, counted from 0"
+);
+
 /// The number that is to be explained.
 pub(crate) const NUMBER: NumberOption = NumberOption {
     name: "number",

@@ -4,24 +4,25 @@ ghost use Rattle.std.specs.String.{string_bytes};
 ghost use Rattle.clap.specs.Matches.{found_of};
 ghost use Rattle.clap.specs.Simple.{subcommand_rows_of};
 ghost use Rattle.clap.specs.Walk.{rows_of};
+ghost use Rattle.tatp_tasks.specs.Loads.{IsRowsPlan, IsCallsPlan};
 ghost use Rattle.tatp_tasks.specs.Plans.{IsPlan};
 ghost use Rattle.tatp_tasks.specs.Populations.{IsPopulation, IsSetup};
 ghost use Rattle.tatp_tasks.specs.Tasks.{IsTask};
 ghost use Rattle.tatp_command_line.specs.Asked.{IsNamedBy, AskFor};
 ghost use Rattle.tatp_command_line.specs.Numbers.{HasNumber, number_asked};
-ghost use Rattle.tatp_command_line.specs.Options.{partitions, clients, HasPopulation, population_asked, HasSetup, setup_asked, HasPlan, plan_asked, distribution_asked, procedures_asked};
+ghost use Rattle.tatp_command_line.specs.Options.{partitions, clients, HasPopulation, population_asked, HasSetup, setup_asked, HasPlan, plan_asked, distribution_asked, procedures_asked, HasRowsPlan, rows_plan_asked, HasCallsPlan, calls_plan_asked};
 
 use crate::commands::command;
 use crate::options::{
-    BadNumber, CALLS, CHAPTER, CLIENTS, GEN, MOVES, NUMBER, PARTITIONS, SEED, STOPS, SUBSCRIBERS,
-    is_given,
+    BadNumber, CALLED, CALLS, CHAPTER, CLIENT, CLIENTS, DRAWN_CALLS, GEN, MOVES, NUMBER, PARTITIONS,
+    ROWS_GEN, SEED, STOPS, SUBSCRIBERS, is_given,
 };
 use clap::error::ErrorKind;
 use clap::{ArgMatches, Error};
 use std::alloc::{AllocError, Global};
 use tatp_driver::Distribution;
 use tatp_limits::{MAX_CLIENTS, MAX_PARTITIONS};
-use tatp_tasks::{BenchPlan, Population, Procedures, Setup, Task};
+use tatp_tasks::{BenchPlan, CallsPlan, Population, Procedures, RowsPlan, Setup, Task};
 
 /// Where the procedures of a run come from.
 fn procedures_of(options: &ArgMatches<'_>) -> Procedures
@@ -111,6 +112,33 @@ fn plan_of<'a>(options: &ArgMatches<'a>) -> Result<BenchPlan, BadNumber<'a>>
     })
 }
 
+/// The rows that are to be drawn and written.
+fn rows_plan_of<'a>(options: &ArgMatches<'a>) -> Result<RowsPlan, BadNumber<'a>>
+    ensures asked { OkIff result (HasRowsPlan (rows_of (found_of options.now)))
+        (rows_plan_asked (rows_of (found_of options.now))) }
+    ensures possible { IfOk result IsRowsPlan }
+{
+    Ok(RowsPlan {
+        subscribers: ROWS_GEN.number(options)?,
+        seed: SEED.number(options)?,
+    })
+}
+
+/// The calls that are to be drawn and written.
+fn calls_plan_of<'a>(options: &ArgMatches<'a>) -> Result<CallsPlan, BadNumber<'a>>
+    ensures asked { OkIff result (HasCallsPlan (rows_of (found_of options.now)))
+        (calls_plan_asked (rows_of (found_of options.now))) }
+    ensures possible { IfOk result IsCallsPlan }
+{
+    Ok(CallsPlan {
+        subscribers: CALLED.number(options)?,
+        calls: DRAWN_CALLS.number(options)?,
+        client: CLIENT.number(options)?,
+        seed: SEED.number(options)?,
+        distribution: distribution_of(options),
+    })
+}
+
 /// The task that the words were found to name; none where they name no command.
 fn task_in<'a>(matches: &ArgMatches<'a>) -> Result<Option<Task>, BadNumber<'a>>
     ensures asked { IfOk result (λ found. IfSome found (λ task.
@@ -134,6 +162,8 @@ fn task_in<'a>(matches: &ArgMatches<'a>) -> Result<Option<Task>, BadNumber<'a>>
             plan: plan_of(options)?,
             progress: is_given(options, "progress"),
         })),
+        "rows" => Ok(Some(Task::Rows(rows_plan_of(options)?))),
+        "calls" => Ok(Some(Task::Calls(calls_plan_of(options)?))),
         "explain" => Ok(Some(Task::Explain(NUMBER.number_if_given(options)?))),
         _ => Ok(None),
     }

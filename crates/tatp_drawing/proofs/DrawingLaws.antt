@@ -13,9 +13,10 @@ use Rattle.tatp_procs.specs.declared.call.Call.{Call}
 use Rattle.tatp_population.specs.Drawn.{choice, choices}
 use Rattle.tatp_driver.specs.declared.distribution.Distribution.{Distribution}
 use Rattle.tatp_driver.specs.DrawnCall.{drawn_call}
+use Rattle.tatp_driver.specs.DrawnCalls.{next_calls}
 use Rattle.tatp_driver.specs.DrawnWords.{next_words}
 use Rattle.tatp_settle.specs.Runs.{lists_of}
-use Rattle.tatp_drawing.specs.Drawing.{next_calls, next_moves}
+use Rattle.tatp_drawing.specs.Drawing.{next_moves}
 
 -- ---- calls
 -- the first i calls are listed, and this stream is left

@@ -9,13 +9,11 @@ use Rattle.rand_pcg.specs.Pcg.{multiplier_128}
 use Rattle.tatp_tables.specs.declared.row.Rows.{Rows}
 use Rattle.tatp_procs.specs.declared.ask.Ask.{Ask}
 use Rattle.tatp_procs.specs.declared.ask.Ask.TheVariants.{Txn}
-use Rattle.tatp_procs.specs.declared.call.Call.{Call}
 use Rattle.tatp_population.specs.Drawn.{choice, choices}
 use Rattle.tatp_population.specs.DrawnRows.{population}
 use Rattle.tatp_extents.specs.Opening.{extent_count}
-use Rattle.tatp_driver.specs.declared.distribution.Distribution.{Distribution}
-use Rattle.tatp_driver.specs.DrawnCall.{drawn_call}
-use Rattle.tatp_driver.specs.DrawnWords.{next_words, words_of, client_generator}
+use Rattle.tatp_driver.specs.DrawnCalls.{next_calls}
+use Rattle.tatp_driver.specs.DrawnWords.{words_of, client_generator}
 use Rattle.tatp_tasks.specs.declared.plan.BenchPlan.{BenchPlan}
 
 -- the words of a seed's stream of this number
@@ -27,15 +25,6 @@ abbrev pub rows_drawn : BenchPlan → Rows
 rows_drawn plan = (population next_u64 plan.subscribers (stream_numbered plan.seed 0)).0
 
 -- ---- the calls
--- the next n calls on these subscribers, and the stream that is left after them: each takes seven
--- words
-unfoldable pub next_calls : Distribution → ℕ → ℕ → Stream → List Call × Stream
-next_calls distribution subscribers zero stream = ([], stream)
-next_calls distribution subscribers (suc n) stream =
-    let before = next_calls distribution subscribers n stream in
-    let words = next_words 7 before.1 in
-    (before.0 ++ drawn_call distribution subscribers words.0 ∷ [], words.1)
-
 -- what a client asks, one call after another, from its own stream: 1 for client 0, and so on
 abbrev pub client_calls : BenchPlan → ℕ → List Ask
 client_calls plan client =

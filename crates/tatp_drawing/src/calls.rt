@@ -1,10 +1,11 @@
 //! What the clients ask, drawn from random words by several threads.
 ghost use Rattle.std.specs.Prelude.{◌≡◌, ◌≤◌, ◌<◌, IfOk, map};
 ghost use denote.Param.Send.{IsSync};
+ghost use Rattle.tatp_driver.specs.DrawnCalls.{next_calls};
 ghost use Rattle.tatp_driver.specs.DrawnWords.{words_of};
 ghost use Rattle.tatp_settle.specs.Runs.{lists_of};
 ghost use Rattle.tatp_tasks.specs.Plans.{IsPlan};
-ghost use Rattle.tatp_drawing.specs.Drawing.{next_calls, calls_drawn, calls_of_clients};
+ghost use Rattle.tatp_drawing.specs.Drawing.{calls_drawn, calls_of_clients};
 
 use std::alloc::{AllocError, Global};
 use std::thread::{Threads, join};

@@ -1,2 +1,3 @@
 pub mod DrawnCall
+pub mod DrawnCalls
 pub mod DrawnWords

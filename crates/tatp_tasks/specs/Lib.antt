@@ -1,3 +1,4 @@
+pub mod Loads
 pub mod Plans
 pub mod Populations
 pub mod Tasks

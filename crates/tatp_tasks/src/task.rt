@@ -1,5 +1,5 @@
 //! What the program is asked to do.
-use crate::{BenchPlan, Population, Setup};
+use crate::{BenchPlan, CallsPlan, Population, RowsPlan, Setup};
 
 /// What the program is asked to do: one of its commands.
 #[derive(Clone, Copy, Debug, PartialEq, Eq)]
@@ -24,6 +24,10 @@ pub enum Task {
         plan: BenchPlan,
         progress: bool,
     },
+    /// Write the rows of a drawn population.
+    Rows(RowsPlan),
+    /// Write the calls that a client of the benchmark draws.
+    Calls(CallsPlan),
     /// Say what a number of a refusal or fault means; without one, all of them.
     Explain(Option<u64>),
 }

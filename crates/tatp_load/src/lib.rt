@@ -1,0 +1,9 @@
+//! The commands rows and calls: the load of a benchmark, drawn and written for another database.
+#![tactic(auto)]
+
+mod call_line;
+mod calls;
+mod rows;
+
+pub use calls::run_calls;
+pub use rows::run_rows;

@@ -1,0 +1,9 @@
+use Rattle.std.specs.String.{string_bytes}
+use Rattle.rand_core.specs.Stream.{next_u64}
+use Rattle.tatp_population.specs.DrawnOrder.{access_in_order}
+use Rattle.tatp_population.specs.DrawnRows.{access, types}
+use Rattle.tatp_population.proofs.PrintingLaws.{ArePrinted}
+use Rattle.tatp_population.proofs.printing.push_accesses.Given as goal
+
+abbrev pub invariant-loop : goal.invariant-loop
+invariant-loop g l = ArePrinted next_u64 (access next_u64 l.s_id) (access_in_order next_u64 l.s_id) (string_bytes l.initial.text) types (g.R.Rng.stream l.initial.words) l.counter (string_bytes l.text) l.left.items (g.R.Rng.stream l.words)

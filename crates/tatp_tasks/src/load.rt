@@ -1,0 +1,29 @@
+//! What is to be drawn for another database: rows, or the calls of one client.
+use tatp_driver::Distribution;
+
+/// The most calls of one client that are drawn to be written.
+pub const MAX_DRAWN_CALLS: u64 = 1_000_000_000;
+
+/// A population to be drawn and written.
+#[derive(Clone, Copy, Debug, PartialEq, Eq)]
+pub struct RowsPlan {
+    /// How many subscribers it has, 1 to `MAX_SUBSCRIBERS`.
+    pub subscribers: u64,
+    /// What its random words are drawn from.
+    pub seed: u64,
+}
+
+/// The calls of one client, to be drawn and written.
+#[derive(Clone, Copy, Debug, PartialEq, Eq)]
+pub struct CallsPlan {
+    /// How many subscribers are called, 1 to `MAX_SUBSCRIBERS`.
+    pub subscribers: u64,
+    /// How many calls there are, 1 to [`MAX_DRAWN_CALLS`].
+    pub calls: u64,
+    /// Which client makes them, counted from 0, below `MAX_CLIENTS`.
+    pub client: u64,
+    /// What its random words are drawn from.
+    pub seed: u64,
+    /// How they are distributed over the subscribers.
+    pub distribution: Distribution,
+}

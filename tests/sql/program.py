@@ -1,10 +1,8 @@
 """What is put into both databases, and what the program answers: the one module here that knows how rows, calls,
 replies and the rows at the end are had. The rows at the end come from `trace`, which is asked for each home."""
 import runs
-from drawing.calls import calls_of_seed
-from drawing.rows import rows_of_seed
 from model.calls import STANDARD, TRANSACTIONS
-from model.tables import STARTS, row_text
+from model.tables import STARTS
 
 SECONDS = 1800
 
@@ -18,21 +16,22 @@ def most_steps(procedure):
 STEPS = {name: most_steps(procedure) for name, procedure in zip(TRANSACTIONS, STANDARD.procedures)}
 
 
-def rows(seed, n):
-    """The lines of the rows that `--gen n --seed seed` draws."""
-    return [row_text(table, row) for table, row in rows_of_seed(seed, n)]
-
-
-def calls(seed, count, n, is_uniform):
-    """The lines of the calls that client 0 of `bench` draws."""
-    return list(calls_of_seed(seed, 0, count, n, is_uniform))
-
-
 def lines_of(done):
     """The lines that a run wrote, or what went wrong with it as the only one."""
     if done.status != 0 or done.error:
         return ["status %s, told %s" % (done.status, runs.shown(done.error))]
     return done.output.decode().splitlines()
+
+
+def rows(program, seed, n):
+    """The lines of the rows that `--gen n --seed seed` draws."""
+    return lines_of(runs.run(program, ["rows", "--gen", str(n), "--seed", str(seed)], b"", SECONDS))
+
+
+def calls(program, seed, count, n, is_uniform):
+    """The lines of the calls that client 0 of `bench` draws."""
+    words = ["calls", "--subscribers", str(n), "--calls", str(count), "--seed", str(seed)]
+    return lines_of(runs.run(program, words + ["--uniform"] * is_uniform, b"", SECONDS))
 
 
 def text_of(lines):

@@ -1,1 +1,3 @@
-
+pub mod CallLaws
+pub mod RowLaws
+pub mod WrittenLaws

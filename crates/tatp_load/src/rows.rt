@@ -1,11 +1,11 @@
 //! The command `rows`: the rows of a drawn population.
-ghost use Rattle.std.specs.Prelude.{◌≡◌, ◌⊎◌, OnOk, OnErr, IfErr, Ok};
+ghost use Rattle.std.specs.Prelude.{◌≡◌, ◌⊎◌, OnOk, OnErr, IfErr};
 ghost use Rattle.std.specs.Io.KnownBytes.{Appends};
-ghost use Rattle.tatp_population.specs.PopulationText.{population_of};
+ghost use Rattle.tatp_population.specs.PopulationText.{in_tables};
 ghost use Rattle.tatp_streams.specs.declared.fault.StreamFault.TheVariants.{NoMemory, WriteFault};
 ghost use Rattle.tatp_tasks.specs.Loads.{IsRowsPlan};
 ghost use Rattle.tatp_load.specs.Written.{WritesFrontOf};
-ghost use Rattle.tatp_load.specs.Rows.{rows_drawn, rows_written};
+ghost use Rattle.tatp_load.specs.Rows.{rows_drawn, rows_in_order, rows_written};
 
 use rand_pcg::Pcg64;
 use std::alloc::Global;
@@ -25,7 +25,7 @@ pub fn run_rows<W: Write>(
     requires { IsRowsPlan plan.now }
     ensures written { OnOk result
         (Appends (W.contents writer.old) (W.contents writer.new) (rows_written plan.now)) }
-    ensures read_back { population_of (rows_written plan.now) ≡ Ok (rows_drawn plan.now) }
+    ensures rows { in_tables (rows_in_order plan.now) ≡ rows_drawn plan.now }
     ensures front { OnErr result
         (WritesFrontOf (rows_written plan.now) (W.contents writer.old) (W.contents writer.new)) }
     ensures faults { IfErr result (λ fault. (fault ≡ NoMemory) ⊎ (fault ≡ WriteFault)) }

@@ -75,7 +75,3 @@ module _ {W : Type 0} (word : W → ℕ × W) where
   population_in_order zero w = []
   population_in_order (suc n) w =
       population_in_order n w ++ subscriber_in_order (suc n) (population word n w).1
-
-  -- the text of the subscribers 1 to n
-  abbrev pub population_text : ℕ → W → List ℕ
-  population_text n w = rows_text (population_in_order n w)

@@ -6,8 +6,8 @@ ghost use Rattle.tatp_command_line.specs.Options.{number};
 
 use crate::help::{ASM, AUDIT, BENCH, CALL, CALLS_HELP, CHECK, DIS, EXPLAIN, PROGRAM, ROWS, TRACE};
 use crate::options::{
-    CALLED, CALLS, CHAPTER, CLIENT, CLIENTS, DRAWN_CALLS, GEN, MOVES, NUMBER, PARTITIONS, ROWS_GEN,
-    SEED, STOPS, SUBSCRIBERS,
+    CALLS, CHAPTER, CLIENT, CLIENTS, DRAWN_CALLS, GEN, MOVES, NUMBER, PARTITIONS, ROWS_GEN, SEED,
+    STOPS, SUBSCRIBERS,
 };
 use clap::{Arg, ArgAction, Command};
 use std::alloc::{AllocError, Global};
@@ -112,7 +112,7 @@ fn calls<'a>(alloc: Global) -> Result<Command<'a>, AllocError>
     Command::new(alloc, "calls")
         .about("Write the calls that a client of bench draws, as call reads them")
         .after_help(CALLS_HELP)
-        .arg(CALLED.arg(alloc))?
+        .arg(SUBSCRIBERS.arg(alloc))?
         .arg(DRAWN_CALLS.arg(alloc))?
         .arg(CLIENT.arg(alloc))?
         .arg(SEED.arg(alloc))?

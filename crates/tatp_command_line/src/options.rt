@@ -56,7 +56,7 @@ pub(crate) const GEN: NumberOption = number_option!(
 
 pub(crate) const SUBSCRIBERS: NumberOption = number_option!(
     "subscribers" "N" in 1 to 1000000, None, true,
-    "Draw the rows of N subscribers"
+    "Let there be N subscribers"
 );
 
 pub(crate) const SEED: NumberOption = number_option!(
@@ -100,12 +100,7 @@ pub(crate) const ROWS_GEN: NumberOption = number_option!(
     "Draw the rows of N subscribers"
 );
 
-/// Of `calls`, which draws no rows.
-pub(crate) const CALLED: NumberOption = number_option!(
-    "subscribers" "N" in 1 to 1000000, None, true,
-    "Draw calls on N subscribers"
-);
-
+/// Of `calls`.
 pub(crate) const DRAWN_CALLS: NumberOption = number_option!(
     "calls" "K" in 1 to 1000000000, None, true,
     "Draw K calls"

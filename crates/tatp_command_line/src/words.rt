@@ -14,7 +14,7 @@ ghost use Rattle.tatp_command_line.specs.Options.{partitions, clients, HasPopula
 
 use crate::commands::command;
 use crate::options::{
-    BadNumber, CALLED, CALLS, CHAPTER, CLIENT, CLIENTS, DRAWN_CALLS, GEN, MOVES, NUMBER, PARTITIONS,
+    BadNumber, CALLS, CHAPTER, CLIENT, CLIENTS, DRAWN_CALLS, GEN, MOVES, NUMBER, PARTITIONS,
     ROWS_GEN, SEED, STOPS, SUBSCRIBERS, is_given,
 };
 use clap::error::ErrorKind;
@@ -131,7 +131,7 @@ fn calls_plan_of<'a>(options: &ArgMatches<'a>) -> Result<CallsPlan, BadNumber<'a
     ensures possible { IfOk result IsCallsPlan }
 {
     Ok(CallsPlan {
-        subscribers: CALLED.number(options)?,
+        subscribers: SUBSCRIBERS.number(options)?,
         calls: DRAWN_CALLS.number(options)?,
         client: CLIENT.number(options)?,
         seed: SEED.number(options)?,

@@ -55,8 +55,7 @@ module _ (distribution : Distribution) (subscribers : ℕ) (w : Stream) where
   calls_more i (suc k) =
       let rest = calls_more i k in
       let next : i + suc k ≡ suc (i + k) = omega arith in
-      let last = drawn_call distribution subscribers (next_words 7 (next_calls distribution subscribers (i + k) w).1).0 ∷ [] in
-      (
+      let last = drawn_call distribution subscribers (next_words 7 (next_calls distribution subscribers (i + k) w).1).0 ∷ [] in (
         rest.0 ++ last,
         ap (λ n. (next_calls distribution subscribers n w).0) next ∙ ap (λ calls. calls ++ last) rest.1 ∙ append_assoc (next_calls distribution subscribers i w).0 rest.0 last,
       )
@@ -64,8 +63,7 @@ module _ (distribution : Distribution) (subscribers : ℕ) (w : Stream) where
   text_more : (i n : ℕ) → i ≤ n → (rest : List ℕ) × (calls_text n ≡ calls_text i ++ rest)
   text_more i n le =
       let rest = calls_more i (n - i) in
-      let all : n ≡ i + (n - i) = omega arith in
-      (
+      let all : n ≡ i + (n - i) = omega arith in (
         flat_map line_of rest.0,
         ap calls_text all ∙ ap (flat_map line_of) rest.1 ∙ flat_map-append line_of (next_calls distribution subscribers i w).0 rest.0,
       )

@@ -43,8 +43,7 @@ rows_more w i zero = ([], ap (λ n. population_in_order next_u64 n w) (omega ari
 rows_more w i (suc k) =
     let rest = rows_more w i k in
     let next : i + suc k ≡ suc (i + k) = omega arith in
-    let last = subscriber_in_order next_u64 (suc (i + k)) (population next_u64 (i + k) w).1 in
-    (
+    let last = subscriber_in_order next_u64 (suc (i + k)) (population next_u64 (i + k) w).1 in (
       rest.0 ++ last,
       ap (λ n. population_in_order next_u64 n w) next ∙ ap (λ rows. rows ++ last) rest.1 ∙ append_assoc (population_in_order next_u64 i w) rest.0 last,
     )
@@ -52,8 +51,7 @@ rows_more w i (suc k) =
 text_more : (w : Stream) (i n : ℕ) → i ≤ n → (rest : List ℕ) × (rows_text (population_in_order next_u64 n w) ≡ rows_text (population_in_order next_u64 i w) ++ rest)
 text_more w i n le =
     let rest = rows_more w i (n - i) in
-    let all : n ≡ i + (n - i) = omega arith in
-    (
+    let all : n ≡ i + (n - i) = omega arith in (
       rows_text rest.0,
       ap (λ m. rows_text (population_in_order next_u64 m w)) all ∙ ap rows_text rest.1 ∙ flat_map-append line_of (population_in_order next_u64 i w) rest.0,
     )

@@ -40,8 +40,7 @@ all_written old now next pending all w h = subst (Appends old next) w.whole (app
 pub front_written : (old now next : Option (List ℕ)) (pending all more text : List ℕ) → IsWritten old now pending all → text ≡ all ++ more → AppendsFront pending now next → WritesFrontOf text old next
 front_written old now next pending all more text w e h =
     let n = h.0 in
-    let pieces : (w.written ++ take n pending) ++ drop n pending ≡ all = append_assoc w.written (take n pending) (drop n pending) ∙ ap (λ t. w.written ++ t) (take-append-drop n pending) ∙ w.whole in
-    (
+    let pieces : (w.written ++ take n pending) ++ drop n pending ≡ all = append_assoc w.written (take n pending) (drop n pending) ∙ ap (λ t. w.written ++ t) (take-append-drop n pending) ∙ w.whole in (
       w.written ++ take n pending,
       drop n pending ++ more,
       e ∙ ap (λ t. t ++ more) (sym pieces) ∙ append_assoc (w.written ++ take n pending) (drop n pending) more,

@@ -17,11 +17,7 @@ use tatp_tasks::RowsPlan;
 /// Draws a population and writes its rows, each a line, in the order drawn. A subscriber's rows are
 /// drawn when those before are in the text that is gathered to be written, so no more of them is
 /// held than one piece.
-pub fn run_rows<W: Write>(
-    alloc: Global,
-    writer: &mut W,
-    plan: &RowsPlan,
-) -> Result<(), StreamFault>
+pub fn run_rows<W: Write>(alloc: Global, writer: &mut W, plan: &RowsPlan) -> Result<(), StreamFault>
     requires { IsRowsPlan plan.now }
     ensures written { OnOk result
         (Appends (W.contents writer.old) (W.contents writer.new) (rows_written plan.now)) }

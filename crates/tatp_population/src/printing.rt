@@ -159,7 +159,11 @@ fn push_facilities<R: Rng>(text: &mut String, s_id: u64, words: &mut R) -> Resul
 /// Draws a Subscriber row and the rows below it from the next words, and appends each as a line, in
 /// the order drawn. An error may leave some of them.
 #[tactic(auto, using(crate::proofs::PrintingLaws::row_rows_and_rows), unfolding(crate::specs::DrawnOrder::subscriber_in_order, crate::specs::DrawnRows::subscriber))]
-pub fn push_subscriber<R: Rng>(text: &mut String, s_id: u64, words: &mut R) -> Result<(), AllocError>
+pub fn push_subscriber<R: Rng>(
+    text: &mut String,
+    s_id: u64,
+    words: &mut R,
+) -> Result<(), AllocError>
     ensures rows { OnOk result (string_bytes text.new ≡ string_bytes text.old
         ++ rows_text (order.subscriber_in_order next_u64 s_id (R.stream words.old))) }
     ensures words { OnOk result

@@ -3,10 +3,7 @@ use Rattle.std.specs.Prelude.{ℕ, List}
 use Rattle.rand_core.specs.Stream.{Stream, next_u64}
 use Rattle.rand_pcg.specs.Lcg.{started, increment_of}
 use Rattle.rand_pcg.specs.Pcg.{multiplier_128}
-use Rattle.tatp_tables.specs.declared.row.Row.{Row}
-use Rattle.tatp_tables.specs.declared.row.Rows.{Rows}
 use Rattle.tatp_population.specs.DrawnOrder.{rows_text, population_in_order}
-use Rattle.tatp_population.specs.DrawnRows.{population}
 use Rattle.tatp_driver.specs.DrawnWords.{words_of}
 use Rattle.tatp_tasks.specs.declared.load.RowsPlan.{RowsPlan}
 
@@ -14,14 +11,6 @@ use Rattle.tatp_tasks.specs.declared.load.RowsPlan.{RowsPlan}
 abbrev pub words_drawn : RowsPlan → Stream
 words_drawn plan = words_of (started 128 multiplier_128 plan.seed (increment_of 128 0))
 
--- the rows of the population that is drawn from them
-abbrev pub rows_drawn : RowsPlan → Rows
-rows_drawn plan = (population next_u64 plan.subscribers (words_drawn plan)).0
-
--- the same rows in the order drawn
-abbrev pub rows_in_order : RowsPlan → List Row
-rows_in_order plan = population_in_order next_u64 plan.subscribers (words_drawn plan)
-
--- the same as text
+-- the rows of the population that is drawn from them, as text, in the order drawn
 abbrev pub rows_written : RowsPlan → List ℕ
-rows_written plan = rows_text (rows_in_order plan)
+rows_written plan = rows_text (population_in_order next_u64 plan.subscribers (words_drawn plan))

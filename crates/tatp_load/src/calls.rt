@@ -33,5 +33,6 @@ pub fn run_calls<W: Write>(
         push_call(&mut pending, &driver.next_call())?;
         write_if_full(writer, &mut pending)?;
     }
-    write_last(writer, pending.as_bytes())
+    write_last(writer, pending.as_bytes())?;
+    Ok(())
 }

@@ -1,11 +1,10 @@
 //! The command `rows`: the rows of a drawn population.
 ghost use Rattle.std.specs.Prelude.{◌≡◌, ◌⊎◌, OnOk, OnErr, IfErr};
 ghost use Rattle.std.specs.Io.KnownBytes.{Appends};
-ghost use Rattle.tatp_population.specs.PopulationText.{in_tables};
 ghost use Rattle.tatp_streams.specs.declared.fault.StreamFault.TheVariants.{NoMemory, WriteFault};
 ghost use Rattle.tatp_tasks.specs.Loads.{IsRowsPlan};
 ghost use Rattle.tatp_load.specs.Written.{WritesFrontOf};
-ghost use Rattle.tatp_load.specs.Rows.{rows_drawn, rows_in_order, rows_written};
+ghost use Rattle.tatp_load.specs.Rows.{rows_written};
 
 use rand_pcg::Pcg64;
 use std::alloc::Global;
@@ -21,7 +20,6 @@ pub fn run_rows<W: Write>(alloc: Global, writer: &mut W, plan: &RowsPlan) -> Res
     requires { IsRowsPlan plan.now }
     ensures written { OnOk result
         (Appends (W.contents writer.old) (W.contents writer.new) (rows_written plan.now)) }
-    ensures rows { in_tables (rows_in_order plan.now) ≡ rows_drawn plan.now }
     ensures front { OnErr result
         (WritesFrontOf (rows_written plan.now) (W.contents writer.old) (W.contents writer.new)) }
     ensures faults { IfErr result (λ fault. (fault ≡ NoMemory) ⊎ (fault ≡ WriteFault)) }
@@ -32,5 +30,6 @@ pub fn run_rows<W: Write>(alloc: Global, writer: &mut W, plan: &RowsPlan) -> Res
         push_subscriber(&mut pending, before + 1, &mut words)?;
         write_if_full(writer, &mut pending)?;
     }
-    write_last(writer, pending.as_bytes())
+    write_last(writer, pending.as_bytes())?;
+    Ok(())
 }

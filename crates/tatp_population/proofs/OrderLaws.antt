@@ -15,36 +15,44 @@ use Rattle.tatp_population.proofs.PartLaws.{joined_none, joined_assoc}
 
 -- ---- one row
 with_subscriber : (r : Rows) (row : Tuple) → with_row r (S row) ≡ joined r (record none { subscribers = row ∷ [] })
-with_subscriber r row = λ i. record {
-  subscribers = r.subscribers ++ row ∷ [];
-  accesses = append-nil r.accesses (~ i);
-  facilities = append-nil r.facilities (~ i);
-  forwardings = append-nil r.forwardings (~ i);
-}
+with_subscriber r row =
+    let back : joined r (record none { subscribers = row ∷ [] }) ≡ with_row r (S row) = λ i. record {
+      subscribers = r.subscribers ++ row ∷ [];
+      accesses = append-nil r.accesses i;
+      facilities = append-nil r.facilities i;
+      forwardings = append-nil r.forwardings i;
+    } in
+    sym back
 
 with_access : (r : Rows) (row : Tuple) → with_row r (A row) ≡ joined r (record none { accesses = row ∷ [] })
-with_access r row = λ i. record {
-  subscribers = append-nil r.subscribers (~ i);
-  accesses = r.accesses ++ row ∷ [];
-  facilities = append-nil r.facilities (~ i);
-  forwardings = append-nil r.forwardings (~ i);
-}
+with_access r row =
+    let back : joined r (record none { accesses = row ∷ [] }) ≡ with_row r (A row) = λ i. record {
+      subscribers = append-nil r.subscribers i;
+      accesses = r.accesses ++ row ∷ [];
+      facilities = append-nil r.facilities i;
+      forwardings = append-nil r.forwardings i;
+    } in
+    sym back
 
 with_facility : (r : Rows) (row : Tuple) → with_row r (F row) ≡ joined r (record none { facilities = row ∷ [] })
-with_facility r row = λ i. record {
-  subscribers = append-nil r.subscribers (~ i);
-  accesses = append-nil r.accesses (~ i);
-  facilities = r.facilities ++ row ∷ [];
-  forwardings = append-nil r.forwardings (~ i);
-}
+with_facility r row =
+    let back : joined r (record none { facilities = row ∷ [] }) ≡ with_row r (F row) = λ i. record {
+      subscribers = append-nil r.subscribers i;
+      accesses = append-nil r.accesses i;
+      facilities = r.facilities ++ row ∷ [];
+      forwardings = append-nil r.forwardings i;
+    } in
+    sym back
 
 with_forwarding : (r : Rows) (row : Tuple) → with_row r (C row) ≡ joined r (record none { forwardings = row ∷ [] })
-with_forwarding r row = λ i. record {
-  subscribers = append-nil r.subscribers (~ i);
-  accesses = append-nil r.accesses (~ i);
-  facilities = append-nil r.facilities (~ i);
-  forwardings = r.forwardings ++ row ∷ [];
-}
+with_forwarding r row =
+    let back : joined r (record none { forwardings = row ∷ [] }) ≡ with_row r (C row) = λ i. record {
+      subscribers = append-nil r.subscribers i;
+      accesses = append-nil r.accesses i;
+      facilities = append-nil r.facilities i;
+      forwardings = r.forwardings ++ row ∷ [];
+    } in
+    sym back
 
 -- ---- parts
 module _ {W : Type 0} (word : W → ℕ × W) where

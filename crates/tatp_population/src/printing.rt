@@ -60,7 +60,8 @@ fn push_access<R: Rng>(
         (R.stream words.new ≡ (drawn.access next_u64 s_id kind (R.stream words.old)).1) }
 {
     let row = access_row(s_id, kind, words);
-    push_row(text, "A", Table::AccessInfo, &row)
+    push_row(text, "A", Table::AccessInfo, &row)?;
+    Ok(())
 }
 
 /// Draws a Call_Forwarding row and appends it.
@@ -79,7 +80,8 @@ fn push_forwarding<R: Rng>(
         ≡ (drawn.forwarding next_u64 s_id kind start_time (R.stream words.old)).1) }
 {
     let row = forwarding_row(s_id, kind, start_time, words);
-    push_row(text, "C", Table::CallForwarding, &row)
+    push_row(text, "C", Table::CallForwarding, &row)?;
+    Ok(())
 }
 
 /// Draws the forwardings of a facility and appends them.
@@ -119,7 +121,8 @@ fn push_facility<R: Rng>(
 {
     let row = facility_row(s_id, kind, words);
     push_row(text, "F", Table::SpecialFacility, &row)?;
-    push_forwardings(text, s_id, kind, words)
+    push_forwardings(text, s_id, kind, words)?;
+    Ok(())
 }
 
 /// Draws the Access_Info rows of a subscriber and appends them.
@@ -172,5 +175,6 @@ pub fn push_subscriber<R: Rng>(
     let row = subscriber_row(s_id, words);
     push_row(text, "S", Table::Subscriber, &row)?;
     push_accesses(text, s_id, words)?;
-    push_facilities(text, s_id, words)
+    push_facilities(text, s_id, words)?;
+    Ok(())
 }

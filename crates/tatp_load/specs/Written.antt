@@ -1,5 +1,5 @@
--- What a run writes of a text that is known before it begins. Old and new are the bytes that a writer
--- holds.
+-- What a run writes of a text that is known before it begins. Old and new are the bytes that a
+-- writer holds.
 use Rattle.std.specs.Prelude.{◌≡◌, ℕ, List, ◌++◌, Option}
 use Rattle.std.specs.Io.KnownBytes.{Appends}
 

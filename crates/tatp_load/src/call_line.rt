@@ -1,14 +1,16 @@
 //! The line of a call, appended to a text.
 ghost use Rattle.std.specs.Prelude.{◌≡◌, ◌++◌, [], ◌∷◌, OnOk, slice_index_or};
 ghost use Rattle.std.specs.String.{string_bytes};
+ghost use Rattle.tatp_texts.specs.Text.{value_text};
 ghost use Rattle.tatp_procs.specs.Arguments.{columns_of};
 ghost use Rattle.tatp_procs.specs.CallText.{name_of};
 ghost use Rattle.tatp_procs.specs.ValuesText.{values_text};
 ghost use Rattle.tatp_load.specs.Calls.{line_of};
 
 use std::alloc::AllocError;
+use tatp_lines::push_decimal;
 use tatp_procs::Call;
-use tatp_texts::push_value;
+use tatp_texts::{is_decimal, push_value};
 
 /// The name of a call's procedure.
 fn name(call: &Call) -> &'static str
@@ -47,6 +49,18 @@ fn column_at(columns: &[u8], place: usize) -> u8
     columns.get(place).copied().unwrap_or(255)
 }
 
+/// Appends a space, and the value in the form of the column.
+fn push_spaced(text: &mut String, column: u8, value: u64) -> Result<(), AllocError>
+    ensures { OnOk result
+        (string_bytes text.new ≡ string_bytes text.old ++ 32 ∷ value_text column value) }
+{
+    text.push(' ')?;
+    if is_decimal(column) {
+        return push_decimal(text, value);
+    }
+    push_value(text, column, value)
+}
+
 /// Appends the values, each after a space and in the form of its column.
 #[tactic(auto, using(tatp_procs::proofs::PrintingLaws::none_printed, tatp_procs::proofs::PrintingLaws::value_printed, tatp_procs::proofs::PrintingLaws::all_printed))]
 fn push_values(text: &mut String, columns: &[u8], values: &[u64]) -> Result<(), AllocError>
@@ -54,8 +68,7 @@ fn push_values(text: &mut String, columns: &[u8], values: &[u64]) -> Result<(), 
         (string_bytes text.new ≡ string_bytes text.old ++ values_text columns.now values.now) }
 {
     for (place, value) in values.iter().enumerate() {
-        text.push_str(" ")?;
-        push_value(text, column_at(columns, place), *value)?;
+        push_spaced(text, column_at(columns, place), *value)?;
     }
     Ok(())
 }

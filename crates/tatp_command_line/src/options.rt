@@ -94,6 +94,11 @@ pub(crate) const CHAPTER: NumberOption = number_option!(
     "Checkpoint an extent when a call on it has ended and its log has K calls or more"
 );
 
+pub(crate) const INPUT_LIMIT: NumberOption = number_option!(
+    "input-limit" "B" in 1 to 1099511627776, Some("134217728"), false,
+    "Read at most B bytes of the input"
+);
+
 /// The number that is to be explained.
 pub(crate) const NUMBER: NumberOption = NumberOption {
     name: "number",

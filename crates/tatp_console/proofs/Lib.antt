@@ -1,6 +1,7 @@
 pub mod AnswerLaws
 pub mod WorkLaws
 pub mod CallLaws
+pub mod RowsLaws
 pub mod OrderLaws
 pub mod BytesLaws
 pub mod EventLineLaws

@@ -46,6 +46,25 @@ pub record AnswersAll (answers : Answering) (w : WorldState) (lines : List (List
   pub answered : AnswersLines answers w lines text after
   pub written : Appends old new text
 
+-- new has besides what is written to the end: what is answered to all lines, and the ending
+pub record AnswersToEnd (answers : Answering) (ending : WorldState → List ℕ) (w : WorldState)
+    (lines : List (List ℕ)) (old new : Option (List ℕ)) : Type 0 where
+  pub after : WorldState
+  pub told : List ℕ
+  pub answered : AnswersLines answers w lines told after
+  pub written : Appends old new (told ++ ending after)
+
+-- new has besides a front of it
+pub record AnswersInEnding (answers : Answering) (ending : WorldState → List ℕ) (w : WorldState)
+    (lines : List (List ℕ)) (old new : Option (List ℕ)) : Type 0 where
+  pub after : WorldState
+  pub told : List ℕ
+  pub front : List ℕ
+  pub rest : List ℕ
+  pub answered : AnswersLines answers w lines told after
+  pub split : front ++ rest ≡ told ++ ending after
+  pub written : Appends old new front
+
 -- new has besides a front of what is answered to the lines up to some line
 pub record AnswersUpTo (answers : Answering) (w : WorldState) (lines : List (List ℕ))
     (old new : Option (List ℕ)) : Type 0 where

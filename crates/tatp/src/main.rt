@@ -119,7 +119,13 @@ fn run<R: Input + Print + Eprint + Threads + Wait + Sync>(
         } => status(
             rt,
             run_call(
-                alloc, reader, writer, population, partitions, rows, input_limit,
+                alloc,
+                reader,
+                writer,
+                population,
+                partitions,
+                rows,
+                input_limit,
             ),
         ),
         Task::Trace(setup) => status(rt, run_trace(alloc, reader, writer, setup)),

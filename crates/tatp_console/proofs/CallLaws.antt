@@ -1,5 +1,5 @@
 -- What is answered to the lines of `call`.
-use Rattle.std.proofs.Common.{◌≡◌, ℕ, ◌∙◌, sym, ap, Bool, List, [], ◌∷◌, ◌++◌, length, refl, append_assoc, inl, inr}
+use Rattle.std.proofs.Common.{◌≡◌, ℕ, ◌∙◌, sym, ap, subst, Bool, List, [], ◌∷◌, ◌++◌, length, refl, append_assoc, inl, inr}
 use Rattle.std.proofs.lemmas.List.{append-nil}
 use Rattle.tatp_encoding.specs.Modules.{ModuleState}
 use Rattle.tatp_tables.specs.Database.{Database}
@@ -13,14 +13,19 @@ use Rattle.tatp_console.specs.Replying.{AnswersLine, RepliesTo, answers_call, ro
 use Rattle.tatp_console.specs.Served.{call_in, line_answer, replies, database_after, rows_left, Served, ServedFront}
 
 -- ---- a line
-pub line_replied : (w w' : WorldState) (line old told new : List ℕ) → AnswersLine line (set_back w) old told (set_back w') → new ≡ told ++ 10 ∷ [] → AppendsAnswer answers_call w line old new w'
-line_replied w w' line old told new a e =
+reply_appended : (w w' : WorldState) (line old told new : List ℕ) → AnswersLine line (set_back w) old told (set_back w') → new ≡ told ++ 10 ∷ [] → AppendsAnswer answers_call w line old new w'
+reply_appended w w' line old told new a e =
     let text = (line_answer a.refused (call_in line) (set_back w)).text in
     record {
       text = text ++ 10 ∷ [];
       answered = record { refused = a.refused; told = refl; database = a.database };
       appended = e ∙ (ap (λ ts. ts ++ 10 ∷ []) a.told ∙ append_assoc old text (10 ∷ []));
     }
+
+-- what is kept of calls was let go before
+pub line_replied : (w b w' : WorldState) (line old told new : List ℕ) → set_back b ≡ set_back w → AnswersLine line (set_back b) old told (set_back w') → new ≡ told ++ 10 ∷ []
+    → AppendsAnswer answers_call w line old new w'
+line_replied w b w' line old told new back a e = reply_appended w w' line old told new (subst (λ (u : Database). AnswersLine line u old told (set_back w')) back a) e
 
 -- ---- lines, whichever marks and lines come after them
 -- some marks are those of the lines: with others after them the replies to the lines and to others are the text, and after it the replies to the others

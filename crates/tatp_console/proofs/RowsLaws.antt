@@ -9,7 +9,6 @@ use Rattle.std.proofs.lemmas.List.{append-nil}
 use Rattle.std.proofs.lemmas.Option.{same_Some, slice_get_cases}
 use Rattle.tatp_tables.specs.Database.{Database, of_subscriber}
 use Rattle.tatp_homes.specs.Home.{SubscriberRows}
-use Rattle.tatp_machine.specs.Calls.{Frame}
 use Rattle.tatp_partition.specs.Sites.{SiteState, RunningCall, home_here}
 use Rattle.tatp_dispatch.specs.Gathered.{gathered}
 use Rattle.tatp_dispatch.specs.Serving.{IsWorld}
@@ -34,11 +33,11 @@ none_of_none : {A B : Type 0} (f : A → B) (x : Option A) → option_map f x �
 none_of_none f None e = refl
 none_of_none f (Some a) e = cc
 
-pub rest_at_one_more : (w : WorldState) (p : ℕ) (s : SiteState) (frame : Option Frame) → RestUpTo w p → slice_get w.sites p ≡ Some s
-    → frame ≡ option_map (λ (r : RunningCall). r.call.frame) s.running → frame ≡ None → RestUpTo w (p + 1)
-rest_at_one_more w p s frame rest at shown none q t before there =
+pub rest_at_one_more : (w : WorldState) (p : ℕ) (s : SiteState) (client : Option ℕ) → RestUpTo w p → slice_get w.sites p ≡ Some s
+    → client ≡ option_map (λ (r : RunningCall). r.client) s.running → client ≡ None → RestUpTo w (p + 1)
+rest_at_one_more w p s client rest at shown none q t before there =
     elim (eq-or-lt_of_le (omega (arith, before))) as (λ _. t.running ≡ None) [
-      | inl e ↦ subst (λ (x : SiteState). x.running ≡ None) (same_Some s t (sym at ∙ (ap (slice_get w.sites) (sym e) ∙ there))) (none_of_none (λ (r : RunningCall). r.call.frame) s.running (sym shown ∙ none))
+      | inl e ↦ subst (λ (x : SiteState). x.running ≡ None) (same_Some s t (sym at ∙ (ap (slice_get w.sites) (sym e) ∙ there))) (none_of_none (λ (r : RunningCall). r.client) s.running (sym shown ∙ none))
       | inr less ↦ rest q t less there
     ]
 

@@ -161,7 +161,12 @@ pub(crate) fn answer_all<C: LineCommand, R: Read, W: Write>(
     let subscribers = rows.subscribers.len() as u64;
     let mut world = open_world(alloc, &loaded, setup, rows)?;
     let answered = answer_to_the_end::<C, R, W>(
-        alloc, &mut world, subscribers, &mut lines, reader, writer,
+        alloc,
+        &mut world,
+        subscribers,
+        &mut lines,
+        reader,
+        writer,
     );
     world.close();
     answered?;

@@ -27,6 +27,7 @@ fn partitions_of(world: &World<'_>) -> u8
 }
 
 /// The whole with the same rows, opened anew, where memory for it is there and no call runs.
+#[tactic(auto, using(crate::proofs::RenewalLaws::rows_clean, crate::proofs::RenewalLaws::rows_few, crate::proofs::RenewalLaws::opened_standard, crate::proofs::RenewalLaws::opened_back))]
 fn opened_anew<'m>(alloc: Global, world: &World<'m>) -> Option<World<'m>>
     requires standard { world.now.modul ≡ standard_module }
     ensures standard { IfSome result (λ fresh. fresh.modul ≡ standard_module) }
@@ -36,8 +37,13 @@ fn opened_anew<'m>(alloc: Global, world: &World<'m>) -> Option<World<'m>>
         return None;
     }
     let loaded = world.site(0)?.loaded();
-    let rows = world.gather(alloc).ok()?;
-    World::open_clean(alloc, loaded, rows, partitions_of(world), 1).ok()
+    let Ok(rows) = world.gather(alloc) else {
+        return None;
+    };
+    match World::open_clean(alloc, loaded, rows, partitions_of(world), 1) {
+        Ok(fresh) => Some(fresh),
+        Err(_) => None,
+    }
 }
 
 /// Lets go what is kept of the completed calls, where they are many: the rows are opened anew. What
@@ -50,7 +56,8 @@ pub(crate) fn let_calls_go<'m>(alloc: Global, world: &mut World<'m>)
     let completed = world.completions().len();
     if completed > 0 && completed % KEPT_CALLS == 0 {
         if let Some(fresh) = opened_anew(alloc, world) {
-            mem::replace(world, fresh).close();
+            let before = mem::replace(world, fresh);
+            before.close();
         }
     }
 }

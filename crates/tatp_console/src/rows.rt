@@ -19,35 +19,33 @@ use tatp_streams::{StreamFault, write_if_full, write_last};
 use tatp_trace_lines::home_text;
 
 /// Whether no call runs; then the database with all running calls set back is the gathered one.
+#[tactic(auto, using(crate::proofs::RowsLaws::rest_from_start, crate::proofs::RowsLaws::rest_at_one_more, crate::proofs::RowsLaws::nothing_back))]
 pub(crate) fn is_at_rest(world: &World<'_>) -> bool
     ensures { result ≡ true → set_back world.now ≡ gathered world.now }
 {
-    'sites: for p in 0..=MAX_PARTITIONS as u64 {
-        match world.site(p) {
-            None => return true,
-            Some(site) => {
-                if site.machine().is_some() {
-                    return false;
-                }
-            }
+    'sites: for p in 0..MAX_PARTITIONS as u64 + 1 {
+        let Some(site) = world.site(p) else {
+            return true;
+        };
+        if site.client().is_some() {
+            return false;
         }
     }
     false
 }
 
 /// The home of a subscriber, at whichever site it is.
+#[tactic(auto, using(crate::proofs::RowsLaws::home_found))]
 fn home_in<'w>(world: &'w World<'_>, s_id: u64) -> Option<&'w Home>
     ensures { IfSome result
         (λ home. of_subscriber (gathered world.now) s_id ≡ home.now.tables) }
 {
     'sites: for p in 0..MAX_PARTITIONS as u64 {
-        match world.site(p) {
-            None => return None,
-            Some(site) => {
-                if let Ok(home) = home_rows(site, s_id) {
-                    return Some(home);
-                }
-            }
+        let Some(site) = world.site(p) else {
+            return None;
+        };
+        if let Ok(home) = home_rows(site, s_id) {
+            return Some(home);
         }
     }
     None

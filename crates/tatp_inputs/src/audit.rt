@@ -15,11 +15,7 @@ use tatp_audits::{Verdict, audit};
 use tatp_streams::write_last;
 
 /// The verdict on the rows that an input is.
-fn judged<R: Read>(
-    alloc: Global,
-    reader: &mut R,
-    input_limit: usize,
-) -> Result<Verdict, InputFault>
+fn judged<R: Read>(alloc: Global, reader: &mut R, input_limit: usize) -> Result<Verdict, InputFault>
     requires limit { IsInputLimit input_limit }
     ensures verdict { IfOk result (λ verdict.
         IfSome (R.remaining reader.old) (λ input. IsVerdictOn input verdict)) }

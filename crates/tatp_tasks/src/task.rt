@@ -22,7 +22,9 @@ pub enum Task {
     Check,
     /// Test whether rows are clean. So many bytes of the input are read at most, 1 to
     /// `MAX_INPUT_LIMIT`.
-    Audit { input_limit: usize },
+    Audit {
+        input_limit: usize,
+    },
     /// Run the benchmark, and tell how it goes on or not.
     Bench {
         plan: BenchPlan,

@@ -5,4 +5,4 @@ use Rattle.tatp_console.proofs.rows.write_homes.Given as goal
 
 abbrev pub invariant-homes : goal.invariant-homes
 invariant-homes g l =
-    RowsSoFar (gathered l.world.now) l.subscribers l.before (g.W.Write.contents l.fn.writer) (g.W.Write.contents l.writer) (string_bytes l.pending)
+    RowsSoFar (gathered l.world) l.subscribers l.before (g.W.Write.contents l.fn.writer) (g.W.Write.contents l.writer) (string_bytes l.pending)

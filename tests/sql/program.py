@@ -1,19 +1,8 @@
 """What is put into both databases, and what the program answers: the one module here that knows how rows, calls,
-replies and the rows at the end are had. The rows at the end come from `trace`, which is asked for each home."""
+replies and the rows at the end are had."""
 import runs
-from model.calls import STANDARD, TRANSACTIONS
-from model.tables import STARTS
 
 SECONDS = 1800
-
-
-def most_steps(procedure):
-    """A call makes each instruction of its procedure at most once, or where that has a LOOP, once for each start."""
-    has_loop = any(instruction.mnemonic == "LOOP" for instruction in procedure.code)
-    return len(procedure.code) * (len(STARTS) if has_loop else 1)
-
-
-STEPS = {name: most_steps(procedure) for name, procedure in zip(TRANSACTIONS, STANDARD.procedures)}
 
 
 def lines_of(done):
@@ -50,19 +39,9 @@ def replies_on_drawn(program, seed, n, calls):
     return lines_of(runs.run(program, words, text_of(calls), SECONDS))
 
 
-def subscribers(rows):
-    """How many subscribers the rows have."""
-    return sum(row.startswith("S ") for row in rows)
-
-
 def replies_and_rows(program, rows, calls):
-    """What `trace` replies to the calls on the rows, and the rows after them: by subscriber, then by table, then by
-    key."""
-    events = []
-    for call in calls:
-        events += ["submit 0 " + call, "begin 0", "steps 0 %d" % STEPS[call.split(" ")[0]]]
-    events += ["home 0 %d" % s for s in range(1, subscribers(rows) + 1)]
-    words = ["trace", "--partitions", "1"]
-    lines = lines_of(runs.run(program, words, text_of(rows + ["."] + events), SECONDS))
-    ends = [line.split(" ", 2)[2] for line in lines if line.startswith("ENDED ")]
-    return ends, [line for line in lines if line[:2] in ("S ", "A ", "F ", "C ")]
+    """What `call --rows` replies to the calls on the rows, and the rows after them: by subscriber, then by table, then
+    by key."""
+    lines = lines_of(runs.run(program, ["call", "--rows"], text_of(rows + ["."] + calls), SECONDS))
+    end = lines.index(".") if "." in lines else len(lines)
+    return lines[:end], lines[end + 1 :]

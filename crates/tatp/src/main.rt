@@ -115,12 +115,25 @@ fn run<R: Input + Print + Eprint + Threads + Wait + Sync>(
         Task::Call {
             population,
             partitions,
-        } => status(rt, run_call(alloc, reader, writer, population, partitions)),
+            rows,
+            input_limit,
+        } => status(
+            rt,
+            run_call(
+                alloc,
+                reader,
+                writer,
+                population,
+                partitions,
+                rows,
+                input_limit,
+            ),
+        ),
         Task::Trace(setup) => status(rt, run_trace(alloc, reader, writer, setup)),
         Task::Asm => status(rt, run_asm(alloc, reader, writer)),
         Task::Dis => status(rt, run_dis(alloc, reader, writer)),
         Task::Check => status(rt, run_check(alloc, reader, writer)),
-        Task::Audit => match run_audit(alloc, reader, writer) {
+        Task::Audit { input_limit } => match run_audit(alloc, reader, writer, input_limit) {
             Ok(true) => ExitCode::SUCCESS,
             Ok(false) => ExitCode::from(STOPPED),
             Err(fault) => tell(rt, &fault),

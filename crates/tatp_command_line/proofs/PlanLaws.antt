@@ -9,5 +9,5 @@ pub same_plan : (a b : BenchPlan)
 same_plan a b subscribers partitions clients calls seed distribution moves stops chapter =
     rw (subscribers, partitions, clients, calls, seed, distribution, moves, stops, chapter) refl
 
-pub same_setup : (a b : Setup) → a.procedures ≡ b.procedures → a.population ≡ b.population → a.partitions ≡ b.partitions → a.clients ≡ b.clients → a ≡ b
-same_setup a b procedures population partitions clients = rw (procedures, population, partitions, clients) refl
+pub same_setup : (a b : Setup) → a.procedures ≡ b.procedures → a.population ≡ b.population → a.partitions ≡ b.partitions → a.clients ≡ b.clients → a.input_limit ≡ b.input_limit → a ≡ b
+same_setup a b procedures population partitions clients input_limit = rw (procedures, population, partitions, clients, input_limit) refl

@@ -3,19 +3,22 @@ use Rattle.std.specs.Prelude.{◌≡◌, List, IsSomeAnd, codes}
 use Rattle.clap.specs.Walk.{Row, Text}
 use Rattle.clap.specs.Simple.{subcommand_of}
 use Rattle.tatp_tasks.specs.declared.task.Task.{Task}
-use Rattle.tatp_tasks.specs.declared.task.Task.TheVariants.{Call, Trace, Bench, Rows, Calls, Explain}
+use Rattle.tatp_tasks.specs.declared.task.Task.TheVariants.{Call, Trace, Audit, Bench, Rows, Calls, Explain}
 use Rattle.tatp_tasks.specs.Tasks.{name_of}
 use Rattle.tatp_command_line.specs.Numbers.{HasNumber, number_asked, HasNumberIfGiven, number_if_given}
-use Rattle.tatp_command_line.specs.Options.{partitions, number, is_given, HasPopulation, population_asked, HasSetup, setup_asked, HasPlan, plan_asked, HasRowsPlan, rows_plan_asked, HasCallsPlan, calls_plan_asked}
+use Rattle.tatp_command_line.specs.Options.{partitions, input_limit, number, is_given, HasPopulation, population_asked, HasSetup, setup_asked, HasPlan, plan_asked, HasRowsPlan, rows_plan_asked, HasCallsPlan, calls_plan_asked}
 use Rattle.tatp_command_line.specs.CommandLine.{command_line}
 
 -- the options of the task's command have their values, and each field of the task is what they ask
 -- for
 abbrev pub IsAskedBy : List Row → Task → Type 0
-IsAskedBy given (Call population over) =
-    (HasPopulation given × HasNumber partitions given)
+IsAskedBy given (Call population over rows limit) =
+    (HasPopulation given × HasNumber partitions given × HasNumber input_limit given)
     × (population ≡ population_asked given) × (over ≡ number_asked partitions given)
+    × (rows ≡ is_given (codes "rows") given) × (limit ≡ number_asked input_limit given)
 IsAskedBy given (Trace setup) = HasSetup given × (setup ≡ setup_asked given)
+IsAskedBy given (Audit limit) =
+    HasNumber input_limit given × (limit ≡ number_asked input_limit given)
 IsAskedBy given (Bench plan progress) =
     HasPlan given × (plan ≡ plan_asked given) × (progress ≡ is_given (codes "progress") given)
 IsAskedBy given (Rows plan) = HasRowsPlan given × (plan ≡ rows_plan_asked given)

@@ -7,7 +7,7 @@ use Rattle.clap.specs.declared.builder.action.ArgAction.TheVariants.{SetTrue}
 use Rattle.clap.specs.declared.builder.command.Command.{Command}
 use Rattle.clap.specs.declared.builder.command.Command.TheViews.{out-Command}
 use Rattle.tatp_command_line.specs.Numbers.{Ranged}
-use Rattle.tatp_command_line.specs.Options.{gen, subscribers, seed, partitions, clients, calls, moves, stops, chapter, rows_gen, drawn_calls, client, number}
+use Rattle.tatp_command_line.specs.Options.{gen, subscribers, seed, partitions, clients, calls, moves, stops, chapter, input_limit, rows_gen, drawn_calls, client, number}
 
 -- ---- what the parse of the words goes by
 -- an option that takes a number: any text, which is read afterwards
@@ -30,8 +30,15 @@ command_with rules name = record (new_shape name) { rules = rules }
 abbrev pub rows_rules : List Rule
 rows_rules = number_rule gen ∷ number_rule seed ∷ number_rule partitions ∷ []
 
+abbrev pub call_rules : List Rule
+call_rules = rows_rules ++ switch_rule (codes "rows") ∷ number_rule input_limit ∷ []
+
 abbrev pub trace_rules : List Rule
-trace_rules = rows_rules ++ number_rule clients ∷ switch_rule (codes "procedures") ∷ []
+trace_rules = rows_rules ++ number_rule clients ∷ switch_rule (codes "procedures")
+    ∷ number_rule input_limit ∷ []
+
+abbrev pub audit_rules : List Rule
+audit_rules = number_rule input_limit ∷ []
 
 abbrev pub bench_rules : List Rule
 bench_rules = number_rule subscribers ∷ number_rule partitions ∷ number_rule clients
@@ -50,12 +57,12 @@ drawn_calls_rules = number_rule subscribers ∷ number_rule drawn_calls ∷ numb
 
 abbrev pub commands : List Shape
 commands =
-    command_with rows_rules (codes "call")
+    command_with call_rules (codes "call")
     ∷ command_with trace_rules (codes "trace")
     ∷ command_with [] (codes "asm")
     ∷ command_with [] (codes "dis")
     ∷ command_with [] (codes "check")
-    ∷ command_with [] (codes "audit")
+    ∷ command_with audit_rules (codes "audit")
     ∷ command_with (bench_rules ++ meanwhile_rules) (codes "bench")
     ∷ command_with drawn_rows_rules (codes "rows")
     ∷ command_with drawn_calls_rules (codes "calls")

@@ -3,6 +3,7 @@ use Rattle.std.specs.Prelude.{ℕ, ◌^◌, ◌-◌, Bool, true, false, List, Op
 use Rattle.std.specs.Option.{option_map_or}
 use Rattle.clap.specs.Walk.{Row, first_of}
 use Rattle.tatp_limits.specs.declared.limits.TheConstants.{MAX_BENCH_CALLS, MAX_BENCH_CHAPTER, MAX_BENCH_MOVES, MAX_BENCH_STOPS, MAX_CLIENTS, MAX_PARTITIONS, MAX_SUBSCRIBERS}
+use Rattle.tatp_streams.specs.declared.limit.TheConstants.{MAX_INPUT_LIMIT}
 use Rattle.tatp_driver.specs.declared.distribution.Distribution.{Distribution}
 use Rattle.tatp_driver.specs.declared.distribution.Distribution.TheVariants.{Skewed, Uniform}
 use Rattle.tatp_tasks.specs.declared.load.CallsPlan.{CallsPlan}
@@ -77,6 +78,10 @@ drawn_calls = required_from 1 MAX_DRAWN_CALLS (codes "calls")
 abbrev pub client : Ranged
 client = optional_from 0 (MAX_CLIENTS - 1) (Some (codes "0")) (codes "client")
 
+-- how many bytes of the input are read at most
+abbrev pub input_limit : Ranged
+input_limit = optional_from 1 MAX_INPUT_LIMIT (Some (codes "134217728")) (codes "input-limit")
+
 -- the number that is to be explained, a word without an option before it
 abbrev pub number : Ranged
 number = record (optional_from 0 (2 ^ 64 - 1) None (codes "number")) { alone = true }
@@ -113,6 +118,7 @@ pub record HasSetup (given : List Row) : Type 0 where
   pub population : HasPopulation given
   pub partitions : HasNumber partitions given
   pub clients : HasNumber clients given
+  pub input_limit : HasNumber input_limit given
 
 abbrev pub setup_asked : List Row → Setup
 setup_asked given = record {
@@ -120,6 +126,7 @@ setup_asked given = record {
   population = population_asked given;
   partitions = number_asked partitions given;
   clients = number_asked clients given;
+  input_limit = number_asked input_limit given;
 }
 
 -- ---- the run of the benchmark

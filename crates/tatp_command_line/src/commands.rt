@@ -1,13 +1,13 @@
 //! The commands of the command line, with their options.
 ghost use Rattle.std.specs.Prelude.{◌≡◌, ◌++◌, [], ◌∷◌, true, false, IfOk, codes};
 ghost use Rattle.clap.specs.Walk.{rule_of};
-ghost use Rattle.tatp_command_line.specs.CommandLine.{number_rule, switch_rule, command_with, rows_rules, trace_rules, bench_rules, meanwhile_rules, drawn_rows_rules, drawn_calls_rules, program, command_line, IsApp, IsLeaf};
+ghost use Rattle.tatp_command_line.specs.CommandLine.{number_rule, switch_rule, command_with, rows_rules, call_rules, trace_rules, audit_rules, bench_rules, meanwhile_rules, drawn_rows_rules, drawn_calls_rules, program, command_line, IsApp, IsLeaf};
 ghost use Rattle.tatp_command_line.specs.Options.{number};
 
 use crate::help::{ASM, AUDIT, BENCH, CALL, CALLS_HELP, CHECK, DIS, EXPLAIN, PROGRAM, ROWS, TRACE};
 use crate::options::{
-    CALLS, CHAPTER, CLIENT, CLIENTS, DRAWN_CALLS, GEN, MOVES, NUMBER, PARTITIONS, ROWS_GEN, SEED,
-    STOPS, SUBSCRIBERS,
+    CALLS, CHAPTER, CLIENT, CLIENTS, DRAWN_CALLS, GEN, INPUT_LIMIT, MOVES, NUMBER, PARTITIONS,
+    ROWS_GEN, SEED, STOPS, SUBSCRIBERS,
 };
 use clap::{Arg, ArgAction, Command};
 use std::alloc::{AllocError, Global};
@@ -35,13 +35,20 @@ fn over_rows<'a>(alloc: Global, name: &'a str, about: &'a str) -> Result<Command
 }
 
 fn call<'a>(alloc: Global) -> Result<Command<'a>, AllocError>
-    ensures { IfOk result (IsLeaf (command_with rows_rules (codes "call"))) }
+    ensures { IfOk result (IsLeaf (command_with call_rules (codes "call"))) }
 {
     let command = over_rows(
         alloc,
         "call",
         "Answer calls of the seven transactions, one reply a line",
     )?;
+    let command = command
+        .arg(switch(
+            alloc,
+            "rows",
+            "Write a line with a dot and the rows after the replies",
+        ))?
+        .arg(INPUT_LIMIT.arg(alloc))?;
     Ok(command.after_help(CALL))
 }
 
@@ -53,12 +60,24 @@ fn trace<'a>(alloc: Global) -> Result<Command<'a>, AllocError>
         "trace",
         "Step, stop and look at the machines of partitions, and move ranges between them",
     )?;
-    let command = command.arg(CLIENTS.arg(alloc))?.arg(switch(
-        alloc,
-        "procedures",
-        "Run the procedures whose assembly text stands at the front of the input",
-    ))?;
+    let command = command
+        .arg(CLIENTS.arg(alloc))?
+        .arg(switch(
+            alloc,
+            "procedures",
+            "Run the procedures whose assembly text stands at the front of the input",
+        ))?
+        .arg(INPUT_LIMIT.arg(alloc))?;
     Ok(command.after_help(TRACE))
+}
+
+fn audit<'a>(alloc: Global) -> Result<Command<'a>, AllocError>
+    ensures { IfOk result (IsLeaf (command_with audit_rules (codes "audit"))) }
+{
+    Command::new(alloc, "audit")
+        .about("Test whether rows are a clean population")
+        .after_help(AUDIT)
+        .arg(INPUT_LIMIT.arg(alloc))
 }
 
 /// The options of a run of the benchmark that tell of its database and its clients.
@@ -167,12 +186,7 @@ pub(crate) fn command<'a>(alloc: Global) -> Result<Command<'a>, AllocError>
         ))?
         .subcommand(plain(alloc, "dis", "Print a module as assembly text", DIS))?
         .subcommand(plain(alloc, "check", "Test whether a module may be run", CHECK))?
-        .subcommand(plain(
-            alloc,
-            "audit",
-            "Test whether rows are a clean population",
-            AUDIT,
-        ))?
+        .subcommand(audit(alloc)?)?
         .subcommand(bench_with_moves(alloc)?)?
         .subcommand(rows(alloc)?)?
         .subcommand(calls(alloc)?)?

@@ -15,13 +15,16 @@ The input is the rows of a population, a line with a dot, and the calls; a row o
 The reply to a call is OK and the values, FAILED and why, or REFUSED and why. In how many partitions
 the rows are opened changes no byte of the replies. A call is answered when its line has come: type
 calls at a terminal, or let a program send each after the reply to the last. Ctrl-D ends the input.
+With --rows a line with a dot follows the last reply, and then the rows as all calls left them.
 
-A completed call is kept to the end, in the log of its subscriber's extent and among all completed
-calls: about 460 bytes of memory, so 2.3 million calls a GiB, besides the rows. Nothing else grows.
+A completed call is kept, in the log of its subscriber's extent and among all completed calls, in
+about 460 bytes of memory. After each 2,000,000 completed calls the rows are opened anew, where
+there is memory for them besides, and those calls are let go. Nothing else grows.
 
 Examples:
   tatp call < examples/first-run.txt
   tatp call --gen 1000 --seed 7 < calls.txt
+  tatp call --gen 1000 --rows < calls.txt
   tatp call --gen 1000";
 
 /// Of `trace`.
@@ -96,7 +99,9 @@ pub(crate) const AUDIT: &str = "\
 The input is rows, one a line. Prints CLEAN and how many rows each table has, or the first audit
 that fails and its key; then the status is 1.
 
-Example: tatp audit < rows.txt";
+Examples:
+  tatp audit < rows.txt
+  tatp audit --input-limit 1000000000 < rows.txt";
 
 /// Of `bench`.
 pub(crate) const BENCH: &str = "\

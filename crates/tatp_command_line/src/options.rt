@@ -111,6 +111,11 @@ pub(crate) const CLIENT: NumberOption = number_option!(
     "Draw the calls of client C, counted from 0"
 );
 
+pub(crate) const INPUT_LIMIT: NumberOption = number_option!(
+    "input-limit" "B" in 1 to 1099511627776, Some("134217728"), false,
+    "Read at most B bytes of the input"
+);
+
 /// The number that is to be explained.
 pub(crate) const NUMBER: NumberOption = NumberOption {
     name: "number",

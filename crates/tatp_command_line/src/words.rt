@@ -6,16 +6,16 @@ ghost use Rattle.clap.specs.Simple.{subcommand_rows_of};
 ghost use Rattle.clap.specs.Walk.{rows_of};
 ghost use Rattle.tatp_tasks.specs.Loads.{IsRowsPlan, IsCallsPlan};
 ghost use Rattle.tatp_tasks.specs.Plans.{IsPlan};
-ghost use Rattle.tatp_tasks.specs.Populations.{IsPopulation, IsSetup};
+ghost use Rattle.tatp_tasks.specs.Populations.{IsPopulation, IsSetup, IsInputLimit};
 ghost use Rattle.tatp_tasks.specs.Tasks.{IsTask};
 ghost use Rattle.tatp_command_line.specs.Asked.{IsNamedBy, AskFor};
 ghost use Rattle.tatp_command_line.specs.Numbers.{HasNumber, number_asked};
-ghost use Rattle.tatp_command_line.specs.Options.{partitions, clients, HasPopulation, population_asked, HasSetup, setup_asked, HasPlan, plan_asked, distribution_asked, procedures_asked, HasRowsPlan, rows_plan_asked, HasCallsPlan, calls_plan_asked};
+ghost use Rattle.tatp_command_line.specs.Options.{partitions, clients, input_limit, HasPopulation, population_asked, HasSetup, setup_asked, HasPlan, plan_asked, distribution_asked, procedures_asked, HasRowsPlan, rows_plan_asked, HasCallsPlan, calls_plan_asked};
 
 use crate::commands::command;
 use crate::options::{
-    BadNumber, CALLS, CHAPTER, CLIENT, CLIENTS, DRAWN_CALLS, GEN, MOVES, NUMBER, PARTITIONS,
-    ROWS_GEN, SEED, STOPS, SUBSCRIBERS, is_given,
+    BadNumber, CALLS, CHAPTER, CLIENT, CLIENTS, DRAWN_CALLS, GEN, INPUT_LIMIT, MOVES, NUMBER,
+    PARTITIONS, ROWS_GEN, SEED, STOPS, SUBSCRIBERS, is_given,
 };
 use clap::error::ErrorKind;
 use clap::{ArgMatches, Error};
@@ -68,6 +68,15 @@ fn clients_of<'a>(options: &ArgMatches<'a>) -> Result<u16, BadNumber<'a>>
     Ok(CLIENTS.number(options)? as u16)
 }
 
+/// How many bytes of the input are read at most.
+fn input_limit_of<'a>(options: &ArgMatches<'a>) -> Result<usize, BadNumber<'a>>
+    ensures asked { OkIff result (HasNumber input_limit (rows_of (found_of options.now)))
+        (number_asked input_limit (rows_of (found_of options.now))) }
+    ensures possible { IfOk result IsInputLimit }
+{
+    Ok(INPUT_LIMIT.number(options)? as usize)
+}
+
 /// What a run over events is opened with.
 fn setup_of<'a>(options: &ArgMatches<'a>) -> Result<Setup, BadNumber<'a>>
     ensures asked { OkIff result (HasSetup (rows_of (found_of options.now)))
@@ -79,6 +88,7 @@ fn setup_of<'a>(options: &ArgMatches<'a>) -> Result<Setup, BadNumber<'a>>
         population: population_of(options)?,
         partitions: partitions_of(options)?,
         clients: clients_of(options)?,
+        input_limit: input_limit_of(options)?,
     })
 }
 
@@ -152,12 +162,16 @@ fn task_in<'a>(matches: &ArgMatches<'a>) -> Result<Option<Task>, BadNumber<'a>>
         "call" => Ok(Some(Task::Call {
             population: population_of(options)?,
             partitions: partitions_of(options)?,
+            rows: is_given(options, "rows"),
+            input_limit: input_limit_of(options)?,
         })),
         "trace" => Ok(Some(Task::Trace(setup_of(options)?))),
         "asm" => Ok(Some(Task::Asm)),
         "dis" => Ok(Some(Task::Dis)),
         "check" => Ok(Some(Task::Check)),
-        "audit" => Ok(Some(Task::Audit)),
+        "audit" => Ok(Some(Task::Audit {
+            input_limit: input_limit_of(options)?,
+        })),
         "bench" => Ok(Some(Task::Bench {
             plan: plan_of(options)?,
             progress: is_given(options, "progress"),

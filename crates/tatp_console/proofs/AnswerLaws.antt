@@ -1,15 +1,14 @@
 -- What answering lines one after another keeps.
-use Rattle.std.proofs.Common.{◌≡◌, ℕ, ◌∙◌, sym, ap, subst, List, [], ◌∷◌, ◌++◌, take, drop, refl, ◌≤◌, Option, Some, None, append_assoc, take-append-drop, inl, inr}
+use Rattle.std.proofs.Common.{◌≡◌, ℕ, ◌∙◌, sym, ap, subst, List, [], ◌∷◌, ◌++◌, take, drop, refl, ◌≤◌, Option, Some, None, append_assoc, take-append-drop, inl, inr, ◌⊎◌}
 use Rattle.std.specs.Option.{option_map, IfSome}
 use Rattle.std.specs.Io.KnownBytes.{Appends}
 use Rattle.std.proofs.lemmas.List.{append-nil}
-use Rattle.tatp_limits.specs.declared.limits.TheConstants.{MAX_INPUT_BYTES}
 use Rattle.tatp_dispatch.specs.Worlds.{WorldState}
-use Rattle.tatp_streams.specs.LineReading.{LinesLeft, Stays, Relates, with_line}
+use Rattle.tatp_streams.specs.LineReading.{LinesLeft, InputSize, IsWithinLimit, Stays, Relates, with_line}
 use Rattle.tatp_streams.proofs.LineReadingLaws.{relates_from_start, relates_line, relates_end, relates_all, relates_as}
 use Rattle.tatp_streams.specs.Writing.{AppendsFront, KeepsOrAppends}
 use Rattle.tatp_streams.proofs.StreamLaws.{appends_none, appends_both}
-use Rattle.tatp_console.specs.Answers.{Answering, AppendsAnswer, AnswersLines, AnswersAll, AnswersUpTo}
+use Rattle.tatp_console.specs.Answers.{Answering, AppendsAnswer, AnswersLines, AnswersAll, AnswersUpTo, AnswersToEnd, AnswersInEnding}
 
 -- ---- one line more
 no_lines : (answers : Answering) (w : WorldState) → AnswersLines answers w [] [] w
@@ -83,9 +82,8 @@ goes_written answers w now all left old new then pending rest g o =
 
 -- the end
 pub goes_to_end : (answers : Answering) (w now : WorldState) (all left : List (List ℕ)) (old new then : Option (List ℕ)) (pending : List ℕ)
-    → Going answers w all old new pending left now → left ≡ [] → Appends new then pending → AnswersAll answers w all old then
+    → Going answers w all old new pending left now → left ≡ [] → Appends new then pending → AnswersAll answers w all old then now
 goes_to_end answers w now all left old new then pending g e h = record {
-  after = now;
   text = g.written ++ pending;
   answered = subst (λ ls. AnswersLines answers w ls (g.written ++ pending) now) (sym (g.split ∙ (ap (λ ls. g.first ++ ls) e ∙ append-nil g.first))) g.answered;
   written = appends_both old new then g.written pending g.held h;
@@ -124,13 +122,13 @@ goes_so_far answers w now all left old new pending g = record {
 -- ---- of the lines that were left and that are, where those of the input are known
 pub record GoingOn (answers : Answering) (w : WorldState) (old new : Option (List ℕ)) (pending : List ℕ) (now : WorldState) (all left : LinesLeft) : Type 0 where
   pub goes : Going answers w all.lines old new pending left.lines now
-  pub input_length : left.input_length ≡ all.input_length
+  pub input : left.input ≡ all.input
 
 pub starts : (answers : Answering) (w : WorldState) (all : Option LinesLeft) (old : Option (List ℕ)) (pending : List ℕ) → pending ≡ []
     → Relates all all (GoingOn answers w old old pending w)
 starts answers w all old pending e =
     relates_from_start all (GoingOn answers w old old pending w)
-    (λ left. record { goes = goes_from_start answers w left.lines old pending e; input_length = refl })
+    (λ left. record { goes = goes_from_start answers w left.lines old pending e; input = refl })
 
 -- what was pending is written or not, and then a line is answered
 answered_next : (answers : Answering) (w now after : WorldState) (old new then : Option (List ℕ)) (pending rest longer line : List ℕ) (a l : LinesLeft)
@@ -138,7 +136,7 @@ answered_next : (answers : Answering) (w now after : WorldState) (old new then :
     → GoingOn answers w old new pending now a (with_line line l) → GoingOn answers w old then longer after a l
 answered_next answers w now after old new then pending rest longer line a l kept answered g = record {
   goes = goes_on answers w now after a.lines (line ∷ l.lines) l.lines old then rest longer line (goes_written answers w now a.lines (line ∷ l.lines) old new then pending rest g.goes kept) refl answered;
-  input_length = g.input_length;
+  input = g.input;
 }
 
 pub answers_next : (answers : Answering) (w now after : WorldState) (all left left' : Option LinesLeft) (old new then : Option (List ℕ)) (pending rest longer line : List ℕ)
@@ -153,16 +151,16 @@ pub writes_next : (answers : Answering) (w now : WorldState) (all left : Option 
     → Relates all left (GoingOn answers w old new pending now) → KeepsOrAppends pending rest new then → Relates all left (GoingOn answers w old then rest now)
 writes_next answers w now all left old new then pending rest h kept =
     relates_as all left (GoingOn answers w old new pending now) (GoingOn answers w old then rest now) h
-    (λ a l g. record { goes = goes_written answers w now a.lines l.lines old new then pending rest g.goes kept; input_length = g.input_length })
+    (λ a l g. record { goes = goes_written answers w now a.lines l.lines old new then pending rest g.goes kept; input = g.input })
 
 -- the end
 pub answers_all : (answers : Answering) (w now : WorldState) (all left left' : Option LinesLeft) (old new then : Option (List ℕ)) (pending : List ℕ)
-    → Relates all left (GoingOn answers w old new pending now) → Stays left left' → IfSome left' (λ l. l.lines ≡ []) → IfSome left' (λ l. l.input_length ≤ MAX_INPUT_BYTES) → Appends new then pending
-    → IfSome all (λ a. AnswersAll answers w a.lines old then × (a.input_length ≤ MAX_INPUT_BYTES))
+    → Relates all left (GoingOn answers w old new pending now) → Stays left left' → IfSome left' (λ l. l.lines ≡ []) → IfSome left' (λ l. IsWithinLimit l.input) → Appends new then pending
+    → IfSome all (λ a. AnswersAll answers w a.lines old then now × IsWithinLimit a.input)
 answers_all answers w now all left left' old new then pending h s none within written =
-    relates_all all left' (λ a l. AnswersAll answers w a.lines old then × (a.input_length ≤ MAX_INPUT_BYTES)) (λ a. AnswersAll answers w a.lines old then × (a.input_length ≤ MAX_INPUT_BYTES))
-    (relates_end all left left' (GoingOn answers w old new pending now) (λ a l. AnswersAll answers w a.lines old then × (a.input_length ≤ MAX_INPUT_BYTES)) h s none within
-    (λ a l empty short g. (goes_to_end answers w now a.lines l.lines old new then pending g.goes empty written, subst (λ n. n ≤ MAX_INPUT_BYTES) g.input_length short)))
+    relates_all all left' (λ a l. AnswersAll answers w a.lines old then now × IsWithinLimit a.input) (λ a. AnswersAll answers w a.lines old then now × IsWithinLimit a.input)
+    (relates_end all left left' (GoingOn answers w old new pending now) (λ a l. AnswersAll answers w a.lines old then now × IsWithinLimit a.input) h s none within
+    (λ a l empty short g. (goes_to_end answers w now a.lines l.lines old new then pending g.goes empty written, subst (λ (i : InputSize). IsWithinLimit i) g.input short)))
     (λ a l both. both)
 
 pub lines_answered : (P Q : LinesLeft → Type 0) (all : Option LinesLeft) → IfSome all (λ a. P a × Q a) → IfSome all P
@@ -185,3 +183,35 @@ pub answers_so_far : (answers : Answering) (w now : WorldState) (all left : Opti
 answers_so_far answers w now all left old new pending h =
     relates_all all left (GoingOn answers w old new pending now) (λ a. AnswersUpTo answers w a.lines old new) h
     (λ a l g. goes_so_far answers w now a.lines l.lines old new pending g.goes)
+
+-- ---- what follows the answers
+-- it is written
+pub answers_to_end : (answers : Answering) (ending : WorldState → List ℕ) (w after : WorldState) (all : Option LinesLeft) (old between new : Option (List ℕ))
+    → IfSome all (λ a. AnswersAll answers w a.lines old between after) → Appends between new (ending after) → IfSome all (λ a. AnswersToEnd answers ending w a.lines old new)
+answers_to_end answers ending w after None old between new h written = tt
+answers_to_end answers ending w after (Some a) old between new h written =
+    record { after = after; told = h.text; answered = h.answered; written = appends_both old between new h.text (ending after) h.written written }
+
+-- a front of it is
+pub answers_in_ending : (answers : Answering) (ending : WorldState → List ℕ) (w after : WorldState) (all : Option LinesLeft) (old between new : Option (List ℕ))
+    → IfSome all (λ a. AnswersAll answers w a.lines old between after) → AppendsFront (ending after) between new
+    → IfSome all (λ a. AnswersUpTo answers w a.lines old new ⊎ AnswersInEnding answers ending w a.lines old new)
+answers_in_ending answers ending w after None old between new h front = tt
+answers_in_ending answers ending w after (Some a) old between new h front =
+    let n = front.0 in
+    let last = ending after in
+    inr (record {
+      after = after;
+      told = h.text;
+      front = h.text ++ take n last;
+      rest = drop n last;
+      answered = h.answered;
+      split = append_assoc h.text (take n last) (drop n last) ∙ ap (λ text. h.text ++ text) (take-append-drop n last);
+      written = appends_both old between new h.text (take n last) h.written front.1;
+    })
+
+-- the answers aren't all written
+pub answers_before_ending : (answers : Answering) (ending : WorldState → List ℕ) (w : WorldState) (all : Option LinesLeft) (old new : Option (List ℕ))
+    → IfSome all (λ a. AnswersUpTo answers w a.lines old new) → IfSome all (λ a. AnswersUpTo answers w a.lines old new ⊎ AnswersInEnding answers ending w a.lines old new)
+answers_before_ending answers ending w None old new h = tt
+answers_before_ending answers ending w (Some a) old new h = inl h

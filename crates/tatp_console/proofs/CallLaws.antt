@@ -1,18 +1,20 @@
 -- What is answered to the lines of `call`.
-use Rattle.std.proofs.Common.{◌≡◌, ℕ, ◌∙◌, sym, ap, Bool, List, [], ◌∷◌, ◌++◌, refl, append_assoc}
+use Rattle.std.proofs.Common.{◌≡◌, ℕ, ◌∙◌, sym, ap, subst, Bool, List, [], ◌∷◌, ◌++◌, length, refl, append_assoc, inl, inr}
 use Rattle.std.proofs.lemmas.List.{append-nil}
 use Rattle.tatp_encoding.specs.Modules.{ModuleState}
+use Rattle.tatp_tables.specs.Database.{Database}
 use Rattle.tatp_dispatch.specs.Shown.{set_back}
 use Rattle.tatp_dispatch.specs.Worlds.{WorldState}
 use Rattle.tatp_tasks.specs.declared.setup.Setup.{Setup}
 use Rattle.tatp_inputs.specs.Work.{Work}
-use Rattle.tatp_console.specs.Answers.{AppendsAnswer, AnswersLines, AnswersWork, AnswersFront}
-use Rattle.tatp_console.specs.Replying.{AnswersLine, RepliesTo, answers_call}
-use Rattle.tatp_console.specs.Served.{call_in, line_answer, replies, Served, ServedFront}
+use Rattle.tatp_console.specs.Answers.{AppendsAnswer, AnswersLines, AnswersWork, AnswersSome, AnswersFront}
+use Rattle.tatp_console.specs.RowsWritten.{rows_if_asked}
+use Rattle.tatp_console.specs.Replying.{AnswersLine, RepliesTo, answers_call, rows_after}
+use Rattle.tatp_console.specs.Served.{call_in, line_answer, replies, database_after, rows_left, Served, ServedFront}
 
 -- ---- a line
-pub line_replied : (w w' : WorldState) (line old told new : List ℕ) → AnswersLine line (set_back w) old told (set_back w') → new ≡ told ++ 10 ∷ [] → AppendsAnswer answers_call w line old new w'
-line_replied w w' line old told new a e =
+reply_appended : (w w' : WorldState) (line old told new : List ℕ) → AnswersLine line (set_back w) old told (set_back w') → new ≡ told ++ 10 ∷ [] → AppendsAnswer answers_call w line old new w'
+reply_appended w w' line old told new a e =
     let text = (line_answer a.refused (call_in line) (set_back w)).text in
     record {
       text = text ++ 10 ∷ [];
@@ -20,18 +22,24 @@ line_replied w w' line old told new a e =
       appended = e ∙ (ap (λ ts. ts ++ 10 ∷ []) a.told ∙ append_assoc old text (10 ∷ []));
     }
 
+-- what is kept of calls was let go before
+pub line_replied : (w b w' : WorldState) (line old told new : List ℕ) → set_back b ≡ set_back w → AnswersLine line (set_back b) old told (set_back w') → new ≡ told ++ 10 ∷ []
+    → AppendsAnswer answers_call w line old new w'
+line_replied w b w' line old told new back a e = reply_appended w w' line old told new (subst (λ (u : Database). AnswersLine line u old told (set_back w')) back a) e
+
 -- ---- lines, whichever marks and lines come after them
 -- some marks are those of the lines: with others after them the replies to the lines and to others are the text, and after it the replies to the others
 abbrev HasReplies : WorldState → List (List ℕ) → List ℕ → WorldState → Type 0
 HasReplies w lines text w' =
     (marks : List Bool) × ((later : List Bool) (more : List (List ℕ)) → replies (marks ++ later) (lines ++ more) (set_back w) ≡ text ++ replies later more (set_back w'))
+    × ((later : List Bool) (more : List (List ℕ)) → database_after (marks ++ later) (lines ++ more) (set_back w) ≡ database_after later more (set_back w'))
 
 no_line : (w w' : WorldState) (text : List ℕ) → text ≡ [] → w' ≡ w → HasReplies w [] text w'
-no_line w w' text e same = ([], λ later more. rw (e, same) refl)
+no_line w w' text e same = ([], λ later more. rw (e, same) refl, λ later more. rw same refl)
 
 line_before : (w b w' : WorldState) (line : List ℕ) (lines : List (List ℕ)) (text first rest : List ℕ) → RepliesTo line (set_back w) first (set_back b) → text ≡ first ++ rest
     → HasReplies b lines rest w' → HasReplies w (line ∷ lines) text w'
-unfolding replies
+unfolding replies database_after
 line_before w b w' line lines text first rest r e h = (
   r.refused ∷ h.0,
   λ later more.
@@ -40,6 +48,7 @@ line_before w b w' line lines text first rest r e h = (
       ap (λ u. reply ++ 10 ∷ replies (h.0 ++ later) (lines ++ more) u) (sym r.database)
       ∙ (ap (λ ts. reply ++ 10 ∷ ts) (h.1 later more)
       ∙ sym (ap (λ ts. ts ++ others) e ∙ (append_assoc first rest others ∙ (ap (λ ts. ts ++ (rest ++ others)) r.told ∙ append_assoc reply (10 ∷ []) (rest ++ others))))),
+  λ later more. ap (λ u. database_after (h.0 ++ later) (lines ++ more) u) (sym r.database) ∙ h.2 later more,
 )
 
 lines_replied : (w w' : WorldState) (lines : List (List ℕ)) (text : List ℕ) → AnswersLines answers_call w lines text w' → HasReplies w lines text w'
@@ -47,34 +56,51 @@ lines_replied w w' [] text t = no_line w w' text t.0 t.1
 lines_replied w w' (line ∷ lines) text t = line_before w t.0 w' line lines text t.1 t.2 t.3 t.4 (lines_replied t.0 w' lines t.2 t.5)
 
 -- ---- the lines of an input
-pub all_served : (setup : Setup) (m : ModuleState) (work : Work) (text : List ℕ) → AnswersWork answers_call setup m work text → Served work text
-unfolding replies
-all_served setup m work text a =
-    let h = lines_replied a.opened a.after work.lines text a.answered in (
+-- all of them are answered, and the rows follow
+with_rows : (rows : Bool) (n : ℕ) (text told whole : List ℕ) (after : WorldState) (u : Database) → text ≡ told ++ rows_after rows n after → whole ≡ told → u ≡ set_back after
+    → text ≡ whole ++ rows_if_asked rows n u
+with_rows rows n text told whole after u ended same back = rw (same, back) ended
+
+pub all_served : (rows : Bool) (setup : Setup) (m : ModuleState) (work : Work) (text : List ℕ) → AnswersWork answers_call (rows_after rows) setup m work text → Served rows work text
+unfolding replies database_after
+all_served rows setup m work text all =
+    let a = all.answered in
+    let h = lines_replied a.opened all.after work.lines all.told a.answered in (
       h.0 ++ [],
       record {
         few = a.few;
         clean = a.clean;
-        replied = sym (ap (λ u. replies (h.0 ++ []) work.lines u) (sym a.is_opened.back)
+        replied = with_rows rows (length work.rows.subscribers) text all.told _ all.after _ all.ended
+            (ap (λ u. replies (h.0 ++ []) work.lines u) (sym a.is_opened.back)
             ∙ (ap (λ ls. replies (h.0 ++ []) ls (set_back a.opened)) (sym (append-nil work.lines))
-            ∙ (h.1 [] [] ∙ append-nil text)));
+            ∙ (h.1 [] [] ∙ append-nil all.told)))
+            (ap (λ u. database_after (h.0 ++ []) work.lines u) (sym a.is_opened.back)
+            ∙ (ap (λ ls. database_after (h.0 ++ []) ls (set_back a.opened)) (sym (append-nil work.lines)) ∙ h.2 [] []));
       },
     )
 
-pub front_served : (setup : Setup) (m : ModuleState) (work : Work) (front : List ℕ) → AnswersFront answers_call setup m work front → ServedFront work front
-front_served setup m work front f =
+-- some of them are
+some_served : (rows : Bool) (setup : Setup) (m : ModuleState) (work : Work) (front : List ℕ) → AnswersSome answers_call setup m work front → ServedFront rows work front
+some_served rows setup m work front f =
     let a = f.answered in
-    let h = lines_replied a.opened a.after f.lines (front ++ f.rest) a.answered in
-    let others = replies [] f.later (set_back a.after) in (
-      f.rest ++ others,
+    let h = lines_replied a.opened f.after f.lines (front ++ f.rest) a.answered in
+    let others = replies [] f.later (set_back f.after) in
+    let last = rows_left rows (h.0 ++ []) work in (
+      (f.rest ++ others) ++ last,
       (
         h.0 ++ [],
         record {
           few = a.few;
           clean = a.clean;
-          replied = sym (ap (λ u. replies (h.0 ++ []) work.lines u) (sym a.is_opened.back)
+          replied = sym (append_assoc front (f.rest ++ others) last)
+              ∙ ap (λ ts. ts ++ last)
+              (sym (ap (λ u. replies (h.0 ++ []) work.lines u) (sym a.is_opened.back)
               ∙ (ap (λ ls. replies (h.0 ++ []) ls (set_back a.opened)) f.split
-              ∙ (h.1 [] f.later ∙ append_assoc front f.rest others)));
+              ∙ (h.1 [] f.later ∙ append_assoc front f.rest others))));
         },
       ),
     )
+
+pub front_served : (rows : Bool) (setup : Setup) (m : ModuleState) (work : Work) (front : List ℕ) → AnswersFront answers_call (rows_after rows) setup m work front → ServedFront rows work front
+front_served rows setup m work front f =
+    elim f [ inl some ↦ some_served rows setup m work front some | inr most ↦ (most.0, all_served rows setup m work (front ++ most.0) most.1) ]

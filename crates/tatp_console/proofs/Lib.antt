@@ -1,6 +1,8 @@
 pub mod AnswerLaws
 pub mod WorkLaws
 pub mod CallLaws
+pub mod RowsLaws
+pub mod RenewalLaws
 pub mod OrderLaws
 pub mod BytesLaws
 pub mod EventLineLaws

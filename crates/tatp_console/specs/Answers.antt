@@ -1,5 +1,5 @@
 -- What is answered to lines, one after another.
-use Rattle.std.specs.Prelude.{◌≡◌, ℕ, ◌≤◌, List, [], ◌∷◌, ◌++◌, length, Option}
+use Rattle.std.specs.Prelude.{◌≡◌, ◌⊎◌, ℕ, ◌≤◌, List, [], ◌∷◌, ◌++◌, length, Option}
 use Rattle.std.specs.Io.KnownBytes.{Appends}
 use Rattle.tatp_limits.specs.declared.limits.TheConstants.{MAX_SUBSCRIBERS}
 use Rattle.tatp_tables.specs.Clean.{IsClean}
@@ -15,6 +15,10 @@ use Rattle.tatp_console.specs.Brought.{IsModuleFor}
 -- what is answered to a line: from the whole before, by the line and the text, to the whole after
 abbrev pub Answering : Type 1
 Answering = WorldState → List ℕ → List ℕ → WorldState → Type 0
+
+-- what is written after the answers to all lines: by the number of subscribers and the whole then
+abbrev pub Ending : Type 0
+Ending = ℕ → WorldState → List ℕ
 
 -- what has to hold before a line does before the first
 abbrev pub IsReadyUnder : (WorldState → Type 0) → Procedures → Type 0
@@ -35,13 +39,31 @@ AnswersLines answers w (line ∷ lines) text w' =
     × (text ≡ first ++ rest) × AnswersLines answers between lines rest w'
 
 -- ---- bytes that a writer holds
--- new has besides what is answered to all lines
+-- new has besides what is answered to all lines, from the whole w to that after
 pub record AnswersAll (answers : Answering) (w : WorldState) (lines : List (List ℕ))
-    (old new : Option (List ℕ)) : Type 0 where
-  pub after : WorldState
+    (old new : Option (List ℕ)) (after : WorldState) : Type 0 where
   pub text : List ℕ
   pub answered : AnswersLines answers w lines text after
   pub written : Appends old new text
+
+-- new has besides what is written to the end: what is answered to all lines, and the ending
+pub record AnswersToEnd (answers : Answering) (ending : WorldState → List ℕ) (w : WorldState)
+    (lines : List (List ℕ)) (old new : Option (List ℕ)) : Type 0 where
+  pub after : WorldState
+  pub told : List ℕ
+  pub answered : AnswersLines answers w lines told after
+  pub written : Appends old new (told ++ ending after)
+
+-- new has besides a front of it
+pub record AnswersInEnding (answers : Answering) (ending : WorldState → List ℕ) (w : WorldState)
+    (lines : List (List ℕ)) (old new : Option (List ℕ)) : Type 0 where
+  pub after : WorldState
+  pub told : List ℕ
+  pub front : List ℕ
+  pub rest : List ℕ
+  pub answered : AnswersLines answers w lines told after
+  pub split : front ++ rest ≡ told ++ ending after
+  pub written : Appends old new front
 
 -- new has besides a front of what is answered to the lines up to some line
 pub record AnswersUpTo (answers : Answering) (w : WorldState) (lines : List (List ℕ))
@@ -58,21 +80,40 @@ pub record AnswersUpTo (answers : Answering) (w : WorldState) (lines : List (Lis
 -- ---- the lines of an input
 -- the text is what is answered to all lines of the work, from a whole that was just opened with its
 -- rows under the module m; they may be opened
-pub record AnswersWork (answers : Answering) (setup : Setup) (m : ModuleState) (work : Work)
-    (text : List ℕ) : Type 0 where
+pub record AnswersLinesOf (answers : Answering) (setup : Setup) (m : ModuleState) (work : Work)
+    (text : List ℕ) (after : WorldState) : Type 0 where
   pub few : length work.rows.subscribers ≤ MAX_SUBSCRIBERS
   pub clean : IsClean work.rows
   pub opened : WorldState
-  pub after : WorldState
   pub is_opened : IsOpened m work.rows setup.partitions setup.clients opened
   pub world : IsWorld opened
   pub answered : AnswersLines answers opened work.lines text after
 
+-- and after it stands the ending
+pub record AnswersWork (answers : Answering) (ending : Ending) (setup : Setup) (m : ModuleState)
+    (work : Work) (text : List ℕ) : Type 0 where
+  pub after : WorldState
+  pub told : List ℕ
+  pub answered : AnswersLinesOf answers setup m work told after
+  pub ended : text ≡ told ++ ending (length work.rows.subscribers) after
+
 -- a front of what is answered to the lines up to some line
-pub record AnswersFront (answers : Answering) (setup : Setup) (m : ModuleState) (work : Work)
+pub record AnswersSome (answers : Answering) (setup : Setup) (m : ModuleState) (work : Work)
     (front : List ℕ) : Type 0 where
   pub lines : List (List ℕ)
   pub later : List (List ℕ)
+  pub after : WorldState
   pub rest : List ℕ
   pub split : work.lines ≡ lines ++ later
-  pub answered : AnswersWork answers setup m (record work { lines = lines }) (front ++ rest)
+  pub answered
+      : AnswersLinesOf answers setup m (record work { lines = lines }) (front ++ rest) after
+
+-- a front of what is written for all lines
+abbrev pub AnswersMost : Answering → Ending → Setup → ModuleState → Work → List ℕ → Type 0
+AnswersMost answers ending setup m work front =
+    (rest : List ℕ) × AnswersWork answers ending setup m work (front ++ rest)
+
+-- either
+abbrev pub AnswersFront : Answering → Ending → Setup → ModuleState → Work → List ℕ → Type 0
+AnswersFront answers ending setup m work front =
+    AnswersSome answers setup m work front ⊎ AnswersMost answers ending setup m work front

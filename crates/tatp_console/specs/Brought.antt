@@ -81,7 +81,7 @@ pub record BringsModule (setup : Setup) (m : ModuleState) (n : ℕ) (all left : 
   pub under : IsModuleAsked setup.procedures all.lines m
   pub work : work_asked setup.procedures setup.population all.lines
       ≡ work_of setup.population n left.lines
-  pub input_length : left.input_length ≡ all.input_length
+  pub input : left.input ≡ all.input
 
 -- of all these lines the first bring this module and these rows, and those that are left are
 -- answered
@@ -90,7 +90,7 @@ pub record Brings (setup : Setup) (m : ModuleState) (rows : Rows) (all left : Li
   pub under : IsModuleAsked setup.procedures all.lines m
   pub work : work_asked setup.procedures setup.population all.lines
       ≡ Ok (record { rows = rows; lines = left.lines })
-  pub input_length : left.input_length ≡ all.input_length
+  pub input : left.input ≡ all.input
 
 -- the same fault among those of a run over lines
 abbrev pub module_fault : AssemblyFault → ConsoleFault

@@ -1,6 +1,7 @@
 pub mod Brought
 pub mod Works
 pub mod Answers
+pub mod RowsWritten
 pub mod Served
 pub mod Replying
 pub mod AnsweredCalls

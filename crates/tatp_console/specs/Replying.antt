@@ -2,7 +2,8 @@
 use Rattle.std.specs.Prelude.{◌≡◌, ℕ, Bool, List, [], ◌∷◌, ◌++◌}
 use Rattle.tatp_tables.specs.Database.{Database}
 use Rattle.tatp_dispatch.specs.Shown.{set_back}
-use Rattle.tatp_console.specs.Answers.{Answering}
+use Rattle.tatp_console.specs.Answers.{Answering, Ending}
+use Rattle.tatp_console.specs.RowsWritten.{rows_if_asked}
 use Rattle.tatp_console.specs.Served.{call_in, line_answer}
 
 -- the line's reply stands after what was pending, and the database is that after the line, which
@@ -18,6 +19,10 @@ pub record RepliesTo (line : List ℕ) (u : Database) (text : List ℕ) (u' : Da
   pub refused : Bool
   pub told : text ≡ (line_answer refused (call_in line) u).text ++ 10 ∷ []
   pub database : u' ≡ (line_answer refused (call_in line) u).database
+
+-- where rows are asked for, they follow the replies
+abbrev pub rows_after : Bool → Ending
+rows_after rows n w = rows_if_asked rows n (set_back w)
 
 -- the databases are those with each running call set back
 abbrev pub answers_call : Answering

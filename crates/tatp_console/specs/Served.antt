@@ -1,5 +1,6 @@
 -- What is written for the lines of `call`: one reply a line, in the order of the lines, each on the
--- database that the lines before it left.
+-- database that the lines before it left; and then, where they are asked for, the rows that all
+-- lines left.
 use Rattle.std.specs.Prelude.{◌≡◌, ℕ, ◌≤◌, Bool, true, false, List, [], ◌∷◌, ◌++◌, length, Option, Some, None, Result, Ok, Err, codes, decimal, if◌then◌else◌}
 use Rattle.std.specs.Str.{is_utf8}
 use Rattle.tatp_limits.specs.declared.limits.TheConstants.{MAX_SUBSCRIBERS}
@@ -14,6 +15,7 @@ use Rattle.tatp_procs.specs.CallText.{call_of_line}
 use Rattle.tatp_procs.specs.ReplyText.{reply_text}
 use Rattle.tatp_procs.specs.Transactions.{transaction}
 use Rattle.tatp_inputs.specs.Work.{Work}
+use Rattle.tatp_console.specs.RowsWritten.{rows_if_asked}
 
 -- ---- one line
 -- the call that a line is, which has to be text
@@ -64,18 +66,33 @@ replies refused (line ∷ more) u =
     let first = line_answer (first_mark refused) (call_in line) u in
     first.text ++ 10 ∷ replies (later_marks refused) more first.database
 
+-- the database after all lines, of which the marked ones were refused their memory
+unfoldable pub database_after : List Bool → List (List ℕ) → Database → Database
+database_after refused [] u = u
+database_after refused (line ∷ more) u =
+    database_after (later_marks refused) more
+    (line_answer (first_mark refused) (call_in line) u).database
+
 -- ---- an input
+-- the rows after all lines, where they are asked for
+abbrev pub rows_left : Bool → List Bool → Work → List ℕ
+rows_left rows refused work =
+    rows_if_asked rows (length work.rows.subscribers)
+    (database_after refused work.lines (database_of work.rows))
+
 -- the text is what is written for these rows and lines, where the marked lines were refused their
--- memory
-pub record ServesWork (refused : List Bool) (work : Work) (text : List ℕ) : Type 0 where
+-- memory, and where the rows left are asked for or not
+pub record ServesWork (rows : Bool) (refused : List Bool) (work : Work) (text : List ℕ)
+    : Type 0 where
   pub few : length work.rows.subscribers ≤ MAX_SUBSCRIBERS
   pub clean : IsClean work.rows
-  pub replied : text ≡ replies refused work.lines (database_of work.rows)
+  pub replied : text
+      ≡ replies refused work.lines (database_of work.rows) ++ rows_left rows refused work
 
 -- the same, where some lines were refused their memory
-abbrev pub Served : Work → List ℕ → Type 0
-Served work text = (refused : List Bool) × ServesWork refused work text
+abbrev pub Served : Bool → Work → List ℕ → Type 0
+Served rows work text = (refused : List Bool) × ServesWork rows refused work text
 
 -- it is a front of such a text
-abbrev pub ServedFront : Work → List ℕ → Type 0
-ServedFront work front = (rest : List ℕ) × Served work (front ++ rest)
+abbrev pub ServedFront : Bool → Work → List ℕ → Type 0
+ServedFront rows work front = (rest : List ℕ) × Served rows work (front ++ rest)

@@ -1,6 +1,6 @@
 -- trusted: read it
 -- What a run over event lines writes.
-use Rattle.std.specs.Prelude.{◌≡◌, ℕ, ◌≤◌, List, ◌++◌, length, Result}
+use Rattle.std.specs.Prelude.{◌≡◌, ℕ, ◌≤◌, List, [], ◌++◌, length, Result}
 use Rattle.tatp_limits.specs.declared.limits.TheConstants.{MAX_SUBSCRIBERS}
 use Rattle.tatp_tables.specs.Clean.{IsClean}
 use Rattle.tatp_tables.specs.declared.row.Rows.{Rows}
@@ -14,12 +14,16 @@ use Rattle.tatp_dispatch.specs.Worlds.{WorldState}
 use Rattle.tatp_console.specs.EventLines.{line_in, TellsLine, TellsLines, events_in}
 use Rattle.tatp_tasks.specs.declared.setup.Setup.{Setup}
 use Rattle.tatp_inputs.specs.Work.{Work}
-use Rattle.tatp_console.specs.Answers.{Answering}
+use Rattle.tatp_console.specs.Answers.{Answering, Ending}
 
 -- the text is told of the line
 abbrev pub answers_events : Answering
 answers_events w line text w' =
     (answers : List (Result Answer Refusal)) × TellsLine w (line_in line) answers text w'
+
+-- nothing follows the answers to all lines
+abbrev pub no_ending : Ending
+no_ending n w = []
 
 -- told is what is told of the lines, from a whole that was just opened with the rows under the
 -- module m; the answers are those of the lines' events, one after another, and are the benchmark's

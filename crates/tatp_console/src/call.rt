@@ -1,26 +1,32 @@
-//! The command `call`: a reply to each line.
-ghost use Rattle.std.specs.Prelude.{◌≡◌, ◌≤◌, length, IfErr, OnOk, IfSome};
+//! The command `call`: a reply to each line, and then the rows, where they are asked for.
+ghost use Rattle.std.specs.Prelude.{◌≡◌, ◌≤◌, true, false, length, IfErr, OnOk, IfSome};
 ghost use Rattle.std.specs.String.{string_bytes};
 ghost use Rattle.tatp_procs.specs.Standard.{standard_module};
 ghost use Rattle.tatp_dispatch.specs.Shown.{set_back};
-ghost use Rattle.tatp_tasks.specs.Populations.{IsPopulation};
+ghost use Rattle.tatp_tasks.specs.Populations.{IsPopulation, IsInputLimit};
 ghost use Rattle.tatp_tasks.specs.declared.procedures.Procedures.TheVariants.{Standard};
+ghost use Rattle.tatp_console.specs.Answers.{AppendsAnswer};
 ghost use Rattle.tatp_console.specs.Served.{call_in, Served, ServedFront};
-ghost use Rattle.tatp_console.specs.Replying.{AnswersLine, answers_call};
+ghost use Rattle.tatp_console.specs.Replying.{AnswersLine, answers_call, rows_after};
 ghost use Rattle.tatp_console.specs.Works.{WritesOfWork, Leaves};
 
 use crate::ConsoleFault;
 use crate::lines::{LineCommand, answer_all};
+use crate::renewal::let_calls_go;
+use crate::rows::write_rows;
 use std::alloc::{AllocError, Global};
 use std::io::{Read, Write};
 use tatp_dispatch::World;
-use tatp_limits::{MAX_INPUT_BYTES, MAX_PARTITIONS};
+use tatp_limits::MAX_PARTITIONS;
 use tatp_procs::{Ask, Call, ReplyRef, args_ok, push_reply, read_call};
-use tatp_streams::text_of;
+use tatp_streams::{StreamFault, text_of};
 use tatp_tasks::{Population, Procedures, Setup};
 
 /// The command `call`.
 struct Calls;
+
+/// The command `call --rows`.
+struct CallsAndRows;
 
 /// The call that a line is, which has to be text.
 #[tactic(auto, unfolding(crate::specs::Served::call_in))]
@@ -57,52 +63,113 @@ fn answer_line(world: &mut World<'_>, line: &[u8], pending: &mut String) -> Resu
     Ok(())
 }
 
+/// Appends the reply to a line, and a line feed.
+fn reply_to_line(
+    alloc: Global,
+    world: &mut World<'_>,
+    line: &[u8],
+    pending: &mut String,
+) -> Result<(), AllocError>
+    requires standard { world.old.modul ≡ standard_module }
+    ensures answered { OnOk result (AppendsAnswer answers_call world.old line.now
+        (string_bytes pending.old) (string_bytes pending.new) world.new) }
+    ensures standard { world.new.modul ≡ standard_module }
+{
+    let_calls_go(alloc, world);
+    answer_line(world, line, pending)?;
+    pending.push_str("\n")?;
+    Ok(())
+}
+
 impl LineCommand for Calls {
     ghost answers = { answers_call };
 
     ghost ready = { λ w. w.modul ≡ standard_module };
 
+    ghost ending = { rows_after false };
+
     fn answer(
-        _alloc: Global,
+        alloc: Global,
         world: &mut World<'_>,
         line: &[u8],
         pending: &mut String,
     ) -> Result<(), AllocError> {
-        answer_line(world, line, pending)?;
-        pending.push_str("\n")?;
+        reply_to_line(alloc, world, line, pending)
+    }
+
+    fn end<W: Write>(
+        _alloc: Global,
+        _world: &World<'_>,
+        _subscribers: u64,
+        _writer: &mut W,
+    ) -> Result<(), StreamFault> {
         Ok(())
     }
 }
 
-/// Reads rows and calls, or calls alone, and writes a reply to each line of calls.
+impl LineCommand for CallsAndRows {
+    ghost answers = { answers_call };
+
+    ghost ready = { λ w. w.modul ≡ standard_module };
+
+    ghost ending = { rows_after true };
+
+    fn answer(
+        alloc: Global,
+        world: &mut World<'_>,
+        line: &[u8],
+        pending: &mut String,
+    ) -> Result<(), AllocError> {
+        reply_to_line(alloc, world, line, pending)
+    }
+
+    fn end<W: Write>(
+        alloc: Global,
+        world: &World<'_>,
+        subscribers: u64,
+        writer: &mut W,
+    ) -> Result<(), StreamFault> {
+        write_rows(alloc, world, subscribers, writer)
+    }
+}
+
+/// Reads rows and calls, or calls alone, and writes a reply to each line of calls; then, where rows
+/// are asked for, a line `.` and the rows as all calls left them.
 ///
 /// The rows are opened before the first reply is written; then all replies to the lines that have
-/// come, before it waits for more. No more than [`MAX_INPUT_BYTES`] bytes are read. Each call is
-/// run to its end before the next, over so many partitions, which changes nothing of what is
-/// written.
+/// come, before it waits for more. No more than so many bytes are read. Each call is run to its end
+/// before the next, over so many partitions, which changes nothing of what is written.
 pub fn run_call<R: Read, W: Write>(
     alloc: Global,
     reader: &mut R,
     writer: &mut W,
     population: Population,
     partitions: u8,
+    rows: bool,
+    input_limit: usize,
 ) -> Result<(), ConsoleFault>
     requires population { IsPopulation population }
     requires partitions { (1 ≤ partitions) × (partitions ≤ MAX_PARTITIONS) }
+    requires limit { IsInputLimit input_limit }
     ensures served { OnOk result (IfSome (R.remaining reader.old) (λ input.
-        WritesOfWork (λ m. Served) Standard population input
+        WritesOfWork (λ m. Served rows) Standard population input
         (W.contents writer.old) (W.contents writer.new))) }
     ensures faults { IfErr result (λ fault. IfSome (R.remaining reader.old) (λ input.
-        Leaves (λ m. ServedFront) Standard population input
+        Leaves (λ m. ServedFront rows) Standard population input
         (W.contents writer.old) (W.contents writer.new) fault)) }
     ensures limit { OnOk result
-        (IfSome (R.remaining reader.old) (λ input. length input ≤ MAX_INPUT_BYTES)) }
+        (IfSome (R.remaining reader.old) (λ input. length input ≤ input_limit)) }
 {
     let setup = Setup {
         procedures: Procedures::Standard,
         population,
         partitions,
         clients: 1,
+        input_limit,
     };
-    answer_all::<Calls, R, W>(alloc, reader, writer, setup)
+    if rows {
+        answer_all::<CallsAndRows, R, W>(alloc, reader, writer, setup)
+    } else {
+        answer_all::<Calls, R, W>(alloc, reader, writer, setup)
+    }
 }

@@ -7,6 +7,8 @@ mod event_line;
 mod fault;
 mod lines;
 mod looking;
+mod renewal;
+mod rows;
 mod theorems;
 mod trace;
 mod world;

@@ -1,12 +1,12 @@
 //! The lines of an input, answered one after another.
-ghost use Rattle.std.specs.Prelude.{◌≡◌, ℕ, ◌≤◌, true, false, List, length, IfOk, IfErr, OnOk, OnErr, IfSome, ⊤};
+ghost use Rattle.std.specs.Prelude.{◌≡◌, ◌⊎◌, ℕ, ◌≤◌, true, false, List, length, IfOk, IfErr, OnOk, OnErr, IfSome, ⊤};
 ghost use Rattle.std.specs.Io.KnownBytes.{Appends};
 ghost use Rattle.std.specs.String.{string_bytes};
 ghost use Rattle.tatp_dispatch.specs.Worlds.{WorldState};
-ghost use Rattle.tatp_streams.specs.LineReading.{lines_left, TakesLine, MeetsEnd};
+ghost use Rattle.tatp_streams.specs.LineReading.{lines_left, TakesLine, MeetsEnd, IsWithinLimit};
 ghost use Rattle.tatp_streams.specs.Writing.{AppendsFront, KeepsOrAppends};
 ghost use Rattle.tatp_tasks.specs.Populations.{IsSetup};
-ghost use Rattle.tatp_console.specs.Answers.{IsReadyUnder, AppendsAnswer, AnswersAll, AnswersUpTo, AnswersWork, AnswersFront};
+ghost use Rattle.tatp_console.specs.Answers.{IsReadyUnder, AppendsAnswer, AnswersAll, AnswersUpTo, AnswersToEnd, AnswersInEnding, AnswersWork, AnswersFront};
 ghost use Rattle.tatp_console.specs.Works.{WritesOfWork, Leaves};
 
 use crate::ConsoleFault;
@@ -15,7 +15,6 @@ use crate::world::open_world;
 use std::alloc::{AllocError, Global};
 use std::io::{Read, Write};
 use tatp_dispatch::World;
-use tatp_limits::MAX_INPUT_BYTES;
 use tatp_streams::{LineReader, StreamFault, write_if_full, write_last};
 use tatp_tasks::Setup;
 
@@ -27,6 +26,10 @@ pub(crate) trait LineCommand {
 
     /// What has to hold of the whole before a line.
     ghost ready: { WorldState → Type 0 } = { λ _. ⊤ };
+
+    /// What is written after the answers to all lines, by the number of subscribers and the whole
+    /// then.
+    ghost ending: { ℕ → WorldState → List ℕ };
 
     /// Appends what is answered to a line. After an error the text is of no use, and the whole may
     /// have changed.
@@ -40,6 +43,18 @@ pub(crate) trait LineCommand {
         ensures answered { OnOk result (AppendsAnswer answers world.old line.now
             (string_bytes pending.old) (string_bytes pending.new) world.new) }
         ensures ready { ready world.new };
+
+    /// Writes what follows the answers to all lines, where there are so many subscribers.
+    fn end<W: Write>(
+        alloc: Global,
+        world: &World<'_>,
+        subscribers: u64,
+        writer: &mut W,
+    ) -> Result<(), StreamFault>
+        ensures ok { OnOk result (Appends (W.contents writer.old) (W.contents writer.new)
+            (ending subscribers world.now)) }
+        ensures front { OnErr result (AppendsFront (ending subscribers world.now)
+            (W.contents writer.old) (W.contents writer.new)) };
 }
 
 /// Takes the next line. What is pending is written before the program may wait for it.
@@ -79,9 +94,10 @@ fn answer_lines<C: LineCommand, R: Read, W: Write>(
 ) -> Result<(), StreamFault>
     requires ready { C.ready world.old }
     ensures ok { OnOk result (IfSome (lines_left lines.old (R.remaining reader.old)) (λ all.
-        AnswersAll C.answers world.old all.lines (W.contents writer.old) (W.contents writer.new))) }
+        AnswersAll C.answers world.old all.lines
+        (W.contents writer.old) (W.contents writer.new) world.new)) }
     ensures limit { OnOk result (IfSome (lines_left lines.old (R.remaining reader.old)) (λ all.
-        all.input_length ≤ MAX_INPUT_BYTES)) }
+        IsWithinLimit all.input)) }
     ensures front { OnErr result (IfSome (lines_left lines.old (R.remaining reader.old)) (λ all.
         AnswersUpTo C.answers world.old all.lines
         (W.contents writer.old) (W.contents writer.new))) }
@@ -96,6 +112,31 @@ fn answer_lines<C: LineCommand, R: Read, W: Write>(
     }
 }
 
+/// Answers each line, when it has come, and then writes what follows.
+fn answer_to_the_end<C: LineCommand, R: Read, W: Write>(
+    alloc: Global,
+    world: &mut World<'_>,
+    subscribers: u64,
+    lines: &mut LineReader,
+    reader: &mut R,
+    writer: &mut W,
+) -> Result<(), StreamFault>
+    requires ready { C.ready world.old }
+    ensures ok { OnOk result (IfSome (lines_left lines.old (R.remaining reader.old)) (λ all.
+        AnswersToEnd C.answers (C.ending subscribers) world.old all.lines
+        (W.contents writer.old) (W.contents writer.new))) }
+    ensures limit { OnOk result (IfSome (lines_left lines.old (R.remaining reader.old)) (λ all.
+        IsWithinLimit all.input)) }
+    ensures front { OnErr result (IfSome (lines_left lines.old (R.remaining reader.old)) (λ all.
+        AnswersUpTo C.answers world.old all.lines
+        (W.contents writer.old) (W.contents writer.new)
+        ⊎ AnswersInEnding C.answers (C.ending subscribers) world.old all.lines
+        (W.contents writer.old) (W.contents writer.new))) }
+{
+    answer_lines::<C, R, W>(alloc, world, lines, reader, writer)?;
+    C::end(alloc, world, subscribers, writer)
+}
+
 /// Reads what an input brings, and writes what is answered to each of its lines: all that is
 /// answered, before it waits for a further line. The rows are opened before the first.
 pub(crate) fn answer_all<C: LineCommand, R: Read, W: Write>(
@@ -107,18 +148,26 @@ pub(crate) fn answer_all<C: LineCommand, R: Read, W: Write>(
     requires setup { IsSetup setup }
     requires ready { IsReadyUnder C.ready setup.procedures }
     ensures answered { OnOk result (IfSome (R.remaining reader.old) (λ input.
-        WritesOfWork (AnswersWork C.answers setup) setup.procedures setup.population input
+        WritesOfWork (AnswersWork C.answers C.ending setup) setup.procedures setup.population input
         (W.contents writer.old) (W.contents writer.new))) }
     ensures faults { IfErr result (λ fault. IfSome (R.remaining reader.old) (λ input.
-        Leaves (AnswersFront C.answers setup) setup.procedures setup.population input
+        Leaves (AnswersFront C.answers C.ending setup) setup.procedures setup.population input
         (W.contents writer.old) (W.contents writer.new) fault)) }
     ensures limit { OnOk result
-        (IfSome (R.remaining reader.old) (λ input. length input ≤ MAX_INPUT_BYTES)) }
+        (IfSome (R.remaining reader.old) (λ input. length input ≤ setup.input_limit)) }
 {
-    let mut lines = LineReader::new(alloc);
+    let mut lines = LineReader::new(alloc, setup.input_limit);
     let Brought { loaded, rows } = bring(alloc, setup, &mut lines, reader)?;
+    let subscribers = rows.subscribers.len() as u64;
     let mut world = open_world(alloc, &loaded, setup, rows)?;
-    let answered = answer_lines::<C, R, W>(alloc, &mut world, &mut lines, reader, writer);
+    let answered = answer_to_the_end::<C, R, W>(
+        alloc,
+        &mut world,
+        subscribers,
+        &mut lines,
+        reader,
+        writer,
+    );
     world.close();
     answered?;
     Ok(())

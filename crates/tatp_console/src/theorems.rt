@@ -1,5 +1,5 @@
 //! Laws of the definitions, for who reads them. Nothing runs here: a clause is the law.
-ghost use Rattle.std.specs.Prelude.{◌≡◌, ℕ, ◌++◌, ◌∷◌, [], Bool, List};
+ghost use Rattle.std.specs.Prelude.{◌≡◌, ℕ, ◌++◌, ◌∷◌, [], Bool, List, length};
 ghost use Rattle.tatp_tables.specs.Database.{Database, database_of};
 ghost use Rattle.tatp_procs.specs.Order.{in_order};
 ghost use Rattle.tatp_events.specs.Answers.{Answered};
@@ -9,12 +9,13 @@ ghost use Rattle.tatp_dispatch.specs.Worlds.{WorldState};
 ghost use Rattle.tatp_inputs.specs.Work.{Work};
 ghost use Rattle.tatp_console.specs.EventLines.{line_in, events_in, TellsLine, TellsLines};
 ghost use Rattle.tatp_console.specs.AnsweredCalls.{calls_of, told, marks_after};
-ghost use Rattle.tatp_console.specs.Served.{replies, ServesWork};
+ghost use Rattle.tatp_console.specs.RowsWritten.{rows_if_asked};
+ghost use Rattle.tatp_console.specs.Served.{replies, database_after, ServesWork};
 
 /// The calls with arguments in their domains that aren't refused their memory are answered in the
 /// order of their lines, each on the database that the calls before it leave; all other lines are
-/// refused and change nothing. So it is of lines, of lines after others, and of all that is written
-/// for an input.
+/// refused and change nothing. So it is of lines, of lines after others, of the database after all
+/// of them, and of all that is written for an input.
 pub fn served_calls_are_in_order()
     ensures told { (refused : List Bool) (lines : List (List ℕ)) (u : Database)
         → replies refused lines u
@@ -23,10 +24,13 @@ pub fn served_calls_are_in_order()
         → replies refused (lines ++ more) u
         ≡ replies refused lines u
         ++ replies (marks_after lines refused) more (in_order u (calls_of refused lines)).database }
-    ensures served { (refused : List Bool) (work : Work) (text : List ℕ)
-        → ServesWork refused work text
-        → text ≡ told refused work.lines
-        (in_order (database_of work.rows) (calls_of refused work.lines)).replies }
+    ensures after { (refused : List Bool) (lines : List (List ℕ)) (u : Database)
+        → database_after refused lines u ≡ (in_order u (calls_of refused lines)).database }
+    ensures served { (rows : Bool) (refused : List Bool) (work : Work) (text : List ℕ)
+        → ServesWork rows refused work text
+        → let all = in_order (database_of work.rows) (calls_of refused work.lines) in
+        text ≡ told refused work.lines all.replies
+        ++ rows_if_asked rows (length work.rows.subscribers) all.database }
 {}
 
 /// What is told of lines of events goes on by what is told of each line after them, and the answers

@@ -1,7 +1,7 @@
 //! The command `trace`: what is answered to each line of events.
-ghost use Rattle.std.specs.Prelude.{◌≡◌, ◌≤◌, length, IfErr, OnOk, IfSome};
+ghost use Rattle.std.specs.Prelude.{◌≤◌, length, IfErr, OnOk, IfSome};
 ghost use Rattle.tatp_tasks.specs.Populations.{IsSetup};
-ghost use Rattle.tatp_console.specs.Tracing.{answers_events, TellsWork, TellsFront};
+ghost use Rattle.tatp_console.specs.Tracing.{answers_events, no_ending, TellsWork, TellsFront};
 ghost use Rattle.tatp_console.specs.Works.{WritesOfWork, Leaves};
 
 use crate::ConsoleFault;
@@ -10,7 +10,7 @@ use crate::lines::{LineCommand, answer_all};
 use std::alloc::{AllocError, Global};
 use std::io::{Read, Write};
 use tatp_dispatch::World;
-use tatp_limits::MAX_INPUT_BYTES;
+use tatp_streams::StreamFault;
 use tatp_tasks::Setup;
 
 /// The command `trace`.
@@ -18,6 +18,8 @@ struct Events;
 
 impl LineCommand for Events {
     ghost answers = { answers_events };
+
+    ghost ending = { no_ending };
 
     fn answer(
         alloc: Global,
@@ -27,13 +29,22 @@ impl LineCommand for Events {
     ) -> Result<(), AllocError> {
         answer_line(alloc, world, line, pending)
     }
+
+    fn end<W: Write>(
+        _alloc: Global,
+        _world: &World<'_>,
+        _subscribers: u64,
+        _writer: &mut W,
+    ) -> Result<(), StreamFault> {
+        Ok(())
+    }
 }
 
 /// Reads rows and lines of events, or such lines alone, and writes what is answered to each. Before
 /// them may stand the text of the procedures that calls run.
 ///
 /// The rows are opened before the first answer is written; then all answers to the lines that have
-/// come, before it waits for more. No more than [`MAX_INPUT_BYTES`] bytes are read.
+/// come, before it waits for more. No more bytes are read than the setup says.
 pub fn run_trace<R: Read, W: Write>(
     alloc: Global,
     reader: &mut R,
@@ -48,7 +59,7 @@ pub fn run_trace<R: Read, W: Write>(
         Leaves (TellsFront setup) setup.procedures setup.population input
         (W.contents writer.old) (W.contents writer.new) fault)) }
     ensures limit { OnOk result
-        (IfSome (R.remaining reader.old) (λ input. length input ≤ MAX_INPUT_BYTES)) }
+        (IfSome (R.remaining reader.old) (λ input. length input ≤ setup.input_limit)) }
 {
     answer_all::<Events, R, W>(alloc, reader, writer, setup)
 }

@@ -5,13 +5,12 @@ use Rattle.std.specs.Str.{is_utf8}
 use Rattle.std.proofs.Common.{refl, sym, ap, subst, ◌∙◌, arith}
 use Rattle.std.proofs.lemmas.Option.{IfSome_then}
 use Rattle.std.proofs.lemmas.Slice.Eq.{bytes_eq-Decides}
-use Rattle.tatp_limits.specs.declared.limits.TheConstants.{MAX_INPUT_BYTES}
 use Rattle.tatp_lines.specs.Lines.{lines_of}
 use Rattle.tatp_texts.specs.Text.{row_of}
 use Rattle.tatp_tables.specs.declared.row.Row.{Row}
 use Rattle.tatp_tables.specs.declared.row.Rows.{Rows}
 use Rattle.tatp_population.specs.PopulationText.{on_rows, row_first, in_tables}
-use Rattle.tatp_streams.specs.LineReading.{LineReaderState, nothing_taken, LinesLeft, lines_left, Relates}
+use Rattle.tatp_streams.specs.LineReading.{LineReaderState, nothing_taken, LinesLeft, IsWithinLimit, lines_left, Relates}
 use Rattle.tatp_streams.proofs.LineReadingLaws.{relates_all, of_input}
 use Rattle.tatp_streams.specs.declared.fault.StreamFault.TheVariants.{NoMemory, ReadFault, WriteFault}
 use Rattle.tatp_inputs.specs.declared.fault.InputFault.{InputFault}
@@ -107,30 +106,30 @@ refused_before n lines (Stream ReadFault) h = tt
 refused_before n lines (Stream WriteFault) h = absurd h
 
 -- ---- an input that is rows alone
-pub rows_of_input : (start : LineReaderState) (known : Option (List ℕ)) (left : Option LinesLeft) (rows : Rows) (n : ℕ) → start ≡ nothing_taken
+pub rows_of_input : (start : LineReaderState) (limit : ℕ) (known : Option (List ℕ)) (left : Option LinesLeft) (rows : Rows) (n : ℕ) → start ≡ nothing_taken limit
     → Relates (lines_left start known) left (TakesRows false rows start.number n) → IfSome known (λ input. rows_of_lines 1 (lines_of input) ≡ Ok rows)
-rows_of_input start known left rows n e h =
-    of_input known (λ all. rows_of_lines 1 all.lines ≡ Ok rows)
-    (relates_all (lines_left nothing_taken known) left (TakesRows false rows 0 n) (λ all. rows_of_lines 1 all.lines ≡ Ok rows) (rw e at h) (λ a l t. rows_without_dot 1 a.lines rows t.part.later t.read))
+rows_of_input start limit known left rows n e h =
+    of_input known limit (λ all. rows_of_lines 1 all.lines ≡ Ok rows)
+    (relates_all (lines_left (nothing_taken limit) known) left (TakesRows false rows 0 n) (λ all. rows_of_lines 1 all.lines ≡ Ok rows) (rw e at h) (λ a l t. rows_without_dot 1 a.lines rows t.part.later t.read))
 
-pub input_within : (start : LineReaderState) (known : Option (List ℕ)) (left : Option LinesLeft) (rows : Rows) (n : ℕ) → start ≡ nothing_taken
-    → Relates (lines_left start known) left (TakesRows false rows start.number n) → IfSome known (λ input. length input ≤ MAX_INPUT_BYTES)
-input_within start known left rows n e h =
-    of_input known (λ all. all.input_length ≤ MAX_INPUT_BYTES)
-    (relates_all (lines_left nothing_taken known) left (TakesRows false rows 0 n) (λ all. all.input_length ≤ MAX_INPUT_BYTES) (rw e at h) (λ a l t. t.part.within refl))
+pub input_within : (start : LineReaderState) (limit : ℕ) (known : Option (List ℕ)) (left : Option LinesLeft) (rows : Rows) (n : ℕ) → start ≡ nothing_taken limit
+    → Relates (lines_left start known) left (TakesRows false rows start.number n) → IfSome known (λ input. length input ≤ limit)
+input_within start limit known left rows n e h =
+    of_input known limit (λ all. IsWithinLimit all.input)
+    (relates_all (lines_left (nothing_taken limit) known) left (TakesRows false rows 0 n) (λ all. IsWithinLimit all.input) (rw e at h) (λ a l t. t.part.within refl))
 
-pub dot_refused : (start : LineReaderState) (known : Option (List ℕ)) (left : Option LinesLeft) (rows : Rows) (n : ℕ) → start ≡ nothing_taken
+pub dot_refused : (start : LineReaderState) (limit : ℕ) (known : Option (List ℕ)) (left : Option LinesLeft) (rows : Rows) (n : ℕ) → start ≡ nothing_taken limit
     → Relates (lines_left start known) left (TakesRows true rows start.number n) → IfSome known (λ input. rows_of_lines 1 (lines_of input) ≡ Err n)
-dot_refused start known left rows n e h =
-    of_input known (λ all. rows_of_lines 1 all.lines ≡ Err n)
-    (relates_all (lines_left nothing_taken known) left (TakesRows true rows 0 n) (λ all. rows_of_lines 1 all.lines ≡ Err n) (rw e at h)
+dot_refused start limit known left rows n e h =
+    of_input known limit (λ all. rows_of_lines 1 all.lines ≡ Err n)
+    (relates_all (lines_left (nothing_taken limit) known) left (TakesRows true rows 0 n) (λ all. rows_of_lines 1 all.lines ≡ Err n) (rw e at h)
     (λ a l t. rows_with_dot 1 a.lines l.lines rows n t.part.later t.read (omega (arith, t.part.counted))))
 
-pub input_refused : (start : LineReaderState) (known : Option (List ℕ)) (fault : InputFault) → start ≡ nothing_taken
+pub input_refused : (start : LineReaderState) (limit : ℕ) (known : Option (List ℕ)) (fault : InputFault) → start ≡ nothing_taken limit
     → IfSome (lines_left start known) (λ all. RefusesReading (rows_of_lines (start.number + 1) (before_dot all.lines)) fault) → IfSome known (λ input. RefusesReading (rows_of_lines 1 (lines_of input)) fault)
-input_refused start known fault e h =
-    of_input known (λ all. RefusesReading (rows_of_lines 1 all.lines) fault)
-    (IfSome_then (lines_left nothing_taken known) (rw e at h) (λ all refused. refused_before 1 all.lines fault refused))
+input_refused start limit known fault e h =
+    of_input known limit (λ all. RefusesReading (rows_of_lines 1 all.lines) fault)
+    (IfSome_then (lines_left (nothing_taken limit) known) (rw e at h) (λ all refused. refused_before 1 all.lines fault refused))
 
 -- ---- the work that lines bring
 pub brought_rows : (n : ℕ) (lines calls : List (List ℕ)) (rows : Rows) → after_dot lines ≡ Some calls → rows_of_lines n (before_dot lines) ≡ Ok rows

@@ -3,8 +3,7 @@ use Rattle.std.specs.Prelude.{◌≡◌, ℕ, ◌+◌, ◌≤◌, Bool, true, fa
 use Rattle.std.specs.Option.{IfSome}
 use Rattle.std.proofs.Common.{refl, sym, ap, subst, ◌∙◌, arith, append_assoc, inl, inr}
 use Rattle.std.proofs.lemmas.List.{append-nil}
-use Rattle.tatp_limits.specs.declared.limits.TheConstants.{MAX_INPUT_BYTES}
-use Rattle.tatp_streams.specs.LineReading.{LinesLeft, with_line}
+use Rattle.tatp_streams.specs.LineReading.{LinesLeft, InputSize, IsWithinLimit, with_line}
 use Rattle.tatp_streams.specs.declared.fault.StreamFault.TheVariants.{NoMemory, ReadFault}
 use Rattle.tatp_inputs.specs.declared.fault.InputFault.{InputFault}
 use Rattle.tatp_inputs.specs.declared.fault.InputFault.TheVariants.{Stream}
@@ -16,10 +15,10 @@ use Rattle.tatp_inputs.specs.Parts.{is_dot, before_dot, after_dot, text_of, text
 pub record PartSoFar (before now : ℕ) (all left : LinesLeft) : Type 0 where
   pub later : after_dot left.lines ≡ after_dot all.lines
   pub counted : now + length (before_dot left.lines) ≡ before + length (before_dot all.lines)
-  pub input_length : left.input_length ≡ all.input_length
+  pub input : left.input ≡ all.input
 
 pub part_starts : (n : ℕ) (left : LinesLeft) → PartSoFar n n left left
-part_starts n left = record { later = refl; counted = refl; input_length = refl }
+part_starts n left = record { later = refl; counted = refl; input = refl }
 
 -- a line that is no `.`
 no_dot_after : (t : Bool) (more : List (List ℕ)) → t ≡ false → cond t (Some more) (after_dot more) ≡ after_dot more
@@ -37,7 +36,7 @@ pub part_goes_on : (before now now' : ℕ) (line : List ℕ) (all left : LinesLe
 part_goes_on before now now' line all left dot next s = record {
   later = sym (no_dot_after (is_dot line) left.lines dot) ∙ s.later;
   counted = one_more before now now' line (before_dot (line ∷ left.lines)) (before_dot left.lines) (before_dot all.lines) (no_dot_before (is_dot line) line left.lines dot) next s.counted;
-  input_length = s.input_length;
+  input = s.input;
 }
 
 -- the line `.`
@@ -56,17 +55,17 @@ pub part_ends_at_dot : (before now now' : ℕ) (line : List ℕ) (all left : Lin
 part_ends_at_dot before now now' line all left dot next s = record {
   later = sym s.later ∙ dot_after (is_dot line) left.lines dot;
   counted = all_counted before now now' 1 (before_dot (line ∷ left.lines)) (before_dot all.lines) (dot_before (is_dot line) line left.lines dot) next s.counted;
-  input_length = s.input_length;
+  input = s.input;
   within = λ e. cc;
 }
 
 -- the end
-pub part_ends : (before now now' : ℕ) (all left : LinesLeft) → left.lines ≡ [] → left.input_length ≤ MAX_INPUT_BYTES → now' ≡ now → PartSoFar before now all left → TakesPart false before now' all left
+pub part_ends : (before now now' : ℕ) (all left : LinesLeft) → left.lines ≡ [] → IsWithinLimit left.input → now' ≡ now → PartSoFar before now all left → TakesPart false before now' all left
 part_ends before now now' all left none within same s = record {
   later = sym s.later ∙ ap after_dot none;
   counted = all_counted before now now' 0 (before_dot left.lines) (before_dot all.lines) (ap before_dot none) (omega (arith, same)) s.counted;
-  input_length = s.input_length;
-  within = λ e. subst (λ n. n ≤ MAX_INPUT_BYTES) s.input_length within;
+  input = s.input;
+  within = λ e. subst (λ (i : InputSize). IsWithinLimit i) s.input within;
 }
 
 -- ---- the text of the part
@@ -97,7 +96,7 @@ text_ends_at_dot text before now now' line all left dot next s = record {
   part = part_ends_at_dot before now now' line all left dot next s.part;
 }
 
-pub text_ends : (text : List ℕ) (before now now' : ℕ) (all left : LinesLeft) → left.lines ≡ [] → left.input_length ≤ MAX_INPUT_BYTES → now' ≡ now → TextSoFar text before now all left → TakesText false text before now' all left
+pub text_ends : (text : List ℕ) (before now now' : ℕ) (all left : LinesLeft) → left.lines ≡ [] → IsWithinLimit left.input → now' ≡ now → TextSoFar text before now all left → TakesText false text before now' all left
 text_ends text before now now' all left none within same s = record {
   told = all_told text (text_before_dot left.lines) (text_before_dot all.lines) (ap text_before_dot none) s.told;
   part = part_ends before now now' all left none within same s.part;

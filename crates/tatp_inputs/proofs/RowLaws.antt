@@ -2,12 +2,11 @@
 use Rattle.std.specs.Prelude.{◌≡◌, ℕ, ◌+◌, ◌≤◌, Bool, true, false, List, [], ◌∷◌, Some, None, Result, Ok, Err, cond}
 use Rattle.std.specs.List.{fold}
 use Rattle.std.proofs.Common.{refl, sym, ap, ◌∙◌}
-use Rattle.tatp_limits.specs.declared.limits.TheConstants.{MAX_INPUT_BYTES}
 use Rattle.tatp_tables.specs.Rows.{with_row}
 use Rattle.tatp_tables.specs.declared.row.Row.{Row}
 use Rattle.tatp_tables.specs.declared.row.Rows.{Rows}
 use Rattle.tatp_population.specs.PopulationText.{on_rows, in_tables}
-use Rattle.tatp_streams.specs.LineReading.{LinesLeft, with_line}
+use Rattle.tatp_streams.specs.LineReading.{LinesLeft, IsWithinLimit, with_line}
 use Rattle.tatp_inputs.specs.Parts.{is_dot, before_dot}
 use Rattle.tatp_inputs.specs.RowLines.{row_in, rows_from, rows_of_lines, TakesRows}
 use Rattle.tatp_inputs.proofs.PartLaws.{PartSoFar, part_starts, part_goes_on, part_ends_at_dot, part_ends, dot_before}
@@ -53,7 +52,7 @@ rows_end_at_dot rows before now now' line all left dot next s = record {
   part = part_ends_at_dot before now now' line all left dot next s.part;
 }
 
-pub rows_end : (rows : Rows) (before now now' : ℕ) (all left : LinesLeft) → left.lines ≡ [] → left.input_length ≤ MAX_INPUT_BYTES → now' ≡ now → RowsSoFar rows before now all left → TakesRows false rows before now' all left
+pub rows_end : (rows : Rows) (before now now' : ℕ) (all left : LinesLeft) → left.lines ≡ [] → IsWithinLimit left.input → now' ≡ now → RowsSoFar rows before now all left → TakesRows false rows before now' all left
 rows_end rows before now now' all left none within same s = record {
   read = sym s.told ∙ ap (told_from rows (now + 1)) none;
   part = part_ends before now now' all left none within same s.part;

@@ -1,7 +1,6 @@
 -- The parts of an input: what stands before a first line `.`, and what follows it: docs/FORMATS.md.
-use Rattle.std.specs.Prelude.{◌≡◌, ℕ, ◌+◌, ◌≤◌, Bool, false, List, [], ◌∷◌, ◌++◌, length, Option, Some, None, bytes_eq, codes, if◌then◌else◌}
-use Rattle.tatp_limits.specs.declared.limits.TheConstants.{MAX_INPUT_BYTES}
-use Rattle.tatp_streams.specs.LineReading.{LinesLeft}
+use Rattle.std.specs.Prelude.{◌≡◌, ℕ, ◌+◌, Bool, false, List, [], ◌∷◌, ◌++◌, length, Option, Some, None, bytes_eq, codes, if◌then◌else◌}
+use Rattle.tatp_streams.specs.LineReading.{LinesLeft, IsWithinLimit}
 
 abbrev pub is_dot : List ℕ → Bool
 is_dot line = bytes_eq line (codes ".")
@@ -22,8 +21,8 @@ after_dot (line ∷ more) = if is_dot line then Some more else after_dot more
 pub record TakesPart (dot : Bool) (before after : ℕ) (all left : LinesLeft) : Type 0 where
   pub later : after_dot all.lines ≡ (if dot then Some left.lines else None)
   pub counted : after ≡ before + length (before_dot all.lines) + (if dot then 1 else 0)
-  pub input_length : left.input_length ≡ all.input_length
-  pub within : dot ≡ false → all.input_length ≤ MAX_INPUT_BYTES
+  pub input : left.input ≡ all.input
+  pub within : dot ≡ false → IsWithinLimit all.input
 
 -- ---- a part that is a text
 -- lines as a text, each with its line feed

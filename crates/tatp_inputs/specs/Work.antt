@@ -35,7 +35,7 @@ brought n lines =
 -- of all these lines the first bring these rows, and the others are left
 pub record BringsLines (first : ℕ) (rows : Rows) (all left : LinesLeft) : Type 0 where
   pub work : brought first all.lines ≡ Ok (record { rows = rows; lines = left.lines })
-  pub input_length : left.input_length ≡ all.input_length
+  pub input : left.input ≡ all.input
 
 -- ---- rows that are drawn
 -- the rows of the subscribers 1 to n, drawn from the words of this seed
@@ -55,7 +55,7 @@ work_of (Generated count seed) n lines =
 pub record BringsWork (population : Population) (first : ℕ) (rows : Rows) (all left : LinesLeft)
     : Type 0 where
   pub work : work_of population first all.lines ≡ Ok (record { rows = rows; lines = left.lines })
-  pub input_length : left.input_length ≡ all.input_length
+  pub input : left.input ≡ all.input
 
 -- where the population is drawn, these rows are clean, and not too many
 abbrev pub AreCleanWhereDrawn : Population → Rows → Type 0

@@ -2,6 +2,7 @@
 ghost use Rattle.std.specs.Prelude.{◌≡◌, ◌≤◌, length, IfOk, IfErr, IfSome, OnOk};
 ghost use Rattle.std.specs.String.{string_bytes};
 ghost use Rattle.tatp_lines.specs.Lines.{lines_of};
+ghost use Rattle.tatp_tasks.specs.Populations.{IsInputLimit};
 ghost use Rattle.tatp_inputs.specs.Refusing.{RefusesReading};
 ghost use Rattle.tatp_inputs.specs.RowLines.{rows_of_lines};
 ghost use Rattle.tatp_inputs.specs.Verdicts.{IsVerdictOn, verdict_line, WritesVerdict, LeavesVerdict};
@@ -11,19 +12,19 @@ use crate::rows::read_rows;
 use std::alloc::{AllocError, Global};
 use std::io::{Read, Write};
 use tatp_audits::{Verdict, audit};
-use tatp_limits::MAX_INPUT_BYTES;
 use tatp_streams::write_last;
 
 /// The verdict on the rows that an input is.
-fn judged<R: Read>(alloc: Global, reader: &mut R) -> Result<Verdict, InputFault>
+fn judged<R: Read>(alloc: Global, reader: &mut R, input_limit: usize) -> Result<Verdict, InputFault>
+    requires limit { IsInputLimit input_limit }
     ensures verdict { IfOk result (λ verdict.
         IfSome (R.remaining reader.old) (λ input. IsVerdictOn input verdict)) }
     ensures limit { OnOk result
-        (IfSome (R.remaining reader.old) (λ input. length input ≤ MAX_INPUT_BYTES)) }
+        (IfSome (R.remaining reader.old) (λ input. length input ≤ input_limit)) }
     ensures faults { IfErr result (λ fault. IfSome (R.remaining reader.old) (λ input.
         RefusesReading (rows_of_lines 1 (lines_of input)) fault)) }
 {
-    let rows = read_rows(alloc, reader)?;
+    let rows = read_rows(alloc, reader, input_limit)?;
     Ok(audit(alloc, &rows)?)
 }
 
@@ -34,20 +35,23 @@ fn line_of(alloc: Global, verdict: Verdict) -> Result<String, AllocError>
     format!(in alloc; "{verdict}\n")
 }
 
-/// Reads rows and writes the verdict on them. Whether it is that they are clean.
+/// Reads rows, so many bytes at most, and writes the verdict on them. Whether it is that they are
+/// clean.
 pub fn run_audit<R: Read, W: Write>(
     alloc: Global,
     reader: &mut R,
     writer: &mut W,
+    input_limit: usize,
 ) -> Result<bool, InputFault>
+    requires limit { IsInputLimit input_limit }
     ensures written { IfOk result (λ clean. IfSome (R.remaining reader.old) (λ input.
         WritesVerdict input (W.contents writer.old) (W.contents writer.new) clean)) }
     ensures faults { IfErr result (λ fault. IfSome (R.remaining reader.old) (λ input.
         LeavesVerdict input (W.contents writer.old) (W.contents writer.new) fault)) }
     ensures limit { OnOk result
-        (IfSome (R.remaining reader.old) (λ input. length input ≤ MAX_INPUT_BYTES)) }
+        (IfSome (R.remaining reader.old) (λ input. length input ≤ input_limit)) }
 {
-    let verdict = judged(alloc, reader)?;
+    let verdict = judged(alloc, reader, input_limit)?;
     let line = line_of(alloc, verdict)?;
     write_last(writer, line.as_bytes())?;
     Ok(verdict.is_clean())

@@ -2,6 +2,7 @@
 ghost use Rattle.std.specs.Prelude.{◌≡◌, ◌+◌, ◌≤◌, Ok, IfOk, IfErr, IfSome, OnOk, length};
 ghost use Rattle.tatp_lines.specs.Lines.{lines_of};
 ghost use Rattle.tatp_streams.specs.LineReading.{lines_left, Relates};
+ghost use Rattle.tatp_tasks.specs.Populations.{IsInputLimit};
 ghost use Rattle.tatp_inputs.specs.Refusing.{RefusesReading};
 ghost use Rattle.tatp_inputs.specs.Parts.{before_dot};
 ghost use Rattle.tatp_inputs.specs.RowLines.{row_in, rows_of_lines, TakesRows};
@@ -11,7 +12,6 @@ use crate::InputFault;
 use crate::text::is_dot;
 use std::alloc::Global;
 use std::io::Read;
-use tatp_limits::MAX_INPUT_BYTES;
 use tatp_streams::{LineReader, text_of};
 use tatp_tables::{Row, Rows};
 use tatp_texts::read_row;
@@ -64,16 +64,21 @@ fn read_front<R: Read>(
     }
 }
 
-/// The rows that all lines of an input are.
-pub(crate) fn read_rows<R: Read>(alloc: Global, reader: &mut R) -> Result<Rows, InputFault>
+/// The rows that all lines of an input are, of which so many bytes are read at most.
+pub(crate) fn read_rows<R: Read>(
+    alloc: Global,
+    reader: &mut R,
+    input_limit: usize,
+) -> Result<Rows, InputFault>
+    requires limit { IsInputLimit input_limit }
     ensures rows { IfOk result (λ rows. IfSome (R.remaining reader.old) (λ input.
         rows_of_lines 1 (lines_of input) ≡ Ok rows)) }
     ensures limit { OnOk result
-        (IfSome (R.remaining reader.old) (λ input. length input ≤ MAX_INPUT_BYTES)) }
+        (IfSome (R.remaining reader.old) (λ input. length input ≤ input_limit)) }
     ensures faults { IfErr result (λ fault. IfSome (R.remaining reader.old) (λ input.
         RefusesReading (rows_of_lines 1 (lines_of input)) fault)) }
 {
-    let mut lines = LineReader::new(alloc);
+    let mut lines = LineReader::new(alloc, input_limit);
     let Front { rows, dot } = read_front(alloc, &mut lines, reader)?;
     if dot {
         Err(InputFault::BadLine(lines.number()))

@@ -9,10 +9,9 @@ use Rattle.std.proofs.lemmas.List.{append-nil, take-append-drop, take-append-le,
 use Rattle.std.proofs.lemmas.List.Folds.{prefix_len-append}
 use Rattle.std.proofs.lemmas.List.Sums.{prefix_len-le-length}
 use Rattle.std.proofs.lemmas.Option.{same_Some, none-some}
-use Rattle.tatp_limits.specs.declared.limits.TheConstants.{MAX_INPUT_BYTES}
 use Rattle.tatp_lines.specs.Lines.{lines_of}
 use Rattle.tatp_lines.proofs.LineLaws.{is_line_feed, lines_of-nil, lines_of_first, lines_of_last}
-use Rattle.tatp_streams.specs.LineReading.{LineReaderState, nothing_taken, LinesLeft, left_with, lines_left, Stays, Relates, steps_left, with_line, TakesLine, MeetsEnd, ReadsMore, HasNoLineFeed, HoldsNoLine, IsFirstLine}
+use Rattle.tatp_streams.specs.LineReading.{LineReaderState, nothing_taken, LinesLeft, InputSize, IsWithinLimit, left_with, lines_left, Stays, Relates, steps_left, with_line, TakesLine, MeetsEnd, ReadsMore, HasNoLineFeed, HoldsNoLine, IsFirstLine}
 
 -- ---- the place of the first line feed
 place_of_none : (n l : ℕ) → n ≤ l → cond (ltb n l) (Some n) None ≡ None → n ≡ l
@@ -102,8 +101,8 @@ fewer_by : (ahead ahead' : List ℕ) (n n' e e' taken : ℕ) → 0 < taken → t
     → n' + length ahead' + e' < n + length ahead + e
 fewer_by ahead ahead' n n' e e' taken some within h same ended = omega (arith, some, within, ap length h, length-drop taken ahead, same, ended)
 
-same_left : (a b : LinesLeft) → a.lines ≡ b.lines → a.input_length ≡ b.input_length → a ≡ b
-same_left a b lines input_length = rw (lines, input_length) refl
+same_left : (a b : LinesLeft) → a.lines ≡ b.lines → a.input.bytes ≡ b.input.bytes → a.input.limit ≡ b.input.limit → a ≡ b
+same_left a b lines bytes limit = rw (lines, bytes, limit) refl
 
 none_past_end : (ended : Bool) (more : List ℕ) → ended ≡ true → cond ended [] more ≡ []
 none_past_end true more e = refl
@@ -125,15 +124,15 @@ left_of_known old new None h = tt
 left_of_known old new (Some more) h = ap Some (h more)
 
 pub takes_line : (old new : LineReaderState) (known : Option (List ℕ)) (long taken : ℕ) → IsFirstLine old.ahead old.ended long taken
-    → new.line ≡ take long old.ahead → new.ahead ≡ drop taken old.ahead → new.count ≡ old.count → new.ended ≡ old.ended → new.number ≡ old.number + 1 → TakesLine old known new known
-takes_line old new known long taken h line ahead count ended number = record {
+    → new.line ≡ take long old.ahead → new.ahead ≡ drop taken old.ahead → new.count ≡ old.count → new.limit ≡ old.limit → new.ended ≡ old.ended → new.number ≡ old.number + 1 → TakesLine old known new known
+takes_line old new known long taken h line ahead count limit ended number = record {
   left = left_of_known old new known
       (λ more. same_left (with_line new.line (left_with new (cond new.ended [] more))) (left_with old (cond old.ended [] more))
       (rw ended (taken_of old.ahead new.line new.ahead more old.ended long taken h line ahead))
-      (rw (count, ended) refl));
+      (rw (count, ended) refl) limit);
   number = number;
-  fewer = fewer_by old.ahead new.ahead (2 * (MAX_INPUT_BYTES - old.count)) (2 * (MAX_INPUT_BYTES - new.count)) (cond old.ended 0 1) (cond new.ended 0 1) taken
-      h.some h.taken_within ahead (ap (λ n. 2 * (MAX_INPUT_BYTES - n)) count) (ap (λ b. cond b 0 1) ended);
+  fewer = fewer_by old.ahead new.ahead (2 * (old.limit - old.count)) (2 * (new.limit - new.count)) (cond old.ended 0 1) (cond new.ended 0 1) taken
+      h.some h.taken_within ahead (rw (count, limit) refl) (ap (λ b. cond b 0 1) ended);
 }
 
 -- bytes are read
@@ -149,13 +148,13 @@ read_on : (ahead xs ys read : List ℕ) → xs ≡ read ++ ys → (ahead ++ read
 read_on ahead xs ys read e = append_assoc ahead read ys ∙ ap (λ more. ahead ++ more) (sym e)
 
 left_after : (old new : LineReaderState) (had has : Option (List ℕ)) (read : List ℕ) → Consumes had has read → old.ended ≡ false → (new.ended ≡ true → IsAtEnd has)
-    → new.ahead ≡ old.ahead ++ read → new.count ≡ old.count + length read → Stays (lines_left old had) (lines_left new has)
-left_after old new None has read c o e a n = tt
-left_after old new (Some xs) None read c o e a n = absurd c
-left_after old new (Some xs) (Some ys) read c o e a n =
+    → new.ahead ≡ old.ahead ++ read → new.count ≡ old.count + length read → new.limit ≡ old.limit → Stays (lines_left old had) (lines_left new has)
+left_after old new None has read c o e a n limit = tt
+left_after old new (Some xs) None read c o e a n limit = absurd c
+left_after old new (Some xs) (Some ys) read c o e a n limit =
     ap Some (same_left (left_with new (cond new.ended [] ys)) (left_with old (cond old.ended [] xs))
     (rw (o, all_before_end new.ended ys e, a) (ap lines_of (read_on old.ahead xs ys read c)))
-    (rw (o, all_before_end new.ended ys e, n) (omega (arith, ap length c, length-append read ys))))
+    (rw (o, all_before_end new.ended ys e, n) (omega (arith, ap length c, length-append read ys))) limit)
 
 fewer_after : (c c' a a' k e' most : ℕ) (ended : Bool) → c' ≡ c + k → a' ≡ a + k → c' ≤ most → e' ≡ cond ended 0 1 → (ended ≡ false → 0 < k)
     → 2 * (most - c') + a' + e' < 2 * (most - c) + a + 1
@@ -163,11 +162,11 @@ fewer_after c c' a a' k e' most true count ahead within e more = omega (arith, c
 fewer_after c c' a a' k e' most false count ahead within e more = omega (arith, count, ahead, within, e, more refl)
 
 pub reads_more : (old new : LineReaderState) (had has : Option (List ℕ)) (read : List ℕ) → Consumes had has read → old.ended ≡ false → (new.ended ≡ true → IsAtEnd has) → (new.ended ≡ false → 0 < length read)
-    → new.ahead ≡ old.ahead ++ read → new.count ≡ old.count + length read → new.count ≤ MAX_INPUT_BYTES → new.number ≡ old.number → ReadsMore old had new has
-reads_more old new had has read c o e more a n within number = record {
-  left = left_after old new had has read c o e a n;
+    → new.ahead ≡ old.ahead ++ read → new.count ≡ old.count + length read → new.limit ≡ old.limit → new.count ≤ old.limit → new.number ≡ old.number → ReadsMore old had new has
+reads_more old new had has read c o e more a n limit within number = record {
+  left = left_after old new had has read c o e a n limit;
   number = number;
-  fewer = rw o (fewer_after old.count new.count (length old.ahead) (length new.ahead) (length read) (cond new.ended 0 1) MAX_INPUT_BYTES new.ended n (ap length a ∙ length-append old.ahead read) within refl more);
+  fewer = rw (o, limit) (fewer_after old.count new.count (length old.ahead) (length new.ahead) (length read) (cond new.ended 0 1) old.limit new.ended n (ap length a ∙ length-append old.ahead read) within refl more);
 }
 
 -- the end
@@ -175,7 +174,7 @@ none_left : (s : LineReaderState) (known : Option (List ℕ)) → HoldsNoLine s 
 none_left s None h e = tt
 none_left s (Some more) h e = rw (h.last e, e) lines_of-nil
 
-no_longer : (s : LineReaderState) (known : Option (List ℕ)) → s.ended ≡ true → s.count ≤ MAX_INPUT_BYTES → IfSome (lines_left s known) (λ left. left.input_length ≤ MAX_INPUT_BYTES)
+no_longer : (s : LineReaderState) (known : Option (List ℕ)) → s.ended ≡ true → s.count ≤ s.limit → IfSome (lines_left s known) (λ left. IsWithinLimit left.input)
 no_longer s None e h = tt
 no_longer s (Some more) e h = rw e (omega (arith, h))
 
@@ -198,7 +197,7 @@ takes_later old now new had have has same number fewer t = record {
 }
 
 pub meets_end : (old now : LineReaderState) (had has : Option (List ℕ)) → Stays (lines_left old had) (lines_left now has) → now.number ≡ old.number
-    → HoldsNoLine now → now.ended ≡ true → now.count ≤ MAX_INPUT_BYTES → MeetsEnd old had now has
+    → HoldsNoLine now → now.ended ≡ true → now.count ≤ now.limit → MeetsEnd old had now has
 meets_end old now had has same number none ended within = record {
   left = same;
   none = none_left now has none ended;
@@ -219,8 +218,8 @@ relates_line (Some a) (Some l) None line P Q h s so = absurd (none-some l s)
 relates_line (Some a) (Some l) (Some k) line P Q h s so = so a k (subst (P a) (sym (same_Some (with_line line k) l s)) h)
 
 pub relates_end : (all left left' : Option LinesLeft) (P Q : LinesLeft → LinesLeft → Type 0) → Relates all left P → Stays left left'
-    → IfSome left' (λ l. l.lines ≡ []) → IfSome left' (λ l. l.input_length ≤ MAX_INPUT_BYTES)
-    → ((a l : LinesLeft) → l.lines ≡ [] → l.input_length ≤ MAX_INPUT_BYTES → P a l → Q a l) → Relates all left' Q
+    → IfSome left' (λ l. l.lines ≡ []) → IfSome left' (λ l. IsWithinLimit l.input)
+    → ((a l : LinesLeft) → l.lines ≡ [] → IsWithinLimit l.input → P a l → Q a l) → Relates all left' Q
 relates_end None left left' P Q h s none within so = tt
 relates_end (Some a) None left' P Q h s none within so = absurd h
 relates_end (Some a) (Some l) None P Q h s none within so = absurd (none-some l s)
@@ -251,8 +250,9 @@ relates_all (Some a) None P Q h so = absurd h
 relates_all (Some a) (Some l) P Q h so = so a l h
 
 -- ---- an input of which nothing is taken
-pub of_input : (known : Option (List ℕ)) (P : LinesLeft → Type 0) → IfSome (lines_left nothing_taken known) P → IfSome known (λ input. P (record { lines = lines_of input; input_length = length input }))
-of_input None P h = tt
-of_input (Some input) P h =
+pub of_input : (known : Option (List ℕ)) (limit : ℕ) (P : LinesLeft → Type 0) → IfSome (lines_left (nothing_taken limit) known) P
+    → IfSome known (λ input. P (record { lines = lines_of input; input = record { bytes = length input; limit = limit } }))
+of_input None limit P h = tt
+of_input (Some input) limit P h =
     let whole : 0 + length input ≡ length input = omega arith in
-    subst (λ n. P (record { lines = lines_of input; input_length = n })) whole h
+    subst (λ n. P (record { lines = lines_of input; input = record { bytes = n; limit = limit } })) whole h

@@ -1,8 +1,8 @@
 -- Lines that are taken from a reader one after another: what was taken, and what is left.
 use Rattle.std.specs.Prelude.{◌≡◌, ℕ, ◌+◌, ◌-◌, ◌*◌, ◌<◌, ◌≤◌, ◌==◌, Bool, true, false, List, [], ◌∷◌, ◌++◌, length, take, drop, position, Option, None, Some, IfSome, IsSomeAnd, if◌then◌else◌, ⊤}
 use Rattle.std.specs.Option.{option_map}
-use Rattle.tatp_limits.specs.declared.limits.TheConstants.{MAX_INPUT_BYTES}
 use Rattle.tatp_lines.specs.Lines.{lines_of}
+use Rattle.tatp_streams.specs.declared.limit.TheConstants.{MAX_INPUT_LIMIT}
 
 -- what a LineReader has read and taken
 pub record LineReaderState : Type 0 where
@@ -10,22 +10,34 @@ pub record LineReaderState : Type 0 where
   pub number : ℕ  -- how many lines were taken
   pub ahead : List ℕ  -- the bytes that were read and not taken
   pub count : ℕ  -- how many bytes were read in all
+  pub limit : ℕ  -- how many may be
   pub ended : Bool  -- whether the input has ended
 
-abbrev pub nothing_taken : LineReaderState
-nothing_taken = record { line = []; number = 0; ahead = []; count = 0; ended = false }
+-- no more than so many bytes may be read
+abbrev pub nothing_taken : ℕ → LineReaderState
+nothing_taken limit =
+    record { line = []; number = 0; ahead = []; count = 0; limit = limit; ended = false }
 
 -- ---- what is left
--- the lines that are left, and how long the whole input is
+-- how many bytes an input has, and how many of them may be read
+pub record InputSize : Type 0 where
+  pub bytes : ℕ
+  pub limit : ℕ
+
+-- all may be read
+abbrev pub IsWithinLimit : InputSize → Type 0
+IsWithinLimit input = input.bytes ≤ input.limit
+
+-- the lines that are left, and the size of the whole input
 pub record LinesLeft : Type 0 where
   pub lines : List (List ℕ)
-  pub input_length : ℕ
+  pub input : InputSize
 
 -- by the bytes that are left to read
 abbrev pub left_with : LineReaderState → List ℕ → LinesLeft
 left_with s more = record {
   lines = lines_of (s.ahead ++ more);
-  input_length = s.count + length more;
+  input = record { bytes = s.count + length more; limit = s.limit };
 }
 
 -- where the bytes that the reader has left are known; past the end of the input none is read
@@ -46,7 +58,7 @@ Relates old new P = IfSome old (λ all. IsSomeAnd new (P all))
 -- how many more steps a loop can make that takes lines and reads: each takes a byte, reads one or
 -- meets the end
 abbrev pub steps_left : LineReaderState → ℕ
-steps_left s = 2 * (MAX_INPUT_BYTES - s.count) + length s.ahead + (if s.ended then 0 else 1)
+steps_left s = 2 * (s.limit - s.count) + length s.ahead + (if s.ended then 0 else 1)
 
 -- this line, and then those that are left
 abbrev pub with_line : List ℕ → LinesLeft → LinesLeft
@@ -64,7 +76,7 @@ pub record MeetsEnd (old : LineReaderState) (had : Option (List ℕ))
     (new : LineReaderState) (has : Option (List ℕ)) : Type 0 where
   pub left : Stays (lines_left old had) (lines_left new has)
   pub none : IfSome (lines_left new has) (λ left. left.lines ≡ [])
-  pub within : IfSome (lines_left new has) (λ left. left.input_length ≤ MAX_INPUT_BYTES)
+  pub within : IfSome (lines_left new has) (λ left. IsWithinLimit left.input)
   pub number : new.number ≡ old.number
 
 -- bytes are read, or the end is met: all lines are left
@@ -86,13 +98,15 @@ pub record HoldsNoLine (s : LineReaderState) : Type 0 where
 -- ---- the fields of a LineReader
 -- the line stands from `start` to before `end`; what was not taken begins at `taken`, and at its
 -- front so many bytes have no line feed
-pub record HoldsLines (buffer : List ℕ) (start end taken clear number count : ℕ) : Type 0 where
+pub record HoldsLines (buffer : List ℕ) (start end taken clear number count limit : ℕ)
+    : Type 0 where
   pub line : start ≤ end
   pub line_within : end ≤ length buffer
   pub clear_within : taken + clear ≤ length buffer
   pub no_line_feed : HasNoLineFeed (take clear (drop taken buffer))
   pub numbered : number + length buffer ≤ count + taken
-  pub count_within : count ≤ MAX_INPUT_BYTES
+  pub count_within : count ≤ limit
+  pub limit_within : limit ≤ MAX_INPUT_LIMIT
 
 -- the first line of bytes is so long, and takes so many of them with its line feed, whatever
 -- follows; past the end of the input nothing does

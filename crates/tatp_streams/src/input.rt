@@ -3,7 +3,7 @@ ghost use Rattle.std.specs.Prelude.{◌≡◌, ℕ, ◌≤◌, ◌<◌, ◌++◌
 ghost use Rattle.std.specs.Io.KnownBytes.{Consumes, IsAtEnd};
 ghost use Rattle.tatp_streams.specs.declared.fault.StreamFault.TheVariants.{ReadFault, NoMemory};
 
-use crate::StreamFault;
+use crate::{MAX_INPUT_LIMIT, StreamFault};
 use std::alloc::Global;
 use std::io::Read;
 use tatp_limits::MAX_INPUT_BYTES;
@@ -11,18 +11,19 @@ use tatp_limits::MAX_INPUT_BYTES;
 /// How many bytes are asked for at a time.
 pub(crate) const PIECE: usize = 65_536;
 
-/// Appends what one read gives of an input of which so many bytes were read before. `true`: at
-/// least a byte came. `false`: the input has ended.
+/// Appends what one read gives of an input of which so many bytes were read before, and no more
+/// than so many may be. `true`: at least a byte came. `false`: the input has ended.
 pub(crate) fn read_piece<R: Read>(
     reader: &mut R,
     before: usize,
+    limit: usize,
     piece: &mut [u8],
     bytes: &mut Vec<u8>,
 ) -> Result<bool, StreamFault>
     requires room { 0 < length piece.old }
-    requires within { before ≤ MAX_INPUT_BYTES }
-    ensures within { OnOk result
-        (before + vec_len bytes.new ≤ MAX_INPUT_BYTES + vec_len bytes.old) }
+    requires within { before ≤ limit }
+    requires possible { limit ≤ MAX_INPUT_LIMIT }
+    ensures within { OnOk result (before + vec_len bytes.new ≤ limit + vec_len bytes.old) }
     ensures more { IfOk result (λ more. more ≡ true → vec_len bytes.old < vec_len bytes.new) }
     ensures end { IfOk result (λ more. more ≡ false → IsAtEnd (R.remaining reader.new)) }
     ensures taken { OnOk result ((read : List ℕ)
@@ -32,12 +33,12 @@ pub(crate) fn read_piece<R: Read>(
     ensures faults { IfErr result (λ fault. (fault ≡ ReadFault) ⊎ (fault ≡ NoMemory)) }
 {
     // One byte past the limit shows that there is too much.
-    let most = piece.len().min(MAX_INPUT_BYTES - before + 1);
+    let most = piece.len().min(limit - before + 1);
     let space = &mut piece[..most];
     match reader.read(space) {
         Ok(0) => Ok(false),
         Ok(count) => {
-            if count > MAX_INPUT_BYTES - before {
+            if count > limit - before {
                 return Err(StreamFault::ReadFault);
             }
             bytes.extend_from_slice(&space[..count])?;
@@ -61,7 +62,7 @@ pub fn read_all<R: Read>(alloc: Global, reader: &mut R) -> Result<Vec<u8>, Strea
     let mut piece = [0u8; PIECE];
     let mut all = Vec::new(alloc);
     'pieces: loop {
-        if !read_piece(reader, all.len(), &mut piece, &mut all)? {
+        if !read_piece(reader, all.len(), MAX_INPUT_BYTES, &mut piece, &mut all)? {
             return Ok(all);
         }
     }

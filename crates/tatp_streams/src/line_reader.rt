@@ -3,12 +3,11 @@ ghost use Rattle.std.specs.Prelude.{◌≡◌, ℕ, ◌≤◌, ◌⊎◌, ◌==�
 ghost use Rattle.tatp_streams.specs.declared.fault.StreamFault.TheVariants.{ReadFault, NoMemory};
 ghost use Rattle.tatp_streams.specs.LineReading.{nothing_taken, HasNoLineFeed, IsFirstLine, HoldsNoLine, TakesLine, MeetsEnd, ReadsMore};
 
-use crate::StreamFault;
 use crate::input::{PIECE, read_piece};
+use crate::{MAX_INPUT_LIMIT, StreamFault};
 use std::alloc::Global;
 use std::io::Read;
 use std::marker::Model;
-use tatp_limits::MAX_INPUT_BYTES;
 
 /// The lines of a reader, taken one after another.
 ///
@@ -31,6 +30,8 @@ pub struct LineReader {
     number: u64,
     /// How many bytes were read in all.
     count: usize,
+    /// How many may be.
+    limit: usize,
     /// Whether the input has ended.
     ended: bool,
 }
@@ -46,11 +47,12 @@ impl Model for LineReader {
       number = a.number;
       ahead = drop a.taken a.buffer.items;
       count = a.count;
+      limit = a.limit;
       ended = a.ended;
     } };
 
     ghost invariant = { λ a.
-        HoldsLines a.buffer.items a.start a.end a.taken a.clear a.number a.count };
+        HoldsLines a.buffer.items a.start a.end a.taken a.clear a.number a.count a.limit };
 }
 
 fn line_feed(bytes: &[u8]) -> Option<usize>
@@ -89,9 +91,10 @@ fn remove_front(buffer: &mut Vec<u8>, count: usize)
 }
 
 impl LineReader {
-    /// Nothing is read yet.
-    pub fn new(alloc: Global) -> LineReader
-        ensures { result ≡ nothing_taken }
+    /// Nothing is read yet, and no more than so many bytes will be.
+    pub fn new(alloc: Global, limit: usize) -> LineReader
+        requires { limit ≤ MAX_INPUT_LIMIT }
+        ensures { result ≡ nothing_taken limit }
     {
         LineReader {
             buffer: Vec::new(alloc),
@@ -101,6 +104,7 @@ impl LineReader {
             clear: 0,
             number: 0,
             count: 0,
+            limit,
             ended: false,
         }
     }
@@ -159,7 +163,7 @@ impl LineReader {
     /// How many lines were taken: the number of that line, counted from 1.
     pub fn number(&self) -> u64
         ensures number { result ≡ self.now.number }
-        ensures few { result ≤ MAX_INPUT_BYTES }
+        ensures few { result ≤ MAX_INPUT_LIMIT }
     {
         self.number
     }
@@ -167,7 +171,7 @@ impl LineReader {
     /// Whether the input has ended.
     fn is_ended(&self) -> bool
         ensures ended { result ≡ self.now.ended }
-        ensures within { self.now.count ≤ MAX_INPUT_BYTES }
+        ensures within { self.now.count ≤ self.now.limit }
     {
         self.ended
     }
@@ -185,7 +189,7 @@ impl LineReader {
         self.taken = 0;
         let held = self.buffer.len();
         let mut piece = [0u8; PIECE];
-        let more = read_piece(reader, self.count, &mut piece, &mut self.buffer)?;
+        let more = read_piece(reader, self.count, self.limit, &mut piece, &mut self.buffer)?;
         self.count += self.buffer.len() - held;
         self.ended = !more;
         Ok(())

@@ -1,6 +1,7 @@
 -- Populations that can be drawn, and runs that can be opened.
-use Rattle.std.specs.Prelude.{◌≤◌}
+use Rattle.std.specs.Prelude.{ℕ, ◌≤◌}
 use Rattle.tatp_limits.specs.declared.limits.TheConstants.{MAX_CLIENTS, MAX_PARTITIONS, MAX_SUBSCRIBERS}
+use Rattle.tatp_streams.specs.declared.limit.TheConstants.{MAX_INPUT_LIMIT}
 use Rattle.tatp_tasks.specs.declared.population.Population.{Population}
 use Rattle.tatp_tasks.specs.declared.population.Population.TheVariants.{Read, Generated}
 use Rattle.tatp_tasks.specs.declared.setup.Setup.{Setup}
@@ -9,6 +10,10 @@ abbrev pub IsPopulation : Population → Type 0
 IsPopulation Read = Unit {0}
 IsPopulation (Generated n seed) = (1 ≤ n) × (n ≤ MAX_SUBSCRIBERS)
 
+-- so many bytes of an input can be asked to be read
+abbrev pub IsInputLimit : ℕ → Type 0
+IsInputLimit bytes = (1 ≤ bytes) × (bytes ≤ MAX_INPUT_LIMIT)
+
 -- rows that can be had, over so many partitions and for so many clients as there can be
 pub record IsSetup (setup : Setup) : Type 0 where
   pub population : IsPopulation setup.population
@@ -16,3 +21,4 @@ pub record IsSetup (setup : Setup) : Type 0 where
   pub few_partitions : setup.partitions ≤ MAX_PARTITIONS
   pub some_clients : 1 ≤ setup.clients
   pub few_clients : setup.clients ≤ MAX_CLIENTS
+  pub input_limit : IsInputLimit setup.input_limit

@@ -5,14 +5,16 @@ use Rattle.tatp_tasks.specs.declared.task.Task.{Task}
 use Rattle.tatp_tasks.specs.declared.task.Task.TheVariants.{Call, Trace, Asm, Dis, Check, Audit, Bench, Rows, Calls, Explain}
 use Rattle.tatp_tasks.specs.Loads.{IsRowsPlan, IsCallsPlan}
 use Rattle.tatp_tasks.specs.Plans.{IsPlan}
-use Rattle.tatp_tasks.specs.Populations.{IsPopulation, IsSetup}
+use Rattle.tatp_tasks.specs.Populations.{IsPopulation, IsSetup, IsInputLimit}
 
--- where rows or calls are drawn, so many can be; there can be so many partitions and clients; the
--- run of the benchmark can be asked for
+-- where rows or calls are drawn, so many can be; there can be so many partitions and clients; so
+-- many bytes of the input can be read; the run of the benchmark can be asked for
 abbrev pub IsTask : Task → Type 0
-IsTask (Call population partitions) =
+IsTask (Call population partitions rows input_limit) =
     IsPopulation population × (1 ≤ partitions) × (partitions ≤ MAX_PARTITIONS)
+    × IsInputLimit input_limit
 IsTask (Trace setup) = IsSetup setup
+IsTask (Audit input_limit) = IsInputLimit input_limit
 IsTask (Bench plan progress) = IsPlan plan
 IsTask (Rows plan) = IsRowsPlan plan
 IsTask (Calls plan) = IsCallsPlan plan
@@ -20,12 +22,12 @@ IsTask task = Unit {0}
 
 -- the command's name
 abbrev pub name_of : Task → List ℕ
-name_of (Call population partitions) = codes "call"
+name_of (Call population partitions rows input_limit) = codes "call"
 name_of (Trace setup) = codes "trace"
 name_of Asm = codes "asm"
 name_of Dis = codes "dis"
 name_of Check = codes "check"
-name_of Audit = codes "audit"
+name_of (Audit input_limit) = codes "audit"
 name_of (Bench plan progress) = codes "bench"
 name_of (Rows plan) = codes "rows"
 name_of (Calls plan) = codes "calls"

@@ -12,4 +12,6 @@ pub struct Setup {
     pub partitions: u8,
     /// For how many clients, 1 to `MAX_CLIENTS`.
     pub clients: u16,
+    /// How many bytes of the input are read at most, 1 to `MAX_INPUT_LIMIT`.
+    pub input_limit: usize,
 }

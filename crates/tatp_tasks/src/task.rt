@@ -4,10 +4,13 @@ use crate::{BenchPlan, CallsPlan, Population, RowsPlan, Setup};
 /// What the program is asked to do: one of its commands.
 #[derive(Clone, Copy, Debug, PartialEq, Eq)]
 pub enum Task {
-    /// Answer calls, over so many partitions, 1 to `MAX_PARTITIONS`.
+    /// Answer calls, over so many partitions, 1 to `MAX_PARTITIONS`, and then write the rows or not.
+    /// So many bytes of the input are read at most, 1 to `MAX_INPUT_LIMIT`.
     Call {
         population: Population,
         partitions: u8,
+        rows: bool,
+        input_limit: usize,
     },
     /// Answer events.
     Trace(Setup),
@@ -17,8 +20,11 @@ pub enum Task {
     Dis,
     /// Test whether a module may be run.
     Check,
-    /// Test whether rows are clean.
-    Audit,
+    /// Test whether rows are clean. So many bytes of the input are read at most, 1 to
+    /// `MAX_INPUT_LIMIT`.
+    Audit {
+        input_limit: usize,
+    },
     /// Run the benchmark, and tell how it goes on or not.
     Bench {
         plan: BenchPlan,

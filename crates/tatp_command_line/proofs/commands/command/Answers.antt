@@ -9,6 +9,6 @@ returns c =
     let three = one_command_more _ _ _ _ _ two c.plain.ensures c.in_ok-subcommand-3.ensures in
     let four = one_command_more _ _ _ _ _ three c.plain-2.ensures c.in_ok-subcommand-4.ensures in
     let five = one_command_more _ _ _ _ _ four c.plain-3.ensures c.in_ok-subcommand-5.ensures in
-    let six = one_command_more _ _ _ _ _ five c.plain-4.ensures c.in_ok-subcommand-6.ensures in
+    let six = one_command_more _ _ _ _ _ five c.in_ok-audit.ensures c.in_ok-subcommand-6.ensures in
     let seven = one_command_more _ _ _ _ _ six c.in_ok-bench_with_moves.ensures c.in_ok-subcommand-7.ensures in
     IfOk-weaker c.subcommand-8.result _ _ (λ command adds. one_command_more _ _ _ _ _ seven c.in_ok-explain.ensures adds) c.subcommand-8.ensures

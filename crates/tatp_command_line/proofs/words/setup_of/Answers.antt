@@ -8,6 +8,7 @@ returns-clause-asked c = (
     population = search rules;
     partitions = search rules;
     clients = search rules;
+    input_limit = search rules;
   },
-  same_setup _ _ (search rules) (search rules) (search rules) (search rules),
+  same_setup _ _ (search rules) (search rules) (search rules) (search rules) (search rules),
 )

@@ -1,17 +1,28 @@
+use Rattle.std.proofs.Common.{true, false}
 use Rattle.tatp_tasks.specs.declared.procedures.Procedures.TheVariants.{Standard}
 use Rattle.tatp_console.specs.Answers.{AnswersWork, AnswersFront}
-use Rattle.tatp_console.specs.Replying.{answers_call}
+use Rattle.tatp_console.specs.Replying.{answers_call, rows_after}
 use Rattle.tatp_console.specs.Served.{Served, ServedFront}
 use Rattle.tatp_console.proofs.CallLaws.{all_served, front_served}
 use Rattle.tatp_console.proofs.WorkLaws.{writes_as, leaves_as}
 use Rattle.tatp_console.proofs.call.run_call.Goals as goal
 
-pub returns-clause-served : goal.returns-clause-served
-returns-clause-served g c =
-    writes_as (AnswersWork answers_call _) (λ m. Served) Standard c.args.population (g.R.Read.remaining c.args.reader.now) (g.W.Write.contents c.args.writer.now) _ c.answer_all.result
-    (all_served _) c.answer_all.ensures.answered
+pub returns-then-rows-clause-served : goal.returns-then-rows-clause-served
+returns-then-rows-clause-served g c =
+    rw c.if-rows.true (writes_as (AnswersWork answers_call (rows_after true) _) (λ m. Served true) Standard c.args.population (g.R.Read.remaining c.args.reader.now) (g.W.Write.contents c.args.writer.now) _ c.answer_all.result
+    (all_served true _) c.answer_all.ensures.answered)
 
-pub returns-clause-faults : goal.returns-clause-faults
-returns-clause-faults g c =
-    leaves_as (AnswersFront answers_call _) (λ m. ServedFront) Standard c.args.population (g.R.Read.remaining c.args.reader.now) (g.W.Write.contents c.args.writer.now) _ c.answer_all.result
-    (front_served _) c.answer_all.ensures.faults
+pub returns-then-rows-clause-faults : goal.returns-then-rows-clause-faults
+returns-then-rows-clause-faults g c =
+    rw c.if-rows.true (leaves_as (AnswersFront answers_call (rows_after true) _) (λ m. ServedFront true) Standard c.args.population (g.R.Read.remaining c.args.reader.now) (g.W.Write.contents c.args.writer.now) _ c.answer_all.result
+    (front_served true _) c.answer_all.ensures.faults)
+
+pub returns-else-rows-clause-served : goal.returns-else-rows-clause-served
+returns-else-rows-clause-served g c =
+    rw c.if-rows.false (writes_as (AnswersWork answers_call (rows_after false) _) (λ m. Served false) Standard c.args.population (g.R.Read.remaining c.args.reader.now) (g.W.Write.contents c.args.writer.now) _ c.answer_all-2.result
+    (all_served false _) c.answer_all-2.ensures.answered)
+
+pub returns-else-rows-clause-faults : goal.returns-else-rows-clause-faults
+returns-else-rows-clause-faults g c =
+    rw c.if-rows.false (leaves_as (AnswersFront answers_call (rows_after false) _) (λ m. ServedFront false) Standard c.args.population (g.R.Read.remaining c.args.reader.now) (g.W.Write.contents c.args.writer.now) _ c.answer_all-2.result
+    (front_served false _) c.answer_all-2.ensures.faults)

@@ -1,7 +1,6 @@
-use Rattle.std.proofs.Common.{◌≤◌, rules}
+use Rattle.std.proofs.Common.{rules}
 use Rattle.std.proofs.lemmas.Result.{err_from_is_err_and}
-use Rattle.tatp_limits.specs.declared.limits.TheConstants.{MAX_INPUT_BYTES}
-use Rattle.tatp_streams.specs.LineReading.{lines_left}
+use Rattle.tatp_streams.specs.LineReading.{lines_left, IsWithinLimit}
 use Rattle.tatp_console.specs.Answers.{AnswersAll}
 use Rattle.tatp_console.proofs.AnswerLaws.{starts, answers_next, writes_next, answers_all, lines_answered, answers_up_to, answers_so_far}
 use Rattle.tatp_console.proofs.lines.answer_lines.Goals as goal
@@ -24,7 +23,7 @@ returns-then-not-branch-clause-ok g c =
     let w = c.args.world.now in
     let all = lines_left c.args.lines.now (g.R.Read.remaining c.args.reader.now) in
     let end = c.in_ok-next_line.ensures.end (search rules) in
-    lines_answered (λ a. AnswersAll answers w a.lines (g.W.Write.contents c.args.writer.now) (g.W.Write.contents c.next_line.new.writer)) (λ a. a.input_length ≤ MAX_INPUT_BYTES) all
+    lines_answered (λ a. AnswersAll answers w a.lines (g.W.Write.contents c.args.writer.now) (g.W.Write.contents c.next_line.new.writer) c.lines.world) (λ a. IsWithinLimit a.input) all
     (answers_all answers w c.lines.world all (lines_left c.lines.lines (g.R.Read.remaining c.lines.reader)) (lines_left c.next_line.new.lines (g.R.Read.remaining c.next_line.new.reader)) _ _ _ _
     c.lines.invariant.goes end.left end.none end.within (c.in_ok-next_line.ensures.all_written (search rules)))
 

@@ -13,5 +13,6 @@ returns-clause-more g c =
     (λ e. omega (arith, longer, c.in_ok-more.ensures.more (not_false c.in_ok-more.more e)))
     (read.2 ∙ ap (λ front. front ++ read.0) c.remove_front.ensures)
     (omega (arith, longer, c.len.ensures, c.len-held.ensures))
+    refl
     (omega (arith, longer, c.len.ensures, c.len-held.ensures, c.in_ok-more.ensures.within))
     refl)

@@ -11,9 +11,9 @@ ghost use Rattle.tatp_command_line.specs.Asked.{IsNamedBy, AskFor};
 ghost use Rattle.tatp_command_line.specs.Numbers.{HasNumber, number_asked};
 ghost use Rattle.tatp_command_line.specs.Options.{partitions, clients, HasPopulation, population_asked, HasSetup, setup_asked, HasPlan, plan_asked, distribution_asked, procedures_asked};
 
-use crate::commands::command;
+use crate::commands::{command, command_named};
 use crate::options::{
-    BadNumber, CALLS, CHAPTER, CLIENTS, GEN, MOVES, NUMBER, PARTITIONS, SEED, STOPS, SUBSCRIBERS,
+    BadNumber, CALLS, CHAPTER, CLIENTS, GEN, MOVES, PARTITIONS, SEED, STOPS, SUBSCRIBERS, given,
     is_given,
 };
 use clap::error::ErrorKind;
@@ -112,7 +112,7 @@ fn plan_of<'a>(options: &ArgMatches<'a>) -> Result<BenchPlan, BadNumber<'a>>
 }
 
 /// The task that the words were found to name; none where they name no command.
-fn task_in<'a>(matches: &ArgMatches<'a>) -> Result<Option<Task>, BadNumber<'a>>
+fn task_in<'a>(matches: &ArgMatches<'a>) -> Result<Option<Task<'a>>, BadNumber<'a>>
     ensures asked { IfOk result (λ found. IfSome found (λ task.
         IsSomeAnd (subcommand_rows_of matches.now) (λ command. IsNamedBy command task))) }
     ensures possible { IfOk result (λ found. IfSome found IsTask) }
@@ -125,7 +125,10 @@ fn task_in<'a>(matches: &ArgMatches<'a>) -> Result<Option<Task>, BadNumber<'a>>
             population: population_of(options)?,
             partitions: partitions_of(options)?,
         })),
-        "trace" => Ok(Some(Task::Trace(setup_of(options)?))),
+        "trace" => Ok(Some(Task::Trace {
+            setup: setup_of(options)?,
+            echo: is_given(options, "echo"),
+        })),
         "asm" => Ok(Some(Task::Asm)),
         "dis" => Ok(Some(Task::Dis)),
         "check" => Ok(Some(Task::Check)),
@@ -134,13 +137,13 @@ fn task_in<'a>(matches: &ArgMatches<'a>) -> Result<Option<Task>, BadNumber<'a>>
             plan: plan_of(options)?,
             progress: is_given(options, "progress"),
         })),
-        "explain" => Ok(Some(Task::Explain(NUMBER.number_if_given(options)?))),
+        "explain" => Ok(Some(Task::Explain(given(options, "word")))),
         _ => Ok(None),
     }
 }
 
 /// What the words ask for; an error holds the text that they are answered with.
-pub fn task_of(alloc: Global, words: &[String]) -> Result<Task, Error>
+pub fn task_of<'a>(alloc: Global, words: &'a [String]) -> Result<Task<'a>, Error>
     ensures asked { IfOk result (AskFor (map string_bytes words.now)) }
     ensures possible { IfOk result IsTask }
 {
@@ -153,7 +156,8 @@ pub fn task_of(alloc: Global, words: &[String]) -> Result<Task, Error>
         }
         Err(bad) => {
             let text = format!(in alloc; "{bad}")?;
-            Err(command(alloc)?.error(ErrorKind::ValueValidation, text.as_str())?)
+            let mut command = command_named(alloc, matches.subcommand_name().unwrap_or(""))?;
+            Err(command.error(ErrorKind::ValueValidation, text.as_str())?)
         }
     }
 }
@@ -163,10 +167,10 @@ pub fn not_text(alloc: Global) -> Result<Error, AllocError> {
     command(alloc)?.error(ErrorKind::InvalidValue, "a word isn't UTF-8")
 }
 
-/// The answer to a number that no refusal and no fault has.
-pub fn not_explained(alloc: Global, number: u64) -> Result<Error, AllocError> {
+/// The answer to a word that is the number of no refusal and no fault, and no name of one.
+pub fn not_explained(alloc: Global, word: &str) -> Result<Error, AllocError> {
     let text = format!(in alloc;
-        "invalid value '{number}' for '[NUMBER]': no refusal or fault has this number"
+        "invalid value '{word}' for '[NUMBER|NAME]': no refusal or fault has this number or name"
     )?;
-    command(alloc)?.error(ErrorKind::ValueValidation, text.as_str())
+    command_named(alloc, "explain")?.error(ErrorKind::ValueValidation, text.as_str())
 }

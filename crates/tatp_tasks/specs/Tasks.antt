@@ -11,17 +11,17 @@ use Rattle.tatp_tasks.specs.Populations.{IsPopulation, IsSetup}
 abbrev pub IsTask : Task → Type 0
 IsTask (Call population partitions) =
     IsPopulation population × (1 ≤ partitions) × (partitions ≤ MAX_PARTITIONS)
-IsTask (Trace setup) = IsSetup setup
+IsTask (Trace setup echo) = IsSetup setup
 IsTask (Bench plan progress) = IsPlan plan
 IsTask task = Unit {0}
 
 -- the command's name
 abbrev pub name_of : Task → List ℕ
 name_of (Call population partitions) = codes "call"
-name_of (Trace setup) = codes "trace"
+name_of (Trace setup echo) = codes "trace"
 name_of Asm = codes "asm"
 name_of Dis = codes "dis"
 name_of Check = codes "check"
 name_of Audit = codes "audit"
 name_of (Bench plan progress) = codes "bench"
-name_of (Explain number) = codes "explain"
+name_of (Explain word) = codes "explain"

@@ -3,14 +3,17 @@ use crate::{BenchPlan, Population, Setup};
 
 /// What the program is asked to do: one of its commands.
 #[derive(Clone, Copy, Debug, PartialEq, Eq)]
-pub enum Task {
+pub enum Task<'a> {
     /// Answer calls, over so many partitions, 1 to `MAX_PARTITIONS`.
     Call {
         population: Population,
         partitions: u8,
     },
-    /// Answer events.
-    Trace(Setup),
+    /// Answer events, and write each line before its answers or not.
+    Trace {
+        setup: Setup,
+        echo: bool,
+    },
     /// Assemble a text into a module.
     Asm,
     /// Print a module as a text.
@@ -24,6 +27,7 @@ pub enum Task {
         plan: BenchPlan,
         progress: bool,
     },
-    /// Say what a number of a refusal or fault means; without one, all of them.
-    Explain(Option<u64>),
+    /// Say what a refusal or a fault means, by a word that is its number or its name; without one,
+    /// tell what all of them mean.
+    Explain(Option<&'a str>),
 }

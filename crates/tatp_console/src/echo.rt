@@ -10,6 +10,7 @@ use std::alloc::{AllocError, Global};
 use tatp_dispatch::World;
 
 /// Appends the line itself, after `> `.
+#[tactic(auto, using(crate::proofs::EchoLaws::echo_pushed))]
 fn push_echo(alloc: Global, line: &[u8], pending: &mut String) -> Result<(), AllocError>
     ensures { OnOk result
         (string_bytes pending.new ≡ string_bytes pending.old ++ echo_of line.now) }
@@ -28,6 +29,7 @@ fn is_comment(line: &[u8]) -> bool
 
 /// Appends the line itself and what is answered to it; to a comment nothing is. After an error the
 /// text is of no use, and the event of the line may have happened.
+#[tactic(auto, using(crate::proofs::EchoLaws::comment_told))]
 pub fn answer_echoed(
     alloc: Global,
     world: &mut World<'_>,

@@ -8,7 +8,9 @@ from . import reports
 from .edits import FOLDERS, bodies, read_lines
 from .rounds import halves, rounds_of
 
-PARTS = ("src", "specs", "proofs", "out/incremental", "out/rlib")
+SOURCES = ("src", "specs", "proofs")
+# With what earlier checks kept.
+PARTS = (*SOURCES, "out/incremental", "out/rlib")
 # What a crate's own rt reads of the crates below it.
 BELOW = ("src", "specs", "proofs", "out/rlib")
 
@@ -71,8 +73,8 @@ class Prover:
                 process.terminate()
 
 
-def copy_repository(names, to):
-    """These crates alone, with what earlier checks kept and without wrong bodies."""
+def copy_repository(names, to, parts=PARTS):
+    """These crates alone, and of each these parts; no wrong body is among them."""
     os.makedirs(os.path.join(to, "crates"))
     shutil.copy2("HANDLES", to)
     with open(os.path.join(to, "crates.txt"), "w", encoding="latin-1") as file:
@@ -81,7 +83,7 @@ def copy_repository(names, to):
                 file.write(line + "\n")
     for name in names:
         os.makedirs(os.path.join(to, "crates", name, "out"))
-        for part in PARTS:
+        for part in parts:
             if os.path.isdir(os.path.join("crates", name, part)):
                 copy_tree(os.path.join("crates", name, part), os.path.join(to, "crates", name, part))
 

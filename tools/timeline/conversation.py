@@ -4,10 +4,9 @@ import subprocess
 import sys
 
 BAD_LINE = "REFUSED 5 BadLine"
-# A line that changes nothing and has one known answer, since no run has so many partitions. It tells where the rows end
-# that `home` is answered with. No other place depends on how the end of an answer is known.
-END_MARK = b"look 99"
-END_ANSWER = "REFUSED 38 NoPartition"
+# A comment, which is echoed and not answered: its echo tells where the answers to the line before it end.
+END_MARK = b"#"
+END_ECHO = "> #"
 
 
 class Stopped(Exception):
@@ -19,10 +18,10 @@ class Stopped(Exception):
 
 
 class Trace:
-    """A run of `trace`, which answers each line when it has come."""
+    """A run of `trace`, which echoes and answers each line when it has come."""
 
     def __init__(self, program, words):
-        self.process = subprocess.Popen([program, "trace"] + words, stdin=subprocess.PIPE, stdout=subprocess.PIPE)
+        self.process = subprocess.Popen([program, "trace", *words, "--echo"], stdin=subprocess.PIPE, stdout=subprocess.PIPE)
 
     def send(self, data):
         """Hands bytes to the program. Where it has ended already, the status tells, once an answer is missed."""
@@ -42,24 +41,12 @@ class Trace:
 
     def ask(self, raw):
         """The answers to a line, each a list of its lines: `steps` has many answers, any other line has one."""
-        fields = raw.split(b" ")
-        if fields[0] == b"home":
-            return [self._ask_rows(raw)]
-        self.send(raw + b"\n")
-        first = self.read()
-        if fields[0] == b"look" and first.startswith("AT "):
-            return [[first, self.read(), self.read(), self.read()]]
-        if fields[0] == b"steps" and first != BAD_LINE:
-            return [[first]] + [[self.read()] for _ in range(int(fields[2]) - 1)]
-        return [[first]]
-
-    def _ask_rows(self, raw):
-        """The rows that `home` answers, or its refusal."""
         self.send(raw + b"\n" + END_MARK + b"\n")
-        lines = [self.read()]
-        while (line := self.read()) != END_ANSWER:
+        self.read()
+        lines = []
+        while (line := self.read()) != END_ECHO:
             lines.append(line)
-        return lines
+        return [[line] for line in lines] if raw.startswith(b"steps ") else [lines]
 
     def close(self):
         """Ends the input. The run is whole where the program then ends well and says no more."""

@@ -49,7 +49,7 @@ fn main(rt: HostRuntime) -> ExitCode {
 fn answer<R: Input + Print + Eprint + Threads + Wait + Sync>(
     rt: &R,
     alloc: Global,
-    asked: Result<Task, Error>,
+    asked: Result<Task<'_>, Error>,
 ) -> ExitCode
     requires { IfOk asked IsTask }
 {
@@ -89,11 +89,11 @@ fn status<F: fmt::Display + Drop>(rt: &impl Eprint, ended: Result<(), F>) -> Exi
     }
 }
 
-/// Says what a number means, or that it is none of a refusal or fault.
-fn explain<R: Print + Eprint>(rt: &R, alloc: Global, number: u64) -> ExitCode {
-    match run_explain(alloc, &mut io::writer(rt), number) {
+/// Says what a number or a name means, or that it is none of a refusal or fault.
+fn explain<R: Print + Eprint>(rt: &R, alloc: Global, word: &str) -> ExitCode {
+    match run_explain(alloc, &mut io::writer(rt), word) {
         Ok(true) => ExitCode::SUCCESS,
-        Ok(false) => match not_explained(alloc, number) {
+        Ok(false) => match not_explained(alloc, word) {
             Ok(error) => refuse(rt, &error),
             Err(_) => tell(rt, &StreamFault::NoMemory),
         },
@@ -105,7 +105,7 @@ fn explain<R: Print + Eprint>(rt: &R, alloc: Global, number: u64) -> ExitCode {
 fn run<R: Input + Print + Eprint + Threads + Wait + Sync>(
     rt: &R,
     alloc: Global,
-    task: Task,
+    task: Task<'_>,
 ) -> ExitCode
     requires { IsTask task }
 {
@@ -129,7 +129,7 @@ fn run<R: Input + Print + Eprint + Threads + Wait + Sync>(
                 input_limit,
             ),
         ),
-        Task::Trace(setup) => status(rt, run_trace(alloc, reader, writer, setup)),
+        Task::Trace { setup, echo } => status(rt, run_trace(alloc, reader, writer, setup, echo)),
         Task::Asm => status(rt, run_asm(alloc, reader, writer)),
         Task::Dis => status(rt, run_dis(alloc, reader, writer)),
         Task::Check => status(rt, run_check(alloc, reader, writer)),
@@ -152,6 +152,6 @@ fn run<R: Input + Print + Eprint + Threads + Wait + Sync>(
         Task::Rows(plan) => status(rt, run_rows(alloc, writer, &plan)),
         Task::Calls(plan) => status(rt, run_calls(alloc, writer, &plan)),
         Task::Explain(None) => status(rt, run_explain_all(alloc, writer)),
-        Task::Explain(Some(number)) => explain(rt, alloc, number),
+        Task::Explain(Some(word)) => explain(rt, alloc, word),
     }
 }

@@ -1,5 +1,5 @@
 -- The command line: its commands, and the options of each.
-use Rattle.std.specs.Prelude.{◌≡◌, Bool, true, false, List, [], ◌∷◌, ◌++◌, Some, None, codes, if◌then◌else◌}
+use Rattle.std.specs.Prelude.{◌≡◌, Bool, true, false, List, [], ◌∷◌, ◌++◌, Some, None, codes}
 use Rattle.std.specs.Option.{option_map_or}
 use Rattle.clap.specs.Walk.{Rule, Text}
 use Rattle.clap.specs.Simple.{App, Shape, app_of, new_rule, new_shape}
@@ -7,13 +7,13 @@ use Rattle.clap.specs.declared.builder.action.ArgAction.TheVariants.{SetTrue}
 use Rattle.clap.specs.declared.builder.command.Command.{Command}
 use Rattle.clap.specs.declared.builder.command.Command.TheViews.{out-Command}
 use Rattle.tatp_command_line.specs.Numbers.{Ranged}
-use Rattle.tatp_command_line.specs.Options.{gen, subscribers, seed, partitions, clients, calls, moves, stops, chapter, input_limit, rows_gen, drawn_calls, client, number}
+use Rattle.tatp_command_line.specs.Options.{gen, subscribers, seed, partitions, clients, calls, moves, stops, chapter, input_limit, rows_gen, drawn_calls, client}
 
 -- ---- what the parse of the words goes by
 -- an option that takes a number: any text, which is read afterwards
 abbrev pub number_rule : Ranged → Rule
 number_rule option = record (new_rule option.name) {
-  long = if option.alone then None else Some option.name;
+  long = Some option.name;
   value_names = 1;
   defaults = option_map_or (λ text. text ∷ []) option.default [];
   required = option.required;
@@ -21,6 +21,10 @@ number_rule option = record (new_rule option.name) {
 
 abbrev pub switch_rule : Text → Rule
 switch_rule name = record (new_rule name) { long = Some name; action = Some SetTrue }
+
+-- a word with no option before it, any text
+abbrev pub word_rule : Text → Rule
+word_rule name = record (new_rule name) { value_names = 1 }
 
 abbrev pub command_with : List Rule → Text → Shape
 command_with rules name = record (new_shape name) { rules = rules }
@@ -35,7 +39,7 @@ call_rules = rows_rules ++ switch_rule (codes "rows") ∷ number_rule input_limi
 
 abbrev pub trace_rules : List Rule
 trace_rules = rows_rules ++ number_rule clients ∷ switch_rule (codes "procedures")
-    ∷ number_rule input_limit ∷ []
+    ∷ switch_rule (codes "echo") ∷ number_rule input_limit ∷ []
 
 abbrev pub audit_rules : List Rule
 audit_rules = number_rule input_limit ∷ []
@@ -66,7 +70,7 @@ commands =
     ∷ command_with (bench_rules ++ meanwhile_rules) (codes "bench")
     ∷ command_with drawn_rows_rules (codes "rows")
     ∷ command_with drawn_calls_rules (codes "calls")
-    ∷ command_with (number_rule number ∷ []) (codes "explain")
+    ∷ command_with (word_rule (codes "word") ∷ []) (codes "explain")
     ∷ []
 
 -- ---- the whole

@@ -21,11 +21,10 @@ number_given None = 0
 number_given (Some text) = digits_value 10 text
 
 -- ---- options
--- an option: its name; whether its number stands alone, or behind two hyphens and the name; its
--- least and its greatest number; what counts where it isn't given; and whether it has to be given
+-- an option: its name; its least and its greatest number; what counts where it isn't given; and
+-- whether it has to be given
 pub record Ranged : Type 0 where
   pub name : List ℕ
-  pub alone : Bool
   pub least : ℕ
   pub most : ℕ
   pub default : Option (List ℕ)
@@ -34,7 +33,6 @@ pub record Ranged : Type 0 where
 abbrev pub asked_by : NumberOption → Ranged
 asked_by option = record {
   name = option.name.now;
-  alone = option.alone;
   least = option.least;
   most = option.most;
   default = option_map (λ text. text.now) option.default;

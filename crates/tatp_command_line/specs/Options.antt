@@ -22,7 +22,6 @@ use Rattle.tatp_command_line.specs.Numbers.{Ranged, HasNumber, number_asked, Has
 abbrev required_from : ℕ → ℕ → List ℕ → Ranged
 required_from least most name = record {
   name = name;
-  alone = false;
   least = least;
   most = most;
   default = None;
@@ -33,7 +32,6 @@ required_from least most name = record {
 abbrev optional_from : ℕ → ℕ → Option (List ℕ) → List ℕ → Ranged
 optional_from least most default name = record {
   name = name;
-  alone = false;
   least = least;
   most = most;
   default = default;
@@ -82,10 +80,6 @@ client = optional_from 0 (MAX_CLIENTS - 1) (Some (codes "0")) (codes "client")
 abbrev pub input_limit : Ranged
 input_limit = optional_from 1 MAX_INPUT_LIMIT (Some (codes "134217728")) (codes "input-limit")
 
--- the number that is to be explained, a word without an option before it
-abbrev pub number : Ranged
-number = record (optional_from 0 (2 ^ 64 - 1) None (codes "number")) { alone = true }
-
 -- ---- the switches
 -- the switch of this name is given
 abbrev pub is_given : List ℕ → List Row → Bool
@@ -99,6 +93,10 @@ distribution_asked given = if is_given (codes "uniform") given then Uniform else
 abbrev pub procedures_asked : List Row → Procedures
 procedures_asked given =
     if is_given (codes "procedures") given then procedures.Read else procedures.Standard
+
+-- ---- the word that is to be explained, with no option before it
+abbrev pub word_asked : List Row → Option (List ℕ)
+word_asked given = first_of (codes "word") given
 
 -- ---- the population: without --gen its rows are read
 abbrev pub HasPopulation : List Row → Type 0

@@ -1,13 +1,14 @@
 //! The commands of the command line, with their options.
 ghost use Rattle.std.specs.Prelude.{◌≡◌, ◌++◌, [], ◌∷◌, true, false, IfOk, codes};
 ghost use Rattle.clap.specs.Walk.{rule_of};
-ghost use Rattle.tatp_command_line.specs.CommandLine.{number_rule, switch_rule, command_with, rows_rules, call_rules, trace_rules, audit_rules, bench_rules, meanwhile_rules, drawn_rows_rules, drawn_calls_rules, program, command_line, IsApp, IsLeaf};
-ghost use Rattle.tatp_command_line.specs.Options.{number};
+ghost use Rattle.tatp_command_line.specs.CommandLine.{number_rule, switch_rule, word_rule, command_with, rows_rules, call_rules, trace_rules, audit_rules, bench_rules, meanwhile_rules, drawn_rows_rules, drawn_calls_rules, program, command_line, IsApp, IsLeaf};
 
-use crate::help::{ASM, AUDIT, BENCH, CALL, CALLS_HELP, CHECK, DIS, EXPLAIN, PROGRAM, ROWS, TRACE};
+use crate::help::{
+    ABOUT, ASM, AUDIT, BENCH, CALL, CALLS_HELP, CHECK, DIS, EXPLAIN, PROGRAM, ROWS, TRACE, USAGE,
+};
 use crate::options::{
-    CALLS, CHAPTER, CLIENT, CLIENTS, DRAWN_CALLS, GEN, INPUT_LIMIT, MOVES, NUMBER, PARTITIONS,
-    ROWS_GEN, SEED, STOPS, SUBSCRIBERS,
+    CALLS, CHAPTER, CLIENT, CLIENTS, DRAWN_CALLS, GEN, INPUT_LIMIT, MOVES, PARTITIONS, ROWS_GEN,
+    SEED, STOPS, SUBSCRIBERS,
 };
 use clap::{Arg, ArgAction, Command};
 use std::alloc::{AllocError, Global};
@@ -21,6 +22,14 @@ fn switch<'a>(alloc: Global, name: &'a str, help: &'a str) -> Arg<'a>
         .long(name)
         .action(ArgAction::SetTrue)
         .help(help)
+}
+
+/// A word with no option before it.
+fn word<'a>(alloc: Global, name: &'a str, value: &'a str, help: &'a str) -> Arg<'a>
+    ensures rule { rule_of result ≡ word_rule name.entry.now }
+    ensures own { result.global ≡ false }
+{
+    Arg::new(alloc, name).value_name(value).help(help)
 }
 
 /// A command over rows that the input brings, or that are drawn.
@@ -60,14 +69,17 @@ fn trace<'a>(alloc: Global) -> Result<Command<'a>, AllocError>
         "trace",
         "Step, stop and look at the machines of partitions, and move ranges between them",
     )?;
-    let command = command
-        .arg(CLIENTS.arg(alloc))?
-        .arg(switch(
-            alloc,
-            "procedures",
-            "Run the procedures whose assembly text stands at the front of the input",
-        ))?
-        .arg(INPUT_LIMIT.arg(alloc))?;
+    let command = command.arg(CLIENTS.arg(alloc))?.arg(switch(
+        alloc,
+        "procedures",
+        "Run the procedures whose assembly text stands at the front of the input",
+    ))?;
+    let command = command.arg(switch(
+        alloc,
+        "echo",
+        "Write each line of events after '> ' before its answers; one that begins with # is a comment",
+    ))?;
+    let command = command.arg(INPUT_LIMIT.arg(alloc))?;
     Ok(command.after_help(TRACE))
 }
 
@@ -143,12 +155,17 @@ fn calls<'a>(alloc: Global) -> Result<Command<'a>, AllocError>
 }
 
 fn explain<'a>(alloc: Global) -> Result<Command<'a>, AllocError>
-    ensures { IfOk result (IsLeaf (command_with (number_rule number ∷ []) (codes "explain"))) }
+    ensures { IfOk result (IsLeaf (command_with (word_rule (codes "word") ∷ []) (codes "explain"))) }
 {
     Command::new(alloc, "explain")
-        .about("Say what the number of a refusal or a fault means, and what to do")
+        .about("Say what a refusal or a fault means, and what to do")
         .after_help(EXPLAIN)
-        .arg(NUMBER.arg(alloc))
+        .arg(word(
+            alloc,
+            "word",
+            "NUMBER|NAME",
+            "The number of a refusal or a fault, or its name as it is answered",
+        ))
 }
 
 /// A command without options.
@@ -165,7 +182,8 @@ fn program<'a>(alloc: Global) -> Command<'a>
     Command::new(alloc, "tatp")
         .version("0.1.0")
         .propagate_version(true)
-        .about("A verified database for the TATP benchmark")
+        .about(ABOUT)
+        .override_usage(USAGE)
         .after_help(PROGRAM)
         .arg_required_else_help(true)
         .subcommand_required(true)
@@ -191,4 +209,20 @@ pub(crate) fn command<'a>(alloc: Global) -> Result<Command<'a>, AllocError>
         .subcommand(rows(alloc)?)?
         .subcommand(calls(alloc)?)?
         .subcommand(explain(alloc)?)
+}
+
+/// A command whose options take values, by its name: what usage it shows where a value is refused.
+pub(crate) fn command_named<'a>(alloc: Global, name: &str) -> Result<Command<'a>, AllocError> {
+    let command = match name {
+        "call" => call(alloc)?,
+        "trace" => trace(alloc)?,
+        "audit" => audit(alloc)?,
+        "bench" => bench_with_moves(alloc)?,
+        "rows" => rows(alloc)?,
+        "calls" => calls(alloc)?,
+        "explain" => explain(alloc)?,
+        _ => return command(alloc),
+    };
+    let usage_name = format!(in alloc; "tatp {name}")?;
+    command.bin_name(usage_name.as_str())
 }

@@ -1,11 +1,19 @@
 //! What the help of the program and of each command tells below its options.
 
+/// What the program is.
+pub(crate) const ABOUT: &str = "\
+A verified database for the TATP benchmark
+What is refused, and what a command stops at, has a number and a name: tatp explain 5 tells of 5";
+
+/// How the program is used.
+pub(crate) const USAGE: &str = "\
+tatp <COMMAND>
+       tatp explain [NUMBER|NAME]   (what a refusal or a fault means)";
+
 /// Of the program.
 pub(crate) const PROGRAM: &str = "\
 Each command reads standard input and writes standard output. It ends with status 0; with 1 where
 it stops, telling why on standard error; with 2 where it can't make out these words.
-
-What it stops at, and what is refused, has a number: tatp explain NUMBER says what it means.
 
 Example: tatp call < examples/first-run.txt";
 
@@ -61,7 +69,9 @@ Checkpoints:
   checkpoint P E          extent E hands out its log, of K calls, as its chapter I
                           (E 0: the log of the calls without a subscriber)     CHAPTER E I K
 
-What can't be done is answered REFUSED, a number and a name; it changes nothing.
+What can't be done is answered REFUSED, a number and a name, of which tatp explain tells more; it
+changes nothing. With --echo the line itself stands before what is answered to it, after '> ', so
+that each answer's end is seen. A line that begins with # is then a comment, and is not answered.
 
 Subscriber 129 moves while a call waits for it (tatp trace --gen 130 < examples/live-move.txt):
   submit 0 UPDATE_LOCATION 000000000000129 7      QUEUED 0
@@ -145,9 +155,10 @@ Examples:
 
 /// Of `explain`.
 pub(crate) const EXPLAIN: &str = "\
-Nothing is read. Of a number prints what it means, an example and what to do; without one prints
-all numbers, a line each.
+Nothing is read. Of a number, or of a name, prints what it means, an example and what to do; without
+one prints all numbers, a line each.
 
 Examples:
   tatp explain 5
+  tatp explain NotClean
   tatp explain | grep -i module";

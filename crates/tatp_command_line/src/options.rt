@@ -1,4 +1,4 @@
-//! The options, and a word, that take a number.
+//! The options that take a number.
 ghost use Rattle.std.specs.Prelude.{◌≡◌, ◌==◌, ◌≤◌, false, SomeIff, OkIff, IfOk, IfSome, slice_index};
 ghost use Rattle.std.specs.Option.{option_map};
 ghost use Rattle.std.specs.Str.Parse.{digits_value};
@@ -12,15 +12,13 @@ use clap::{Arg, ArgMatches};
 use std::alloc::Global;
 use std::fmt;
 
-/// An option that takes a number, or a word that is one.
+/// An option that takes a number.
 #[derive(Clone, Copy, Debug, PartialEq, Eq)]
 pub(crate) struct NumberOption {
-    /// Its name; of an option the word after two hyphens.
+    /// Its name, which stands after two hyphens.
     pub(crate) name: &'static str,
     /// What stands for the number in texts.
     value: &'static str,
-    /// Whether it is the number alone, without an option's word before it.
-    alone: bool,
     least: u64,
     most: u64,
     /// What counts where it isn't given.
@@ -39,7 +37,6 @@ macro_rules! number_option {
         NumberOption {
             name: $name,
             value: $value,
-            alone: false,
             least: $least,
             most: $most,
             default: $default,
@@ -116,18 +113,6 @@ pub(crate) const INPUT_LIMIT: NumberOption = number_option!(
     "Read at most B bytes of the input"
 );
 
-/// The number that is to be explained.
-pub(crate) const NUMBER: NumberOption = NumberOption {
-    name: "number",
-    value: "NUMBER",
-    alone: true,
-    least: 0,
-    most: u64::MAX,
-    default: None,
-    required: false,
-    help: "The number of a refusal or a fault",
-};
-
 /// What is wrong with an option: its text is no number of its range.
 #[derive(Clone, Copy, Debug, PartialEq, Eq)]
 pub(crate) struct BadNumber<'a> {
@@ -141,16 +126,11 @@ impl fmt::Display for BadNumber<'_> {
         let NumberOption {
             name,
             value,
-            alone,
             least,
             most,
             ..
         } = self.option;
-        if alone {
-            write!(f, "invalid value '{text}' for '[{value}]': ")?;
-        } else {
-            write!(f, "invalid value '{text}' for '--{name} <{value}>': ")?;
-        }
+        write!(f, "invalid value '{text}' for '--{name} <{value}>': ")?;
         if is_digits(text) {
             write!(f, "{text} is not in {least}..={most}")
         } else {
@@ -187,8 +167,8 @@ fn number_in(text: &str, least: u64, most: u64) -> Option<u64>
     }
 }
 
-/// The text that an option is given, or has by default.
-fn given<'a>(options: &ArgMatches<'a>, name: &str) -> Option<&'a str>
+/// The text that an option or a word is given, or has by default.
+pub(crate) fn given<'a>(options: &ArgMatches<'a>, name: &str) -> Option<&'a str>
     ensures { option_map (λ text. text.now) result
         ≡ first_of name.now (rows_of (found_of options.now)) }
 {
@@ -214,9 +194,9 @@ impl NumberOption {
     {
         let arg = Arg::new(alloc, self.name)
             .value_name(self.value)
+            .long(self.name)
             .required(self.required)
             .help(self.help);
-        let arg = if self.alone { arg } else { arg.long(self.name) };
         match self.default {
             Some(text) => arg.default_value(text),
             None => arg,

@@ -12,10 +12,10 @@ ghost use Rattle.tatp_command_line.specs.Asked.{IsNamedBy, AskFor};
 ghost use Rattle.tatp_command_line.specs.Numbers.{HasNumber, number_asked};
 ghost use Rattle.tatp_command_line.specs.Options.{partitions, clients, input_limit, HasPopulation, population_asked, HasSetup, setup_asked, HasPlan, plan_asked, distribution_asked, procedures_asked, HasRowsPlan, rows_plan_asked, HasCallsPlan, calls_plan_asked};
 
-use crate::commands::command;
+use crate::commands::{command, command_named};
 use crate::options::{
-    BadNumber, CALLS, CHAPTER, CLIENT, CLIENTS, DRAWN_CALLS, GEN, INPUT_LIMIT, MOVES, NUMBER,
-    PARTITIONS, ROWS_GEN, SEED, STOPS, SUBSCRIBERS, is_given,
+    BadNumber, CALLS, CHAPTER, CLIENT, CLIENTS, DRAWN_CALLS, GEN, INPUT_LIMIT, MOVES, PARTITIONS,
+    ROWS_GEN, SEED, STOPS, SUBSCRIBERS, given, is_given,
 };
 use clap::error::ErrorKind;
 use clap::{ArgMatches, Error};
@@ -150,7 +150,7 @@ fn calls_plan_of<'a>(options: &ArgMatches<'a>) -> Result<CallsPlan, BadNumber<'a
 }
 
 /// The task that the words were found to name; none where they name no command.
-fn task_in<'a>(matches: &ArgMatches<'a>) -> Result<Option<Task>, BadNumber<'a>>
+fn task_in<'a>(matches: &ArgMatches<'a>) -> Result<Option<Task<'a>>, BadNumber<'a>>
     ensures asked { IfOk result (λ found. IfSome found (λ task.
         IsSomeAnd (subcommand_rows_of matches.now) (λ command. IsNamedBy command task))) }
     ensures possible { IfOk result (λ found. IfSome found IsTask) }
@@ -165,7 +165,10 @@ fn task_in<'a>(matches: &ArgMatches<'a>) -> Result<Option<Task>, BadNumber<'a>>
             rows: is_given(options, "rows"),
             input_limit: input_limit_of(options)?,
         })),
-        "trace" => Ok(Some(Task::Trace(setup_of(options)?))),
+        "trace" => Ok(Some(Task::Trace {
+            setup: setup_of(options)?,
+            echo: is_given(options, "echo"),
+        })),
         "asm" => Ok(Some(Task::Asm)),
         "dis" => Ok(Some(Task::Dis)),
         "check" => Ok(Some(Task::Check)),
@@ -178,13 +181,13 @@ fn task_in<'a>(matches: &ArgMatches<'a>) -> Result<Option<Task>, BadNumber<'a>>
         })),
         "rows" => Ok(Some(Task::Rows(rows_plan_of(options)?))),
         "calls" => Ok(Some(Task::Calls(calls_plan_of(options)?))),
-        "explain" => Ok(Some(Task::Explain(NUMBER.number_if_given(options)?))),
+        "explain" => Ok(Some(Task::Explain(given(options, "word")))),
         _ => Ok(None),
     }
 }
 
 /// What the words ask for; an error holds the text that they are answered with.
-pub fn task_of(alloc: Global, words: &[String]) -> Result<Task, Error>
+pub fn task_of<'a>(alloc: Global, words: &'a [String]) -> Result<Task<'a>, Error>
     ensures asked { IfOk result (AskFor (map string_bytes words.now)) }
     ensures possible { IfOk result IsTask }
 {
@@ -197,7 +200,8 @@ pub fn task_of(alloc: Global, words: &[String]) -> Result<Task, Error>
         }
         Err(bad) => {
             let text = format!(in alloc; "{bad}")?;
-            Err(command(alloc)?.error(ErrorKind::ValueValidation, text.as_str())?)
+            let mut command = command_named(alloc, matches.subcommand_name().unwrap_or(""))?;
+            Err(command.error(ErrorKind::ValueValidation, text.as_str())?)
         }
     }
 }
@@ -207,10 +211,10 @@ pub fn not_text(alloc: Global) -> Result<Error, AllocError> {
     command(alloc)?.error(ErrorKind::InvalidValue, "a word isn't UTF-8")
 }
 
-/// The answer to a number that no refusal and no fault has.
-pub fn not_explained(alloc: Global, number: u64) -> Result<Error, AllocError> {
+/// The answer to a word that is the number of no refusal and no fault, and no name of one.
+pub fn not_explained(alloc: Global, word: &str) -> Result<Error, AllocError> {
     let text = format!(in alloc;
-        "invalid value '{number}' for '[NUMBER]': no refusal or fault has this number"
+        "invalid value '{word}' for '[NUMBER|NAME]': no refusal or fault has this number or name"
     )?;
-    command(alloc)?.error(ErrorKind::ValueValidation, text.as_str())
+    command_named(alloc, "explain")?.error(ErrorKind::ValueValidation, text.as_str())
 }

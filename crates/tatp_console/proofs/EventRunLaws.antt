@@ -1,5 +1,5 @@
 -- What is told of lines, one after another, and the run that their events are.
-use Rattle.std.proofs.Common.{◌≡◌, ℕ, ◌∙◌, sym, ap, subst, List, [], ◌∷◌, ◌++◌, refl, replicate, append_assoc, Result, Option, Some, None}
+use Rattle.std.proofs.Common.{◌≡◌, ℕ, ◌∙◌, sym, ap, subst, Bool, true, false, List, [], ◌∷◌, ◌++◌, refl, replicate, append_assoc, Result, Option, Some, None, if◌then◌else◌}
 use Rattle.std.proofs.lemmas.List.{append-nil}
 use Rattle.tatp_events.specs.declared.event.Event.{Event as AnEvent}
 use Rattle.tatp_events.specs.declared.event.Event.TheVariants.{Step}
@@ -11,26 +11,26 @@ use Rattle.tatp_dispatch.specs.Worlds.{WorldState}
 use Rattle.tatp_dispatch.proofs.RunningLaws.{runs_nothing, runs_more}
 use Rattle.tatp_trace_lines.specs.declared.line.TraceLine.{TraceLine}
 use Rattle.tatp_trace_lines.specs.declared.line.TraceLine.TheVariants.{Event, Steps, Look, Home, Audit}
-use Rattle.tatp_console.specs.EventLines.{line_in, TellsEvents, TellsLine, TellsLines, events_of, events_in}
+use Rattle.tatp_console.specs.EventLines.{line_in, is_comment, TellsEvents, TellsLine, TellsUnlessComment, TellsOf, TellsLines, events_of, events_told, events_in}
 
 -- ---- one line more
-pub no_lines : (w : WorldState) → TellsLines w [] [] [] w
-no_lines w = (refl, refl, refl)
+pub no_lines : (echoed : Bool) (w : WorldState) → TellsLines echoed w [] [] [] w
+no_lines echoed w = (refl, refl, refl)
 
-pub lines_more : (w b c : WorldState) (lines : List (List ℕ)) (answers : List (Result Answer Refusal)) (told : List ℕ) (line : List ℕ) (here : List (Result Answer Refusal)) (first : List ℕ)
-    → TellsLines w lines answers told b → TellsLine b (line_in line) here first c → TellsLines w (lines ++ line ∷ []) (answers ++ here) (told ++ first) c
-lines_more w b c [] answers told line here first t l = (
+pub lines_more : (echoed : Bool) (w b c : WorldState) (lines : List (List ℕ)) (answers : List (Result Answer Refusal)) (told : List ℕ) (line : List ℕ) (here : List (Result Answer Refusal)) (first : List ℕ)
+    → TellsLines echoed w lines answers told b → TellsOf echoed b line here first c → TellsLines echoed w (lines ++ line ∷ []) (answers ++ here) (told ++ first) c
+lines_more echoed w b c [] answers told line here first t l = (
   c,
   here,
   [],
   first,
   [],
-  subst (λ x. TellsLine x (line_in line) here first c) t.2 l,
+  subst (λ x. TellsOf echoed x line here first c) t.2 l,
   ap (λ front. front ++ here) t.0 ∙ sym (append-nil here),
   ap (λ front. front ++ first) t.1 ∙ sym (append-nil first),
   (refl, refl, refl),
 )
-lines_more w b c (x ∷ lines) answers told line here first t l = (
+lines_more echoed w b c (x ∷ lines) answers told line here first t l = (
   t.0,
   t.1,
   t.2 ++ here,
@@ -39,7 +39,7 @@ lines_more w b c (x ∷ lines) answers told line here first t l = (
   t.5,
   ap (λ front. front ++ here) t.6 ∙ append_assoc t.1 t.2 here,
   ap (λ front. front ++ first) t.7 ∙ append_assoc t.3 t.4 first,
-  lines_more t.0 b c lines t.2 t.4 line here first t.8 l,
+  lines_more echoed t.0 b c lines t.2 t.4 line here first t.8 l,
 )
 
 -- ---- the run
@@ -65,14 +65,25 @@ runs_line o w w' es ys (Some (Home p s_id)) answers told r t = runs_no_event o w
 runs_line o w w' es ys (Some Audit) answers told r t = runs_no_event o w w' es ys answers r t.1 t.2
 runs_line o w w' es ys None answers told r t = runs_no_event o w w' es ys answers r t.1 t.2
 
-runs_lines : (o w w' : WorldState) (es : List AnEvent) (ys : List (Result Answer Refusal)) (lines : List (List ℕ)) (answers : List (Result Answer Refusal)) (told : List ℕ)
-    → Runs o es ys w → TellsLines w lines answers told w' → Runs o (es ++ events_in lines) (ys ++ answers) w'
-runs_lines o w w' es ys [] answers told r t = runs_no_event o w w' es ys answers r t.0 t.2
-runs_lines o w w' es ys (line ∷ lines) answers told r t =
-    let later = runs_lines o t.0 w' (es ++ events_of (line_in line)) (ys ++ t.1) lines t.2 t.4 (runs_line o w t.0 es ys (line_in line) t.1 t.3 r t.5) t.8 in
-    subst (λ zs. Runs o (es ++ events_in (line ∷ lines)) (ys ++ zs) w') (sym t.6)
-    (subst (λ xs. Runs o xs (ys ++ (t.1 ++ t.2)) w') (append_assoc es (events_of (line_in line)) (events_in lines))
-    (subst (λ zs. Runs o ((es ++ events_of (line_in line)) ++ events_in lines) zs w') (append_assoc ys t.1 t.2) later))
+-- a comment has no event
+runs_unless_comment : (o w w' : WorldState) (es : List AnEvent) (ys : List (Result Answer Refusal)) (comment : Bool) (line : List ℕ) (answers : List (Result Answer Refusal)) (told : List ℕ)
+    → Runs o es ys w → TellsUnlessComment comment w line answers told w' → Runs o (es ++ (if comment then [] else events_of (line_in line))) (ys ++ answers) w'
+runs_unless_comment o w w' es ys true line answers told r t = runs_no_event o w w' es ys answers r t.1 t.2
+runs_unless_comment o w w' es ys false line answers told r t = runs_line o w w' es ys (line_in line) answers told r t
 
-pub lines_run : (w w' : WorldState) (lines : List (List ℕ)) (answers : List (Result Answer Refusal)) (told : List ℕ) → IsWorld w → TellsLines w lines answers told w' → Runs w (events_in lines) answers w'
-lines_run w w' lines answers told good t = runs_lines w w w' [] [] lines answers told (runs_nothing w good) t
+runs_told : (echoed : Bool) (o w w' : WorldState) (es : List AnEvent) (ys : List (Result Answer Refusal)) (line : List ℕ) (answers : List (Result Answer Refusal)) (told : List ℕ)
+    → Runs o es ys w → TellsOf echoed w line answers told w' → Runs o (es ++ events_told echoed line) (ys ++ answers) w'
+runs_told false o w w' es ys line answers told r t = runs_line o w w' es ys (line_in line) answers told r t
+runs_told true o w w' es ys line answers told r t = runs_unless_comment o w w' es ys (is_comment line) line answers t.0 r t.2
+
+runs_lines : (echoed : Bool) (o w w' : WorldState) (es : List AnEvent) (ys : List (Result Answer Refusal)) (lines : List (List ℕ)) (answers : List (Result Answer Refusal)) (told : List ℕ)
+    → Runs o es ys w → TellsLines echoed w lines answers told w' → Runs o (es ++ events_in echoed lines) (ys ++ answers) w'
+runs_lines echoed o w w' es ys [] answers told r t = runs_no_event o w w' es ys answers r t.0 t.2
+runs_lines echoed o w w' es ys (line ∷ lines) answers told r t =
+    let later = runs_lines echoed o t.0 w' (es ++ events_told echoed line) (ys ++ t.1) lines t.2 t.4 (runs_told echoed o w t.0 es ys line t.1 t.3 r t.5) t.8 in
+    subst (λ zs. Runs o (es ++ events_in echoed (line ∷ lines)) (ys ++ zs) w') (sym t.6)
+    (subst (λ xs. Runs o xs (ys ++ (t.1 ++ t.2)) w') (append_assoc es (events_told echoed line) (events_in echoed lines))
+    (subst (λ zs. Runs o ((es ++ events_told echoed line) ++ events_in echoed lines) zs w') (append_assoc ys t.1 t.2) later))
+
+pub lines_run : (echoed : Bool) (w w' : WorldState) (lines : List (List ℕ)) (answers : List (Result Answer Refusal)) (told : List ℕ) → IsWorld w → TellsLines echoed w lines answers told w' → Runs w (events_in echoed lines) answers w'
+lines_run echoed w w' lines answers told good t = runs_lines echoed w w w' [] [] lines answers told (runs_nothing w good) t

@@ -8,3 +8,4 @@ pub mod BytesLaws
 pub mod EventLineLaws
 pub mod EventRunLaws
 pub mod TraceLaws
+pub mod EchoLaws

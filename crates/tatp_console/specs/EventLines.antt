@@ -1,7 +1,8 @@
 -- What is answered to a line of `trace`, and what it makes of the whole.
-use Rattle.std.specs.Prelude.{◌≡◌, ℕ, List, [], ◌∷◌, ◌++◌, replicate, Option, Some, None, if◌then◌else◌}
+use Rattle.std.specs.Prelude.{◌≡◌, ℕ, Bool, true, false, List, [], ◌∷◌, ◌++◌, ◌&&◌, ◌==◌, replicate, slice_index_or, codes, Option, Some, None, if◌then◌else◌}
 use Rattle.std.specs.List.{flat_map}
 use Rattle.std.specs.Str.{is_utf8}
+use Rattle.std.specs.Str.Lossy.{utf8_lossy}
 use Rattle.tatp_audits.specs.declared.verdict.Verdict.{Verdict}
 use Rattle.tatp_audits.specs.Audits.{IsVerdict}
 use Rattle.tatp_audits.specs.Printing.{verdict_text}
@@ -68,23 +69,51 @@ TellsLine w (Some (Home p s_id)) answers told w' =
 TellsLine w (Some Audit) answers told w' = TellsVerdict w told × (answers ≡ []) × (w' ≡ w)
 TellsLine w None answers told w' = (told ≡ told_line bad_line_text) × (answers ≡ []) × (w' ≡ w)
 
--- lines, one after another
-abbrev pub TellsLines : WorldState → List (List ℕ) → List Answered → List ℕ → WorldState → Type 0
-TellsLines w [] answers told w' = (answers ≡ []) × (told ≡ []) × (w' ≡ w)
-TellsLines w (line ∷ lines) answers told w' =
+-- ---- lines that are echoed
+-- the line itself, after `> `; where it is no UTF-8, U+FFFD stands for what is none
+abbrev pub echo_of : List ℕ → List ℕ
+echo_of line = codes "> " ++ (utf8_lossy line ++ 10 ∷ [])
+
+-- it begins with #
+abbrev pub is_comment : List ℕ → Bool
+is_comment line = slice_index_or line 0 0 == 35
+
+-- what is answered to a line that is a comment or isn't
+abbrev pub TellsUnlessComment : Bool → WorldState → List ℕ → List Answered → List ℕ → WorldState
+    → Type 0
+TellsUnlessComment true w line answers told w' = (told ≡ []) × (answers ≡ []) × (w' ≡ w)
+TellsUnlessComment false w line answers told w' = TellsLine w (line_in line) answers told w'
+
+-- what is told of a line: what is answered to it, and where lines are echoed, the line before that
+abbrev pub TellsOf : Bool → WorldState → List ℕ → List Answered → List ℕ → WorldState → Type 0
+TellsOf false w line answers told w' = TellsLine w (line_in line) answers told w'
+TellsOf true w line answers told w' =
+    (answer : List ℕ) × (told ≡ echo_of line ++ answer)
+    × TellsUnlessComment (is_comment line) w line answers answer w'
+
+-- ---- lines, one after another
+abbrev pub TellsLines : Bool → WorldState → List (List ℕ) → List Answered → List ℕ → WorldState
+    → Type 0
+TellsLines echoed w [] answers told w' = (answers ≡ []) × (told ≡ []) × (w' ≡ w)
+TellsLines echoed w (line ∷ lines) answers told w' =
     (between : WorldState)
     × (here : List Answered)
     × (later : List Answered)
     × (first : List ℕ)
     × (rest : List ℕ)
-    × TellsLine w (line_in line) here first between
+    × TellsOf echoed w line here first between
     × (answers ≡ here ++ later)
     × (told ≡ first ++ rest)
-    × TellsLines between lines later rest w'
+    × TellsLines echoed between lines later rest w'
 
--- the events of all lines
-abbrev pub events_in : List (List ℕ) → List AnEvent
-events_in lines = flat_map (λ line. events_of (line_in line)) lines
+-- the events of a line; where lines are echoed, a comment has none
+abbrev pub events_told : Bool → List ℕ → List AnEvent
+events_told echoed line =
+    if echoed && is_comment line then [] else events_of (line_in line)
+
+-- those of all lines
+abbrev pub events_in : Bool → List (List ℕ) → List AnEvent
+events_in echoed lines = flat_map (events_told echoed) lines
 
 -- ---- texts that were appended to
 -- old and new are such a text: new has besides what is told of the event

@@ -3,6 +3,7 @@
 
 mod brought;
 mod call;
+mod echo;
 mod event_line;
 mod fault;
 mod lines;

@@ -7,7 +7,7 @@ ghost use Rattle.tatp_dispatch.specs.Runs.{Runs};
 ghost use Rattle.tatp_dispatch.specs.Serving.{IsWorld};
 ghost use Rattle.tatp_dispatch.specs.Worlds.{WorldState};
 ghost use Rattle.tatp_inputs.specs.Work.{Work};
-ghost use Rattle.tatp_console.specs.EventLines.{line_in, events_in, TellsLine, TellsLines};
+ghost use Rattle.tatp_console.specs.EventLines.{events_in, TellsOf, TellsLines};
 ghost use Rattle.tatp_console.specs.AnsweredCalls.{calls_of, told, marks_after};
 ghost use Rattle.tatp_console.specs.RowsWritten.{rows_if_asked};
 ghost use Rattle.tatp_console.specs.Served.{replies, database_after, ServesWork};
@@ -33,16 +33,17 @@ pub fn served_calls_are_in_order()
         ++ rows_if_asked rows (length work.rows.subscribers) all.database }
 {}
 
-/// What is told of lines of events goes on by what is told of each line after them, and the answers
-/// that are told are those of a run of the lines' events.
+/// What is told of lines of events, which are echoed or not, goes on by what is told of each line
+/// after them, and the answers that are told are those of a run of the lines' events.
 pub fn told_lines_are_a_run()
-    ensures none { (w : WorldState) → TellsLines w [] [] [] w }
-    ensures more { (w before after : WorldState) (lines : List (List ℕ)) (answers : List Answered)
-        (text : List ℕ) (line : List ℕ) (here : List Answered) (first : List ℕ)
-        → TellsLines w lines answers text before → TellsLine before (line_in line) here first after
-        → TellsLines w (lines ++ line ∷ []) (answers ++ here) (text ++ first) after }
-    ensures run { (w after : WorldState) (lines : List (List ℕ)) (answers : List Answered)
-        (text : List ℕ)
-        → IsWorld w → TellsLines w lines answers text after
-        → Runs w (events_in lines) answers after }
+    ensures none { (echoed : Bool) (w : WorldState) → TellsLines echoed w [] [] [] w }
+    ensures more { (echoed : Bool) (w before after : WorldState) (lines : List (List ℕ))
+        (answers : List Answered) (text : List ℕ) (line : List ℕ) (here : List Answered)
+        (first : List ℕ)
+        → TellsLines echoed w lines answers text before → TellsOf echoed before line here first after
+        → TellsLines echoed w (lines ++ line ∷ []) (answers ++ here) (text ++ first) after }
+    ensures run { (echoed : Bool) (w after : WorldState) (lines : List (List ℕ))
+        (answers : List Answered) (text : List ℕ)
+        → IsWorld w → TellsLines echoed w lines answers text after
+        → Runs w (events_in echoed lines) answers after }
 {}

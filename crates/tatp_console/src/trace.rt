@@ -1,10 +1,11 @@
 //! The command `trace`: what is answered to each line of events.
-ghost use Rattle.std.specs.Prelude.{◌≤◌, length, IfErr, OnOk, IfSome};
+ghost use Rattle.std.specs.Prelude.{◌≡◌, ◌≤◌, true, false, length, IfErr, OnOk, IfSome};
 ghost use Rattle.tatp_tasks.specs.Populations.{IsSetup};
 ghost use Rattle.tatp_console.specs.Tracing.{answers_events, no_ending, TellsWork, TellsFront};
 ghost use Rattle.tatp_console.specs.Works.{WritesOfWork, Leaves};
 
 use crate::ConsoleFault;
+use crate::echo::answer_echoed;
 use crate::event_line::answer_line;
 use crate::lines::{LineCommand, answer_all};
 use std::alloc::{AllocError, Global};
@@ -17,7 +18,7 @@ use tatp_tasks::Setup;
 struct Events;
 
 impl LineCommand for Events {
-    ghost answers = { answers_events };
+    ghost answers = { answers_events false };
 
     ghost ending = { no_ending };
 
@@ -40,8 +41,37 @@ impl LineCommand for Events {
     }
 }
 
+/// The command `trace` where lines are echoed.
+struct EchoedEvents;
+
+impl LineCommand for EchoedEvents {
+    ghost answers = { answers_events true };
+
+    ghost ending = { no_ending };
+
+    fn answer(
+        alloc: Global,
+        world: &mut World<'_>,
+        line: &[u8],
+        pending: &mut String,
+    ) -> Result<(), AllocError> {
+        answer_echoed(alloc, world, line, pending)
+    }
+
+    fn end<W: Write>(
+        _alloc: Global,
+        _world: &World<'_>,
+        _subscribers: u64,
+        _writer: &mut W,
+    ) -> Result<(), StreamFault> {
+        Ok(())
+    }
+}
+
 /// Reads rows and lines of events, or such lines alone, and writes what is answered to each. Before
-/// them may stand the text of the procedures that calls run.
+/// them may stand the text of the procedures that calls run. With `echo` the line itself stands
+/// before what is answered to it, after `> `, and one that begins with `#` is a comment, which is
+/// not answered.
 ///
 /// The rows are opened before the first answer is written; then all answers to the lines that have
 /// come, before it waits for more. No more bytes are read than the setup says.
@@ -50,16 +80,21 @@ pub fn run_trace<R: Read, W: Write>(
     reader: &mut R,
     writer: &mut W,
     setup: Setup,
+    echo: bool,
 ) -> Result<(), ConsoleFault>
     requires setup { IsSetup setup }
     ensures told { OnOk result (IfSome (R.remaining reader.old) (λ input.
-        WritesOfWork (TellsWork setup) setup.procedures setup.population input
+        WritesOfWork (TellsWork setup echo) setup.procedures setup.population input
         (W.contents writer.old) (W.contents writer.new))) }
     ensures faults { IfErr result (λ fault. IfSome (R.remaining reader.old) (λ input.
-        Leaves (TellsFront setup) setup.procedures setup.population input
+        Leaves (TellsFront setup echo) setup.procedures setup.population input
         (W.contents writer.old) (W.contents writer.new) fault)) }
     ensures limit { OnOk result
         (IfSome (R.remaining reader.old) (λ input. length input ≤ setup.input_limit)) }
 {
-    answer_all::<Events, R, W>(alloc, reader, writer, setup)
+    if echo {
+        answer_all::<EchoedEvents, R, W>(alloc, reader, writer, setup)
+    } else {
+        answer_all::<Events, R, W>(alloc, reader, writer, setup)
+    }
 }

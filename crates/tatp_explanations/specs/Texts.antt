@@ -6,6 +6,7 @@ use Rattle.tatp_streams.specs.declared.fault.StreamFault.TheVariants.{ReadFault}
 use Rattle.tatp_streams.specs.Writing.{LeavesText}
 use Rattle.tatp_explanations.specs.declared.explanation.Explanation.{Explanation}
 use Rattle.tatp_explanations.specs.Names.{name_of}
+use Rattle.tatp_explanations.specs.Words.{AsksFor}
 
 -- number, name and meaning, and what follows them
 abbrev pub headed : Explanation → List ℕ → List ℕ
@@ -28,6 +29,10 @@ pub record IsExplanation (number : ℕ) (text : List ℕ) : Type 0 where
   pub own : row.number ≡ number
   pub named : row.name.now ≡ name_of number
   pub told : text ≡ explanation_text row
+
+-- the text is a whole explanation of the number that the word asks for
+abbrev pub Explains : List ℕ → List ℕ → Type 0
+Explains word text = (number : ℕ) × AsksFor word number × IsExplanation number text
 
 -- the text has a line for each of these numbers, in their order, with its name
 pub record IsListing (numbers : List ℕ) (text : List ℕ) : Type 0 where

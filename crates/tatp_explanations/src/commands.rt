@@ -3,17 +3,16 @@ ghost use Rattle.std.specs.Prelude.{◌≡◌, true, false, [], IfOk, IfErr, OnO
 ghost use Rattle.std.specs.Io.KnownBytes.{Appends};
 ghost use Rattle.std.specs.String.{string_bytes};
 ghost use Rattle.tatp_streams.specs.Writing.{WritesText};
-ghost use Rattle.tatp_explanations.specs.Numbers.{is_explained, all_numbers};
-ghost use Rattle.tatp_explanations.specs.Texts.{line_text, explanation_text, IsExplanation, IsListing, LeavesFront};
+ghost use Rattle.tatp_explanations.specs.Numbers.{all_numbers};
+ghost use Rattle.tatp_explanations.specs.Texts.{line_text, explanation_text, Explains, IsListing, LeavesFront};
+ghost use Rattle.tatp_explanations.specs.Words.{AsksForNone};
 
 use crate::explanation::Line;
-use crate::{Explanation, explanation_of};
+use crate::search::END;
+use crate::{Explanation, explanation_asked, explanation_of};
 use std::alloc::{AllocError, Global};
 use std::io::Write;
 use tatp_streams::{StreamFault, write_last};
-
-/// Above the number of each refusal and fault.
-const END: u64 = 58;
 
 /// The text of an explanation.
 fn text_of(alloc: Global, explanation: &Explanation) -> Result<String, AllocError>
@@ -22,22 +21,19 @@ fn text_of(alloc: Global, explanation: &Explanation) -> Result<String, AllocErro
     format!(in alloc; "{explanation}")
 }
 
-/// Writes what a number means, with an example and what to do; `false` where no refusal and no
-/// fault has it, and then nothing.
-pub fn run_explain<W: Write>(
-    alloc: Global,
-    writer: &mut W,
-    number: u64,
-) -> Result<bool, StreamFault>
-    ensures found { IfOk result (λ found. found ≡ is_explained number) }
+/// Writes what a number means, with an example and what to do. The word is the number, in digits
+/// alone, or the name that stands behind it wherever it is answered. `false` where no refusal and
+/// no fault has it, and then nothing.
+pub fn run_explain<W: Write>(alloc: Global, writer: &mut W, word: &str) -> Result<bool, StreamFault>
     ensures written { IfOk result (λ found. found ≡ true →
-        WritesText (IsExplanation number) (W.contents writer.old) (W.contents writer.new)) }
+        WritesText (Explains word.now) (W.contents writer.old) (W.contents writer.new)) }
+    ensures unknown { IfOk result (λ found. found ≡ false → AsksForNone word.now) }
     ensures nothing { IfOk result (λ found. found ≡ false →
         Appends (W.contents writer.old) (W.contents writer.new) []) }
-    ensures faults { IfErr result (LeavesFront (IsExplanation number)
+    ensures faults { IfErr result (LeavesFront (Explains word.now)
         (W.contents writer.old) (W.contents writer.new)) }
 {
-    match explanation_of(number) {
+    match explanation_asked(word) {
         Some(explanation) => {
             let text = text_of(alloc, &explanation)?;
             write_last(writer, text.as_bytes())?;

@@ -8,4 +8,4 @@ mod table;
 
 pub use commands::{run_explain, run_explain_all};
 pub use explanation::Explanation;
-pub use search::explanation_of;
+pub use search::{explanation_asked, explanation_of};

@@ -58,15 +58,19 @@ pub(crate) fn about_changes(number: u64) -> Explanation
   REFUSED 5 BadLine
   $ echo 'GET_ACCESS_DATA 1 1' | tatp call
   tatp: 5 BadLine 1"
-            "  A number behind the name is that of the line, from 1. A line is its fields,
-  each after one space: no other space, no leading zeros, words as they are.
+            "  A number behind the name is that of the line, from 1. What it mostly is:
+  - sub_nbr and numberx have exactly fifteen digits, with leading zeros, as in
+    UPDATE_LOCATION 000000000000007 42. All other numbers have no leading zeros.
+  - A line that was written on Windows ends with a carriage return. It can't be
+    seen: head -n 1 FILE | od -c shows it as \\r, tr -d '\\r' takes it away. So
+    with the bytes 357 273 277 (a byte order mark) at the front of a file, which
+    tail -c +4 takes away.
+  - Between two fields stands one space, and none at the line's ends. Words are
+    as they are, in capitals.
   - Rows and calls are parted by a line with a dot. Where it is missing, the
     first call is taken for a row, as above; where no call follows either, the
     number is one more than that of the last line. With --gen there are no rows
-    and no such line.
-  - head -n 1 FILE | od -c shows what can't be seen: \\r at the end of a line,
-    which tr -d '\\r' takes away; the bytes 357 273 277 (a byte order mark) at
-    the front, which tail -c +4 takes away."
+    and no such line."
     )
 }
 

@@ -13,7 +13,7 @@ abbrev pub IsTask : Task → Type 0
 IsTask (Call population partitions rows input_limit) =
     IsPopulation population × (1 ≤ partitions) × (partitions ≤ MAX_PARTITIONS)
     × IsInputLimit input_limit
-IsTask (Trace setup) = IsSetup setup
+IsTask (Trace setup echo) = IsSetup setup
 IsTask (Audit input_limit) = IsInputLimit input_limit
 IsTask (Bench plan progress) = IsPlan plan
 IsTask (Rows plan) = IsRowsPlan plan
@@ -23,7 +23,7 @@ IsTask task = Unit {0}
 -- the command's name
 abbrev pub name_of : Task → List ℕ
 name_of (Call population partitions rows input_limit) = codes "call"
-name_of (Trace setup) = codes "trace"
+name_of (Trace setup echo) = codes "trace"
 name_of Asm = codes "asm"
 name_of Dis = codes "dis"
 name_of Check = codes "check"
@@ -31,4 +31,4 @@ name_of (Audit input_limit) = codes "audit"
 name_of (Bench plan progress) = codes "bench"
 name_of (Rows plan) = codes "rows"
 name_of (Calls plan) = codes "calls"
-name_of (Explain number) = codes "explain"
+name_of (Explain word) = codes "explain"

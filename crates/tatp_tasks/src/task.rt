@@ -3,7 +3,7 @@ use crate::{BenchPlan, CallsPlan, Population, RowsPlan, Setup};
 
 /// What the program is asked to do: one of its commands.
 #[derive(Clone, Copy, Debug, PartialEq, Eq)]
-pub enum Task {
+pub enum Task<'a> {
     /// Answer calls, over so many partitions, 1 to `MAX_PARTITIONS`, and then write the rows or not.
     /// So many bytes of the input are read at most, 1 to `MAX_INPUT_LIMIT`.
     Call {
@@ -12,8 +12,11 @@ pub enum Task {
         rows: bool,
         input_limit: usize,
     },
-    /// Answer events.
-    Trace(Setup),
+    /// Answer events, and write each line before its answers or not.
+    Trace {
+        setup: Setup,
+        echo: bool,
+    },
     /// Assemble a text into a module.
     Asm,
     /// Print a module as a text.
@@ -34,6 +37,7 @@ pub enum Task {
     Rows(RowsPlan),
     /// Write the calls that a client of the benchmark draws.
     Calls(CallsPlan),
-    /// Say what a number of a refusal or fault means; without one, all of them.
-    Explain(Option<u64>),
+    /// Say what a refusal or a fault means, by a word that is its number or its name; without one,
+    /// tell what all of them mean.
+    Explain(Option<&'a str>),
 }

@@ -2,6 +2,8 @@
 ghost use Rattle.tatp_tasks.specs.Plans.{IsPlan};
 
 use std::sync::atomic::{AtomicU64, Ordering};
+use tatp_debug::Snapshot;
+use tatp_partition::SiteRefusal;
 use tatp_tasks::BenchPlan;
 use tatp_threads::{Gate, NoGate};
 
@@ -78,6 +80,8 @@ impl<R: Eprint> Gate for Reporter<'_, R> {
             let _printed = eprintln!(self.rt; "{reached}/{PARTS} of {calls} calls ended");
         }
     }
+
+    fn after_look(&self, _partition: u8, _seen: &Result<Snapshot, SiteRefusal>) {}
 }
 
 impl<R: Eprint> Progress for Reporter<'_, R> {

@@ -5,7 +5,9 @@ use std::test::*;
 use std::thread;
 use std::time::{Clock, Duration};
 use tatp_bench::{BenchPlan, run_bench};
+use tatp_debug::Snapshot;
 use tatp_driver::Distribution;
+use tatp_partition::SiteRefusal;
 use tatp_threads::Gate;
 
 /// Holds the first step of the run, in whichever partition it comes, until a call ends in the other
@@ -50,6 +52,8 @@ impl<R: Clock> Gate for HoldFirst<'_, R> {
         };
         own.fetch_add(1, Ordering::SeqCst);
     }
+
+    fn after_look(&self, _partition: u8, _seen: &Result<Snapshot, SiteRefusal>) {}
 }
 
 // All calls by one thread, or under one lock, are late here.

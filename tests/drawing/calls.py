@@ -1,4 +1,4 @@
-"""Calls of a seed, as docs/FORMATS.md draws them."""
+"""Calls and moves of a seed, as docs/FORMATS.md draws them."""
 from model.calls import ARGUMENTS, TRANSACTIONS
 from model.tables import DIGITS, S_IDS
 
@@ -56,3 +56,13 @@ def mix(seed, clients, count):
         for _ in range(count):
             counts[kind_of([words.word() for _ in range(7)][0])] += 1
     return counts
+
+
+def moves_made(seed, clients, count, n, partitions):
+    """How many of so many drawn moves beside these clients, among n subscribers, are to another partition."""
+    words, held, made = Words(seed, clients + 1), {}, 0
+    for _ in range(count):
+        extent, to = words.choice(1, (n + 63) // 64), words.choice(0, partitions - 1)
+        made += held.get(extent, (extent - 1) % partitions) != to
+        held[extent] = to
+    return made

@@ -8,7 +8,7 @@ ghost use Rattle.tatp_bench.specs.Benching.{SettlesPlan, RefusesBench, kinds_dra
 ghost use Rattle.tatp_bench.specs.Works.{IsWorkOf};
 
 use crate::freeing::free_calls;
-use crate::{BenchFault, BenchPlan, Work, run_work, settle_run};
+use crate::{BenchFault, BenchPlan, Progress, Work, run_work, settle_run};
 use std::alloc::Global;
 use std::sync::Wait;
 use std::thread::Threads;
@@ -16,16 +16,15 @@ use tatp_drawing::{Drawn, draw};
 use tatp_procs::standard;
 use tatp_settle::Settled;
 use tatp_tables::Rows;
-use tatp_threads::Gate;
 
 /// Runs the work of a plan, and settles beside its population what the run left.
-fn run_and_settle<R: Threads + Wait + Sync, G: Gate + Sync>(
+fn run_and_settle<R: Threads + Wait + Sync, P: Progress + Sync>(
     rt: &R,
     alloc: Global,
     plan: &BenchPlan,
     population: &Rows,
     work: Work<'_, '_>,
-    gate: &G,
+    progress: &P,
 ) -> Result<Settled, BenchFault>
     requires plan { IsPlan plan.now }
     requires population { population.now ≡ rows_drawn plan.now }
@@ -38,21 +37,25 @@ fn run_and_settle<R: Threads + Wait + Sync, G: Gate + Sync>(
     ensures refusal { IfErr result (RefusesBench plan.now) }
 {
     let lists = work.lists;
-    match run_work(rt, alloc, plan, work, gate) {
+    match run_work(rt, alloc, plan, work, progress) {
         Err(fault) => Err(fault),
-        Ok(ran) => settle_run(rt, alloc, population, ran.parts(), lists),
+        Ok(ran) => {
+            let parts = ran.parts();
+            progress.after_run(&parts);
+            settle_run(rt, alloc, population, parts, lists)
+        }
     }
 }
 
 /// Runs what was drawn for a plan under the standard module, by threads that the gate watches, and
 /// settles what the run left. Which run of the plan it was no clause says, since threads may meet
 /// in any order: [`settle_run`] says of the run at hand that it is settled, or why it isn't.
-pub fn run_drawn<R: Threads + Wait + Sync, G: Gate + Sync>(
+pub fn run_drawn<R: Threads + Wait + Sync, P: Progress + Sync>(
     rt: &R,
     alloc: Global,
     plan: &BenchPlan,
     drawn: Drawn,
-    gate: &G,
+    progress: &P,
 ) -> Result<Settled, BenchFault>
     requires plan { IsPlan plan.now }
     requires drawn { IsDrawn plan.now drawn }
@@ -72,7 +75,7 @@ pub fn run_drawn<R: Threads + Wait + Sync, G: Gate + Sync>(
         moves: &moves,
         chapter: plan.chapter,
     };
-    let settled = run_and_settle(rt, alloc, plan, &population, work, gate);
+    let settled = run_and_settle(rt, alloc, plan, &population, work, progress);
     free_calls(rt, alloc, lists);
     settled
 }
@@ -80,11 +83,11 @@ pub fn run_drawn<R: Threads + Wait + Sync, G: Gate + Sync>(
 /// Runs the benchmark: draws the population and each client's calls from the plan's seed, runs the
 /// calls by threads while extents move and partitions stop, and settles what the run left. All
 /// draws are made before the threads of the run start.
-pub fn run_bench<R: Threads + Wait + Sync, G: Gate + Sync>(
+pub fn run_bench<R: Threads + Wait + Sync, P: Progress + Sync>(
     rt: &R,
     alloc: Global,
     plan: &BenchPlan,
-    gate: &G,
+    progress: &P,
 ) -> Result<Settled, BenchFault>
     requires { IsPlan plan.now }
     ensures settled { IfOk result (SettlesPlan plan.now) }
@@ -94,5 +97,5 @@ pub fn run_bench<R: Threads + Wait + Sync, G: Gate + Sync>(
     ensures refusal { IfErr result (RefusesBench plan.now) }
 {
     let drawn = draw(rt, alloc, plan)?;
-    run_drawn(rt, alloc, plan, drawn, gate)
+    run_drawn(rt, alloc, plan, drawn, progress)
 }

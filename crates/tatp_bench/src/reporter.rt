@@ -2,24 +2,33 @@
 ghost use Rattle.tatp_tasks.specs.Plans.{IsPlan};
 
 use std::sync::atomic::{AtomicU64, Ordering};
+use tatp_debug::Snapshot;
+use tatp_extents::Chapter;
+use tatp_partition::{Site, SiteRefusal};
 use tatp_tasks::BenchPlan;
-use tatp_threads::{Gate, NoGate};
+use tatp_threads::{Gate, NoGate, RanParts};
 
 /// A gate that is also told what is done before and after the calls.
 pub trait Progress: Gate {
     /// This is done.
     fn tell(&self, line: &str);
+
+    /// The threads of the run have ended, and left this.
+    fn after_run(&self, parts: &RanParts<'_>);
 }
 
 impl Progress for NoGate {
     fn tell(&self, _line: &str) {}
+
+    fn after_run(&self, _parts: &RanParts<'_>) {}
 }
 
 /// In how many parts the calls are told.
 const PARTS: u64 = 20;
 
 /// Tells on standard error how a run goes on, a line each: that the rows were drawn and opened,
-/// each twentieth of the calls as it ends, and that the run is settled.
+/// each twentieth of the calls as it ends, how much was done beside them, and that the run is
+/// settled.
 #[derive(Drop)]
 pub struct Reporter<'a, R> {
     rt: &'a R,
@@ -59,6 +68,37 @@ fn parts(ended: u64, calls: u64) -> u64 {
     }
 }
 
+/// How often the extents that are at these sites were moved.
+fn moves_made(sites: &[Site<'_>]) -> u64 {
+    let mut made: u64 = 0;
+    for site in sites {
+        for e in 0..=site.slots() {
+            if let Some(extent) = site.extent(e) {
+                made = made.saturating_add(extent.moves() as u64);
+            }
+        }
+    }
+    made
+}
+
+/// How often these sites were stopped.
+fn stops_made(sites: &[Site<'_>]) -> u64 {
+    let mut made: u64 = 0;
+    for site in sites {
+        made = made.saturating_add(site.stops());
+    }
+    made
+}
+
+/// How many chapters executors kept.
+fn chapters_kept(lists: &[Vec<Chapter>]) -> u64 {
+    let mut kept: u64 = 0;
+    for chapters in lists {
+        kept = kept.saturating_add(chapters.len() as u64);
+    }
+    kept
+}
+
 impl<R: Eprint> Gate for Reporter<'_, R> {
     fn before_step(&self, _partition: u8, _client: u64, _pc: usize) {
         // Almost every step reads alone, which costs the executors nothing to share.
@@ -78,10 +118,20 @@ impl<R: Eprint> Gate for Reporter<'_, R> {
             let _printed = eprintln!(self.rt; "{reached}/{PARTS} of {calls} calls ended");
         }
     }
+
+    fn after_look(&self, _partition: u8, _seen: &Result<Snapshot, SiteRefusal>) {}
 }
 
 impl<R: Eprint> Progress for Reporter<'_, R> {
     fn tell(&self, line: &str) {
         say(self.rt, line);
+    }
+
+    fn after_run(&self, parts: &RanParts<'_>) {
+        let moves = moves_made(&parts.sites);
+        let stops = stops_made(&parts.sites);
+        let chapters = chapters_kept(&parts.chapters);
+        let _printed =
+            eprintln!(self.rt; "{moves} moves, {stops} stops and {chapters} chapters made");
     }
 }

@@ -48,10 +48,12 @@ impl<R: Wait, G: Gate, A: Arities> Debugging for Inspector<'_, '_, '_, R, G, A> 
         ensures { OfPartition (length self.old.shared.now.partitions.now) partition
             (λ s s'. Looks s result × (s' ≡ s)) }
     {
-        match self.shared.partition(partition) {
+        let seen = match self.shared.partition(partition) {
             None => Err(SiteRefusal::NotRunning),
             Some(partition) => partition.read(self.rt, |site| look(site)),
-        }
+        };
+        self.shared.gate.after_look(partition, &seen);
+        seen
     }
 
     fn one(&mut self, partition: u8) -> Result<Stepped, SiteRefusal>

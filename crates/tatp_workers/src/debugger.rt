@@ -19,7 +19,7 @@ pub trait Debugging: Answering {
         ensures { Grows (Self.effects self.old) (Self.effects self.new)
             (Stops partition result ∷ []) };
 
-    /// Looks at the running call.
+    /// Looks at the running call, and tells the gate what was seen.
     fn look(&mut self, partition: u8) -> Result<Snapshot, SiteRefusal>
         ensures { Grows (Self.effects self.old) (Self.effects self.new)
             (Looks partition result ∷ []) };

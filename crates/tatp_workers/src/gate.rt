@@ -1,4 +1,7 @@
-//! Who watches the executors.
+//! Who watches the executors and the debugger.
+
+use tatp_debug::Snapshot;
+use tatp_partition::SiteRefusal;
 
 /// Is called by the threads as calls go on and end. It must return for the run to go on.
 pub trait Gate {
@@ -10,6 +13,10 @@ pub trait Gate {
     /// A client's call has ended, by an executor's step or the debugger's, and its reply can be
     /// taken.
     fn after_end(&self, partition: u8, client: u64);
+
+    /// The debugger has looked at the site of a partition that it stopped, and seen this of the
+    /// running call, or that none runs. The step that it then makes there is still to come.
+    fn after_look(&self, partition: u8, seen: &Result<Snapshot, SiteRefusal>);
 }
 
 /// Watches nothing.
@@ -20,4 +27,6 @@ impl Gate for NoGate {
     fn before_step(&self, _partition: u8, _client: u64, _pc: usize) {}
 
     fn after_end(&self, _partition: u8, _client: u64) {}
+
+    fn after_look(&self, _partition: u8, _seen: &Result<Snapshot, SiteRefusal>) {}
 }

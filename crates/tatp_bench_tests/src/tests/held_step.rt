@@ -4,9 +4,11 @@ use std::sync::atomic::{AtomicU64, Ordering};
 use std::test::*;
 use std::thread;
 use std::time::{Clock, Duration};
-use tatp_bench::{BenchPlan, run_bench};
+use tatp_bench::{BenchPlan, Progress, run_bench};
+use tatp_debug::Snapshot;
 use tatp_driver::Distribution;
-use tatp_threads::Gate;
+use tatp_partition::SiteRefusal;
+use tatp_threads::{Gate, RanParts};
 
 /// Holds the first step of the run, in whichever partition it comes, until a call ends in the other
 /// one.
@@ -50,6 +52,14 @@ impl<R: Clock> Gate for HoldFirst<'_, R> {
         };
         own.fetch_add(1, Ordering::SeqCst);
     }
+
+    fn after_look(&self, _partition: u8, _seen: &Result<Snapshot, SiteRefusal>) {}
+}
+
+impl<R: Clock> Progress for HoldFirst<'_, R> {
+    fn tell(&self, _line: &str) {}
+
+    fn after_run(&self, _parts: &RanParts<'_>) {}
 }
 
 // All calls by one thread, or under one lock, are late here.

@@ -3,9 +3,11 @@
 use std::process::Abort;
 use std::sync::atomic::{AtomicU64, Ordering};
 use std::test::*;
-use tatp_bench::{BenchPlan, run_bench};
+use tatp_bench::{BenchPlan, Progress, run_bench};
+use tatp_debug::Snapshot;
 use tatp_driver::Distribution;
-use tatp_threads::{Gate, NoGate};
+use tatp_partition::SiteRefusal;
+use tatp_threads::{Gate, NoGate, RanParts};
 
 /// Counts first steps and ends, and adds up whose they are.
 #[derive(Drop)]
@@ -28,6 +30,14 @@ impl Gate for Count {
         self.ends.fetch_add(1, Ordering::SeqCst);
         self.clients_of_ends.fetch_add(client, Ordering::SeqCst);
     }
+
+    fn after_look(&self, _partition: u8, _seen: &Result<Snapshot, SiteRefusal>) {}
+}
+
+impl Progress for Count {
+    fn tell(&self, _line: &str) {}
+
+    fn after_run(&self, _parts: &RanParts<'_>) {}
 }
 
 /// 200 calls of each of four clients: 200 x (0 + 1 + 2 + 3) is 1200.

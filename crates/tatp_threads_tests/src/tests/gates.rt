@@ -7,6 +7,8 @@ use std::sync::atomic::{AtomicU64, Ordering};
 use std::test::*;
 use std::thread;
 use std::time::{Clock, Duration};
+use tatp_debug::Snapshot;
+use tatp_partition::SiteRefusal;
 use tatp_procs::{Ask, Call};
 use tatp_threads::Gate;
 
@@ -46,6 +48,8 @@ impl<R: Clock> Gate for HoldSecond<'_, R> {
             self.answered.store(1, Ordering::SeqCst);
         }
     }
+
+    fn after_look(&self, _partition: u8, _seen: &Result<Snapshot, SiteRefusal>) {}
 }
 
 // Two executors and two partitions at once: all calls by one thread, or under one lock, are late
@@ -101,6 +105,8 @@ impl<R: Clock> Gate for HoldEnds<'_, R> {
         }
         self.late.store(1, Ordering::SeqCst);
     }
+
+    fn after_look(&self, _partition: u8, _seen: &Result<Snapshot, SiteRefusal>) {}
 }
 
 // Each call is in another partition than the one before. Where the gate is told of an end before
@@ -149,6 +155,8 @@ impl Gate for CountSteps {
     }
 
     fn after_end(&self, _partition: u8, _client: u64) {}
+
+    fn after_look(&self, _partition: u8, _seen: &Result<Snapshot, SiteRefusal>) {}
 }
 
 /// Calls on subscriber 1 in partition 0: 72 steps and 6.

@@ -9,9 +9,10 @@ use std::sync::Wait;
 use std::sync::atomic::{AtomicU64, Ordering};
 use std::test::*;
 use std::thread::Threads;
+use tatp_debug::Snapshot;
 use tatp_dispatch::World;
 use tatp_logs::{ReceiptRef, Receipts};
-use tatp_partition::{Site, close_sites};
+use tatp_partition::{Site, SiteRefusal, close_sites};
 use tatp_procs::{Ask, Call, ReplyRef};
 use tatp_settle_tests::rows::clean_rows;
 use tatp_settle_tests::sites::module;
@@ -41,7 +42,7 @@ struct StepClock {
 }
 
 /// So many counters at 0.
-fn counters(alloc: Global, count: u64) -> Result<Vec<AtomicU64>, AllocError> {
+pub fn counters(alloc: Global, count: u64) -> Result<Vec<AtomicU64>, AllocError> {
     let mut made = Vec::new(alloc);
     for _ in 0..count {
         made.push(AtomicU64::new(0))?;
@@ -103,6 +104,8 @@ impl Gate for StepClock {
     }
 
     fn after_end(&self, _partition: u8, _client: u64) {}
+
+    fn after_look(&self, _partition: u8, _seen: &Result<Snapshot, SiteRefusal>) {}
 }
 
 /// A call on one of six subscribers, two of each extent: half of the calls change rows.

@@ -1,6 +1,7 @@
-//! What the debugger does at the sites that it stops. The gate sees the steps of executors and not
-//! the debugger's: so those of a call that it doesn't see are the debugger's.
+//! What the debugger does at the sites that it stops. The gate is told the steps of executors and
+//! not the debugger's, but what the debugger sees of a call before it has it make a step.
 
+use super::real_time::counters;
 use super::threads::receipts_and_stops;
 use std::alloc::{AllocError, Global};
 use std::process::Abort;
@@ -10,10 +11,12 @@ use std::test::*;
 use std::thread;
 use std::thread::Threads;
 use std::time::{Clock, Duration};
+use tatp_debug::Snapshot;
+use tatp_partition::SiteRefusal;
 use tatp_procs::{Ask, Call};
 use tatp_threads::{Gate, Moves};
 
-/// How many steps a call makes that reads a subscriber.
+/// How many steps a call makes that reads a subscriber: one from each position, in order.
 const STEPS: u64 = 72;
 
 /// How often the partition of the slow call is stopped.
@@ -22,20 +25,72 @@ const STOPS: u64 = 8;
 /// Stops of partition 1, in which no call is: in that time a call of partition 0 begins.
 const BEFORE: u64 = 5000;
 
-/// Counts steps, and takes a millisecond before each.
+/// Counts looks, and steps of a call: those that the executor makes, with a millisecond before each,
+/// and those that the debugger makes where it sees the call.
 #[derive(Drop)]
 struct SlowSteps<'a, R: Clock> {
     clock: &'a R,
-    steps: AtomicU64,
+    /// How many steps are made from each position.
+    steps: Vec<AtomicU64>,
+    /// How many looks see the call.
+    running: AtomicU64,
+    /// How many looks see that no call runs in partition 0.
+    idle_in_first: AtomicU64,
+    /// How many looks see that no call runs in partition 1.
+    idle_in_second: AtomicU64,
+}
+
+impl<'a, R: Clock> SlowSteps<'a, R> {
+    fn new(clock: &'a R, alloc: Global) -> Result<SlowSteps<'a, R>, AllocError> {
+        Ok(SlowSteps {
+            clock,
+            steps: counters(alloc, STEPS)?,
+            running: AtomicU64::new(0),
+            idle_in_first: AtomicU64::new(0),
+            idle_in_second: AtomicU64::new(0),
+        })
+    }
+
+    /// A step is made from this position.
+    fn count(&self, pc: usize) {
+        if let Some(made) = self.steps.get(pc) {
+            made.fetch_add(1, Ordering::SeqCst);
+        }
+    }
+
+    /// From how many positions one step is made.
+    fn once(&self) -> u64 {
+        let mut once: u64 = 0;
+        for made in &self.steps {
+            if made.load(Ordering::SeqCst) == 1 {
+                once = once.saturating_add(1);
+            }
+        }
+        once
+    }
 }
 
 impl<R: Clock> Gate for SlowSteps<'_, R> {
-    fn before_step(&self, _partition: u8, _client: u64, _pc: usize) {
-        self.steps.fetch_add(1, Ordering::SeqCst);
+    fn before_step(&self, _partition: u8, _client: u64, pc: usize) {
+        self.count(pc);
         thread::sleep(self.clock, Duration::from_millis(1));
     }
 
     fn after_end(&self, _partition: u8, _client: u64) {}
+
+    fn after_look(&self, partition: u8, seen: &Result<Snapshot, SiteRefusal>) {
+        let looks = match seen {
+            Ok(snapshot) => {
+                if snapshot.steps_made == snapshot.pc {
+                    self.count(snapshot.pc);
+                }
+                &self.running
+            }
+            Err(_) if partition == 0 => &self.idle_in_first,
+            Err(_) => &self.idle_in_second,
+        };
+        looks.fetch_add(1, Ordering::SeqCst);
+    }
 }
 
 /// So many stops of partition 1, and then of partition 0.
@@ -53,29 +108,33 @@ fn stops_of(alloc: Global, in_second: u64, in_first: u64) -> Result<Moves, Alloc
     })
 }
 
-/// How many steps of a slow call the debugger makes at the stops of its partition.
-fn debugged_steps<R: Threads + Wait + Clock + Sync>(rt: &R, alloc: Global) -> Result<u64, Fail> {
-    let gate = SlowSteps {
-        clock: rt,
-        steps: AtomicU64::new(0),
-    };
+/// At how many stops of its partition a slow call runs. There is one look at each stop. From each
+/// position one step is made, by the executor or at a stop where the call is seen there.
+fn stops_met<R: Threads + Wait + Clock + Sync>(rt: &R, alloc: Global) -> Result<u64, Fail> {
+    let gate = SlowSteps::new(rt, alloc)?;
     let lists = vec![in alloc; vec![in alloc; Ask::Txn(Call::GetSubscriberData { s_id: 1 })]?]?;
     let moves = stops_of(alloc, BEFORE, STOPS)?;
     let (receipts, stops) = receipts_and_stops(rt, alloc, lists.as_slice(), &moves, &gate)?;
     if receipts.as_slice() != [1].as_slice() || stops.as_slice() != [BEFORE, STOPS].as_slice() {
         return Err("other receipts or stops".into());
     }
-    Ok(STEPS.saturating_sub(gate.steps.load(Ordering::SeqCst)))
+    let running = gate.running.load(Ordering::SeqCst);
+    let in_first = running.saturating_add(gate.idle_in_first.load(Ordering::SeqCst));
+    let in_second = gate.idle_in_second.load(Ordering::SeqCst);
+    if (gate.once(), in_first, in_second) != (STEPS, STOPS, BEFORE) {
+        return Err("other steps or looks".into());
+    }
+    Ok(running)
 }
 
-// At each stop of the partition of a running call the debugger makes one step of it. A stop that
-// comes before the call has begun makes none: so several runs are tried, but none makes more.
+// At each stop of the partition of a running call the debugger sees it, and has it make one step. A
+// stop that comes before the call has begun makes none: so several runs are tried.
 #[test]
-fn a_stop_makes_one_step(rt: HostRuntime) -> Result<(), Fail> {
+fn a_stop_sees_the_call_and_makes_one_step(rt: HostRuntime) -> Result<(), Fail> {
     let mut most: u64 = 0;
     for _ in 0..20 {
         if most < STOPS {
-            most = debugged_steps(&rt, rt.alloc())?.max(most);
+            most = stops_met(&rt, rt.alloc())?.max(most);
         }
     }
     assert_eq!(rt; most, STOPS);
@@ -131,6 +190,8 @@ impl<R: Clock> Gate for HoldAnswers<'_, R> {
         }
         self.late.store(1, Ordering::SeqCst);
     }
+
+    fn after_look(&self, _partition: u8, _seen: &Result<Snapshot, SiteRefusal>) {}
 }
 
 /// Calls in both partitions by turns.

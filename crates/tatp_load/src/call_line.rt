@@ -1,4 +1,4 @@
-//! The line of a call, appended to a text.
+//! The line of a call, appended to a text: `call_text` of `tatp_procs` takes memory for each line.
 ghost use Rattle.std.specs.Prelude.{◌≡◌, ◌++◌, [], ◌∷◌, OnOk, slice_index_or};
 ghost use Rattle.std.specs.String.{string_bytes};
 ghost use Rattle.tatp_texts.specs.Text.{value_text};

@@ -1,5 +1,7 @@
 -- Plans and setups that are equal part by part.
 use Rattle.std.proofs.Common.{◌≡◌, refl}
+use Rattle.tatp_tasks.specs.declared.load.CallsPlan.{CallsPlan}
+use Rattle.tatp_tasks.specs.declared.load.RowsPlan.{RowsPlan}
 use Rattle.tatp_tasks.specs.declared.plan.BenchPlan.{BenchPlan}
 use Rattle.tatp_tasks.specs.declared.setup.Setup.{Setup}
 
@@ -11,3 +13,10 @@ same_plan a b subscribers partitions clients calls seed distribution moves stops
 
 pub same_setup : (a b : Setup) → a.procedures ≡ b.procedures → a.population ≡ b.population → a.partitions ≡ b.partitions → a.clients ≡ b.clients → a.input_limit ≡ b.input_limit → a ≡ b
 same_setup a b procedures population partitions clients input_limit = rw (procedures, population, partitions, clients, input_limit) refl
+
+pub same_rows_plan : (a b : RowsPlan) → a.subscribers ≡ b.subscribers → a.seed ≡ b.seed → a ≡ b
+same_rows_plan a b subscribers seed = rw (subscribers, seed) refl
+
+pub same_calls_plan : (a b : CallsPlan)
+    → a.subscribers ≡ b.subscribers → a.calls ≡ b.calls → a.client ≡ b.client → a.seed ≡ b.seed → a.distribution ≡ b.distribution → a ≡ b
+same_calls_plan a b subscribers calls client seed distribution = rw (subscribers, calls, client, seed, distribution) refl

@@ -1,4 +1,4 @@
-//! The line of a call, appended to a text.
+//! The line of a call, appended to a text: `call_text` of `tatp_procs` takes memory for each line.
 ghost use Rattle.std.specs.Prelude.{◌≡◌, ◌++◌, [], ◌∷◌, OnOk, slice_index_or};
 ghost use Rattle.std.specs.String.{string_bytes};
 ghost use Rattle.tatp_texts.specs.Text.{value_text};
@@ -62,7 +62,7 @@ fn push_spaced(text: &mut String, column: u8, value: u64) -> Result<(), AllocErr
 }
 
 /// Appends the values, each after a space and in the form of its column.
-#[tactic(auto, using(tatp_procs::proofs::PrintingLaws::none_printed, tatp_procs::proofs::PrintingLaws::value_printed, tatp_procs::proofs::PrintingLaws::all_printed))]
+#[tactic(auto, using(tatp_procs::proofs::PrintingLaws::none_printed))]
 fn push_values(text: &mut String, columns: &[u8], values: &[u64]) -> Result<(), AllocError>
     ensures { OnOk result
         (string_bytes text.new ≡ string_bytes text.old ++ values_text columns.now values.now) }

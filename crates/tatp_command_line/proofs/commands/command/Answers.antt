@@ -11,4 +11,6 @@ returns c =
     let five = one_command_more _ _ _ _ _ four c.plain-3.ensures c.in_ok-subcommand-5.ensures in
     let six = one_command_more _ _ _ _ _ five c.in_ok-audit.ensures c.in_ok-subcommand-6.ensures in
     let seven = one_command_more _ _ _ _ _ six c.in_ok-bench_with_moves.ensures c.in_ok-subcommand-7.ensures in
-    IfOk-weaker c.subcommand-8.result _ _ (λ command adds. one_command_more _ _ _ _ _ seven c.in_ok-explain.ensures adds) c.subcommand-8.ensures
+    let eight = one_command_more _ _ _ _ _ seven c.in_ok-rows.ensures c.in_ok-subcommand-8.ensures in
+    let nine = one_command_more _ _ _ _ _ eight c.in_ok-calls.ensures c.in_ok-subcommand-9.ensures in
+    IfOk-weaker c.subcommand-10.result _ _ (λ command adds. one_command_more _ _ _ _ _ nine c.in_ok-explain.ensures adds) c.subcommand-10.ensures

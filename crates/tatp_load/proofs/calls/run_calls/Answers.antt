@@ -59,10 +59,10 @@ returns-in_err-write_last-clause-front g c =
     let p = err_from_is_err_and c.from_residual-in_err-write_last.result c.from_residual-in_err-write_last.ensures.1 in
     let plan = c.args.plan.now in
     rw p.1 (calls_cut plan.distribution plan.subscribers (words_of (client_generator plan.seed plan.client)) c.loop.counter plan.calls (g.W.Write.contents c.args.writer.now) (g.W.Write.contents c.loop.writer) _ _ _
-    c.loop.invariant.written (omega arith) (rw c.as_bytes.ensures at c.in_err-write_last.ensures.front))
+    c.loop.invariant.written (omega arith) (rw c.as_bytes.ensures.value at c.in_err-write_last.ensures.front))
 
 pub returns-clause-written : goal.returns-clause-written
 returns-clause-written g c =
     let plan = c.args.plan.now in
     calls_done plan.distribution plan.subscribers (words_of (client_generator plan.seed plan.client)) c.loop.counter plan.calls (g.W.Write.contents c.args.writer.now) (g.W.Write.contents c.loop.writer) _ _ _
-    c.loop.invariant.written (omega arith) (rw c.as_bytes.ensures at c.in_ok-write_last.ensures.ok)
+    c.loop.invariant.written (omega arith) (rw c.as_bytes.ensures.value at c.in_ok-write_last.ensures.ok)

@@ -38,9 +38,9 @@ pub returns-in_err-write_last-clause-front : goal.returns-in_err-write_last-clau
 returns-in_err-write_last-clause-front g c =
     let p = err_from_is_err_and c.from_residual-in_err-write_last.result c.from_residual-in_err-write_last.ensures.1 in
     rw p.1 (rows_cut (words_drawn c.args.plan.now) c.loop-before.before c.args.plan.now.subscribers (g.W.Write.contents c.args.writer.now) (g.W.Write.contents c.loop-before.writer) _ _ _
-    c.loop-before.invariant (omega arith) (rw c.as_bytes.ensures at c.in_err-write_last.ensures.front))
+    c.loop-before.invariant (omega arith) (rw c.as_bytes.ensures.value at c.in_err-write_last.ensures.front))
 
 pub returns-clause-written : goal.returns-clause-written
 returns-clause-written g c =
     rows_done (words_drawn c.args.plan.now) c.loop-before.before c.args.plan.now.subscribers (g.W.Write.contents c.args.writer.now) (g.W.Write.contents c.loop-before.writer) _ _ _
-    c.loop-before.invariant (omega arith) (rw c.as_bytes.ensures at c.in_ok-write_last.ensures.ok)
+    c.loop-before.invariant (omega arith) (rw c.as_bytes.ensures.value at c.in_ok-write_last.ensures.ok)

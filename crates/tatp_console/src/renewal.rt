@@ -11,7 +11,7 @@ use tatp_limits::MAX_PARTITIONS;
 
 /// After how many completed calls what is kept of them is let go. A call takes some 460 bytes, in
 /// the log of its extent and among the completions; to open the rows anew takes a copy of them.
-const KEPT_CALLS: usize = 2_000_000;
+const KEPT_CALLS: usize = 1_000_000;
 
 /// In how many partitions the rows are, one at least.
 fn partitions_of(world: &World<'_>) -> u8

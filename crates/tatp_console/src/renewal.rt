@@ -46,18 +46,18 @@ fn opened_anew<'m>(alloc: Global, world: &World<'m>) -> Option<World<'m>>
     }
 }
 
-/// Lets go what is kept of the completed calls, where they are many: the rows are opened anew. What
-/// calls reply and leave doesn't depend on it.
-pub(crate) fn let_calls_go<'m>(alloc: Global, world: &mut World<'m>)
+/// Lets go what is kept of the completed calls, where one was completed since there were so many,
+/// and they are many now: the rows are opened anew. What calls reply and leave doesn't depend on it.
+pub(crate) fn let_calls_go<'m>(alloc: Global, world: &mut World<'m>, before: usize)
     requires standard { world.old.modul ≡ standard_module }
     ensures standard { world.new.modul ≡ standard_module }
     ensures back { set_back world.new ≡ set_back world.old }
 {
     let completed = world.completions().len();
-    if completed > 0 && completed % KEPT_CALLS == 0 {
+    if completed > before && completed % KEPT_CALLS == 0 {
         if let Some(fresh) = opened_anew(alloc, world) {
-            let before = mem::replace(world, fresh);
-            before.close();
+            let left = mem::replace(world, fresh);
+            left.close();
         }
     }
 }

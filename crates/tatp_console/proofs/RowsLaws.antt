@@ -1,5 +1,5 @@
 -- The rows of the whole, written subscriber by subscriber.
-use Rattle.std.proofs.Common.{◌≡◌, ℕ, zero, suc, ◌+◌, ◌<◌, ◌≤◌, ◌∙◌, refl, sym, ap, subst, arith, List, [], ◌++◌, length, take, drop, Option, Some, None, codes, append_assoc, take-append-drop, inl, inr, slice_get}
+use Rattle.std.proofs.Common.{◌≡◌, ℕ, zero, suc, ◌+◌, ◌<◌, ◌≤◌, ◌∙◌, refl, sym, ap, subst, arith, List, [], ◌++◌, length, take, drop, Option, Some, None, codes, append_assoc, take-append-drop, inl, inr, slice_get, Result, OnOk, OnErr}
 use Rattle.std.specs.Option.{option_map}
 use Rattle.std.specs.Io.KnownBytes.{Appends}
 use Rattle.std.proofs.Math.Nat.{eq-or-lt_of_le}
@@ -36,7 +36,8 @@ none_of_none f (Some a) e = cc
 pub rest_at_one_more : (w : WorldState) (p : ℕ) (s : SiteState) (client : Option ℕ) → RestUpTo w p → slice_get w.sites p ≡ Some s
     → client ≡ option_map (λ (r : RunningCall). r.client) s.running → client ≡ None → RestUpTo w (p + 1)
 rest_at_one_more w p s client rest at shown none q t before there =
-    elim (eq-or-lt_of_le (omega (arith, before))) as (λ _. t.running ≡ None) [
+    let le : q ≤ p = omega (arith, before) in
+    elim (eq-or-lt_of_le le) as (λ _. t.running ≡ None) [
       | inl e ↦ subst (λ (x : SiteState). x.running ≡ None) (same_Some s t (sym at ∙ (ap (slice_get w.sites) (sym e) ∙ there))) (none_of_none (λ (r : RunningCall). r.client) s.running (sym shown ∙ none))
       | inr less ↦ rest q t less there
     ]
@@ -131,3 +132,15 @@ rows_end u n done old new then pending r end h =
     subst (Appends old then)
     (sym (r.whole ∙ ap (λ ts. r.written ++ ts) (ap (λ ts. pending ++ ts) (no_rows_left u (done + 1) r.left (omega (arith, r.counted, end))) ∙ append-nil pending)))
     (appends_both old new then r.written pending r.held h)
+
+-- ---- where no call runs
+pub written_at_rest : {E : Type 0} (r : Result (Unit {0}) E) (w : WorldState) (n : ℕ) (old new : Option (List ℕ)) → set_back w ≡ gathered w
+    → OnOk r (Appends old new (rows_told n (gathered w))) → OnOk r (Appends old new (rows_told n (set_back w)))
+written_at_rest r w n old new e h = rw e h
+
+pub cut_at_rest : {E : Type 0} (r : Result (Unit {0}) E) (w : WorldState) (n : ℕ) (old new : Option (List ℕ)) → set_back w ≡ gathered w
+    → OnErr r (AppendsFront (rows_told n (gathered w)) old new) → OnErr r (AppendsFront (rows_told n (set_back w)) old new)
+cut_at_rest r w n old new e h = rw e h
+
+pub nothing_written : (text : List ℕ) (known : Option (List ℕ)) → AppendsFront text known known
+nothing_written text known = (0, appends_none known)

@@ -94,6 +94,7 @@ fn write_homes<W: Write>(
 /// Writes a line `.` and the rows of all subscribers, where no call runs: subscriber by subscriber,
 /// and those of each table by table and by key. In a run of calls no extent leaves its site, and
 /// each call ends before the next line; what stands against it is told as want of memory.
+#[tactic(auto, using(crate::proofs::RowsLaws::written_at_rest, crate::proofs::RowsLaws::cut_at_rest, crate::proofs::RowsLaws::nothing_written))]
 pub(crate) fn write_rows<W: Write>(
     alloc: Global,
     world: &World<'_>,

@@ -1,6 +1,7 @@
 //! Logs of calls, let go in a run of many.
 ghost use Rattle.std.specs.Prelude.{◌≡◌, ◌≤◌, IfSome};
 ghost use Rattle.tatp_procs.specs.Standard.{standard_module};
+ghost use Rattle.tatp_dispatch.specs.Gathered.{gathered};
 ghost use Rattle.tatp_dispatch.specs.Shown.{set_back};
 
 use crate::rows::is_at_rest;
@@ -26,16 +27,14 @@ fn partitions_of(world: &World<'_>) -> u8
     MAX_PARTITIONS as u8
 }
 
-/// The whole with the same rows, opened anew, where memory for it is there and no call runs.
+/// The whole with the same rows, opened anew, where no call runs and memory for it is there.
 #[tactic(auto, using(crate::proofs::RenewalLaws::rows_clean, crate::proofs::RenewalLaws::rows_few, crate::proofs::RenewalLaws::opened_standard, crate::proofs::RenewalLaws::opened_back))]
 fn opened_anew<'m>(alloc: Global, world: &World<'m>) -> Option<World<'m>>
     requires standard { world.now.modul ≡ standard_module }
+    requires rest { set_back world.now ≡ gathered world.now }
     ensures standard { IfSome result (λ fresh. fresh.modul ≡ standard_module) }
     ensures back { IfSome result (λ fresh. set_back fresh ≡ set_back world.now) }
 {
-    if !is_at_rest(world) {
-        return None;
-    }
     let loaded = world.site(0)?.loaded();
     let Ok(rows) = world.gather(alloc) else {
         return None;
@@ -43,6 +42,19 @@ fn opened_anew<'m>(alloc: Global, world: &World<'m>) -> Option<World<'m>>
     match World::open_clean(alloc, loaded, rows, partitions_of(world), 1) {
         Ok(fresh) => Some(fresh),
         Err(_) => None,
+    }
+}
+
+/// The same; where a call runs, none.
+fn opened_anew_at_rest<'m>(alloc: Global, world: &World<'m>) -> Option<World<'m>>
+    requires standard { world.now.modul ≡ standard_module }
+    ensures standard { IfSome result (λ fresh. fresh.modul ≡ standard_module) }
+    ensures back { IfSome result (λ fresh. set_back fresh ≡ set_back world.now) }
+{
+    if is_at_rest(world) {
+        opened_anew(alloc, world)
+    } else {
+        None
     }
 }
 
@@ -55,7 +67,7 @@ pub(crate) fn let_calls_go<'m>(alloc: Global, world: &mut World<'m>, before: usi
 {
     let completed = world.completions().len();
     if completed > before && completed % KEPT_CALLS == 0 {
-        if let Some(fresh) = opened_anew(alloc, world) {
+        if let Some(fresh) = opened_anew_at_rest(alloc, world) {
             let left = mem::replace(world, fresh);
             left.close();
         }

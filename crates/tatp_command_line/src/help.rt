@@ -26,7 +26,7 @@ calls at a terminal, or let a program send each after the reply to the last. Ctr
 With --rows a line with a dot follows the last reply, and then the rows as all calls left them.
 
 A completed call is kept, in the log of its subscriber's extent and among all completed calls, in
-about 460 bytes of memory. After each 2,000,000 completed calls the rows are opened anew, where
+about 460 bytes of memory. After each 1,000,000 completed calls the rows are opened anew, where
 there is memory for them besides, and those calls are let go. Nothing else grows.
 
 Examples:

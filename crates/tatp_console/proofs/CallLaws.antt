@@ -22,10 +22,10 @@ reply_appended w w' line old told new a e =
       appended = e ∙ (ap (λ ts. ts ++ 10 ∷ []) a.told ∙ append_assoc old text (10 ∷ []));
     }
 
--- what is kept of calls was let go before
-pub line_replied : (w b w' : WorldState) (line old told new : List ℕ) → set_back b ≡ set_back w → AnswersLine line (set_back b) old told (set_back w') → new ≡ told ++ 10 ∷ []
+-- what is kept of calls is let go after it
+pub line_replied : (w b w' : WorldState) (line old told new : List ℕ) → AnswersLine line (set_back w) old told (set_back b) → new ≡ told ++ 10 ∷ [] → set_back w' ≡ set_back b
     → AppendsAnswer answers_call w line old new w'
-line_replied w b w' line old told new back a e = reply_appended w w' line old told new (subst (λ (u : Database). AnswersLine line u old told (set_back w')) back a) e
+line_replied w b w' line old told new a e back = reply_appended w w' line old told new (subst (λ (u : Database). AnswersLine line (set_back w) old told u) (sym back) a) e
 
 -- ---- lines, whichever marks and lines come after them
 -- some marks are those of the lines: with others after them the replies to the lines and to others are the text, and after it the replies to the others

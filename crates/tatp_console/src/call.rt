@@ -75,9 +75,10 @@ fn reply_to_line(
         (string_bytes pending.old) (string_bytes pending.new) world.new) }
     ensures standard { world.new.modul ≡ standard_module }
 {
-    let_calls_go(alloc, world);
+    let completed = world.completions().len();
     answer_line(world, line, pending)?;
     pending.push_str("\n")?;
+    let_calls_go(alloc, world, completed);
     Ok(())
 }
 

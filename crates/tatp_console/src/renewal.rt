@@ -1,6 +1,7 @@
 //! Logs of calls, let go in a run of many.
 ghost use Rattle.std.specs.Prelude.{◌≡◌, ◌≤◌, IfSome};
 ghost use Rattle.tatp_procs.specs.Standard.{standard_module};
+ghost use Rattle.tatp_dispatch.specs.Gathered.{gathered};
 ghost use Rattle.tatp_dispatch.specs.Shown.{set_back};
 
 use crate::rows::is_at_rest;
@@ -11,7 +12,7 @@ use tatp_limits::MAX_PARTITIONS;
 
 /// After how many completed calls what is kept of them is let go. A call takes some 460 bytes, in
 /// the log of its extent and among the completions; to open the rows anew takes a copy of them.
-const KEPT_CALLS: usize = 2_000_000;
+const KEPT_CALLS: usize = 1_000_000;
 
 /// In how many partitions the rows are, one at least.
 fn partitions_of(world: &World<'_>) -> u8
@@ -26,16 +27,14 @@ fn partitions_of(world: &World<'_>) -> u8
     MAX_PARTITIONS as u8
 }
 
-/// The whole with the same rows, opened anew, where memory for it is there and no call runs.
+/// The whole with the same rows, opened anew, where no call runs and memory for it is there.
 #[tactic(auto, using(crate::proofs::RenewalLaws::rows_clean, crate::proofs::RenewalLaws::rows_few, crate::proofs::RenewalLaws::opened_standard, crate::proofs::RenewalLaws::opened_back))]
 fn opened_anew<'m>(alloc: Global, world: &World<'m>) -> Option<World<'m>>
     requires standard { world.now.modul ≡ standard_module }
+    requires rest { set_back world.now ≡ gathered world.now }
     ensures standard { IfSome result (λ fresh. fresh.modul ≡ standard_module) }
     ensures back { IfSome result (λ fresh. set_back fresh ≡ set_back world.now) }
 {
-    if !is_at_rest(world) {
-        return None;
-    }
     let loaded = world.site(0)?.loaded();
     let Ok(rows) = world.gather(alloc) else {
         return None;
@@ -46,18 +45,31 @@ fn opened_anew<'m>(alloc: Global, world: &World<'m>) -> Option<World<'m>>
     }
 }
 
-/// Lets go what is kept of the completed calls, where they are many: the rows are opened anew. What
-/// calls reply and leave doesn't depend on it.
-pub(crate) fn let_calls_go<'m>(alloc: Global, world: &mut World<'m>)
+/// The same; where a call runs, none.
+fn opened_anew_at_rest<'m>(alloc: Global, world: &World<'m>) -> Option<World<'m>>
+    requires standard { world.now.modul ≡ standard_module }
+    ensures standard { IfSome result (λ fresh. fresh.modul ≡ standard_module) }
+    ensures back { IfSome result (λ fresh. set_back fresh ≡ set_back world.now) }
+{
+    if is_at_rest(world) {
+        opened_anew(alloc, world)
+    } else {
+        None
+    }
+}
+
+/// Lets go what is kept of the completed calls, where one was completed since there were so many,
+/// and they are many now: the rows are opened anew. What calls reply and leave doesn't depend on it.
+pub(crate) fn let_calls_go<'m>(alloc: Global, world: &mut World<'m>, before: usize)
     requires standard { world.old.modul ≡ standard_module }
     ensures standard { world.new.modul ≡ standard_module }
     ensures back { set_back world.new ≡ set_back world.old }
 {
     let completed = world.completions().len();
-    if completed > 0 && completed % KEPT_CALLS == 0 {
-        if let Some(fresh) = opened_anew(alloc, world) {
-            let before = mem::replace(world, fresh);
-            before.close();
+    if completed > before && completed % KEPT_CALLS == 0 {
+        if let Some(fresh) = opened_anew_at_rest(alloc, world) {
+            let left = mem::replace(world, fresh);
+            left.close();
         }
     }
 }

@@ -27,8 +27,9 @@ pub(crate) fn is_at_rest(world: &World<'_>) -> bool
         let Some(site) = world.site(p) else {
             return true;
         };
-        if site.client().is_some() {
-            return false;
+        match site.client() {
+            Some(_) => return false,
+            None => {}
         }
     }
     false
@@ -52,6 +53,7 @@ fn home_in<'w>(world: &'w World<'_>, s_id: u64) -> Option<&'w Home>
 }
 
 /// Appends the rows of a subscriber.
+#[tactic(auto, using(crate::proofs::RowsLaws::home_pushed))]
 fn push_home(
     alloc: Global,
     world: &World<'_>,
@@ -70,7 +72,7 @@ fn push_home(
 }
 
 /// Writes a line `.` and the rows of all subscribers, as they are now.
-#[tactic(auto, using(crate::proofs::RowsLaws::rows_start, crate::proofs::RowsLaws::rows_go_on, crate::proofs::RowsLaws::rows_written, crate::proofs::RowsLaws::rows_so_far, crate::proofs::RowsLaws::rows_up_to, crate::proofs::RowsLaws::rows_end))]
+#[tactic(auto, using(crate::proofs::RowsLaws::nothing_written, crate::proofs::RowsLaws::rows_start, crate::proofs::RowsLaws::rows_next, crate::proofs::RowsLaws::rows_so_far, crate::proofs::RowsLaws::rows_cut, crate::proofs::RowsLaws::rows_end, crate::proofs::RowsLaws::rows_end_cut))]
 fn write_homes<W: Write>(
     alloc: Global,
     world: &World<'_>,
@@ -94,6 +96,7 @@ fn write_homes<W: Write>(
 /// Writes a line `.` and the rows of all subscribers, where no call runs: subscriber by subscriber,
 /// and those of each table by table and by key. In a run of calls no extent leaves its site, and
 /// each call ends before the next line; what stands against it is told as want of memory.
+#[tactic(auto, using(crate::proofs::RowsLaws::written_at_rest, crate::proofs::RowsLaws::cut_at_rest, crate::proofs::RowsLaws::nothing_written))]
 pub(crate) fn write_rows<W: Write>(
     alloc: Global,
     world: &World<'_>,

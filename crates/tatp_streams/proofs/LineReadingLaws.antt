@@ -11,7 +11,7 @@ use Rattle.std.proofs.lemmas.List.Sums.{prefix_len-le-length}
 use Rattle.std.proofs.lemmas.Option.{same_Some, none-some}
 use Rattle.tatp_lines.specs.Lines.{lines_of}
 use Rattle.tatp_lines.proofs.LineLaws.{is_line_feed, lines_of-nil, lines_of_first, lines_of_last}
-use Rattle.tatp_streams.specs.LineReading.{LineReaderState, nothing_taken, LinesLeft, InputSize, IsWithinLimit, left_with, lines_left, Stays, Relates, steps_left, with_line, TakesLine, MeetsEnd, ReadsMore, HasNoLineFeed, HoldsNoLine, IsFirstLine}
+use Rattle.tatp_streams.specs.LineReading.{LineReaderState, nothing_taken, LinesLeft, IsWithinLimit, left_with, lines_left, Stays, Relates, steps_left, with_line, TakesLine, MeetsEnd, ReadsMore, HasNoLineFeed, HoldsNoLine, IsFirstLine}
 
 -- ---- the place of the first line feed
 place_of_none : (n l : ℕ) → n ≤ l → cond (ltb n l) (Some n) None ≡ None → n ≡ l

@@ -14,6 +14,9 @@ returns-clause-ok g c = on_ok_weaker c.end.result
     c.in_ok-answer_lines.ensures.ok written)
     c.end.ensures.ok
 
+pub returns-clause-limit : goal.returns-clause-limit
+returns-clause-limit g c = on_ok_weaker c.end.result (λ written. c.in_ok-answer_lines.ensures.limit) c.end.ensures.ok
+
 pub returns-clause-front : goal.returns-clause-front
 returns-clause-front g c = on_err_weaker c.end.result
     (λ front. answers_in_ending g.C.LineCommand.answers (g.C.LineCommand.ending c.args.subscribers) c.args.world.now c.answer_lines.new.world (lines_left c.args.lines.now (g.R.Read.remaining c.args.reader.now)) _ (g.W.Write.contents c.answer_lines.new.writer) _

@@ -65,7 +65,7 @@ fn trace<'a>(alloc: Global) -> Result<Command<'a>, AllocError>
     let command = command.arg(switch(
         alloc,
         "echo",
-        "Write each line after '> ' before its answers, and take one that begins with # for a comment",
+        "Write each line, after '> ', before its answers; one that begins with # is a comment",
     ))?;
     Ok(command.after_help(TRACE))
 }

@@ -10,7 +10,7 @@ from .reports import GOAL, NAMES, PROOF
 NAMED = re.compile(r"\(`([^`]+)`\)")
 LEFT = re.compile(r"note: `([^`]+)` of proofs/.* must prove: (.+)")
 # What rt says of a proof that no longer fits.
-COMPUTED = re.compile(r"  (computed, .*|the two types differ .*)")
+COMPUTED = re.compile(r"  (computed.*|the two types differ .*)")
 UNPROVED = re.compile(r"fn ([a-z0-9_]+)::(\S+): (not proved|no proof: it calls |no proof: )")
 # What is wider is no text to read.
 WIDTH = 110

@@ -77,7 +77,7 @@ fn trace<'a>(alloc: Global) -> Result<Command<'a>, AllocError>
     let command = command.arg(switch(
         alloc,
         "echo",
-        "Write each line of events after '> ' before its answers; one that begins with # is a comment",
+        "Write each line, after '> ', before its answers; one that begins with # is a comment",
     ))?;
     let command = command.arg(INPUT_LIMIT.arg(alloc))?;
     Ok(command.after_help(TRACE))
@@ -155,7 +155,8 @@ fn calls<'a>(alloc: Global) -> Result<Command<'a>, AllocError>
 }
 
 fn explain<'a>(alloc: Global) -> Result<Command<'a>, AllocError>
-    ensures { IfOk result (IsLeaf (command_with (word_rule (codes "word") ∷ []) (codes "explain"))) }
+    ensures { IfOk result
+        (IsLeaf (command_with (word_rule (codes "word") ∷ []) (codes "explain"))) }
 {
     Command::new(alloc, "explain")
         .about("Say what a refusal or a fault means, and what to do")

@@ -1,5 +1,5 @@
 -- What is told of lines that are echoed.
-use Rattle.std.proofs.Common.{◌≡◌, ℕ, ◌∙◌, sym, ap, subst, Bool, true, false, List, [], ◌∷◌, ◌++◌, refl, append_assoc, codes, Result}
+use Rattle.std.proofs.Common.{◌≡◌, ℕ, ◌∙◌, sym, ap, subst, true, false, List, [], ◌∷◌, ◌++◌, refl, append_assoc, codes}
 use Rattle.std.specs.Str.Lossy.{utf8_lossy}
 use Rattle.std.proofs.lemmas.List.{append-nil}
 use Rattle.tatp_dispatch.specs.Worlds.{WorldState}

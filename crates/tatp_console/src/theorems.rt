@@ -40,7 +40,8 @@ pub fn told_lines_are_a_run()
     ensures more { (echoed : Bool) (w before after : WorldState) (lines : List (List ℕ))
         (answers : List Answered) (text : List ℕ) (line : List ℕ) (here : List Answered)
         (first : List ℕ)
-        → TellsLines echoed w lines answers text before → TellsOf echoed before line here first after
+        → TellsLines echoed w lines answers text before
+        → TellsOf echoed before line here first after
         → TellsLines echoed w (lines ++ line ∷ []) (answers ++ here) (text ++ first) after }
     ensures run { (echoed : Bool) (w after : WorldState) (lines : List (List ℕ))
         (answers : List Answered) (text : List ℕ)

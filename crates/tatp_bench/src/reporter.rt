@@ -131,7 +131,8 @@ impl<R: Eprint> Progress for Reporter<'_, R> {
         let moves = moves_made(&parts.sites);
         let stops = stops_made(&parts.sites);
         let chapters = chapters_kept(&parts.chapters);
-        let _printed =
-            eprintln!(self.rt; "{moves} moves, {stops} stops and {chapters} chapters made");
+        let _printed = eprintln!(self.rt;
+            "{moves} moves, {stops} stops and {chapters} chapters made"
+        );
     }
 }

@@ -25,7 +25,7 @@ const STOPS: u64 = 8;
 /// Stops of partition 1, in which no call is: in that time a call of partition 0 begins.
 const BEFORE: u64 = 5000;
 
-/// Counts looks, and steps of a call: those that the executor makes, with a millisecond before each,
+/// Counts looks, and the steps of a call: those that the executor makes, a millisecond before each,
 /// and those that the debugger makes where it sees the call.
 #[derive(Drop)]
 struct SlowSteps<'a, R: Clock> {

@@ -137,7 +137,7 @@ alone. With moves and stops, in 2 partitions and in 8:
 pub(crate) const ROWS: &str = "\
 Nothing is read. The rows are those that call, trace and bench draw of N and S: one a line, in the
 order drawn, subscriber by subscriber. They are what call and trace read before the line with a dot.
-A million subscribers have 9.75 million rows, 370 MB; the memory taken does not grow with N.
+A million subscribers have 9.75 million rows, 380 MB; the memory taken does not grow with N.
 
 Examples:
   tatp rows --gen 1000 --seed 7 > rows.txt

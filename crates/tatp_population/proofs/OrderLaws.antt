@@ -1,7 +1,7 @@
 -- Rows in the order drawn, put into their tables one after another, are the drawn population.
 use Rattle.std.specs.Prelude.{◌≡◌, ℕ, zero, suc, List, [], ◌∷◌, ◌++◌}
 use Rattle.std.specs.List.{fold}
-use Rattle.std.proofs.Common.{refl, sym, ap, ◌∙◌, append-nil}
+use Rattle.std.proofs.Common.{sym, ap, ◌∙◌, append-nil}
 use Rattle.std.proofs.lemmas.Grind.{fold-append}
 use Rattle.tatp_tables.specs.Tuples.{Tuple}
 use Rattle.tatp_tables.specs.Rows.{with_row}

@@ -1,18 +1,13 @@
 -- Drawn rows, appended line by line in the order drawn.
-use Rattle.std.specs.Prelude.{◌≡◌, ℕ, suc, zero, ◌+◌, ◌-◌, ◌≤◌, ◌<◌, List, [], ◌∷◌, ◌++◌, length, All}
-use Rattle.std.specs.List.{flat_map, fold}
+use Rattle.std.specs.Prelude.{◌≡◌, ℕ, ◌+◌, ◌-◌, ◌<◌, List, [], ◌∷◌, ◌++◌, length, All}
 use Rattle.std.proofs.Common.{refl, sym, ap, ◌∙◌, arith, add-one, append_assoc, append-nil}
 use Rattle.std.proofs.lemmas.List.Edits.{length-remove}
 use Rattle.std.proofs.lemmas.List.Concat.{flat_map-cons}
-use Rattle.std.proofs.lemmas.Grind.{flat_map-append, fold-append}
-use Rattle.tatp_tables.specs.Tuples.{Tuple}
-use Rattle.tatp_tables.specs.Rows.{with_row}
+use Rattle.std.proofs.lemmas.Grind.{flat_map-append}
 use Rattle.tatp_tables.specs.declared.row.Row.{Row}
-use Rattle.tatp_tables.specs.declared.row.Row.TheVariants.{S, A, F, C}
 use Rattle.tatp_tables.specs.declared.row.Rows.{Rows}
 use Rattle.tatp_population.specs.Drawn.{Taken, none, joined, choice, taken, parts}
-use Rattle.tatp_population.specs.DrawnRows.{subscriber, population}
-use Rattle.tatp_population.specs.DrawnOrder.{line_of, rows_text, in_order, subscriber_in_order, population_in_order}
+use Rattle.tatp_population.specs.DrawnOrder.{line_of, rows_text, in_order}
 use Rattle.tatp_population.proofs.PartLaws.{AreDrawn, next_value}
 
 -- ---- lines

@@ -1,4 +1,4 @@
-use Rattle.std.proofs.Common.{◌≡◌, ◌≤◌, ◌∙◌, arith, ap, subst, sym, refl}
+use Rattle.std.proofs.Common.{◌≡◌, ◌∙◌, arith, ap, subst, sym}
 use Rattle.std.proofs.lemmas.Result.{err_from_is_err_and}
 use Rattle.std.specs.String.{string_bytes}
 use Rattle.tatp_driver.specs.DrawnCall.{drawn_call}

@@ -1,9 +1,8 @@
-use Rattle.std.proofs.Common.{◌≤◌, arith, ap, subst, sym}
+use Rattle.std.proofs.Common.{arith, ap, subst, sym}
 use Rattle.std.proofs.lemmas.Result.{err_from_is_err_and}
 use Rattle.std.specs.String.{string_bytes}
 use Rattle.tatp_driver.specs.DrawnWords.{words_of}
 use Rattle.tatp_load.specs.Rows.{words_drawn}
-use Rattle.tatp_load.proofs.WrittenLaws.{all_written}
 use Rattle.tatp_load.proofs.RowLaws.{RowsAreWritten, no_rows, one_subscriber, rows_flushed, rows_cut, rows_held, rows_done}
 use Rattle.tatp_load.proofs.rows.run_rows.Goals as goal
 

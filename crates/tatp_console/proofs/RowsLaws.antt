@@ -1,5 +1,5 @@
 -- The rows of the whole, written subscriber by subscriber.
-use Rattle.std.proofs.Common.{◌≡◌, ℕ, zero, suc, ◌+◌, ◌<◌, ◌≤◌, ◌∙◌, refl, sym, ap, subst, arith, List, [], ◌++◌, length, take, drop, Option, Some, None, codes, append_assoc, take-append-drop, inl, inr, slice_get, Result, OnOk, OnErr}
+use Rattle.std.proofs.Common.{◌≡◌, ℕ, zero, suc, ◌+◌, ◌<◌, ◌≤◌, ◌∙◌, refl, sym, ap, subst, arith, List, [], ◌++◌, length, take, drop, Option, Some, None, Bool, true, codes, append_assoc, take-append-drop, inl, inr, slice_get, Result, OnOk, OnErr}
 use Rattle.std.specs.Option.{option_map}
 use Rattle.std.specs.Io.KnownBytes.{Appends}
 use Rattle.std.proofs.Math.Nat.{eq-or-lt_of_le}
@@ -157,13 +157,13 @@ pub rows_end_cut : {E : Type 0} (result : Result (Unit {0}) E) (u : Database) (n
 rows_end_cut result u n done old new then pending r h = on_err_weaker result (rows_up_to u n done old new then pending r) h
 
 -- ---- where no call runs
-pub written_at_rest : {E : Type 0} (r : Result (Unit {0}) E) (w : WorldState) (n : ℕ) (old new : Option (List ℕ)) → set_back w ≡ gathered w
+pub written_at_rest : {E : Type 0} (r : Result (Unit {0}) E) (w : WorldState) (n : ℕ) (old new : Option (List ℕ)) (rest : Bool) → rest ≡ true → (rest ≡ true → set_back w ≡ gathered w)
     → OnOk r (Appends old new (rows_told n (gathered w))) → OnOk r (Appends old new (rows_told n (set_back w)))
-written_at_rest r w n old new e h = rw e h
+written_at_rest r w n old new rest is e h = rw (e is) h
 
-pub cut_at_rest : {E : Type 0} (r : Result (Unit {0}) E) (w : WorldState) (n : ℕ) (old new : Option (List ℕ)) → set_back w ≡ gathered w
+pub cut_at_rest : {E : Type 0} (r : Result (Unit {0}) E) (w : WorldState) (n : ℕ) (old new : Option (List ℕ)) (rest : Bool) → rest ≡ true → (rest ≡ true → set_back w ≡ gathered w)
     → OnErr r (AppendsFront (rows_told n (gathered w)) old new) → OnErr r (AppendsFront (rows_told n (set_back w)) old new)
-cut_at_rest r w n old new e h = rw e h
+cut_at_rest r w n old new rest is e h = rw (e is) h
 
 pub nothing_written : (text : List ℕ) (known : Option (List ℕ)) → AppendsFront text known known
 nothing_written text known = (0, appends_none known)

@@ -1,5 +1,5 @@
 -- Reads that take effect at once: no order is lost, and none is made up.
-use Rattle.std.proofs.Common.{◌≡◌, ℕ, zero, suc, ◌≤◌, ◌⊎◌, ◌↔◌, Bool, true, false, List, [], ◌∷◌, ◌++◌, length, refl, sym, ◌∙◌, ap, subst, arith, true≢false, inl, inr}
+use Rattle.std.proofs.Common.{◌≡◌, ℕ, zero, suc, ◌≤◌, ◌⊎◌, ◌↔◌, true, false, List, [], ◌∷◌, ◌++◌, length, refl, sym, ◌∙◌, subst, arith, true≢false, inl, inr}
 use Rattle.std.proofs.lemmas.List.{append-nil}
 use Rattle.std.specs.List.{AllByRecursion}
 use Rattle.tatp_tables.specs.Database.{Database}
@@ -12,7 +12,7 @@ use Rattle.tatp_history.specs.declared.observed.Observed.{Observed}
 use Rattle.tatp_history.specs.Histories.{IsIn, IsAnswered, MayHaveReply, AreAnsweredInOrder, IsStrictlySerializable, rows_after}
 use Rattle.tatp_history.specs.Outcomes.{may_take_effect}
 use Rattle.tatp_history.specs.Events.{asked_in, TimesRise, HaveEnds}
-use Rattle.tatp_history.specs.JustInTime.{NoneAskedAt, AreOpen}
+use Rattle.tatp_history.specs.JustInTime.{AreOpen}
 use Rattle.tatp_history.specs.Configurations.{Configuration, starting}
 use Rattle.tatp_history.proofs.OrderLaws.{all_in, in_all}
 use Rattle.tatp_history.proofs.ChoiceLaws.{chooses_some, chooses_length, find_asked}
@@ -20,7 +20,7 @@ use Rattle.tatp_history.proofs.EventLaws.{answered_at}
 use Rattle.tatp_history.proofs.ReadLaws.{without_read}
 use Rattle.tatp_history.proofs.RemainingLaws.{IsLeft, IsOrderFrom, HasOrder, open_asked, open_chosen, open_ended, put_first, taken_off, first_opens, order_asks, asks_order, order_ends, ends_order}
 use Rattle.tatp_history.proofs.JustInTimeLaws.{Any, ended, is_serial, serial_is, none_open}
-use Rattle.tatp_linearization.specs.AtOnce.{only_reads, FitsAtOnce, IsSettled, NeedsNoPlace, TakesWrite, TakesOne, TakeUntil, FollowsAtOnce, LeadAtOnce}
+use Rattle.tatp_linearization.specs.AtOnce.{only_reads, FitsAtOnce, IsSettled, NeedsNoPlace, TakesOne, TakeUntil, FollowsAtOnce, LeadAtOnce}
 use Rattle.tatp_linearization.proofs.DecisionLaws.{fits_or_not}
 use Rattle.tatp_linearization.proofs.SettlingLaws.{left_exists, left_settled, left_shorter, left_open, read_back, left_order, order_left, reads_leave}
 
@@ -208,10 +208,14 @@ module _ (Q : Database → Type 0) where
       let on = open_asked x more c.opened rise have are in
       let asked = asks_order Q c.rows x more c.opened order in
       elim (place_or_none c.rows x) [
-        | inl needs ↦ (c, inl (needs, refl), elim needs [
-          | inl k ↦ aborted_out Q more x k c.rows c.opened asked
-          | inr k ↦ read_out x more c on k asked
-        ])
+        | inl needs ↦ (
+          c,
+          inl (needs, refl),
+          elim needs [
+            | inl k ↦ aborted_out Q more x k c.rows c.opened asked
+            | inr k ↦ read_out x more c on k asked
+          ],
+        )
         | inr none ↦ (record { rows = c.rows; opened = x ∷ c.opened }, inr (none, refl), asked)
       ]
     where

@@ -1,5 +1,5 @@
 -- Events up to a time are those of the calls up to then.
-use Rattle.std.proofs.Common.{◌≡◌, ℕ, suc, ◌<◌, ◌≤◌, ◌⊎◌, ◌↔◌, nat_le, Bool, true, false, cond, List, [], ◌∷◌, ◌++◌, map, filter, refl, sym, ◌∙◌, ap, subst, arith, leb-true, le-leb, true≢false, inl, inr}
+use Rattle.std.proofs.Common.{◌≡◌, ℕ, ◌<◌, ◌≤◌, nat_le, true, false, cond, List, [], ◌∷◌, ◌++◌, map, filter, refl, sym, ◌∙◌, ap, arith, leb-true, le-leb, true≢false, inl, inr}
 use Rattle.std.specs.List.{AllByRecursion}
 use Rattle.tatp_history.specs.declared.event.Event.{Event}
 use Rattle.tatp_history.specs.declared.event.Event.TheVariants.{Asks, Ends}
@@ -109,10 +109,10 @@ window_ends : (time : ℕ) (events : List Event) → HaveEnds events → HaveEnd
 window_ends time [] h = tt
 window_ends time (Asks x ∷ more) h = elim (nat_le x.asked time) as (λ b. HaveEnds (cond b (Asks (call_by time x) ∷ events_by time more) (events_by time more))) [
   | true ↦ (
-      λ answered. let was = was_answered time x.outcome answered in ends_by time x more was.1 (h.0 was.0),
-      fit_by time x more h.1,
-      window_ends time more h.2,
-    )
+    λ answered. let was = was_answered time x.outcome answered in ends_by time x more was.1 (h.0 was.0),
+    fit_by time x more h.1,
+    window_ends time more h.2,
+  )
   | false ↦ window_ends time more h.2
 ]
 window_ends time (Ends asked at ∷ more) h = elim (nat_le at time) as (λ b. HaveEnds (cond b (Ends asked at ∷ events_by time more) (events_by time more))) [

@@ -1,5 +1,5 @@
 -- What follows on configurations at an event, and after all events.
-use Rattle.std.proofs.Common.{◌≡◌, ℕ, zero, suc, ◌+◌, ◌<◌, ◌≤◌, ◌==◌, ◌↔◌, false, List, [], ◌∷◌, ◌++◌, take, drop, length, Some, slice_get, refl, sym, ◌∙◌, ap, subst, arith, true≢false, inl, inr}
+use Rattle.std.proofs.Common.{◌≡◌, ℕ, zero, suc, ◌+◌, ◌<◌, ◌==◌, ◌↔◌, false, List, [], ◌∷◌, ◌++◌, take, drop, length, Some, slice_get, refl, sym, ◌∙◌, ap, subst, arith, true≢false, inl, inr}
 use Rattle.std.proofs.lemmas.List.{append-nil}
 use Rattle.tatp_tables.specs.Database.{Database}
 use Rattle.tatp_history.specs.declared.observed.Observed.{Observed}
@@ -16,8 +16,7 @@ use Rattle.tatp_linearization.specs.Possible.{AreMoreThan, NeedMore}
 use Rattle.tatp_linearization.specs.Held.{seen, Has, AreReady, AreApart, Adds, HoldsOfOne, IsTried, FollowAll}
 use Rattle.tatp_linearization.specs.Reached.{AreKept}
 use Rattle.tatp_linearization.proofs.AtOnceLaws.{lead_on, lead_by, at_once_exact}
-use Rattle.tatp_linearization.proofs.PossibleLaws.{need_more, need_on}
-use Rattle.tatp_linearization.proofs.SettlingLaws.{shift}
+use Rattle.tatp_linearization.proofs.PossibleLaws.{need_more}
 use Rattle.tatp_linearization.proofs.TurnLaws.{until_some}
 
 -- ---- one configuration

@@ -1,5 +1,5 @@
 -- Lists of configurations, and what is added to them.
-use Rattle.std.proofs.Common.{◌≡◌, ℕ, zero, suc, ◌<◌, ◌≤◌, ◌⊎◌, ◌↔◌, ◌+◌, Bool, true, false, List, [], ◌∷◌, ◌++◌, length, map, Some, None, Ok, slice_get, remove, refl, sym, ◌∙◌, ap, subst, arith, inl, inr}
+use Rattle.std.proofs.Common.{◌≡◌, ℕ, zero, suc, ◌<◌, ◌≤◌, ◌⊎◌, ◌↔◌, ◌+◌, false, List, [], ◌∷◌, ◌++◌, length, Some, None, Ok, slice_get, remove, refl, sym, ◌∙◌, ap, subst, arith, inl, inr}
 use Rattle.std.specs.List.{AllByRecursion}
 use Rattle.tatp_procs.specs.Arguments.{arguments_accepted}
 use Rattle.tatp_procs.specs.Transactions.{transaction}
@@ -79,13 +79,17 @@ TakesThere c i d =
     × (d.rows ≡ (transaction x.call c.home.tables).database) × AreLeft (transaction x.call c.home.tables).database (remove c.opened.items i) d.opened
 
 pub taken_one : (c d : Held) (i : ℕ) → Takes c i (Some d) → TakesOne (seen c) (seen d)
-taken_one c d i taken = (taken.0, remove c.opened.items i, record {
-  chosen = chooses_at c.opened.items i taken.0 taken.1.at;
-  writes = taken.1.writes;
-  may = taken.1.may;
-  rows = taken.1.rows;
-  settled = taken.1.settled;
-})
+taken_one c d i taken = (
+  taken.0,
+  remove c.opened.items i,
+  record {
+    chosen = chooses_at c.opened.items i taken.0 taken.1.at;
+    writes = taken.1.writes;
+    may = taken.1.may;
+    rows = taken.1.rows;
+    settled = taken.1.settled;
+  },
+)
 
 there_taken : (c d : Held) (i : ℕ) (e : Configuration) → Takes c i (Some d) → TakesThere c i e → e ≡ seen d
 there_taken c d i e taken there =

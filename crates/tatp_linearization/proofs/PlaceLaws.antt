@@ -94,4 +94,3 @@ below_or_is j i lt = elim (nat_lt j i) as (λ b. nat_lt j i ≡ b → (j < i) �
   | true ↦ λ e. inl (ltb-true j i e)
   | false ↦ λ e. let le = ltb-false j i e in inr (omega (arith, lt, le))
 ] refl
-

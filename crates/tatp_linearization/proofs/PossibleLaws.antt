@@ -1,6 +1,5 @@
 -- What the search keeps and tries is possible.
-use Rattle.std.proofs.Common.{◌≡◌, ℕ, zero, suc, ◌+◌, ◌<◌, ◌⊎◌, ◌↔◌, Bool, true, false, cond, List, [], ◌∷◌, ◌++◌, length, refl, sym, ◌∙◌, ap, subst, arith, true≢false, inl, inr}
-use Rattle.std.specs.List.{AllByRecursion}
+use Rattle.std.proofs.Common.{◌≡◌, ℕ, zero, suc, Bool, true, false, cond, List, [], ◌∷◌, ◌++◌, length, refl, sym, ◌∙◌, ap, subst, inl, inr}
 use Rattle.tatp_tables.specs.Database.{Database}
 use Rattle.tatp_procs.specs.Transactions.{transaction}
 use Rattle.tatp_history.specs.declared.event.Event.{Event}
@@ -14,7 +13,7 @@ use Rattle.tatp_history.specs.JustInTime.{NoneAskedAt}
 use Rattle.tatp_history.specs.Configurations.{Configuration, starting}
 use Rattle.tatp_history.proofs.OrderLaws.{all_map}
 use Rattle.tatp_linearization.specs.declared.configuration.Configuration.{Configuration as Held}
-use Rattle.tatp_linearization.specs.AtOnce.{FitsAtOnce, AreLeft, IsSettled, NeedsNoPlace, TakesOne, TakeUntil, FollowsAtOnce, LeadAtOnce}
+use Rattle.tatp_linearization.specs.AtOnce.{FitsAtOnce, AreLeft, IsSettled, TakesOne, TakeUntil, FollowsAtOnce, LeadAtOnce}
 use Rattle.tatp_linearization.specs.Possible.{CallTakesEffect, CallsTakeEffect, Passes, MayBecome, AreMoreThan, IsPossible, NeedMore}
 use Rattle.tatp_linearization.specs.Held.{Has, HoldsOfOne, TakeMany, IsTried}
 use Rattle.tatp_linearization.specs.Reached.{AreKept}

@@ -1,5 +1,5 @@
 -- A call that is answered before anything else happens, where one configuration with no open call is kept.
-use Rattle.std.proofs.Common.{◌≡◌, ℕ, suc, ◌↔◌, Bool, true, false, List, [], ◌∷◌, ◌++◌, length, refl, sym, ◌∙◌, ap, subst, true≢false, inl, inr}
+use Rattle.std.proofs.Common.{◌≡◌, ℕ, ◌↔◌, true, false, List, [], ◌∷◌, ◌++◌, refl, sym, ◌∙◌, ap, subst, true≢false, inl, inr}
 use Rattle.tatp_tables.specs.Database.{Database}
 use Rattle.tatp_procs.specs.declared.reply.Reply.{Reply}
 use Rattle.tatp_procs.specs.Transactions.{transaction}
@@ -13,14 +13,13 @@ use Rattle.tatp_history.specs.Outcomes.{may_take_effect}
 use Rattle.tatp_history.specs.Locality.{AreAccepted}
 use Rattle.tatp_history.specs.Events.{asked_in, time_of, AreAfter, TimesRise, IsAnsweredAt, EndsIn, EndsFit, HaveEnds}
 use Rattle.tatp_history.specs.Configurations.{Configuration, starting}
-use Rattle.tatp_history.specs.JustInTime.{NoneAskedAt}
 use Rattle.tatp_linearization.specs.declared.configuration.Configuration.{Configuration as Held}
-use Rattle.tatp_linearization.specs.AtOnce.{only_reads, FitsAtOnce, AreLeft, NeedsNoPlace, TakesOne, TakeUntil, FollowsAtOnce, LeadAtOnce}
+use Rattle.tatp_linearization.specs.AtOnce.{only_reads, AreLeft, TakeUntil, FollowsAtOnce, LeadAtOnce}
 use Rattle.tatp_linearization.specs.Held.{seen, Has, AreReady, AreApart}
 use Rattle.tatp_linearization.specs.Reached.{AreKept}
 use Rattle.tatp_linearization.specs.Single.{events_alone, answered_with}
 use Rattle.tatp_linearization.proofs.SettlingLaws.{reads_leave}
-use Rattle.tatp_linearization.proofs.AtOnceLaws.{place_or_none, lead_on, lead_by, at_once_exact}
+use Rattle.tatp_linearization.proofs.AtOnceLaws.{lead_on, lead_by, at_once_exact}
 
 -- ---- the events
 was_not : (outcome : Outcome) → IsAnswered outcome → may_take_effect outcome ≡ false → ⊥
@@ -44,22 +43,22 @@ module _ (x : Observed) (at : ℕ) (u : Database) where
   pub alone_leads : MayHaveReply x.outcome (transaction x.call u).reply → LeadAtOnce (events_alone x at) before after
   alone_leads may = elim (only_reads x.call) as (λ b. only_reads x.call ≡ b → LeadAtOnce (events_alone x at) before after) [
     | true ↦ λ reads. (
-        before,
-        inl (inr (reads, may), refl),
-        (after, inl (tt, λ i. record { rows = reads_leave x.call reads u i; opened = [] }), refl),
-      )
+      before,
+      inl (inr (reads, may), refl),
+      (after, inl (tt, λ i. record { rows = reads_leave x.call reads u i; opened = [] }), refl),
+    )
     | false ↦ λ writes. (
-        record { rows = u; opened = x ∷ [] },
-        inr (λ needs. elim needs [ inl k ↦ no_abort x.outcome (transaction x.call u).reply may k | inr k ↦ true≢false (sym k.0 ∙ writes) ], refl),
-        (
-          after,
-          inr (
-            λ none. none.0 refl,
-            (after, (x, [], record { chosen = inl (refl, refl); writes = writes; may = may; rows = refl; settled = refl }), inl (tt, refl)),
-          ),
-          refl,
+      record { rows = u; opened = x ∷ [] },
+      inr (λ needs. elim needs [ inl k ↦ no_abort x.outcome (transaction x.call u).reply may k | inr k ↦ true≢false (sym k.0 ∙ writes) ], refl),
+      (
+        after,
+        inr (
+          λ none. none.0 refl,
+          (after, (x, [], record { chosen = inl (refl, refl); writes = writes; may = may; rows = refl; settled = refl }), inl (tt, refl)),
         ),
-      )
+        refl,
+      ),
+    )
   ] refl
 
   -- and there alone

@@ -11,7 +11,7 @@ use Rattle.tatp_history.specs.Locality.{AreAccepted}
 use Rattle.tatp_history.specs.JustInTime.{NoneAskedAt}
 use Rattle.tatp_history.specs.Configurations.{Configuration}
 use Rattle.tatp_linearization.specs.declared.configuration.Configuration.{Configuration as Held}
-use Rattle.tatp_linearization.specs.AtOnce.{only_reads, AreLeft, NeedsNoPlace, TakesOne, FollowsAtOnce}
+use Rattle.tatp_linearization.specs.AtOnce.{only_reads, AreLeft, TakesOne, FollowsAtOnce}
 use Rattle.tatp_linearization.specs.Possible.{AreDistinct}
 
 -- the configuration that is held

@@ -1,7 +1,6 @@
-use Rattle.std.proofs.Common.{◌≡◌, refl, ◌<◌, ◌≤◌, length, Some, slice_get, sym, ap, ◌∙◌, subst, arith, true≢false}
+use Rattle.std.proofs.Common.{refl, ◌<◌, ◌≤◌, length, sym, ◌∙◌, arith}
 use Rattle.std.proofs.lemmas.List.{take_all}
-use Rattle.tatp_history.specs.declared.observed.Observed.{Observed}
-use Rattle.tatp_linearization.proofs.PlaceLaws.{get_at, alike_more, same_item}
+use Rattle.tatp_linearization.proofs.PlaceLaws.{get_at, alike_more}
 use Rattle.tatp_linearization.proofs.comparing.are_same.Goals as goal
 
 pub loop-i-preserved : goal.loop-i-preserved

@@ -1,4 +1,4 @@
-use Rattle.std.proofs.Common.{◌≡◌, ◌<◌, Some, slice_get, sym, ◌∙◌, subst, true≢false, arith, length, inl, inr}
+use Rattle.std.proofs.Common.{◌≡◌, Some, slice_get, sym, ◌∙◌, subst, true≢false, arith, inl, inr}
 use Rattle.tatp_linearization.specs.declared.configuration.Configuration.{Configuration as Held}
 use Rattle.tatp_linearization.specs.Held.{Has, seen}
 use Rattle.tatp_linearization.proofs.PlaceLaws.{get_at, all_get, below_or_is, same_item}

@@ -50,6 +50,6 @@ returns-in_err-next-clause-many c =
     let s : ℕ = c.args.c.now.home.s_id in
     let inv = c.turns.invariant in
     rw (p.1, p.2) (λ is before.
-        let e : c.in_err-next.field-0.0 ≡ MoreThanMost = cc in
-        let many = subst (λ (set : List Held). (t : ℕ) → AreApart t set → AreApart t c.turns.answered.items → AreMoreThan c.args.most (IsOldOr c.turns.answered.items (HoldsOfOne TakesOne set))) c.as_slice.ensures.value (c.in_err-next.ensures.many (ap Err e)) in
-        turned_many c.args.most c.args.answered.now.items (seen c.args.c.now) s n c.args.asked (n - c.turns.i) c.turns.answered.items c.turns.going.items inv (many s inv.distinct (inv.apart before)))
+    let e : c.in_err-next.field-0.0 ≡ MoreThanMost = cc in
+    let many = subst (λ (set : List Held). (t : ℕ) → AreApart t set → AreApart t c.turns.answered.items → AreMoreThan c.args.most (IsOldOr c.turns.answered.items (HoldsOfOne TakesOne set))) c.as_slice.ensures.value (c.in_err-next.ensures.many (ap Err e)) in
+    turned_many c.args.most c.args.answered.now.items (seen c.args.c.now) s n c.args.asked (n - c.turns.i) c.turns.answered.items c.turns.going.items inv (many s inv.distinct (inv.apart before)))

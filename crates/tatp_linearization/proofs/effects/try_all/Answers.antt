@@ -45,12 +45,12 @@ returns-in_err-try_each-clause-many c =
     let inv = c.configurations.invariant in
     let at : slice_get c.args.set.now c.configurations.i ≡ Some k = get_at c.args.set.now c.configurations.i k c.configurations-test.true c.index-set-i.is in
     rw (p.1, p.2) (λ is s apart before.
-        let own : k.home.s_id ≡ s = all_get (λ (b : Held). b.home.s_id ≡ s) c.args.set.now i k apart.own at in
-        let answered : AreApart k.home.s_id c.configurations.answered.items = subst (λ t. AreApart t c.configurations.answered.items) (sym own) (inv.answered.apart s apart before) in
-        let going : AreApart k.home.s_id c.configurations.going.items = subst (λ t. AreApart t c.configurations.going.items) (sym own) (inv.going.apart s apart (record { own = tt; distinct = tt })) in
-        let e : c.in_err-try_each.field-0.0 ≡ MoreThanMost = cc in
-        elim (c.in_err-try_each.ensures.many (ap Err e) answered going) [
-          | inl q ↦ gathered_many c.args.most (TakesLast c.args.asked) TakesOne (λ a b h. h.0) c.args.set.now old i k c.configurations.answered.items inv.answered at q
-          | inr q ↦ more_than c.args.most (IsOldOr [] (HoldsOfOne TakesOne c.args.set.now)) (IsOldOr old (HoldsOfOne TakesOne c.args.set.now)) (λ e h. elim h [ inl r ↦ absurd r | inr r ↦ inr r ])
-              (gathered_many c.args.most (TakesOther c.args.asked) TakesOne (λ a b h. h.0) c.args.set.now [] i k c.configurations.going.items inv.going at q)
-        ])
+    let own : k.home.s_id ≡ s = all_get (λ (b : Held). b.home.s_id ≡ s) c.args.set.now i k apart.own at in
+    let answered : AreApart k.home.s_id c.configurations.answered.items = subst (λ t. AreApart t c.configurations.answered.items) (sym own) (inv.answered.apart s apart before) in
+    let going : AreApart k.home.s_id c.configurations.going.items = subst (λ t. AreApart t c.configurations.going.items) (sym own) (inv.going.apart s apart (record { own = tt; distinct = tt })) in
+    let e : c.in_err-try_each.field-0.0 ≡ MoreThanMost = cc in
+    elim (c.in_err-try_each.ensures.many (ap Err e) answered going) [
+      | inl q ↦ gathered_many c.args.most (TakesLast c.args.asked) TakesOne (λ a b h. h.0) c.args.set.now old i k c.configurations.answered.items inv.answered at q
+      | inr q ↦ more_than c.args.most (IsOldOr [] (HoldsOfOne TakesOne c.args.set.now)) (IsOldOr old (HoldsOfOne TakesOne c.args.set.now)) (λ e h. elim h [ inl r ↦ absurd r | inr r ↦ inr r ])
+          (gathered_many c.args.most (TakesOther c.args.asked) TakesOne (λ a b h. h.0) c.args.set.now [] i k c.configurations.going.items inv.going at q)
+    ])

@@ -1,4 +1,4 @@
-use Rattle.std.proofs.Common.{◌≡◌, ◌+◌, ◌<◌, ◌≤◌, ◌⊎◌, length, Some, None, Vec, Global, sym, subst, true≢false, arith, ◌∙◌, inl, inr}
+use Rattle.std.proofs.Common.{◌+◌, ◌≤◌, length, Some, None, Vec, Global, sym, subst, true≢false, arith, ◌∙◌, inl, inr}
 use Rattle.std.proofs.lemmas.Result.{err_from_is_err_and}
 use Rattle.tatp_history.specs.JustInTime.{NoneAskedAt}
 use Rattle.tatp_history.specs.Configurations.{Configuration}
@@ -73,8 +73,8 @@ returns-in_err-add-in-Some-clause-many c =
     let d : Held = c.in-Some.d in
     let taken : Takes c.args.c.now c.calls.i (Some d) = subst (Takes c.args.c.now c.calls.i) c.in-Some.is c.in_ok-d.ensures in
     rw (p.1, p.2) (λ is answered going.
-        let apart : AreApart d.home.s_id c.calls.answered.items = subst (λ s. AreApart s c.calls.answered.items) (sym taken.1.own) (c.calls.invariant.answered.apart answered) in
-        inl (collected_many c.args.most (λ e. NoneAskedAt c.args.asked e.opened) k d c.args.answered.now.items c.calls.i c.calls.answered.items taken c.calls.invariant.answered (c.in_err-add-in-Some.ensures.many is apart)))
+    let apart : AreApart d.home.s_id c.calls.answered.items = subst (λ s. AreApart s c.calls.answered.items) (sym taken.1.own) (c.calls.invariant.answered.apart answered) in
+    inl (collected_many c.args.most (λ e. NoneAskedAt c.args.asked e.opened) k d c.args.answered.now.items c.calls.i c.calls.answered.items taken c.calls.invariant.answered (c.in_err-add-in-Some.ensures.many is apart)))
 
 pub returns-in_err-add-in-Some-2-clause-many : goal.returns-in_err-add-in-Some-2-clause-many
 returns-in_err-add-in-Some-2-clause-many c =
@@ -83,5 +83,5 @@ returns-in_err-add-in-Some-2-clause-many c =
     let d : Held = c.in-Some.d in
     let taken : Takes c.args.c.now c.calls.i (Some d) = subst (Takes c.args.c.now c.calls.i) c.in-Some.is c.in_ok-d.ensures in
     rw (p.1, p.2) (λ is answered going.
-        let apart : AreApart d.home.s_id c.calls.going.items = subst (λ s. AreApart s c.calls.going.items) (sym taken.1.own) (c.calls.invariant.going.apart going) in
-        inr (collected_many c.args.most (λ e. NoneAskedAt c.args.asked e.opened → ⊥) k d c.args.going.now.items c.calls.i c.calls.going.items taken c.calls.invariant.going (c.in_err-add-in-Some-2.ensures.many is apart)))
+    let apart : AreApart d.home.s_id c.calls.going.items = subst (λ s. AreApart s c.calls.going.items) (sym taken.1.own) (c.calls.invariant.going.apart going) in
+    inr (collected_many c.args.most (λ e. NoneAskedAt c.args.asked e.opened → ⊥) k d c.args.going.now.items c.calls.i c.calls.going.items taken c.calls.invariant.going (c.in_err-add-in-Some-2.ensures.many is apart)))

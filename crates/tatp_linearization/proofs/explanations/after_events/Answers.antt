@@ -1,13 +1,12 @@
-use Rattle.std.proofs.Common.{◌≡◌, ◌+◌, ◌<◌, ◌≤◌, ℕ, List, take, length, Some, slice_get, sym, ◌∙◌, ap, subst, arith, ◌++◌}
+use Rattle.std.proofs.Common.{◌≡◌, ◌<◌, ◌≤◌, ℕ, List, length, Some, slice_get, subst, arith, ◌++◌}
 use Rattle.std.proofs.lemmas.List.{take_all}
 use Rattle.std.proofs.lemmas.Result.{err_from_is_err_and}
-use Rattle.tatp_history.specs.declared.event.Event.{Event}
 use Rattle.tatp_linearization.specs.declared.configuration.Configuration.{Configuration as Held}
 use Rattle.tatp_linearization.specs.Held.{AreApart, HoldsOfOne, IsTried, FollowAll}
 use Rattle.tatp_linearization.specs.Possible.{AreMoreThan}
 use Rattle.tatp_linearization.specs.Reached.{AreKept}
 use Rattle.tatp_linearization.proofs.PlaceLaws.{get_at}
-use Rattle.tatp_linearization.proofs.FollowLaws.{IsFollowed, followed_none, followed_more, followed_many}
+use Rattle.tatp_linearization.proofs.FollowLaws.{followed_none, followed_more, followed_many}
 use Rattle.tatp_linearization.proofs.explanations.after_events.Goals as goal
 
 pub events-init : goal.events-init
@@ -40,4 +39,4 @@ returns-in_err-next-clause-many c =
     let lt : c.events.i < length c.args.events.now = omega (arith, c.events-test.true) in
     let at : slice_get c.args.events.now c.events.i ≡ Some c.index-events-i.result = get_at c.args.events.now c.events.i c.index-events-i.result lt c.index-events-i.is in
     rw (p.1, p.2) (λ is. followed_many c.args.most c.args.set.now c.args.events.now c.events.i c.index-events-i.result c.events.after.items at c.events.invariant
-        (subst (λ (set : List Held). (s : ℕ) → AreApart s set → AreMoreThan c.args.most (HoldsOfOne (IsTried c.index-events-i.result) set)) c.as_slice.ensures.value (c.in_err-next.ensures.many is)))
+    (subst (λ (set : List Held). (s : ℕ) → AreApart s set → AreMoreThan c.args.most (HoldsOfOne (IsTried c.index-events-i.result) set)) c.as_slice.ensures.value (c.in_err-next.ensures.many is)))

@@ -40,8 +40,8 @@ returns-in_err-follow-clause-many c =
     let inv = c.configurations.invariant in
     let at : slice_get c.args.set.now c.configurations.i ≡ Some k = get_at c.args.set.now c.configurations.i k c.configurations-test.true c.index-set-i.is in
     rw (p.1, p.2) (λ is s apart.
-        let own : k.home.s_id ≡ s = all_get (λ (b : Held). b.home.s_id ≡ s) set c.configurations.i k apart.own at in
-        let after : AreApart k.home.s_id c.configurations.after.items = subst (λ t. AreApart t c.configurations.after.items) (sym own) (inv.apart s apart (record { own = tt; distinct = tt })) in
-        let e : c.in_err-follow.field-0.0 ≡ MoreThanMost = cc in
-        old_or_none c.args.most (HoldsOfOne (IsTried event) set)
-        (gathered_many c.args.most (FollowsAtOnce event) (IsTried event) (follows_tried event) set [] c.configurations.i k c.configurations.after.items inv at (c.in_err-follow.ensures.many (ap Err e) after)))
+    let own : k.home.s_id ≡ s = all_get (λ (b : Held). b.home.s_id ≡ s) set c.configurations.i k apart.own at in
+    let after : AreApart k.home.s_id c.configurations.after.items = subst (λ t. AreApart t c.configurations.after.items) (sym own) (inv.apart s apart (record { own = tt; distinct = tt })) in
+    let e : c.in_err-follow.field-0.0 ≡ MoreThanMost = cc in
+    old_or_none c.args.most (HoldsOfOne (IsTried event) set)
+    (gathered_many c.args.most (FollowsAtOnce event) (IsTried event) (follows_tried event) set [] c.configurations.i k c.configurations.after.items inv at (c.in_err-follow.ensures.many (ap Err e) after)))

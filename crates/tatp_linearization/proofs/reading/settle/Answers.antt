@@ -1,10 +1,9 @@
-use Rattle.std.proofs.Common.{◌≡◌, ℕ, suc, ◌+◌, ◌-◌, ◌<◌, ◌≤◌, ◌⊎◌, List, [], ◌∷◌, ◌++◌, length, take, drop, Some, Ok, slice_get, remove, refl, sym, ap, ◌∙◌, subst, arith, inl, inr}
-use Rattle.std.specs.List.{AllByRecursion}
+use Rattle.std.proofs.Common.{◌≡◌, ℕ, suc, ◌+◌, ◌-◌, ◌<◌, ◌≤◌, List, ◌∷◌, ◌++◌, length, take, drop, Some, Ok, slice_get, remove, refl, sym, ap, ◌∙◌, subst, arith, inl, inr}
 use Rattle.tatp_tables.specs.Database.{Database}
 use Rattle.tatp_procs.specs.Arguments.{arguments_accepted}
 use Rattle.tatp_history.specs.declared.observed.Observed.{Observed}
 use Rattle.tatp_history.specs.Locality.{AreAccepted}
-use Rattle.tatp_linearization.specs.AtOnce.{FitsAtOnce, AreLeft, IsSettledAt}
+use Rattle.tatp_linearization.specs.AtOnce.{AreLeft, IsSettledAt}
 use Rattle.tatp_linearization.proofs.PlaceLaws.{drop_at, take_at, remove_at, get_mid, get_some, take_length, all_remove}
 use Rattle.tatp_linearization.proofs.reading.settle.Goals as goal
 

@@ -1,4 +1,4 @@
-use Rattle.std.proofs.Common.{◌≡◌, ℕ, ◌<◌, ◌==◌, zero, suc, vec_len, false, List, [], ◌∷◌, ◌++◌, length, refl, sym, ap, ◌∙◌, subst, arith, eqb-true, true≢false}
+use Rattle.std.proofs.Common.{◌<◌, vec_len, ◌++◌, sym, ◌∙◌, subst, arith, eqb-true}
 use Rattle.tatp_linearization.specs.Reached.{AreKept}
 use Rattle.tatp_linearization.proofs.FollowLaws.{none_explains, some_explain, positive}
 use Rattle.tatp_linearization.proofs.explanations.Explanations.follow.Goals as goal

@@ -1,6 +1,4 @@
-use Rattle.std.proofs.Common.{◌≡◌, ℕ, ◌<◌, ◌↔◌, List, [], ◌∷◌, ◌++◌, length, Some, slice_get, slice_set, refl, sym, ap, ◌∙◌, subst, arith}
-use Rattle.tatp_tables.specs.Database.{Database}
-use Rattle.tatp_procs.specs.declared.reply.Reply.{Reply}
+use Rattle.std.proofs.Common.{◌≡◌, ◌<◌, List, [], ◌∷◌, length, Some, slice_get, slice_set, refl, sym, ap, ◌∙◌, subst, arith}
 use Rattle.tatp_procs.specs.Transactions.{transaction}
 use Rattle.tatp_history.specs.Histories.{MayHaveReply}
 use Rattle.tatp_linearization.specs.declared.configuration.Configuration.{Configuration as Held}
@@ -39,10 +37,10 @@ returns-clause-explained c =
     let x = c.args.x.now in
     let reply : c.evaluate.new.reply ≡ (transaction x.call d.home.tables).reply = c.evaluate.ensures.reply ∙ ap (λ (q : Held). (transaction x.call q.home.tables).reply) same in
     λ at u past reached rise have.
-        let law = alone_explained x at u past items d c.requires.single.1 c.requires.single.2 reached.kept rise have (was_answered x.outcome at (alone_answered x at past have)) in (
-          λ yes. law.0 (subst (MayHaveReply x.outcome) reply (c.allows.ensures.0 yes)),
-          λ s. c.allows.ensures.1 (subst (MayHaveReply x.outcome) (sym reply) (law.1 s)),
-        )
+    let law = alone_explained x at u past items d c.requires.single.1 c.requires.single.2 reached.kept rise have (was_answered x.outcome at (alone_answered x at past have)) in (
+      λ yes. law.0 (subst (MayHaveReply x.outcome) reply (c.allows.ensures.0 yes)),
+      λ s. c.allows.ensures.1 (subst (MayHaveReply x.outcome) (sym reply) (law.1 s)),
+    )
 
 pub returns-clause-only : goal.returns-clause-only
 returns-clause-only c =
@@ -53,7 +51,7 @@ returns-clause-only c =
     let x = c.args.x.now in
     let reply : c.evaluate.new.reply ≡ (transaction x.call d.home.tables).reply = c.evaluate.ensures.reply ∙ ap (λ (q : Held). (transaction x.call q.home.tables).reply) same in
     λ at other u past reached rise have.
-        let law = alone_explained (answered_with x at other) at u past items d c.requires.single.1 c.requires.single.2 reached.kept (other_rises x at other past rise) (other_ends x at other past have) tt in (
-          λ s. law.1 s ∙ sym reply,
-          λ e. law.0 (e ∙ reply),
-        )
+    let law = alone_explained (answered_with x at other) at u past items d c.requires.single.1 c.requires.single.2 reached.kept (other_rises x at other past rise) (other_ends x at other past have) tt in (
+      λ s. law.1 s ∙ sym reply,
+      λ e. law.0 (e ∙ reply),
+    )

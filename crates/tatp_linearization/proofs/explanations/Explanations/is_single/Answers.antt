@@ -1,5 +1,4 @@
-use Rattle.std.proofs.Common.{◌≡◌, ℕ, zero, suc, ◌<◌, vec_len, List, [], ◌∷◌, length, Some, slice_get, refl, sym, ap, ◌∙◌, subst, arith, eq-eqb, eqb-true}
-use Rattle.tatp_history.specs.declared.observed.Observed.{Observed}
+use Rattle.std.proofs.Common.{◌≡◌, vec_len, List, [], ◌∷◌, length, Some, slice_get, refl, sym, ap, ◌∙◌, subst, arith, eq-eqb, eqb-true}
 use Rattle.tatp_linearization.specs.declared.configuration.Configuration.{Configuration as Held}
 use Rattle.tatp_linearization.proofs.PlaceLaws.{get_at, same_item}
 use Rattle.tatp_linearization.proofs.explanations.Explanations.is_single.Goals as goal

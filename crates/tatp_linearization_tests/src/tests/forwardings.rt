@@ -323,7 +323,10 @@ fn the_first_time(rt: HostRuntime) -> Result<(), Fail> {
         ],
     )?;
     let once = first(alloc, &home, &[answered(1, call, 3, SUCCESS), ends(1, 3)])?;
-    assert_eq!(rt; (twice, seen, once), (Some(First::At(5)), Some(First::At(7)), Some(First::Never)));
+    assert_eq!(rt;
+        (twice, seen, once),
+        (Some(First::At(5)), Some(First::At(7)), Some(First::Never))
+    );
     Ok(())
 }
 
@@ -354,6 +357,9 @@ fn a_call_alone(rt: HostRuntime) -> Result<(), Fail> {
     let mut reply = Reply::Refused;
     let first = follow(&mut explanations, &x, &mut reply);
     let second = follow(&mut explanations, &x, &mut reply);
-    assert_eq!(rt; (first, second, reply), (Some(true), Some(false), Reply::Failed(2)));
+    assert_eq!(rt;
+        (first, second, reply),
+        (Some(true), Some(false), Reply::Failed(2))
+    );
     Ok(())
 }

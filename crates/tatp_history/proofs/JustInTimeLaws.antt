@@ -19,7 +19,7 @@ Any v = Unit {0}
 
 -- ---- from a configuration on
 -- where nothing happens any more, the empty order is one
-ended : (d : Configuration) → AreOpen [] d.opened → HasOrder Any d.rows [] d.opened
+pub ended : (d : Configuration) → AreOpen [] d.opened → HasOrder Any d.rows [] d.opened
 ended d are = (
   [],
   record {

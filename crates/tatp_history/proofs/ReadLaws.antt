@@ -8,7 +8,7 @@ use Rattle.tatp_procs.specs.declared.call.Call.TheVariants.{GetSubscriberData, G
 use Rattle.tatp_procs.specs.Transactions.{reads, some_of, destinations, transaction}
 use Rattle.tatp_history.specs.declared.event.Event.{Event}
 use Rattle.tatp_history.specs.declared.observed.Observed.{Observed}
-use Rattle.tatp_history.specs.Histories.{MayHaveReply, AreAnsweredInOrder}
+use Rattle.tatp_history.specs.Histories.{MayHaveReply, AreAnsweredInOrder, rows_after}
 use Rattle.tatp_history.specs.Events.{TimesRise, HaveEnds}
 use Rattle.tatp_history.specs.JustInTime.{Chooses, Explains, AreOpen}
 use Rattle.tatp_history.specs.Configurations.{IsRead}
@@ -41,6 +41,14 @@ reads_out test [] u h runs = tt
 reads_out test (z ∷ zs) u h runs = elim (test z) as (λ b. test z ≡ b → AreAnsweredInOrder u (cond b (z ∷ filter test zs) (filter test zs))) [
   | true ↦ λ e. (runs.0, reads_out test zs (transaction z.call u).database h.1 runs.1)
   | false ↦ λ e. subst (λ v. AreAnsweredInOrder v (filter test zs)) (h.0 e u) (reads_out test zs (transaction z.call u).database h.1 runs.1)
+] refl
+
+-- and leaves the same rows
+rows_out : (test : Observed → Bool) (order : List Observed) (u : Database) → AllByRecursion (λ (z : Observed). test z ≡ false → IsRead z.call) order → rows_after u (filter test order) ≡ rows_after u order
+rows_out test [] u h = refl
+rows_out test (z ∷ zs) u h = elim (test z) as (λ b. test z ≡ b → rows_after u (cond b (z ∷ filter test zs) (filter test zs)) ≡ rows_after (transaction z.call u).database zs) [
+  | true ↦ λ e. rows_out test zs (transaction z.call u).database h.1
+  | false ↦ λ e. ap (λ v. rows_after v (filter test zs)) (sym (h.0 e u)) ∙ rows_out test zs (transaction z.call u).database h.1
 ] refl
 
 -- whether it was asked at another time
@@ -85,9 +93,11 @@ module _ (events : List Event) (opened : List Observed) (x : Observed) (left : L
     | inr k ↦ let lt : x.asked < z.asked = asked_after x.asked events z (are.before x (chosen_in opened x left c)) k in omega (arith, lt, same)
   ]
 
-  without_read : (u : Database) → IsRead x.call → HasOrder Any u events opened → HasOrder Any u events left
-  without_read u read h =
-      let test : Observed → Bool = is_other x.asked in (
+  pub without_read : (Q : Database → Type 0) (u : Database) → IsRead x.call → HasOrder Q u events opened → HasOrder Q u events left
+  without_read Q u read h =
+      let test : Observed → Bool = is_other x.asked in
+      let others : AllByRecursion (λ (z : Observed). test z ≡ false → IsRead z.call) h.0
+      = all_map (IsLeft events opened) (λ (z : Observed). test z ≡ false → IsRead z.call) (λ z k e. subst (λ (w : Observed). IsRead w.call) (sym (is_the_read z k (other_is x.asked z e))) read) h.0 h.1.made in (
         filter test h.0,
         record {
           made = all_map (λ z. IsLeft events opened z × (test z ≡ true)) (IsLeft events left) (λ z k. stays_left z k.0 (true_other x.asked z k.1)) (filter test h.0)
@@ -95,14 +105,14 @@ module _ (events : List Event) (opened : List Observed) (x : Observed) (left : L
           once = apart_filter test h.0 h.1.once;
           all = λ z k answered. in_filter test z h.0 (h.1.all z (left_before events opened x left c z k) answered) (is_other_true x.asked z (left_other z k));
           real_time = real_time_filter test h.0 h.1.real_time;
-          replies = reads_out test h.0 u (all_map (IsLeft events opened) (λ (z : Observed). test z ≡ false → IsRead z.call) (λ z k e. subst (λ (w : Observed). IsRead w.call) (sym (is_the_read z k (other_is x.asked z e))) read) h.0 h.1.made) h.1.replies;
+          replies = reads_out test h.0 u others h.1.replies;
         },
-        tt,
+        subst Q (sym (rows_out test h.0 u others)) h.2,
       )
 
   pub at_once : (u : Database) → TimesRise events → HaveEnds events → IsRead x.call → MayHaveReply x.outcome (transaction x.call u).reply → Explains events u opened ↔ Explains events u left
   at_once u rise have read may = (
-    λ h. complete events rise have u left (open_chosen events opened x left c are) (without_read u read (sound events rise have u opened are h)),
+    λ h. complete events rise have u left (open_chosen events opened x left c are) (without_read Any u read (sound events rise have u opened are h)),
     λ h. let order = sound events rise have u left (open_chosen events opened x left c are) h in
         complete events rise have u opened are (x ∷ order.0, put_first u events opened x left order.0 have are c may (subst (λ v. IsOrderFrom v events left order.0) (sym (read u)) order.1), tt),
   )

@@ -147,6 +147,23 @@ others_go_on asked at more opened x left c e are = open_ended asked at more left
     (all_map (λ (y : Observed). x.asked ≡ y.asked → ⊥) (λ (y : Observed). y.asked ≡ asked → ⊥) (λ y other same. other (e ∙ sym same)) left (chooses_apart opened x left c are.apart).0)
     (open_chosen (Ends asked at ∷ more) opened x left c are)
 
+-- where one of the open calls is answered next, an order begins with an open call
+pub first_opens : (u : Database) (asked at : ℕ) (more : List Event) → TimesRise (Ends asked at ∷ more) → (opened : List Observed) → AreOpen (Ends asked at ∷ more) opened → (z : Observed) → IsIn z opened → z.asked ≡ asked
+    → (x : Observed) (order : List Observed) → IsOrderFrom u (Ends asked at ∷ more) opened (x ∷ order) → IsIn x opened
+first_opens u asked at more rise opened are z there e x order ok =
+    let ended : IsAnsweredAt at z.outcome = (are.fit z there).0 e in
+    let stands : IsIn z (x ∷ order) = ok.all z (inl there) (answered_at z.outcome at ended) in
+    elim ok.made.0 [
+      | inl k ↦ k
+      | inr k ↦ let lt : at < x.asked = asked_after at more x rise.0 k in elim stands [
+        | inl same ↦
+            let before : z.asked < at = (are.before z there).0 in
+            let times : z.asked ≡ x.asked = ap (λ (w : Observed). w.asked) same in
+            absurd (omega (arith, lt, before, times))
+        | inr stood ↦ absurd (in_all (λ (w : Observed). Precedes w x → ⊥) z order ok.real_time.0 stood (is_before z.outcome at x.asked ended lt))
+      ]
+    ]
+
 -- ---- orders that leave rows of which something holds
 module _ (Q : Database → Type 0) where
   abbrev pub HasOrder : Database → List Event → List Observed → Type 0
@@ -209,18 +226,7 @@ module _ (Q : Database → Type 0) where
   effects_complete goes_on zero asked at more rise have later (x ∷ order) u opened few are z there e ok q =
       let c = chooses_some opened z there in let size : length opened ≡ suc (length c.0) = chooses_length opened z c.0 c.1 in absurd (omega (arith, few, size))
   effects_complete goes_on (suc n) asked at more rise have later (x ∷ order) u opened few are z there e ok q =
-      let ended : IsAnsweredAt at z.outcome = (are.fit z there).0 e in
-      let stands : IsIn z (x ∷ order) = ok.all z (inl there) (answered_at z.outcome at ended) in
-      let opens : IsIn x opened = elim ok.made.0 [
-        | inl k ↦ k
-        | inr k ↦ let lt : at < x.asked = asked_after at more x rise.0 k in elim stands [
-          | inl same ↦
-              let before : z.asked < at = (are.before z there).0 in
-              let times : z.asked ≡ x.asked = ap (λ (w : Observed). w.asked) same in
-              absurd (omega (arith, lt, before, times))
-          | inr stood ↦ absurd (in_all (λ (w : Observed). Precedes w x → ⊥) z order ok.real_time.0 stood (is_before z.outcome at x.asked ended lt))
-        ]
-      ] in
+      let opens : IsIn x opened = first_opens u asked at more rise opened are z there e x order ok in
       let some = chooses_some opened x opens in
       let left : List Observed = some.0 in
       let c : Chooses opened x left = some.1 in

@@ -1,5 +1,6 @@
 -- What follows on configurations at an event, and after all events.
-use Rattle.std.proofs.Common.{◌≡◌, ℕ, zero, suc, ◌+◌, ◌<◌, ◌↔◌, Bool, true, false, List, [], ◌∷◌, ◌++◌, take, length, Some, slice_get, refl, sym, ◌∙◌, ap, subst, arith, true≢false, inl, inr}
+use Rattle.std.proofs.Common.{◌≡◌, ℕ, zero, suc, ◌+◌, ◌<◌, ◌==◌, ◌↔◌, false, List, [], ◌∷◌, ◌++◌, take, drop, length, Some, slice_get, refl, sym, ◌∙◌, ap, subst, arith, true≢false, inl, inr}
+use Rattle.std.proofs.lemmas.List.{append-nil}
 use Rattle.tatp_tables.specs.Database.{Database}
 use Rattle.tatp_history.specs.declared.observed.Observed.{Observed}
 use Rattle.tatp_history.specs.declared.event.Event.{Event}
@@ -8,58 +9,49 @@ use Rattle.tatp_history.specs.Locality.{AreAccepted}
 use Rattle.tatp_history.specs.Events.{asked_in, TimesRise, HaveEnds}
 use Rattle.tatp_history.specs.JustInTime.{NoneAskedAt}
 use Rattle.tatp_history.specs.Histories.{IsStrictlySerializable}
-use Rattle.tatp_history.specs.Configurations.{Configuration, starting, Follows}
-use Rattle.tatp_history.proofs.LeadLaws.{leads, led, led_on, led_by}
-use Rattle.tatp_history.proofs.JustInTimeLaws.{just_in_time}
+use Rattle.tatp_history.specs.Configurations.{Configuration, starting}
 use Rattle.tatp_linearization.specs.declared.configuration.Configuration.{Configuration as Held}
-use Rattle.tatp_linearization.specs.declared.explanations.Explanations.{Explanations}
-use Rattle.tatp_linearization.specs.Held.{seen, Has, AreReady, Adds, IsAt, Effects, FollowAll}
-use Rattle.tatp_linearization.specs.Reached.{AreReached}
-use Rattle.tatp_linearization.proofs.HeldLaws.{no_effects}
+use Rattle.tatp_linearization.specs.AtOnce.{TakeUntil, FollowsAtOnce}
+use Rattle.tatp_linearization.specs.Possible.{AreMoreThan, NeedMore}
+use Rattle.tatp_linearization.specs.Held.{seen, Has, AreReady, AreApart, Adds, HoldsOfOne, IsTried, FollowAll}
+use Rattle.tatp_linearization.specs.Reached.{AreKept}
+use Rattle.tatp_linearization.proofs.AtOnceLaws.{lead_on, lead_by, at_once_exact}
+use Rattle.tatp_linearization.proofs.PossibleLaws.{need_more}
+use Rattle.tatp_linearization.proofs.TurnLaws.{until_some}
 
 -- ---- one configuration
-pub asks_follow : (c d : Held) (event : Event) (x : Observed) (old new : List Held) → event ≡ Asks x → d.home ≡ c.home → d.opened.items ≡ x ∷ c.opened.items → Adds old (λ e. e ≡ seen d) new → Adds old (Follows event (seen c)) new
-asks_follow c d event x old new is home opened adds e =
-    let there : seen d ≡ record { rows = c.home.tables; opened = x ∷ c.opened.items } = λ k. record { rows = (home k).tables; opened = opened k } in (
-      λ h. elim ((adds e).0 h) [
-        | inl k ↦ inl k
-        | inr k ↦ inr (subst (λ (v : Event). Follows v (seen c) e) (sym is) (k ∙ there))
-      ],
-      λ h. (adds e).1 (elim h [
-        | inl k ↦ inl k
-        | inr k ↦ inr (subst (λ (v : Event). Follows v (seen c) e) is k ∙ sym there)
-      ]),
-    )
-
-pub none_follows : (c d : Held) (event : Event) (asked at : ℕ) (old new : List Held) → event ≡ Ends asked at → NoneAskedAt asked c.opened.items → seen d ≡ seen c → Adds old (λ e. e ≡ seen d) new → Adds old (Follows event (seen c)) new
-none_follows c d event asked at old new is none same adds e = (
-  λ h. elim ((adds e).0 h) [
-    | inl k ↦ inl k
-    | inr k ↦ inr (subst (λ (v : Event). Follows v (seen c) e) (sym is) (inl (none, k ∙ same)))
-  ],
-  λ h. (adds e).1 (elim h [
-    | inl k ↦ inl k
-    | inr k ↦ let there : Follows (Ends asked at) (seen c) e = subst (λ (v : Event). Follows v (seen c) e) is k in elim there [
-      | inl q ↦ inr (q.1 ∙ sym same)
-      | inr q ↦ absurd (no_effects (length c.opened.items) asked (IsAt e) c.home.tables c.opened.items none q)
-    ]
-  ]),
+pub adds_same : (old : List Held) (P R : Configuration → Type 0) (new : List Held) → ((d : Configuration) → P d ↔ R d) → Adds old P new → Adds old R new
+adds_same old P R new same adds d = (
+  λ h. elim ((adds d).0 h) [ inl k ↦ inl k | inr k ↦ inr ((same d).0 k) ],
+  λ h. (adds d).1 (elim h [ inl k ↦ inl k | inr k ↦ inr ((same d).1 k) ]),
 )
 
-pub effects_follow : (c : Held) (event : Event) (asked at : ℕ) (old new : List Held) → event ≡ Ends asked at → (NoneAskedAt asked c.opened.items → ⊥) → Adds old (Effects (length c.opened.items) asked (seen c)) new → Adds old (Follows event (seen c)) new
-effects_follow c event asked at old new is some adds e = (
-  λ h. elim ((adds e).0 h) [
-    | inl k ↦ inl k
-    | inr k ↦ inr (subst (λ (v : Event). Follows v (seen c) e) (sym is) (inr k))
+-- what follows where a call is asked is one
+pub asked_same : (c d : Configuration) (x : Observed) → FollowsAtOnce (Asks x) c d → (e : Configuration) → (e ≡ d) ↔ FollowsAtOnce (Asks x) c e
+asked_same c d x f e = (
+  λ same. subst (FollowsAtOnce (Asks x) c) (sym same) f,
+  λ h. elim f [
+    | inl k ↦ elim h [ inl q ↦ q.1 ∙ sym k.1 | inr q ↦ absurd (q.0 k.0) ]
+    | inr k ↦ elim h [ inl q ↦ absurd (k.0 q.0) | inr q ↦ q.1 ∙ sym k.1 ]
   ],
-  λ h. (adds e).1 (elim h [
-    | inl k ↦ inl k
-    | inr k ↦ let there : Follows (Ends asked at) (seen c) e = subst (λ (v : Event). Follows v (seen c) e) is k in elim there [
-      | inl q ↦ absurd (some q.0)
-      | inr q ↦ inr q
-    ]
-  ]),
 )
+
+pub none_same : (c d : Configuration) (asked at : ℕ) → NoneAskedAt asked c.opened → d ≡ c → (e : Configuration) → (e ≡ d) ↔ FollowsAtOnce (Ends asked at) c e
+none_same c d asked at none same e = (
+  λ h. inl (none, h ∙ same),
+  λ h. elim h [ inl k ↦ k.1 ∙ sym same | inr k ↦ absurd (k.0 none) ],
+)
+
+pub until_same : (c : Configuration) (asked at : ℕ) → (NoneAskedAt asked c.opened → ⊥) → (e : Configuration) → TakeUntil (length c.opened) asked c e ↔ FollowsAtOnce (Ends asked at) c e
+until_same c asked at some e = (
+  λ h. inr (some, h),
+  λ h. elim h [ inl k ↦ absurd (some k.0) | inr k ↦ k.1 ],
+)
+
+-- what follows is among what is tried
+pub follows_tried : (event : Event) (c d : Configuration) → FollowsAtOnce event c d → IsTried event c d
+follows_tried (Asks x) c d h = h
+follows_tried (Ends asked at) c d h = elim h [ inl k ↦ (0, k.1) | inr k ↦ until_some (length c.opened) asked c d k.1 ]
 
 -- ---- explanations
 pub take_more : (events : List Event) (i : ℕ) (event : Event) → slice_get events i ≡ Some event → take (i + 1) events ≡ take i events ++ event ∷ []
@@ -73,47 +65,89 @@ take_more events i event at = subst (λ n. take n events ≡ take i events ++ ev
     one_more (e ∷ es) zero h = let is : e ≡ event = cc in ap (λ v. v ∷ []) is
     one_more (e ∷ es) (suc j) h = ap (λ vs. e ∷ vs) (one_more es j h)
 
-pub reached_none : (e : Explanations) (c : Held) (u : Database) → e.configurations.items ≡ c ∷ [] → c.home.tables ≡ u → c.opened.items ≡ [] → AreReached u [] e
-reached_none e c u is rows none =
+pub kept_none : (u : Database) (cs : List Held) (c : Held) → cs ≡ c ∷ [] → c.home.tables ≡ u → c.opened.items ≡ [] → AreKept u [] cs
+kept_none u cs c is rows none =
     let there : seen c ≡ starting u = λ k. record { rows = rows k; opened = none k } in
     record {
       exact = λ d. (
-        λ h. let k : Has (c ∷ []) d = subst (λ cs. Has cs d) is h in elim k [ inl q ↦ q ∙ there | inr q ↦ absurd q ],
-        λ h. subst (λ cs. Has cs d) (sym is) (inl (h ∙ sym there)),
+        λ h. let k : Has (c ∷ []) d = subst (λ bs. Has bs d) is h in elim k [ inl q ↦ q ∙ there | inr q ↦ absurd q ],
+        λ h. subst (λ bs. Has bs d) (sym is) (inl (h ∙ sym there)),
       );
       ready = subst AreReady (sym is) (subst AreAccepted (sym none) tt, tt);
+      apart = (c.home.s_id, subst (AreApart c.home.s_id) (sym is) (record { own = (refl, tt); distinct = (tt, tt) }));
     }
 
-pub reached_more : (u : Database) (past : List Event) (event : Event) (e f : Explanations) → AreReached u past e → FollowAll event e.configurations.items f.configurations.items → AreReady f.configurations.items
-    → AreReached u (past ++ event ∷ []) f
-reached_more u past event e f reached all ready = record {
+pub kept_more : (u : Database) (past : List Event) (event : Event) (before after : List Held) → FollowAll event before after → AreReady after → ((s : ℕ) → AreApart s before → AreApart s after) → AreKept u past before → AreKept u (past ++ event ∷ []) after
+kept_more u past event before after all ready apart kept = record {
   exact = λ d. (
-    λ h. let before = (all d).0 h in led_on past (event ∷ []) (starting u) before.0 d ((reached.exact before.0).0 before.1) (d, before.2, refl),
+    λ h. let k = (all d).0 h in lead_on past (event ∷ []) (starting u) k.0 d ((kept.exact k.0).0 k.1) (d, k.2, refl),
     λ h.
-        let parts = led_by past (event ∷ []) (starting u) d h in
-        let last : Follows event parts.0 d = subst (λ (b : Configuration). Follows event parts.0 b) (sym parts.2.2) parts.2.1 in
-        (all d).1 (parts.0, (reached.exact parts.0).1 parts.1, last),
+        let parts = lead_by past (event ∷ []) (starting u) d h in
+        let last : FollowsAtOnce event parts.0 d = subst (λ (b : Configuration). FollowsAtOnce event parts.0 b) (sym parts.2.2) parts.2.1 in
+        (all d).1 (parts.0, (kept.exact parts.0).1 parts.1, last),
   );
+  ready = ready;
+  apart = (kept.apart.0, apart kept.apart.0 kept.apart.1);
+}
+
+pub positive : (n : ℕ) → (n == 0) ≡ false → 0 < n
+positive zero e = absurd (true≢false e)
+positive (suc n) e = omega arith
+
+-- where none is kept there is no order, and where some are there is one
+pub none_explains : (u : Database) (past : List Event) (cs : List Held) → AreKept u past cs → TimesRise past → HaveEnds past → length cs ≡ 0 → IsStrictlySerializable u (asked_in past) → ⊥
+none_explains u past cs kept rise have none s = let led = (at_once_exact u past rise have).1 s in not_there cs led.0 none ((kept.exact led.0).1 led.1)
+  where
+    not_there : (bs : List Held) (d : Configuration) → length bs ≡ 0 → Has bs d → ⊥
+    not_there [] d e h = h
+    not_there (b ∷ bs) d e h = omega (arith, e)
+
+pub some_explain : (u : Database) (past : List Event) (cs : List Held) → AreKept u past cs → TimesRise past → HaveEnds past → 0 < length cs → IsStrictlySerializable u (asked_in past)
+some_explain u past cs kept rise have some = let first = first_of cs some in (at_once_exact u past rise have).0 (seen first.0, (kept.exact (seen first.0)).0 first.1)
+  where
+    first_of : (bs : List Held) → 0 < length bs → (c : Held) × Has bs (seen c)
+    first_of [] lt = absurd (omega (arith, lt))
+    first_of (b ∷ bs) lt = (b, inl refl)
+
+-- ---- windows
+-- events up to a place, and the one there
+window_more : (past events : List Event) (i : ℕ) (event : Event) → slice_get events i ≡ Some event → past ++ take (i + 1) events ≡ (past ++ take i events) ++ event ∷ []
+window_more past events i event at = ap (λ es. past ++ es) (take_more events i event at) ∙ again past (take i events) (event ∷ [])
+  where
+    again : (xs ys zs : List Event) → xs ++ (ys ++ zs) ≡ (xs ++ ys) ++ zs
+    again [] ys zs = refl
+    again (x ∷ xs) ys zs = ap (λ vs. x ∷ vs) (again xs ys zs)
+
+window_whole : (past events : List Event) (i : ℕ) (event : Event) → slice_get events i ≡ Some event → past ++ events ≡ (past ++ take i events) ++ event ∷ drop (suc i) events
+window_whole past events i event at = ap (λ es. past ++ es) (both events i event at) ∙ again past (take i events) (event ∷ drop (suc i) events)
+  where
+    again : (xs ys zs : List Event) → xs ++ (ys ++ zs) ≡ (xs ++ ys) ++ zs
+    again [] ys zs = refl
+    again (x ∷ xs) ys zs = ap (λ vs. x ∷ vs) (again xs ys zs)
+
+    both : (es : List Event) (j : ℕ) (e : Event) → slice_get es j ≡ Some e → es ≡ take j es ++ e ∷ drop (suc j) es
+    both [] j e h = absurd cc
+    both (d ∷ es) zero e h = let is : d ≡ e = cc in ap (λ v. v ∷ es) is
+    both (d ∷ es) (suc j) e h = ap (λ vs. d ∷ vs) (both es j e h)
+
+-- the configurations after the first of a window's events
+pub record IsFollowed (set : List Held) (events : List Event) (i : ℕ) (after : List Held) : Type 0 where
+  pub kept : (u : Database) (past : List Event) → AreKept u past set → AreKept u (past ++ take i events) after
+  pub ready : AreReady after
+
+pub followed_none : (set : List Held) (events : List Event) → AreReady set → IsFollowed set events 0 set
+followed_none set events ready = record { kept = λ u past k. subst (λ es. AreKept u es set) (sym (append-nil past)) k; ready = ready }
+
+pub followed_more : (set : List Held) (events : List Event) (i : ℕ) (event : Event) (before after : List Held) → slice_get events i ≡ Some event → IsFollowed set events i before
+    → FollowAll event before after → AreReady after → ((s : ℕ) → AreApart s before → AreApart s after) → IsFollowed set events (i + 1) after
+followed_more set events i event before after at f all ready apart = record {
+  kept = λ u past k. subst (λ es. AreKept u es after) (sym (window_more past events i event at)) (kept_more u (past ++ take i events) event before after all ready apart (f.kept u past k));
   ready = ready;
 }
 
-pub explains : (u : Database) (past : List Event) (e : Explanations) (some : Bool) → AreReached u past e → TimesRise past → HaveEnds past
-    → (length e.configurations.items ≡ 0 → some ≡ false) → (0 < length e.configurations.items → some ≡ true) → (some ≡ true) ↔ IsStrictlySerializable u (asked_in past)
-explains u past e some reached rise have empty full =
-    let law = just_in_time u past rise have in (
-      λ h. law.0 (
-          let d = first_of e.configurations.items empty h in
-          led past (starting u) (seen d.0) ((reached.exact (seen d.0)).0 d.1)
-          ),
-      λ s.
-          let last = leads past (starting u) (law.1 s) in
-          full (not_empty e.configurations.items last.0 ((reached.exact last.0).1 last.1)),
-    )
-  where
-    first_of : (cs : List Held) → (length cs ≡ 0 → some ≡ false) → some ≡ true → (c : Held) × Has cs (seen c)
-    first_of [] none h = absurd (true≢false (sym h ∙ none refl))
-    first_of (c ∷ cs) none h = (c, inl refl)
-
-    not_empty : (cs : List Held) (d : Configuration) → Has cs d → 0 < length cs
-    not_empty [] d h = absurd h
-    not_empty (c ∷ cs) d h = omega arith
+pub followed_many : (most : ℕ) (set : List Held) (events : List Event) (i : ℕ) (event : Event) (before : List Held) → slice_get events i ≡ Some event → IsFollowed set events i before
+    → ((s : ℕ) → AreApart s before → AreMoreThan most (HoldsOfOne (IsTried event) before)) → (u : Database) (past : List Event) → AreKept u past set → NeedMore most u (past ++ events)
+followed_many most set events i event before at f many u past k =
+    let own = f.kept u past k in
+    subst (NeedMore most u) (sym (window_whole past events i event at))
+    (need_more u (past ++ take i events) event (drop (suc i) events) most before own (many own.apart.0 own.apart.1))

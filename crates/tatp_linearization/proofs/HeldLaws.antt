@@ -1,83 +1,19 @@
--- Places in lists, and configurations as the search holds them.
-use Rattle.std.proofs.Common.{◌≡◌, ℕ, zero, suc, ◌<◌, ◌⊎◌, ◌↔◌, ◌+◌, ◌≤◌, true, false, nat_lt, ltb-true, ltb-false, List, [], ◌∷◌, ◌++◌, take, length, Some, None, Ok, get_or, slice_get, remove, refl, sym, ◌∙◌, ap, subst, arith, inl, inr}
+-- Lists of configurations, and what is added to them.
+use Rattle.std.proofs.Common.{◌≡◌, ℕ, zero, suc, ◌<◌, ◌≤◌, ◌⊎◌, ◌↔◌, ◌+◌, false, List, [], ◌∷◌, ◌++◌, length, Some, None, Ok, slice_get, remove, refl, sym, ◌∙◌, ap, subst, arith, inl, inr}
 use Rattle.std.specs.List.{AllByRecursion}
-use Rattle.tatp_tables.specs.Database.{Database}
 use Rattle.tatp_procs.specs.Arguments.{arguments_accepted}
 use Rattle.tatp_procs.specs.Transactions.{transaction}
 use Rattle.tatp_history.specs.declared.observed.Observed.{Observed}
 use Rattle.tatp_history.specs.Histories.{MayHaveReply}
 use Rattle.tatp_history.specs.Locality.{AreAccepted}
-use Rattle.tatp_history.specs.JustInTime.{Chooses, NoneAskedAt, TakeEffect}
 use Rattle.tatp_history.specs.Configurations.{Configuration}
 use Rattle.tatp_linearization.specs.declared.configuration.Configuration.{Configuration as Held}
-use Rattle.tatp_linearization.specs.Held.{seen, Has, AreReady, Takes, Adds, HoldsOfOne, TakesOne, IsAskedAt, IsAskedElsewhen, Effects}
-
--- ---- places
-pub get_at : {X : Type 0} (xs : List X) (i : ℕ) (x : X) → i < length xs → x ≡ get_or xs i x → slice_get xs i ≡ Some x
-get_at [] i x lt e = absurd (omega (arith, lt))
-get_at (y ∷ ys) zero x lt e = ap Some (sym e)
-get_at (y ∷ ys) (suc i) x lt e = get_at ys i x (omega (arith, lt)) e
-
-pub all_get : {X : Type 0} (P : X → Type 0) (xs : List X) (i : ℕ) (x : X) → AllByRecursion P xs → slice_get xs i ≡ Some x → P x
-all_get P [] i x h e = absurd cc
-all_get P (y ∷ ys) zero x h e = let is : y ≡ x = cc in subst P is h.0
-all_get P (y ∷ ys) (suc i) x h e = all_get P ys i x h.1 e
-
-pub all_of_get : {X : Type 0} (P : X → Type 0) (xs : List X) → ((i : ℕ) (x : X) → slice_get xs i ≡ Some x → P x) → AllByRecursion P xs
-all_of_get P [] f = tt
-all_of_get P (y ∷ ys) f = (f 0 y refl, all_of_get P ys (λ i x e. f (suc i) x e))
-
-pub all_remove : {X : Type 0} (P : X → Type 0) (xs : List X) (i : ℕ) → AllByRecursion P xs → AllByRecursion P (remove xs i)
-all_remove P [] zero h = tt
-all_remove P [] (suc i) h = tt
-all_remove P (y ∷ ys) zero h = h.1
-all_remove P (y ∷ ys) (suc i) h = (h.0, all_remove P ys i h.1)
-
--- lists that are alike up to a place
-pub alike_more : {X : Type 0} (xs ys : List X) (i : ℕ) (x y : X) → slice_get xs i ≡ Some x → slice_get ys i ≡ Some y → x ≡ y → take i xs ≡ take i ys → take (i + 1) xs ≡ take (i + 1) ys
-alike_more xs ys i x y at at' e alike = one_more xs i x at ∙ ((λ k. alike k ++ e k ∷ []) ∙ sym (one_more ys i y at'))
-  where
-    next : (n : ℕ) → suc n ≡ n + 1
-    next n = omega arith
-
-    more : {X : Type 0} (zs : List X) (j : ℕ) (z : X) → slice_get zs j ≡ Some z → take (suc j) zs ≡ take j zs ++ z ∷ []
-    more [] j z h = absurd cc
-    more (w ∷ ws) zero z h = let is : w ≡ z = cc in ap (λ v. v ∷ []) is
-    more (w ∷ ws) (suc j) z h = ap (λ vs. w ∷ vs) (more ws j z h)
-
-    one_more : {X : Type 0} (zs : List X) (j : ℕ) (z : X) → slice_get zs j ≡ Some z → take (j + 1) zs ≡ take j zs ++ z ∷ []
-    one_more zs j z h = subst (λ n. take n zs ≡ take j zs ++ z ∷ []) (next j) (more zs j z h)
-
-pub chooses_at : (xs : List Observed) (i : ℕ) (x : Observed) → slice_get xs i ≡ Some x → Chooses xs x (remove xs i)
-chooses_at [] i x e = absurd cc
-chooses_at (y ∷ ys) zero x e = let is : y ≡ x = cc in inl (sym is, refl)
-chooses_at (y ∷ ys) (suc i) x e = inr (remove ys i, refl, chooses_at ys i x e)
-
-pub at_chooses : (xs : List Observed) (x : Observed) (rest : List Observed) → Chooses xs x rest → (i : ℕ) × (i < length xs) × (slice_get xs i ≡ Some x) × (rest ≡ remove xs i)
-at_chooses [] x rest c = absurd c
-at_chooses (y ∷ ys) x rest c = elim c [
-  | inl p ↦ (0, omega arith, ap Some (sym p.0), p.1)
-  | inr p ↦ let r = at_chooses ys x p.0 p.2 in let lt = r.1 in (suc r.0, omega (arith, lt), r.2, p.1 ∙ ap (λ zs. y ∷ zs) r.3)
-]
-
-pub length_remove : (xs : List Observed) (i : ℕ) (x : Observed) → slice_get xs i ≡ Some x → length xs ≡ suc (length (remove xs i))
-length_remove [] i x e = absurd cc
-length_remove (y ∷ ys) zero x e = refl
-length_remove (y ∷ ys) (suc i) x e = ap suc (length_remove ys i x e)
-
-pub same_item : (xs : List Observed) (i : ℕ) (x y : Observed) → slice_get xs i ≡ Some x → slice_get xs i ≡ Some y → x ≡ y
-same_item xs i x y e f = let h : Some x ≡ Some y = sym e ∙ f in cc
-
--- ---- effects
--- where none was asked then, it can't take effect
-pub no_effects : (n asked : ℕ) (goes_on : Database → List Observed → Type 0) (u : Database) (opened : List Observed) → NoneAskedAt asked opened → TakeEffect n goes_on asked u opened → ⊥
-no_effects zero asked goes_on u opened none h = h
-no_effects (suc n) asked goes_on u opened none h =
-    let at = at_chooses opened h.0 h.1 h.2 in
-    elim h.4 [
-      | inl on ↦ all_get (λ (x : Observed). x.asked ≡ asked → ⊥) opened at.0 h.0 none at.2 on.0
-      | inr on ↦ no_effects n asked goes_on (transaction h.0.call u).database h.1 (subst (NoneAskedAt asked) (sym at.3) (all_remove (λ (x : Observed). x.asked ≡ asked → ⊥) opened at.0 none)) on.1
-    ]
+use Rattle.tatp_linearization.specs.AtOnce.{only_reads, AreLeft, TakesOne}
+use Rattle.tatp_linearization.specs.Possible.{AreDistinct, AreMoreThan}
+use Rattle.tatp_linearization.specs.Held.{seen, all_seen, Has, AreReady, AreApart, Takes, Adds, IsOldOr, HoldsOfOne}
+use Rattle.tatp_linearization.proofs.PlaceLaws.{all_get, all_remove, all_more, chooses_at, at_chooses, same_item, below_or_is}
+use Rattle.tatp_linearization.proofs.SettlingLaws.{left_unique, left_all}
+use Rattle.tatp_linearization.proofs.PossibleLaws.{more_than}
 
 -- ---- lists
 pub has_more : (cs : List Held) (c : Held) (d : Configuration) → Has (cs ++ c ∷ []) d ↔ (Has cs d ⊎ (d ≡ seen c))
@@ -87,15 +23,38 @@ has_more (b ∷ bs) c d = let rest = has_more bs c d in (
   λ h. elim h [ inl k ↦ elim k [ inl e ↦ inl e | inr q ↦ inr (rest.1 (inl q)) ] | inr e ↦ inr (rest.1 (inr e)) ],
 )
 
-pub all_more : {X : Type 0} (P : X → Type 0) (xs : List X) (x : X) → AllByRecursion P xs → P x → AllByRecursion P (xs ++ x ∷ [])
-all_more P [] x h k = (k, tt)
-all_more P (y ∷ ys) x h k = (h.0, all_more P ys x h.1 k)
+-- ---- configurations of one home, each once
+pub own_more : (s : ℕ) (cs : List Held) (d : Held) → AreApart s cs → d.home.s_id ≡ s → (Has cs (seen d) → ⊥) → AreApart s (cs ++ d ∷ [])
+own_more s cs d apart own new = record { own = all_more (λ (c : Held). c.home.s_id ≡ s) cs d apart.own own; distinct = more cs apart.distinct new }
+  where
+    others : (c : Configuration) (bs : List Held) → AllByRecursion (λ (e : Configuration). c ≡ e → ⊥) (all_seen bs) → (c ≡ seen d → ⊥) → AllByRecursion (λ (e : Configuration). c ≡ e → ⊥) (all_seen (bs ++ d ∷ []))
+    others c [] h n = (n, tt)
+    others c (b ∷ bs) h n = (h.0, others c bs h.1 n)
 
-pub below_or_is : (j i : ℕ) → j < i + 1 → (j < i) ⊎ (j ≡ i)
-below_or_is j i lt = elim (nat_lt j i) as (λ b. nat_lt j i ≡ b → (j < i) ⊎ (j ≡ i)) [
-  | true ↦ λ e. inl (ltb-true j i e)
-  | false ↦ λ e. let le = ltb-false j i e in inr (omega (arith, lt, le))
-] refl
+    more : (bs : List Held) → AreDistinct (all_seen bs) → (Has bs (seen d) → ⊥) → AreDistinct (all_seen (bs ++ d ∷ []))
+    more [] h n = (tt, tt)
+    more (b ∷ bs) h n = (others (seen b) bs h.0 (λ e. n (inl (sym e))), more bs h.1 (λ k. n (inr k)))
+
+pub not_has : (cs : List Held) (d : Configuration) → (Has cs d → ⊥) → AllByRecursion (λ (e : Configuration). d ≡ e → ⊥) (all_seen cs)
+not_has [] d n = tt
+not_has (c ∷ cs) d n = ((λ e. n (inl e)), not_has cs d (λ k. n (inr k)))
+
+all_has : (cs : List Held) (P : Configuration → Type 0) → ((d : Configuration) → Has cs d → P d) → AllByRecursion P (all_seen cs)
+all_has [] P f = tt
+all_has (c ∷ cs) P f = (f (seen c) (inl refl), all_has cs P (λ d h. f d (inr h)))
+
+length_seen : (cs : List Held) → length (all_seen cs) ≡ length cs
+length_seen [] = refl
+length_seen (c ∷ cs) = ap suc (length_seen cs)
+
+-- one more than are kept
+pub one_too_many : (most s : ℕ) (cs : List Held) (d : Held) → most ≤ length cs → AreApart s cs → (Has cs (seen d) → ⊥) → AreMoreThan most (IsOldOr cs (λ e. e ≡ seen d))
+one_too_many most s cs d full apart new = let size = length_seen cs in record {
+  some = seen d ∷ all_seen cs;
+  many = omega (arith, full, size);
+  distinct = (not_has cs (seen d) new, apart.distinct);
+  hold = (inr refl, all_has cs (IsOldOr cs (λ e. e ≡ seen d)) (λ e h. inl h));
+}
 
 -- ---- what is added
 pub added_pushed : (old new : List Held) (c : Held) → new ≡ old ++ c ∷ [] → Adds old (λ e. e ≡ seen c) new
@@ -108,74 +67,103 @@ pub added_already : (old : List Held) (c : Held) → Has old (seen c) → Adds o
 added_already old c there d = (λ h. inl h, λ h. elim h [ inl k ↦ k | inr e ↦ subst (Has old) (sym e) there ])
 
 pub ready_after : (c d : Held) (i : ℕ) → Takes c i (Some d) → AreAccepted c.opened.items → AreAccepted d.opened.items
-ready_after c d i taken accepted = subst AreAccepted (sym taken.1.left) (all_remove (λ (y : Observed). arguments_accepted y.call ≡ Ok tt) c.opened.items i accepted)
+ready_after c d i taken accepted =
+    let accepts : Observed → Type 0 = λ (y : Observed). arguments_accepted y.call ≡ Ok tt in
+    left_all accepts (transaction taken.0.call c.home.tables).database (remove c.opened.items i) d.opened.items taken.1.settled (all_remove accepts c.opened.items i accepted)
 
 -- ---- the open calls before a place were tried
 -- by the open call of one place
-abbrev pub TakesThere : (Observed → Type 0) → Held → ℕ → Configuration → Type 0
-TakesThere P c i d =
-    (x : Observed) × (slice_get c.opened.items i ≡ Some x) × MayHaveReply x.outcome (transaction x.call c.home.tables).reply
-    × P x × (d ≡ record { rows = (transaction x.call c.home.tables).database; opened = remove c.opened.items i })
+abbrev pub TakesThere : Held → ℕ → Configuration → Type 0
+TakesThere c i d =
+    (x : Observed) × (slice_get c.opened.items i ≡ Some x) × (only_reads x.call ≡ false) × MayHaveReply x.outcome (transaction x.call c.home.tables).reply
+    × (d.rows ≡ (transaction x.call c.home.tables).database) × AreLeft (transaction x.call c.home.tables).database (remove c.opened.items i) d.opened
 
-pub record Collected (P : Observed → Type 0) (c : Held) (old : List Held) (i : ℕ) (new : List Held) : Type 0 where
-  pub sound : (d : Configuration) → Has new d → Has old d ⊎ TakesOne P (seen c) d
+pub taken_one : (c d : Held) (i : ℕ) → Takes c i (Some d) → TakesOne (seen c) (seen d)
+taken_one c d i taken = (
+  taken.0,
+  remove c.opened.items i,
+  record {
+    chosen = chooses_at c.opened.items i taken.0 taken.1.at;
+    writes = taken.1.writes;
+    may = taken.1.may;
+    rows = taken.1.rows;
+    settled = taken.1.settled;
+  },
+)
+
+there_taken : (c d : Held) (i : ℕ) (e : Configuration) → Takes c i (Some d) → TakesThere c i e → e ≡ seen d
+there_taken c d i e taken there =
+    let one : there.0 ≡ taken.0 = same_item c.opened.items i there.0 taken.0 there.1 taken.1.at in
+    let own : (e.rows ≡ (transaction taken.0.call c.home.tables).database) × AreLeft (transaction taken.0.call c.home.tables).database (remove c.opened.items i) e.opened
+    = subst (λ (y : Observed). (e.rows ≡ (transaction y.call c.home.tables).database) × AreLeft (transaction y.call c.home.tables).database (remove c.opened.items i) e.opened) one (there.4, there.5) in
+    let opened : e.opened ≡ d.opened.items = left_unique (transaction taken.0.call c.home.tables).database (remove c.opened.items i) e.opened d.opened.items own.1 taken.1.settled in
+    λ k. record { rows = (own.0 ∙ sym taken.1.rows) k; opened = opened k }
+
+pub record Collected (P : Configuration → Type 0) (c : Held) (old : List Held) (i : ℕ) (new : List Held) : Type 0 where
+  pub sound : (d : Configuration) → Has new d → Has old d ⊎ (TakesOne (seen c) d × P d)
   pub kept : (d : Configuration) → Has old d → Has new d
-  pub found : (d : Configuration) (j : ℕ) → j < i → TakesThere P c j d → Has new d
+  pub found : (d : Configuration) (j : ℕ) → j < i → TakesThere c j d → P d → Has new d
   pub ready : AreReady old → AreReady new
+  pub apart : AreApart c.home.s_id old → AreApart c.home.s_id new
 
-pub collected_none : (P : Observed → Type 0) (c : Held) (old : List Held) → Collected P c old 0 old
-collected_none P c old = record { sound = λ d h. inl h; kept = λ d h. h; found = λ d j lt v. absurd (omega (arith, lt)); ready = λ h. h }
+pub collected_none : (P : Configuration → Type 0) (c : Held) (old : List Held) → Collected P c old 0 old
+collected_none P c old = record { sound = λ d h. inl h; kept = λ d h. h; found = λ d j lt v q. absurd (omega (arith, lt)); ready = λ h. h; apart = λ h. h }
 
-pub collected_same : (P : Observed → Type 0) (c : Held) (old : List Held) (i : ℕ) (new : List Held) → Collected P c old i new → ((d : Configuration) → TakesThere P c i d → ⊥) → Collected P c old (i + 1) new
+collected_same : (P : Configuration → Type 0) (c : Held) (old : List Held) (i : ℕ) (new : List Held) → Collected P c old i new → ((d : Configuration) → TakesThere c i d → P d → ⊥) → Collected P c old (i + 1) new
 collected_same P c old i new p none = record {
   sound = p.sound;
   kept = p.kept;
-  found = λ d j lt v. elim (below_or_is j i lt) [
-    | inl k ↦ p.found d j k v
-    | inr e ↦ absurd (none d (subst (λ k. TakesThere P c k d) e v))
+  found = λ d j lt v q. elim (below_or_is j i lt) [
+    | inl k ↦ p.found d j k v q
+    | inr e ↦ absurd (none d (subst (λ k. TakesThere c k d) e v) q)
   ];
   ready = p.ready;
+  apart = p.apart;
 }
 
--- no call of another reply, and none of which this doesn't hold
-pub refused_none : (P : Observed → Type 0) (c : Held) (i : ℕ) → Takes c i None → (d : Configuration) → TakesThere P c i d → ⊥
-refused_none P c i none d v = none v.0 v.1 v.2
+-- no call that reads or has another reply
+pub collected_refused : (P : Configuration → Type 0) (c : Held) (old : List Held) (i : ℕ) (new : List Held) → Collected P c old i new → Takes c i None → Collected P c old (i + 1) new
+collected_refused P c old i new p none = collected_same P c old i new p (λ d v q. none v.0 v.1 v.2 v.3)
 
-pub other_none : (P : Observed → Type 0) (c : Held) (i : ℕ) (x : Observed) → slice_get c.opened.items i ≡ Some x → (P x → ⊥) → (d : Configuration) → TakesThere P c i d → ⊥
-other_none P c i x at other d v = other (subst P (same_item c.opened.items i v.0 x v.1 at) v.3)
+-- and none of which this doesn't hold
+pub collected_other : (P : Configuration → Type 0) (c d : Held) (old : List Held) (i : ℕ) (new : List Held) → Takes c i (Some d) → Collected P c old i new → (P (seen d) → ⊥) → Collected P c old (i + 1) new
+collected_other P c d old i new taken p other = collected_same P c old i new p (λ e v q. other (subst P (there_taken c d i e taken v) q))
 
-pub collected_added : (P : Observed → Type 0) (c d : Held) (old : List Held) (i : ℕ) (before new : List Held) (taken : Takes c i (Some d)) → Collected P c old i before → P taken.0 → Adds before (λ e. e ≡ seen d) new
-    → (AreReady before → AreReady new) → Collected P c old (i + 1) new
-collected_added P c d old i before new taken p holds adds readies =
-    let x : Observed = taken.0 in
-    let there : seen d ≡ record { rows = (transaction x.call c.home.tables).database; opened = remove c.opened.items i } = λ k. record { rows = taken.1.rows k; opened = taken.1.left k } in
-    record {
-      sound = λ e h. elim ((adds e).0 h) [
-        | inl k ↦ p.sound e k
-        | inr k ↦ inr (x, remove c.opened.items i, chooses_at c.opened.items i x taken.1.at, taken.1.may, holds, k ∙ there)
-      ];
-      kept = λ e h. (adds e).1 (inl (p.kept e h));
-      found = λ e j lt v. (adds e).1 (elim (below_or_is j i lt) [
-        | inl k ↦ inl (p.found e j k v)
-        | inr same ↦
-            let here : TakesThere P c i e = subst (λ k. TakesThere P c k e) same v in
-            let one : here.0 ≡ x = same_item c.opened.items i here.0 x here.1 taken.1.at in
-            inr (here.4 ∙ (ap (λ (y : Observed). record { rows = (transaction y.call c.home.tables).database; opened = remove c.opened.items i }) one ∙ sym there))
-      ]);
-      ready = λ h. readies (p.ready h);
-    }
+pub collected_added : (P : Configuration → Type 0) (c d : Held) (old : List Held) (i : ℕ) (before new : List Held) (taken : Takes c i (Some d)) → Collected P c old i before → P (seen d) → Adds before (λ e. e ≡ seen d) new
+    → (AreReady before → AreReady new) → (AreApart d.home.s_id before → AreApart d.home.s_id new) → Collected P c old (i + 1) new
+collected_added P c d old i before new taken p holds adds readies aparts = record {
+  sound = λ e h. elim ((adds e).0 h) [
+    | inl k ↦ p.sound e k
+    | inr k ↦ inr (subst (λ (b : Configuration). TakesOne (seen c) b × P b) (sym k) (taken_one c d i taken, holds))
+  ];
+  kept = λ e h. (adds e).1 (inl (p.kept e h));
+  found = λ e j lt v q. (adds e).1 (elim (below_or_is j i lt) [
+    | inl k ↦ inl (p.found e j k v q)
+    | inr same ↦ inr (there_taken c d i e taken (subst (λ k. TakesThere c k e) same v))
+  ]);
+  ready = λ h. readies (p.ready h);
+  apart = λ h. subst (λ s. AreApart s before → AreApart s new) taken.1.own aparts (p.apart h);
+}
 
-pub collected_all : (P : Observed → Type 0) (c : Held) (old : List Held) (i : ℕ) (new : List Held) → Collected P c old i new → length c.opened.items ≤ i → Adds old (TakesOne P (seen c)) new
+pub collected_all : (P : Configuration → Type 0) (c : Held) (old : List Held) (i : ℕ) (new : List Held) → Collected P c old i new → length c.opened.items ≤ i → Adds old (λ d. TakesOne (seen c) d × P d) new
 collected_all P c old i new p le d = (
   p.sound d,
   λ h. elim h [
     | inl k ↦ p.kept d k
     | inr k ↦
-        let at = at_chooses c.opened.items k.0 k.1 k.2 in
+        let one = k.0 in
+        let at = at_chooses c.opened.items one.0 one.1 one.2.chosen in
         let lt = at.1 in
-        p.found d at.0 (omega (arith, lt, le)) (k.0, at.2, k.3, k.4, k.5 ∙ ap (λ ys. record { rows = (transaction k.0.call c.home.tables).database; opened = ys }) at.3)
+        p.found d at.0 (omega (arith, lt, le))
+        (one.0, at.2, one.2.writes, one.2.may, one.2.rows, subst (λ ys. AreLeft (transaction one.0.call c.home.tables).database ys d.opened) at.3 one.2.settled) k.1
   ],
 )
+
+pub collected_many : (most : ℕ) (P : Configuration → Type 0) (c d : Held) (old : List Held) (i : ℕ) (before : List Held) → Takes c i (Some d) → Collected P c old i before → AreMoreThan most (IsOldOr before (λ e. e ≡ seen d)) → AreMoreThan most (IsOldOr old (TakesOne (seen c)))
+collected_many most P c d old i before taken p many = more_than most (IsOldOr before (λ e. e ≡ seen d)) (IsOldOr old (TakesOne (seen c))) (λ e h. elim h [
+  | inl k ↦ elim (p.sound e k) [ inl q ↦ inl q | inr q ↦ inr q.0 ]
+  | inr k ↦ inr (subst (TakesOne (seen c)) (sym k) (taken_one c d i taken))
+]) many
 
 -- ---- the configurations before a place were tried
 pub get_has : (set : List Held) (i : ℕ) (c : Held) → slice_get set i ≡ Some c → Has set (seen c)
@@ -183,36 +171,38 @@ get_has [] i c at = absurd cc
 get_has (b ∷ bs) zero c at = let is : b ≡ c = cc in inl (ap seen (sym is))
 get_has (b ∷ bs) (suc i) c at = inr (get_has bs i c at)
 
-has_get : (set : List Held) (d : Configuration) → Has set d → (i : ℕ) × (i < length set) × (c : Held) × (slice_get set i ≡ Some c) × (d ≡ seen c)
+pub has_get : (set : List Held) (d : Configuration) → Has set d → (i : ℕ) × (i < length set) × (c : Held) × (slice_get set i ≡ Some c) × (d ≡ seen c)
 has_get [] d h = absurd h
 has_get (b ∷ bs) d h = elim h [
   | inl e ↦ (0, omega arith, b, refl, e)
   | inr k ↦ let r = has_get bs d k in let lt = r.1 in (suc r.0, omega (arith, lt), r.2, r.3, r.4)
 ]
 
-same_held : (set : List Held) (i : ℕ) (b c : Held) → slice_get set i ≡ Some b → slice_get set i ≡ Some c → b ≡ c
-same_held set i b c e f = let h : Some b ≡ Some c = sym e ∙ f in cc
-
 pub record Gathered (R : Configuration → Configuration → Type 0) (set old : List Held) (i : ℕ) (new : List Held) : Type 0 where
   pub sound : (d : Configuration) → Has new d → Has old d ⊎ HoldsOfOne R set d
   pub kept : (d : Configuration) → Has old d → Has new d
   pub found : (d : Configuration) (j : ℕ) (c : Held) → j < i → slice_get set j ≡ Some c → R (seen c) d → Has new d
   pub ready : AreReady old → AreReady new
+  pub apart : (s : ℕ) → AreApart s set → AreApart s old → AreApart s new
 
 pub gathered_none : (R : Configuration → Configuration → Type 0) (set old : List Held) → Gathered R set old 0 old
-gathered_none R set old = record { sound = λ d h. inl h; kept = λ d h. h; found = λ d j c lt at r. absurd (omega (arith, lt)); ready = λ h. h }
+gathered_none R set old = record { sound = λ d h. inl h; kept = λ d h. h; found = λ d j c lt at r. absurd (omega (arith, lt)); ready = λ h. h; apart = λ s h k. k }
 
 pub gathered_more : (R : Configuration → Configuration → Type 0) (set old : List Held) (i : ℕ) (c : Held) (before new : List Held) → Gathered R set old i before → slice_get set i ≡ Some c → Adds before (R (seen c)) new
-    → (AreReady before → AreReady new) → Gathered R set old (i + 1) new
-gathered_more R set old i c before new p at adds readies = record {
+    → (AreReady before → AreReady new) → (AreApart c.home.s_id before → AreApart c.home.s_id new) → Gathered R set old (i + 1) new
+gathered_more R set old i c before new p at adds readies aparts = record {
   sound = λ d h. elim ((adds d).0 h) [ inl k ↦ p.sound d k | inr k ↦ inr (seen c, get_has set i c at, k) ];
   kept = λ d h. (adds d).1 (inl (p.kept d h));
   found = λ d j b lt there r. (adds d).1 (elim (below_or_is j i lt) [
     | inl k ↦ inl (p.found d j b k there r)
-    | inr e ↦ let one : b ≡ c = same_held set i b c (subst (λ k. slice_get set k ≡ Some b) e there) at in inr (subst (λ (q : Held). R (seen q) d) one r)
+    | inr e ↦ let one : b ≡ c = same_item set i b c (subst (λ k. slice_get set k ≡ Some b) e there) at in inr (subst (λ (q : Held). R (seen q) d) one r)
   ]);
   ready = λ h. readies (p.ready h);
+  apart = λ s h k. subst (λ t. AreApart t before → AreApart t new) (own_at s h) aparts (p.apart s h k);
 }
+  where
+    own_at : (s : ℕ) → AreApart s set → c.home.s_id ≡ s
+    own_at s h = all_get (λ (b : Held). b.home.s_id ≡ s) set i c h.own at
 
 pub gathered_all : (R : Configuration → Configuration → Type 0) (set old : List Held) (i : ℕ) (new : List Held) → Gathered R set old i new → length set ≤ i → Adds old (HoldsOfOne R set) new
 gathered_all R set old i new p le d = (
@@ -226,63 +216,16 @@ gathered_all R set old i new p le d = (
 pub gathered_from_none : (R : Configuration → Configuration → Type 0) (set : List Held) (new : List Held) → Adds [] (HoldsOfOne R set) new → (d : Configuration) → Has new d ↔ HoldsOfOne R set d
 gathered_from_none R set new adds d = (λ h. elim ((adds d).0 h) [ inl k ↦ absurd k | inr k ↦ k ], λ h. (adds d).1 (inr h))
 
--- ---- turns
-split : (m asked : ℕ) (c d : Configuration) → Effects (suc m) asked c d → TakesOne (IsAskedAt asked) c d ⊎ ((s : Configuration) × TakesOne (IsAskedElsewhen asked) c s × Effects m asked s d)
-split m asked c d h = elim h.4 [
-  | inl on ↦ inl (h.0, h.1, h.2, h.3, on.0, on.1)
-  | inr on ↦ inr (record { rows = (transaction h.0.call c.rows).database; opened = h.1 }, (h.0, h.1, h.2, h.3, on.0, refl), on.1)
-]
+pub gathered_many : (most : ℕ) (R S : Configuration → Configuration → Type 0) → ((c d : Configuration) → R c d → S c d) → (set old : List Held) (i : ℕ) (c : Held) (before : List Held) → Gathered R set old i before → slice_get set i ≡ Some c
+    → AreMoreThan most (IsOldOr before (S (seen c))) → AreMoreThan most (IsOldOr old (HoldsOfOne S set))
+gathered_many most R S f set old i c before p at many = more_than most (IsOldOr before (S (seen c))) (IsOldOr old (HoldsOfOne S set)) (λ e h. elim h [
+  | inl k ↦ elim (p.sound e k) [ inl q ↦ inl q | inr q ↦ inr (q.0, q.1, f q.0 e q.2) ]
+  | inr k ↦ inr (seen c, get_has set i c at, k)
+]) many
 
-join_now : (m asked : ℕ) (c d : Configuration) → TakesOne (IsAskedAt asked) c d → Effects (suc m) asked c d
-join_now m asked c d h = (h.0, h.1, h.2, h.3, inl (h.4, h.5))
+pub old_or_none : (most : ℕ) (Holds : Configuration → Type 0) → AreMoreThan most (IsOldOr [] Holds) → AreMoreThan most Holds
+old_or_none most Holds many = more_than most (IsOldOr [] Holds) Holds (λ e h. elim h [ inl k ↦ absurd k | inr k ↦ k ]) many
 
-join_later : (m asked : ℕ) (c s d : Configuration) → TakesOne (IsAskedElsewhen asked) c s → Effects m asked s d → Effects (suc m) asked c d
-join_later m asked c s d h e = (h.0, h.1, h.2, h.3, inr (h.4, subst (λ (q : Configuration). Effects m asked q d) h.5 e))
-
--- what may be is at hand, or comes by so many calls more from those that go on
-pub record Turned (old : List Held) (c : Configuration) (n asked m : ℕ) (answered going : List Held) : Type 0 where
-  pub sound : (d : Configuration) → Has answered d ⊎ HoldsOfOne (Effects m asked) going d → Has old d ⊎ Effects n asked c d
-  pub found : (d : Configuration) → Has old d ⊎ Effects n asked c d → Has answered d ⊎ HoldsOfOne (Effects m asked) going d
-  pub ready : AreReady old → AreReady answered
-  pub left : AreReady going
-
-pub turned_none : (old : List Held) (c d : Held) (n asked : ℕ) (going : List Held) → going ≡ d ∷ [] → seen d ≡ seen c → AreAccepted c.opened.items → Turned old (seen c) n asked n old going
-turned_none old c d n asked going is same accepted = record {
-  sound = λ e h. elim h [
-    | inl k ↦ inl k
-    | inr k ↦ let there : Has (d ∷ []) k.0 = subst (λ cs. Has cs k.0) is k.1 in elim there [
-      | inl q ↦ inr (subst (λ (b : Configuration). Effects n asked b e) (q ∙ same) k.2)
-      | inr q ↦ absurd q
-    ]
-  ];
-  found = λ e h. elim h [
-    | inl k ↦ inl k
-    | inr k ↦ inr (seen c, subst (λ cs. Has cs (seen c)) (sym is) (inl (sym same)), k)
-  ];
-  ready = λ h. h;
-  left = subst AreReady (sym is) (subst AreAccepted (ap (λ (b : Configuration). b.opened) (sym same)) accepted, tt);
-}
-
-pub turned_more : (old : List Held) (c : Configuration) (n asked m : ℕ) (answered going next_answered next : List Held) → Turned old c n asked (suc m) answered going → Adds answered (HoldsOfOne (TakesOne (IsAskedAt asked)) going) next_answered
-    → ((d : Configuration) → Has next d ↔ HoldsOfOne (TakesOne (IsAskedElsewhen asked)) going d) → (AreReady answered → AreReady next_answered) → AreReady next → Turned old c n asked m next_answered next
-turned_more old c n asked m answered going next_answered next p adds goes readies left = record {
-  sound = λ d h. p.sound d (elim h [
-    | inl k ↦ elim ((adds d).0 k) [ inl q ↦ inl q | inr q ↦ inr (q.0, q.1, join_now m asked q.0 d q.2) ]
-    | inr k ↦ let q = (goes k.0).0 k.1 in inr (q.0, q.1, join_later m asked q.0 k.0 d q.2 k.2)
-  ]);
-  found = λ d h. elim (p.found d h) [
-    | inl k ↦ inl ((adds d).1 (inl k))
-    | inr k ↦ elim (split m asked k.0 d k.2) [
-      | inl q ↦ inl ((adds d).1 (inr (k.0, k.1, q)))
-      | inr q ↦ inr (q.0, (goes q.0).1 (k.0, k.1, q.1), q.2)
-    ]
-  ];
-  ready = λ h. readies (p.ready h);
-  left = left;
-}
-
-pub turned_all : (old : List Held) (c : Configuration) (n asked : ℕ) (answered going : List Held) → Turned old c n asked 0 answered going → Adds old (Effects n asked c) answered
-turned_all old c n asked answered going p d = (
-  λ h. p.sound d (inl h),
-  λ h. elim (p.found d h) [ inl k ↦ k | inr k ↦ absurd k.2 ],
-)
+-- ---- one configuration
+pub one_apart : (s : ℕ) (cs : List Held) (d : Held) → cs ≡ d ∷ [] → d.home.s_id ≡ s → AreApart s cs
+one_apart s cs d is own = subst (AreApart s) (sym is) (record { own = (own, tt); distinct = (tt, tt) })

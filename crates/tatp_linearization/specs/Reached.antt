@@ -1,14 +1,21 @@
 -- The configurations to which events lead.
-use Rattle.std.specs.Prelude.{◌↔◌, List}
+use Rattle.std.specs.Prelude.{◌↔◌, ℕ, ◌<◌, List, length}
 use Rattle.tatp_tables.specs.Database.{Database}
 use Rattle.tatp_history.specs.declared.event.Event.{Event}
-use Rattle.tatp_history.specs.Configurations.{Configuration, starting, Lead}
+use Rattle.tatp_history.specs.Configurations.{Configuration, starting}
+use Rattle.tatp_linearization.specs.declared.configuration.Configuration.{Configuration as Held}
 use Rattle.tatp_linearization.specs.declared.explanations.Explanations.{Explanations}
-use Rattle.tatp_linearization.specs.Held.{Has, AreReady}
+use Rattle.tatp_linearization.specs.AtOnce.{LeadAtOnce}
+use Rattle.tatp_linearization.specs.Held.{Has, AreReady, AreApart}
 
--- they are exactly the configurations to which the events lead from the rows
+-- they are exactly the configurations to which the events lead from the rows, each once
+pub record AreKept (u : Database) (past : List Event) (cs : List Held) : Type 0 where
+  pub exact : (d : Configuration) → Has cs d ↔ LeadAtOnce past (starting u) d
+  pub ready : AreReady cs
+  pub apart : (s : ℕ) × AreApart s cs
+
+-- and there are some
 pub record AreReached (u : Database) (past : List Event) (explanations : Explanations)
     : Type 0 where
-  pub exact : (d : Configuration)
-      → Has explanations.configurations.items d ↔ Lead past (starting u) d
-  pub ready : AreReady explanations.configurations.items
+  pub kept : AreKept u past explanations.configurations.items
+  pub some : 0 < length explanations.configurations.items

@@ -1,10 +1,10 @@
 //! Calls that are equal, as clients saw them.
-ghost use Rattle.std.specs.Prelude.{◌≡◌, IsTrue};
+ghost use Rattle.std.specs.Prelude.{◌≡◌, ◌↔◌, IsTrue};
 
 use tatp_history::{Observed, Outcome, Recorded};
 
 fn is_same_record(x: &Recorded, y: &Recorded) -> bool
-    ensures { IsTrue result → x.now ≡ y.now }
+    ensures { IsTrue result ↔ (x.now ≡ y.now) }
 {
     match (x, y) {
         (Recorded::Exactly(x), Recorded::Exactly(y)) => *x == *y,
@@ -15,7 +15,7 @@ fn is_same_record(x: &Recorded, y: &Recorded) -> bool
 }
 
 fn is_same_outcome(x: &Outcome, y: &Outcome) -> bool
-    ensures { IsTrue result → x.now ≡ y.now }
+    ensures { IsTrue result ↔ (x.now ≡ y.now) }
 {
     match (x, y) {
         (
@@ -32,14 +32,14 @@ fn is_same_outcome(x: &Outcome, y: &Outcome) -> bool
 }
 
 fn is_same_call(x: &Observed, y: &Observed) -> bool
-    ensures { IsTrue result → x.now ≡ y.now }
+    ensures { IsTrue result ↔ (x.now ≡ y.now) }
 {
     x.asked == y.asked && x.call == y.call && is_same_outcome(&x.outcome, &y.outcome)
 }
 
 /// Whether these are the same calls, in the same order.
 pub(crate) fn are_same(xs: &[Observed], ys: &[Observed]) -> bool
-    ensures { IsTrue result → xs.now ≡ ys.now }
+    ensures { IsTrue result ↔ (xs.now ≡ ys.now) }
 {
     if xs.len() != ys.len() {
         return false;

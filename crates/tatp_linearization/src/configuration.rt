@@ -1,10 +1,14 @@
 //! Configurations of the search.
-ghost use Rattle.std.specs.Prelude.{◌≡◌, ◌<◌, ◌↔◌, IsTrue, IfOk, OnOk, length};
+ghost use Rattle.std.specs.Prelude.{◌≡◌, ◌<◌, ◌≤◌, ◌↔◌, IsTrue, IfOk, OnOk, IsErrOf, length, Ok};
+ghost use Rattle.tatp_procs.specs.Arguments.{arguments_accepted};
 ghost use Rattle.tatp_history.specs.JustInTime.{NoneAskedAt};
 ghost use Rattle.tatp_history.specs.Locality.{AreAccepted};
-ghost use Rattle.tatp_linearization.specs.Held.{Adds, AreReady, Has, Takes, seen};
+ghost use Rattle.tatp_linearization.specs.Possible.{AreMoreThan};
+ghost use Rattle.tatp_linearization.specs.Held.{Adds, AreApart, AreReady, Has, IsAsked, IsOldOr, StandFirst, Takes, seen};
 
 use crate::comparing::are_same;
+use crate::reading::{needs_no_place, only_reads, settle};
+use crate::stopped::Stopped;
 use std::alloc::{AllocError, Global};
 use tatp_evaluation::evaluate;
 use tatp_history::Observed;
@@ -19,7 +23,7 @@ pub(crate) struct Configuration {
 }
 
 /// Whether none of these was asked then.
-pub(crate) fn none_asked(opened: &[Observed], asked: u64) -> bool
+fn none_of(opened: &[Observed], asked: u64) -> bool
     ensures { IsTrue result ↔ NoneAskedAt asked opened.now }
 {
     for i in 0..opened.len() {
@@ -30,9 +34,17 @@ pub(crate) fn none_asked(opened: &[Observed], asked: u64) -> bool
     true
 }
 
+/// Whether none of the open calls was asked then.
+pub(crate) fn none_asked(c: &Configuration, asked: u64) -> bool
+    ensures { IsTrue result ↔ NoneAskedAt asked c.now.opened.items }
+{
+    none_of(c.opened.as_slice(), asked)
+}
+
 /// The configuration once more.
 pub(crate) fn copy(alloc: Global, c: &Configuration) -> Result<Configuration, AllocError>
-    ensures { IfOk result (λ d. seen d ≡ seen c.now) }
+    ensures same { IfOk result (λ d. seen d ≡ seen c.now) }
+    ensures own { IfOk result (λ d. d.home.s_id ≡ c.now.home.s_id) }
 {
     Ok(Configuration {
         home: c.home.copy(),
@@ -42,14 +54,16 @@ pub(crate) fn copy(alloc: Global, c: &Configuration) -> Result<Configuration, Al
 
 /// Whether two are one: with the same home and the same open calls.
 fn is_same(c: &Configuration, d: &Configuration) -> bool
-    ensures { IsTrue result → seen c.now ≡ seen d.now }
+    ensures same { IsTrue result → seen c.now ≡ seen d.now }
+    ensures other { c.now.home.s_id ≡ d.now.home.s_id → seen c.now ≡ seen d.now → IsTrue result }
 {
     c.home == d.home && are_same(c.opened.as_slice(), d.opened.as_slice())
 }
 
 /// Whether it is one of these.
 fn is_among(set: &[Configuration], d: &Configuration) -> bool
-    ensures { IsTrue result → Has set.now (seen d.now) }
+    ensures there { IsTrue result → Has set.now (seen d.now) }
+    ensures other { AreApart d.now.home.s_id set.now → Has set.now (seen d.now) → IsTrue result }
 {
     for i in 0..set.len() {
         if is_same(&set[i], d) {
@@ -59,20 +73,54 @@ fn is_among(set: &[Configuration], d: &Configuration) -> bool
     false
 }
 
-/// Adds a configuration, unless it is there.
-pub(crate) fn add(set: &mut Vec<Configuration>, d: Configuration) -> Result<(), AllocError>
+/// Adds a configuration, unless it is there, where no more than so many are kept.
+pub(crate) fn add(
+    set: &mut Vec<Configuration>,
+    d: Configuration,
+    most: usize,
+) -> Result<(), Stopped>
     requires accepted { AreAccepted d.opened.items }
     ensures added { OnOk result (Adds set.old.items (λ e. e ≡ seen d) set.new.items) }
     ensures ready { OnOk result (AreReady set.old.items → AreReady set.new.items) }
+    ensures apart { OnOk result (AreApart d.home.s_id set.old.items
+        → AreApart d.home.s_id set.new.items) }
+    ensures first { OnOk result (StandFirst set.old.items set.new.items) }
+    ensures room { OnOk result (length set.old.items ≤ most → length set.new.items ≤ most) }
+    ensures many { IsErrOf result Stopped.MoreThanMost → AreApart d.home.s_id set.old.items
+        → AreMoreThan most (IsOldOr set.old.items (λ e. e ≡ seen d)) }
 {
     if is_among(set.as_slice(), &d) {
         return Ok(());
+    }
+    if set.len() >= most {
+        return Err(Stopped::MoreThanMost);
     }
     set.push(d)?;
     Ok(())
 }
 
-/// The configuration after one of its open calls took effect, if its reply may be that one's.
+/// The configuration after a call was asked.
+pub(crate) fn ask(
+    alloc: Global,
+    c: &Configuration,
+    x: &Observed,
+) -> Result<Configuration, AllocError>
+    requires accepted { arguments_accepted x.now.call ≡ Ok tt }
+    ensures { IfOk result (IsAsked c.now x.now) }
+{
+    let mut home = c.home.copy();
+    if needs_no_place(&mut home, x) {
+        let opened = Vec::from_slice(alloc, c.opened.as_slice())?;
+        return Ok(Configuration { home, opened });
+    }
+    let mut opened = Vec::new(alloc);
+    opened.push(*x)?;
+    opened.extend_from_slice(c.opened.as_slice())?;
+    Ok(Configuration { home, opened })
+}
+
+/// The configuration after one of its open calls took effect, if that writes and its reply may be
+/// that one's.
 pub(crate) fn take(
     alloc: Global,
     c: &Configuration,
@@ -83,6 +131,9 @@ pub(crate) fn take(
     ensures { IfOk result (Takes c.now i) }
 {
     let x = c.opened[i];
+    if only_reads(&x.call) {
+        return Ok(None);
+    }
     let mut home = c.home.copy();
     let mut reply = Reply::Refused;
     evaluate(&mut home, &x.call, &mut reply);
@@ -91,5 +142,6 @@ pub(crate) fn take(
     }
     let mut opened = Vec::from_slice(alloc, c.opened.as_slice())?;
     opened.remove(i);
+    settle(&mut home, &mut opened);
     Ok(Some(Configuration { home, opened }))
 }

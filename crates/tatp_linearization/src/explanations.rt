@@ -1,73 +1,141 @@
-//! What explains the calls of one subscriber, event by event.
-ghost use Rattle.std.specs.Prelude.{◌≡◌, ◌↔◌, IsTrue, IfOk, OnOk, OnErr, List, [], ◌∷◌, ◌++◌};
+//! What explains the calls of one subscriber, window by window.
+ghost use Rattle.std.specs.Prelude.{◌≡◌, ◌↔◌, ℕ, IsTrue, IfOk, OnOk, OnErr, IsErrOf, Ok, List, [], ◌∷◌, ◌++◌, ◌<◌, length};
 ghost use Rattle.std.specs.List.{AllByRecursion};
 ghost use Rattle.tatp_tables.specs.Database.{Database};
 ghost use Rattle.tatp_history.specs.declared.event.Event.{Event};
 ghost use Rattle.tatp_history.specs.Histories.{IsStrictlySerializable};
 ghost use Rattle.tatp_history.specs.Events.{TimesRise, HaveEnds, asked_in};
-ghost use Rattle.tatp_linearization.specs.Held.{IsAcceptedEvent};
-ghost use Rattle.tatp_linearization.specs.Reached.{AreReached};
+ghost use Rattle.tatp_linearization.specs.Possible.{NeedMore};
+ghost use Rattle.tatp_linearization.specs.Held.{IsAcceptedEvent, AreReady};
+ghost use Rattle.tatp_linearization.specs.Reached.{AreKept, AreReached};
 
 use crate::configuration::Configuration;
 use crate::following::after_event;
+use crate::stopped::Stopped;
 use std::alloc::{AllocError, Global};
 use tatp_history::Event;
 use tatp_homes::Home;
 
-/// The configurations to which a subscriber's events so far lead. Where none is left, no order
-/// explains its calls.
+/// Whether an order explains calls.
+#[derive(Clone, Copy, Debug, PartialEq, Eq)]
+pub enum Standing {
+    /// One does.
+    Explained,
+    /// None does.
+    Unexplained,
+    /// It isn't known, since more configurations are possible than may be kept.
+    Undecided,
+}
+
+/// The configurations that explain a subscriber's events so far: after the events each call that
+/// was answered has taken effect there.
 #[derive(Drop)]
 pub struct Explanations {
     pub(crate) configurations: Vec<Configuration>,
+    /// How many may be kept.
+    pub(crate) most: usize,
+}
+
+/// What events lead to.
+fn after_events(
+    alloc: Global,
+    set: &[Configuration],
+    events: &[Event],
+    most: usize,
+) -> Result<Vec<Configuration>, Stopped>
+    requires some { 0 < length events.now }
+    requires accepted { AllByRecursion IsAcceptedEvent events.now }
+    requires ready { AreReady set.now }
+    ensures kept { IfOk result (λ after. (u : Database) (past : List Event)
+        → AreKept u past set.now → AreKept u (past ++ events.now) after.items) }
+    ensures many { IsErrOf result Stopped.MoreThanMost → (u : Database) (past : List Event)
+        → AreKept u past set.now → NeedMore most u (past ++ events.now) }
+{
+    let mut after = after_event(alloc, set, &events[0], most)?;
+    'events: for i in 1..events.len() {
+        let next = after_event(alloc, after.as_slice(), &events[i], most)?;
+        after = next;
+    }
+    Ok(after)
 }
 
 impl Explanations {
-    /// Before any event.
-    pub fn new(alloc: Global, home: &Home) -> Result<Explanations, AllocError>
-        ensures { IfOk result (AreReached home.now.tables []) }
+    /// Before any event, on this home, with at most so many configurations to be kept.
+    pub fn new(alloc: Global, home: &Home, most: usize) -> Result<Explanations, AllocError>
+        ensures reached { IfOk result (AreReached home.now.tables []) }
+        ensures most { IfOk result (λ explanations. explanations.most ≡ most) }
     {
         let mut configurations = Vec::new(alloc);
         configurations.push(Configuration {
             home: home.copy(),
             opened: Vec::new(alloc),
         })?;
-        Ok(Explanations { configurations })
+        Ok(Explanations {
+            configurations,
+            most,
+        })
     }
 
-    /// Goes on over one event more.
-    pub fn follow(&mut self, alloc: Global, event: &Event) -> Result<(), AllocError>
+    /// Whether an order explains all calls up to the end of a window of events.
+    pub fn explain(&self, alloc: Global, events: &[Event]) -> Result<Standing, AllocError>
+        requires reached { (u : Database) × (past : List Event) × AreReached u past self.now }
+        requires accepted { AllByRecursion IsAcceptedEvent events.now }
+        ensures explained { result ≡ Ok Standing.Explained → (u : Database) (past : List Event)
+            → AreReached u past self.now
+            → TimesRise (past ++ events.now) → HaveEnds (past ++ events.now)
+            → IsStrictlySerializable u (asked_in (past ++ events.now)) }
+        ensures unexplained { result ≡ Ok Standing.Unexplained → (u : Database)
+            (past : List Event) → AreReached u past self.now
+            → TimesRise (past ++ events.now) → HaveEnds (past ++ events.now)
+            → IsStrictlySerializable u (asked_in (past ++ events.now)) → ⊥ }
+        ensures undecided { result ≡ Ok Standing.Undecided → (u : Database) (past : List Event)
+            → AreReached u past self.now → NeedMore self.now.most u (past ++ events.now) }
+    {
+        if events.is_empty() {
+            return Ok(Standing::Explained);
+        }
+        match after_events(alloc, self.configurations.as_slice(), events, self.most) {
+            Ok(after) => {
+                if after.is_empty() {
+                    return Ok(Standing::Unexplained);
+                }
+                Ok(Standing::Explained)
+            }
+            Err(Stopped::MoreThanMost) => Ok(Standing::Undecided),
+            Err(Stopped::NoMemory) => Err(AllocError),
+        }
+    }
+
+    /// Goes on over a window of events, if an order explains all calls up to its end.
+    pub fn follow(&mut self, alloc: Global, events: &[Event]) -> Result<Standing, AllocError>
         requires reached { (u : Database) × (past : List Event) × AreReached u past self.old }
-        requires accepted { IsAcceptedEvent event.now }
-        ensures ok { OnOk result ((u : Database) (past : List Event)
-            → AreReached u past self.old → AreReached u (past ++ event.now ∷ []) self.new) }
-        ensures err { OnErr result (self.new ≡ self.old) }
+        requires some { 0 < length events.now }
+        requires accepted { AllByRecursion IsAcceptedEvent events.now }
+        ensures reached { result ≡ Ok Standing.Explained → (u : Database) (past : List Event)
+            → AreReached u past self.old → AreReached u (past ++ events.now) self.new }
+        ensures explained { result ≡ Ok Standing.Explained → (u : Database) (past : List Event)
+            → AreReached u past self.old
+            → TimesRise (past ++ events.now) → HaveEnds (past ++ events.now)
+            → IsStrictlySerializable u (asked_in (past ++ events.now)) }
+        ensures unexplained { result ≡ Ok Standing.Unexplained → (u : Database)
+            (past : List Event) → AreReached u past self.old
+            → TimesRise (past ++ events.now) → HaveEnds (past ++ events.now)
+            → IsStrictlySerializable u (asked_in (past ++ events.now)) → ⊥ }
+        ensures undecided { result ≡ Ok Standing.Undecided → (u : Database) (past : List Event)
+            → AreReached u past self.old → NeedMore self.old.most u (past ++ events.now) }
+        ensures same { (result ≡ Ok Standing.Explained → ⊥) → self.new ≡ self.old }
+        ensures most { self.new.most ≡ self.old.most }
     {
-        let after = after_event(alloc, self.configurations.as_slice(), event)?;
-        self.configurations = after;
-        Ok(())
+        match after_events(alloc, self.configurations.as_slice(), events, self.most) {
+            Ok(after) => {
+                if after.is_empty() {
+                    return Ok(Standing::Unexplained);
+                }
+                self.configurations = after;
+                Ok(Standing::Explained)
+            }
+            Err(Stopped::MoreThanMost) => Ok(Standing::Undecided),
+            Err(Stopped::NoMemory) => Err(AllocError),
+        }
     }
-
-    /// Whether an order explains the calls so far.
-    pub fn explain(&self) -> bool
-        ensures { (u : Database) (past : List Event)
-            → AreReached u past self.now → TimesRise past → HaveEnds past
-            → (IsTrue result ↔ IsStrictlySerializable u (asked_in past)) }
-    {
-        !self.configurations.is_empty()
-    }
-}
-
-/// Whether the calls of one subscriber, whose home was this, are strictly serializable.
-pub fn is_explained(alloc: Global, home: &Home, events: &[Event]) -> Result<bool, AllocError>
-    requires rise { TimesRise events.now }
-    requires ends { HaveEnds events.now }
-    requires accepted { AllByRecursion IsAcceptedEvent events.now }
-    ensures { IfOk result (λ yes. IsTrue yes
-        ↔ IsStrictlySerializable home.now.tables (asked_in events.now)) }
-{
-    let mut explanations = Explanations::new(alloc, home)?;
-    'events: for i in 0..events.len() {
-        explanations.follow(alloc, &events[i])?;
-    }
-    Ok(explanations.explain())
 }

@@ -1,12 +1,14 @@
 //! What may follow on configurations at an event.
-ghost use Rattle.std.specs.Prelude.{IfOk, OnOk};
-ghost use Rattle.tatp_history.specs.Configurations.{Follows};
+ghost use Rattle.std.specs.Prelude.{◌≡◌, ℕ, IfOk, OnOk, IsErrOf};
 ghost use Rattle.tatp_history.specs.Locality.{AreAccepted};
-ghost use Rattle.tatp_linearization.specs.Held.{Adds, AreReady, FollowAll, IsAcceptedEvent, seen};
+ghost use Rattle.tatp_linearization.specs.AtOnce.{FollowsAtOnce};
+ghost use Rattle.tatp_linearization.specs.Possible.{AreMoreThan};
+ghost use Rattle.tatp_linearization.specs.Held.{Adds, AreApart, AreReady, FollowAll, HoldsOfOne, IsAcceptedEvent, IsOldOr, IsTried, seen};
 
-use crate::configuration::{Configuration, add, copy, none_asked};
+use crate::configuration::{Configuration, add, ask, copy, none_asked};
 use crate::effects::take_effect;
-use std::alloc::{AllocError, Global};
+use crate::stopped::Stopped;
+use std::alloc::Global;
 use tatp_history::Event;
 
 /// Adds what may follow on a configuration at an event.
@@ -14,31 +16,29 @@ fn follow(
     alloc: Global,
     c: &Configuration,
     event: &Event,
+    most: usize,
     after: &mut Vec<Configuration>,
-) -> Result<(), AllocError>
+) -> Result<(), Stopped>
     requires ready { AreAccepted c.now.opened.items }
     requires accepted { IsAcceptedEvent event.now }
     ensures added { OnOk result (Adds after.old.items
-        (Follows event.now (seen c.now)) after.new.items) }
+        (FollowsAtOnce event.now (seen c.now)) after.new.items) }
     ensures ready { OnOk result (AreReady after.old.items → AreReady after.new.items) }
+    ensures apart { OnOk result (AreApart c.now.home.s_id after.old.items
+        → AreApart c.now.home.s_id after.new.items) }
+    ensures many { IsErrOf result Stopped.MoreThanMost → AreApart c.now.home.s_id after.old.items
+        → AreMoreThan most (IsOldOr after.old.items (IsTried event.now (seen c.now))) }
 {
     match event {
-        Event::Asks(x) => {
-            let mut opened = Vec::new(alloc);
-            opened.push(*x)?;
-            opened.extend_from_slice(c.opened.as_slice())?;
-            let home = c.home.copy();
-            add(after, Configuration { home, opened })?;
-        }
+        Event::Asks(x) => add(after, ask(alloc, c, x)?, most),
         Event::Ends { asked, .. } => {
-            if none_asked(c.opened.as_slice(), *asked) {
-                add(after, copy(alloc, c)?)?;
+            if none_asked(c, *asked) {
+                add(after, copy(alloc, c)?, most)
             } else {
-                take_effect(alloc, c, *asked, after)?;
+                take_effect(alloc, c, *asked, most, after)
             }
         }
     }
-    Ok(())
 }
 
 /// What may follow on any of these at an event.
@@ -46,15 +46,20 @@ pub(crate) fn after_event(
     alloc: Global,
     set: &[Configuration],
     event: &Event,
-) -> Result<Vec<Configuration>, AllocError>
+    most: usize,
+) -> Result<Vec<Configuration>, Stopped>
     requires ready { AreReady set.now }
     requires accepted { IsAcceptedEvent event.now }
     ensures followed { IfOk result (λ after. FollowAll event.now set.now after.items) }
     ensures ready { IfOk result (λ after. AreReady after.items) }
+    ensures apart { IfOk result (λ after. (s : ℕ) → AreApart s set.now
+        → AreApart s after.items) }
+    ensures many { IsErrOf result Stopped.MoreThanMost → (s : ℕ) → AreApart s set.now
+        → AreMoreThan most (HoldsOfOne (IsTried event.now) set.now) }
 {
     let mut after = Vec::new(alloc);
     'configurations: for i in 0..set.len() {
-        follow(alloc, &set[i], event, &mut after)?;
+        follow(alloc, &set[i], event, most, &mut after)?;
     }
     Ok(after)
 }

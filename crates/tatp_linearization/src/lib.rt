@@ -3,8 +3,14 @@
 
 mod comparing;
 mod configuration;
+mod cut;
 mod effects;
 mod explanations;
+mod first;
 mod following;
+mod reading;
+mod single;
+mod stopped;
 
-pub use explanations::{Explanations, is_explained};
+pub use explanations::{Explanations, Standing};
+pub use first::First;

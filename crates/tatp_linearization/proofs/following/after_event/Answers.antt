@@ -1,8 +1,14 @@
-use Rattle.std.proofs.Common.{◌≡◌, [], Some, slice_get}
-use Rattle.tatp_history.specs.Configurations.{Follows}
+use Rattle.std.proofs.Common.{◌≡◌, [], Some, Err, slice_get, sym, ap, subst}
+use Rattle.std.proofs.lemmas.Result.{err_from_is_err_and}
+use Rattle.tatp_history.specs.declared.event.Event.{Event}
+use Rattle.tatp_linearization.specs.Held.{AreApart, HoldsOfOne, IsTried}
+use Rattle.tatp_linearization.proofs.FollowLaws.{follows_tried}
+use Rattle.tatp_linearization.specs.AtOnce.{FollowsAtOnce}
 use Rattle.tatp_history.specs.Locality.{AreAccepted}
+use Rattle.tatp_linearization.specs.declared.stopped.Stopped.TheVariants.{MoreThanMost}
 use Rattle.tatp_linearization.specs.declared.configuration.Configuration.{Configuration as Held}
-use Rattle.tatp_linearization.proofs.HeldLaws.{get_at, all_get, gathered_more, gathered_all, gathered_from_none}
+use Rattle.tatp_linearization.proofs.PlaceLaws.{get_at, all_get}
+use Rattle.tatp_linearization.proofs.HeldLaws.{gathered_more, gathered_all, gathered_from_none, gathered_many, old_or_none}
 use Rattle.tatp_linearization.proofs.following.after_event.Goals as goal
 
 pub follow-requires : goal.follow-requires
@@ -13,11 +19,29 @@ follow-requires c =
 pub configurations-preserved : goal.configurations-preserved
 configurations-preserved c =
     let at : slice_get c.args.set.now c.configurations.i ≡ Some c.index-set-i.result = get_at c.args.set.now c.configurations.i c.index-set-i.result c.configurations-test.true c.index-set-i.is in
-    gathered_more (Follows c.args.event.now) c.args.set.now [] c.configurations.i c.index-set-i.result c.configurations.after.items c.follow.new.after.items c.configurations.invariant at c.in_ok-follow.ensures.added c.in_ok-follow.ensures.ready
+    gathered_more (FollowsAtOnce c.args.event.now) c.args.set.now [] c.configurations.i c.index-set-i.result c.configurations.after.items c.follow.new.after.items c.configurations.invariant at c.in_ok-follow.ensures.added c.in_ok-follow.ensures.ready c.in_ok-follow.ensures.apart
 
 pub returns-clause-followed : goal.returns-clause-followed
-returns-clause-followed c = gathered_from_none (Follows c.args.event.now) c.args.set.now c.configurations.after.items
-    (gathered_all (Follows c.args.event.now) c.args.set.now [] c.configurations.i c.configurations.after.items c.configurations.invariant c.configurations-test.false)
+returns-clause-followed c = gathered_from_none (FollowsAtOnce c.args.event.now) c.args.set.now c.configurations.after.items
+    (gathered_all (FollowsAtOnce c.args.event.now) c.args.set.now [] c.configurations.i c.configurations.after.items c.configurations.invariant c.configurations-test.false)
 
 pub returns-clause-ready : goal.returns-clause-ready
 returns-clause-ready c = c.configurations.invariant.ready tt
+
+pub returns-clause-apart : goal.returns-clause-apart
+returns-clause-apart c = λ s apart. c.configurations.invariant.apart s apart (record { own = tt; distinct = tt })
+
+pub returns-in_err-follow-clause-many : goal.returns-in_err-follow-clause-many
+returns-in_err-follow-clause-many c =
+    let p = err_from_is_err_and c.from_residual.result c.from_residual.ensures.1 in
+    let k : Held = c.index-set-i.result in
+    let event : Event = c.args.event.now in
+    let set = c.args.set.now in
+    let inv = c.configurations.invariant in
+    let at : slice_get c.args.set.now c.configurations.i ≡ Some k = get_at c.args.set.now c.configurations.i k c.configurations-test.true c.index-set-i.is in
+    rw (p.1, p.2) (λ is s apart.
+    let own : k.home.s_id ≡ s = all_get (λ (b : Held). b.home.s_id ≡ s) set c.configurations.i k apart.own at in
+    let after : AreApart k.home.s_id c.configurations.after.items = subst (λ t. AreApart t c.configurations.after.items) (sym own) (inv.apart s apart (record { own = tt; distinct = tt })) in
+    let e : c.in_err-follow.field-0.0 ≡ MoreThanMost = cc in
+    old_or_none c.args.most (HoldsOfOne (IsTried event) set)
+    (gathered_many c.args.most (FollowsAtOnce event) (IsTried event) (follows_tried event) set [] c.configurations.i k c.configurations.after.items inv at (c.in_err-follow.ensures.many (ap Err e) after)))

@@ -1,8 +1,23 @@
-use Rattle.std.proofs.Common.{subst}
-use Rattle.tatp_linearization.specs.Held.{FollowAll}
-use Rattle.tatp_linearization.proofs.FollowLaws.{reached_more}
+use Rattle.std.proofs.Common.{◌<◌, vec_len, ◌++◌, sym, ◌∙◌, subst, arith, eqb-true}
+use Rattle.tatp_linearization.specs.Reached.{AreKept}
+use Rattle.tatp_linearization.proofs.FollowLaws.{none_explains, some_explain, positive}
 use Rattle.tatp_linearization.proofs.explanations.Explanations.follow.Goals as goal
 
-pub returns-clause-ok : goal.returns-clause-ok
-returns-clause-ok c = λ u past reached. reached_more u past c.args.event.now c.args.self.now (record { configurations = c.in_ok-after.after }) reached
-    (subst (λ set. FollowAll c.args.event.now set c.in_ok-after.after.items) c.as_slice.ensures.value c.in_ok-after.ensures.followed) c.in_ok-after.ensures.ready
+pub returns-then-is_empty-clause-unexplained : goal.returns-then-is_empty-clause-unexplained
+returns-then-is_empty-clause-unexplained c = λ _ u past reached rise have.
+    none_explains u (past ++ c.args.events.now) c.in-Ok.after.items (c.in-Ok.ensures.kept u past (subst (AreKept u past) (sym c.as_slice.ensures.value) reached.kept)) rise have
+    (sym c.in-Ok.after.ok.0 ∙ eqb-true (vec_len c.in-Ok.after) 0 (sym c.is_empty.ensures ∙ c.if-is_empty.true))
+
+pub returns-else-is_empty-clause-reached : goal.returns-else-is_empty-clause-reached
+returns-else-is_empty-clause-reached c = λ _ u past reached.
+    let some : 0 < vec_len c.in-Ok.after = positive (vec_len c.in-Ok.after) (sym c.is_empty.ensures ∙ c.if-is_empty.false) in
+    record {
+      kept = c.in-Ok.ensures.kept u past (subst (AreKept u past) (sym c.as_slice.ensures.value) reached.kept);
+      some = omega (arith, some, c.in-Ok.after.ok.0);
+    }
+
+pub returns-else-is_empty-clause-explained : goal.returns-else-is_empty-clause-explained
+returns-else-is_empty-clause-explained c = λ _ u past reached rise have.
+    let some : 0 < vec_len c.in-Ok.after = positive (vec_len c.in-Ok.after) (sym c.is_empty.ensures ∙ c.if-is_empty.false) in
+    some_explain u (past ++ c.args.events.now) c.in-Ok.after.items (c.in-Ok.ensures.kept u past (subst (AreKept u past) (sym c.as_slice.ensures.value) reached.kept)) rise have
+    (omega (arith, some, c.in-Ok.after.ok.0))

@@ -1,0 +1,179 @@
+-- A call that is answered before anything else happens, where one configuration with no open call is kept.
+use Rattle.std.proofs.Common.{◌≡◌, ℕ, ◌↔◌, true, false, List, [], ◌∷◌, ◌++◌, refl, sym, ◌∙◌, ap, subst, true≢false, inl, inr}
+use Rattle.tatp_tables.specs.Database.{Database}
+use Rattle.tatp_procs.specs.declared.reply.Reply.{Reply}
+use Rattle.tatp_procs.specs.Transactions.{transaction}
+use Rattle.tatp_history.specs.declared.event.Event.{Event}
+use Rattle.tatp_history.specs.declared.event.Event.TheVariants.{Asks, Ends}
+use Rattle.tatp_history.specs.declared.observed.Outcome.{Outcome}
+use Rattle.tatp_history.specs.declared.observed.Outcome.TheVariants.{Answered, Aborted, Unknown}
+use Rattle.tatp_history.specs.declared.observed.Observed.{Observed}
+use Rattle.tatp_history.specs.Histories.{IsAnswered, IsStrictlySerializable, MayHaveReply}
+use Rattle.tatp_history.specs.Outcomes.{may_take_effect}
+use Rattle.tatp_history.specs.Locality.{AreAccepted}
+use Rattle.tatp_history.specs.Events.{asked_in, time_of, AreAfter, TimesRise, IsAnsweredAt, EndsIn, EndsFit, HaveEnds}
+use Rattle.tatp_history.specs.Configurations.{Configuration, starting}
+use Rattle.tatp_linearization.specs.declared.configuration.Configuration.{Configuration as Held}
+use Rattle.tatp_linearization.specs.AtOnce.{only_reads, AreLeft, TakeUntil, FollowsAtOnce, LeadAtOnce}
+use Rattle.tatp_linearization.specs.Held.{seen, Has, AreReady, AreApart}
+use Rattle.tatp_linearization.specs.Reached.{AreKept}
+use Rattle.tatp_linearization.specs.Single.{events_alone, answered_with}
+use Rattle.tatp_linearization.proofs.SettlingLaws.{reads_leave}
+use Rattle.tatp_linearization.proofs.AtOnceLaws.{lead_on, lead_by, at_once_exact}
+
+-- ---- the events
+was_not : (outcome : Outcome) → IsAnswered outcome → may_take_effect outcome ≡ false → ⊥
+was_not (Answered when recorded) h e = true≢false e
+was_not (Aborted when) h e = h
+was_not Unknown h e = h
+
+no_abort : (outcome : Outcome) (reply : Reply) → MayHaveReply outcome reply → may_take_effect outcome ≡ false → ⊥
+no_abort (Answered at recorded) reply h e = true≢false e
+no_abort (Aborted at) reply h e = h
+no_abort Unknown reply h e = true≢false e
+
+module _ (x : Observed) (at : ℕ) (u : Database) where
+  abbrev pub before : Configuration
+  before = record { rows = u; opened = [] }
+
+  abbrev pub after : Configuration
+  after = record { rows = (transaction x.call u).database; opened = [] }
+
+  -- where the reply fits, they lead to the rows that its transaction leaves
+  pub alone_leads : MayHaveReply x.outcome (transaction x.call u).reply → LeadAtOnce (events_alone x at) before after
+  alone_leads may = elim (only_reads x.call) as (λ b. only_reads x.call ≡ b → LeadAtOnce (events_alone x at) before after) [
+    | true ↦ λ reads. (
+      before,
+      inl (inr (reads, may), refl),
+      (after, inl (tt, λ i. record { rows = reads_leave x.call reads u i; opened = [] }), refl),
+    )
+    | false ↦ λ writes. (
+      record { rows = u; opened = x ∷ [] },
+      inr (λ needs. elim needs [ inl k ↦ no_abort x.outcome (transaction x.call u).reply may k | inr k ↦ true≢false (sym k.0 ∙ writes) ], refl),
+      (
+        after,
+        inr (
+          λ none. none.0 refl,
+          (after, (x, [], record { chosen = inl (refl, refl); writes = writes; may = may; rows = refl; settled = refl }), inl (tt, refl)),
+        ),
+        refl,
+      ),
+    )
+  ] refl
+
+  -- and there alone
+  pub leads_alone : (d : Configuration) → (may_take_effect x.outcome ≡ false → ⊥) → LeadAtOnce (events_alone x at) before d → MayHaveReply x.outcome (transaction x.call u).reply × (d ≡ after)
+  leads_alone d can h = elim h.1 [
+    | inl k ↦ elim k.0 [
+      | inl aborted ↦ absurd (can aborted)
+      | inr fits ↦
+          let same : h.0 ≡ after = k.1 ∙ (λ i. record { rows = sym (reads_leave x.call fits.0 u) i; opened = [] }) in
+          let next : FollowsAtOnce (Ends x.asked at) after h.2.0 = subst (λ (b : Configuration). FollowsAtOnce (Ends x.asked at) b h.2.0) same h.2.1 in
+          (fits.1, elim next [ inl q ↦ h.2.2 ∙ q.1 | inr q ↦ absurd (q.0 tt) ])
+    ]
+    | inr k ↦
+        let next : FollowsAtOnce (Ends x.asked at) (record { rows = u; opened = x ∷ [] }) h.2.0 = subst (λ (b : Configuration). FollowsAtOnce (Ends x.asked at) b h.2.0) k.1 h.2.1 in
+        elim next [
+          | inl q ↦ absurd (q.0.0 refl)
+          | inr q ↦ taken d h.2.0 h.2.2 q.1
+        ]
+  ]
+    where
+      taken : (d e : Configuration) → d ≡ e → TakeUntil 1 x.asked (record { rows = u; opened = x ∷ [] }) e → MayHaveReply x.outcome (transaction x.call u).reply × (d ≡ after)
+      taken d e same h = elim h.2 [
+        | inl q ↦
+            let one = h.1 in
+            elim one.2.chosen [
+              | inl r ↦
+                  let left : one.1 ≡ [] = r.1 in
+                  let settled : AreLeft (transaction one.0.call u).database [] h.0.opened = subst (λ zs. AreLeft (transaction one.0.call u).database zs h.0.opened) left one.2.settled in
+                  let rows : h.0.rows ≡ (transaction x.call u).database = one.2.rows ∙ ap (λ (w : Observed). (transaction w.call u).database) r.0 in
+                  let end : h.0 ≡ after = λ i. record { rows = rows i; opened = settled i } in
+                  (subst (λ (w : Observed). MayHaveReply w.outcome (transaction w.call u).reply) r.0 one.2.may, same ∙ (q.1 ∙ end))
+              | inr r ↦ absurd r.2
+            ]
+        | inr q ↦ absurd q.1
+      ]
+
+-- ---- explanations
+module _ (x : Observed) (at : ℕ) (u : Database) (past : List Event) (cs : List Held) (c : Held) (is : cs ≡ c ∷ []) (none : c.opened.items ≡ []) (kept : AreKept u past cs) where
+  abbrev held : Configuration
+  held = record { rows = c.home.tables; opened = [] }
+
+  held_is : seen c ≡ held
+  held_is i = record { rows = c.home.tables; opened = none i }
+
+  only_held : (d : Configuration) → LeadAtOnce past (starting u) d → d ≡ held
+  only_held d led = let there : Has (c ∷ []) d = subst (λ bs. Has bs d) is ((kept.exact d).1 led) in elim there [ inl e ↦ e ∙ held_is | inr k ↦ absurd k ]
+
+  is_held : LeadAtOnce past (starting u) held
+  is_held = subst (LeadAtOnce past (starting u)) held_is ((kept.exact (seen c)).0 (subst (λ bs. Has bs (seen c)) (sym is) (inl refl)))
+
+  pub alone_explained : TimesRise (past ++ events_alone x at) → HaveEnds (past ++ events_alone x at) → IsAnswered x.outcome
+      → MayHaveReply x.outcome (transaction x.call c.home.tables).reply ↔ IsStrictlySerializable u (asked_in (past ++ events_alone x at))
+  alone_explained rise have answered = (
+    λ may. (at_once_exact u (past ++ events_alone x at) rise have).0 (
+      after x at c.home.tables,
+      lead_on past (events_alone x at) (starting u) held (after x at c.home.tables) is_held (alone_leads x at c.home.tables may),
+    ),
+    λ s.
+        let led = (at_once_exact u (past ++ events_alone x at) rise have).1 s in
+        let parts = lead_by past (events_alone x at) (starting u) led.0 led.1 in
+        (leads_alone x at c.home.tables led.0 (was_not x.outcome answered) (subst (λ (b : Configuration). LeadAtOnce (events_alone x at) b led.0) (only_held parts.0 parts.1) parts.2)).0,
+  )
+
+  pub alone_kept : (d : Held) (new : List Held) → MayHaveReply x.outcome (transaction x.call c.home.tables).reply → new ≡ d ∷ [] → d.home.tables ≡ (transaction x.call c.home.tables).database → d.opened.items ≡ [] → AreKept u (past ++ events_alone x at) new
+  alone_kept d new may there rows empty = record {
+    exact = λ e. (
+      λ h.
+          let one : Has (d ∷ []) e = subst (λ bs. Has bs e) there h in
+          elim one [
+            | inl q ↦ subst (LeadAtOnce (past ++ events_alone x at) (starting u)) (sym (q ∙ end)) (lead_on past (events_alone x at) (starting u) held (after x at c.home.tables) is_held (alone_leads x at c.home.tables may))
+            | inr q ↦ absurd q
+          ],
+      λ h.
+          let parts = lead_by past (events_alone x at) (starting u) e h in
+          let last : LeadAtOnce (events_alone x at) held e = subst (λ (b : Configuration). LeadAtOnce (events_alone x at) b e) (only_held parts.0 parts.1) parts.2 in
+          subst (λ bs. Has bs e) (sym there) (inl ((leads_alone x at c.home.tables e (no_abort x.outcome (transaction x.call c.home.tables).reply may) last).1 ∙ sym end)),
+    );
+    ready = subst AreReady (sym there) (subst AreAccepted (sym empty) tt, tt);
+    apart = (d.home.s_id, subst (AreApart d.home.s_id) (sym there) (record { own = (refl, tt); distinct = (tt, tt) }));
+  }
+    where
+      end : seen d ≡ after x at c.home.tables
+      end i = record { rows = rows i; opened = empty i }
+
+-- a call that ends there alone was answered then
+pub alone_answered : (x : Observed) (at : ℕ) (past : List Event) → HaveEnds (past ++ events_alone x at) → IsAnsweredAt at x.outcome
+alone_answered x at [] h = h.1.0 refl
+alone_answered x at (Asks y ∷ past) h = alone_answered x at past h.2
+alone_answered x at (Ends asked when ∷ past) h = alone_answered x at past h
+
+pub was_answered : (outcome : Outcome) (at : ℕ) → IsAnsweredAt at outcome → IsAnswered outcome
+was_answered (Answered when recorded) at h = tt
+was_answered (Aborted when) at h = h
+was_answered Unknown at h = h
+
+-- and would have been with another reply
+pub other_rises : (x : Observed) (at : ℕ) (reply : Reply) (past : List Event) → TimesRise (past ++ events_alone x at) → TimesRise (past ++ events_alone (answered_with x at reply) at)
+other_rises x at reply [] h = h
+other_rises x at reply (event ∷ past) h = (others past h.0, other_rises x at reply past h.1)
+  where
+    others : (es : List Event) → AreAfter (time_of event) (es ++ events_alone x at) → AreAfter (time_of event) (es ++ events_alone (answered_with x at reply) at)
+    others [] k = k
+    others (e ∷ es) k = (k.0, others es k.1)
+
+pub other_ends : (x : Observed) (at : ℕ) (reply : Reply) (past : List Event) → HaveEnds (past ++ events_alone x at) → HaveEnds (past ++ events_alone (answered_with x at reply) at)
+other_ends x at reply [] h = ((λ _. inl (refl, refl)), ((λ _. refl), tt), tt)
+other_ends x at reply (Asks y ∷ past) h = (λ answered. ends past (h.0 answered), fits past h.1, other_ends x at reply past h.2)
+  where
+    ends : (es : List Event) → EndsIn y (es ++ events_alone x at) → EndsIn y (es ++ events_alone (answered_with x at reply) at)
+    ends [] k = k
+    ends (Asks z ∷ es) k = ends es k
+    ends (Ends asked when ∷ es) k = elim k [ inl q ↦ inl q | inr q ↦ inr (ends es q) ]
+
+    fits : (es : List Event) → EndsFit y (es ++ events_alone x at) → EndsFit y (es ++ events_alone (answered_with x at reply) at)
+    fits [] k = k
+    fits (Asks z ∷ es) k = fits es k
+    fits (Ends asked when ∷ es) k = (k.0, fits es k.1)
+other_ends x at reply (Ends asked when ∷ past) h = other_ends x at reply past h

@@ -1,0 +1,42 @@
+use Rattle.std.proofs.Common.{◌≡◌, ◌<◌, ◌≤◌, ℕ, List, length, Some, slice_get, subst, arith, ◌++◌}
+use Rattle.std.proofs.lemmas.List.{take_all}
+use Rattle.std.proofs.lemmas.Result.{err_from_is_err_and}
+use Rattle.tatp_linearization.specs.declared.configuration.Configuration.{Configuration as Held}
+use Rattle.tatp_linearization.specs.Held.{AreApart, HoldsOfOne, IsTried, FollowAll}
+use Rattle.tatp_linearization.specs.Possible.{AreMoreThan}
+use Rattle.tatp_linearization.specs.Reached.{AreKept}
+use Rattle.tatp_linearization.proofs.PlaceLaws.{get_at}
+use Rattle.tatp_linearization.proofs.FollowLaws.{followed_none, followed_more, followed_many}
+use Rattle.tatp_linearization.proofs.explanations.after_events.Goals as goal
+
+pub events-init : goal.events-init
+events-init c =
+    let at : slice_get c.args.events.now 0 ≡ Some c.index-events-0.result = get_at c.args.events.now 0 c.index-events-0.result c.requires.some c.index-events-0.is in
+    followed_more c.args.set.now c.args.events.now 0 c.index-events-0.result c.args.set.now c.in_ok-after.after.items at (followed_none c.args.set.now c.args.events.now c.requires.ready) c.in_ok-after.ensures.followed c.in_ok-after.ensures.ready c.in_ok-after.ensures.apart
+
+pub events-preserved : goal.events-preserved
+events-preserved c =
+    let lt : c.events.i < length c.args.events.now = omega (arith, c.events-test.true) in
+    let at : slice_get c.args.events.now c.events.i ≡ Some c.index-events-i.result = get_at c.args.events.now c.events.i c.index-events-i.result lt c.index-events-i.is in
+    followed_more c.args.set.now c.args.events.now c.events.i c.index-events-i.result c.events.after.items c.in_ok-next.next.items at c.events.invariant
+    (subst (λ set. FollowAll c.index-events-i.result set c.in_ok-next.next.items) c.as_slice.ensures.value c.in_ok-next.ensures.followed) c.in_ok-next.ensures.ready
+    (subst (λ (set : List Held). (s : ℕ) → AreApart s set → AreApart s c.in_ok-next.next.items) c.as_slice.ensures.value c.in_ok-next.ensures.apart)
+
+pub returns-clause-kept : goal.returns-clause-kept
+returns-clause-kept c = λ u past kept.
+    let all : length c.args.events.now ≤ c.events.i = omega (arith, c.events-test.false) in
+    subst (λ es. AreKept u (past ++ es) c.events.after.items) (take_all c.events.i c.args.events.now all) (c.events.invariant.kept u past kept)
+
+pub returns-in_err-after-clause-many : goal.returns-in_err-after-clause-many
+returns-in_err-after-clause-many c =
+    let p = err_from_is_err_and c.from_residual.result c.from_residual.ensures.1 in
+    let at : slice_get c.args.events.now 0 ≡ Some c.index-events-0.result = get_at c.args.events.now 0 c.index-events-0.result c.requires.some c.index-events-0.is in
+    rw (p.1, p.2) (λ is. followed_many c.args.most c.args.set.now c.args.events.now 0 c.index-events-0.result c.args.set.now at (followed_none c.args.set.now c.args.events.now c.requires.ready) (c.in_err-after.ensures.many is))
+
+pub returns-in_err-next-clause-many : goal.returns-in_err-next-clause-many
+returns-in_err-next-clause-many c =
+    let p = err_from_is_err_and c.from_residual-in_err-next.result c.from_residual-in_err-next.ensures.1 in
+    let lt : c.events.i < length c.args.events.now = omega (arith, c.events-test.true) in
+    let at : slice_get c.args.events.now c.events.i ≡ Some c.index-events-i.result = get_at c.args.events.now c.events.i c.index-events-i.result lt c.index-events-i.is in
+    rw (p.1, p.2) (λ is. followed_many c.args.most c.args.set.now c.args.events.now c.events.i c.index-events-i.result c.events.after.items at c.events.invariant
+    (subst (λ (set : List Held). (s : ℕ) → AreApart s set → AreMoreThan c.args.most (HoldsOfOne (IsTried c.index-events-i.result) set)) c.as_slice.ensures.value (c.in_err-next.ensures.many is)))

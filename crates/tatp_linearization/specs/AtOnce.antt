@@ -1,0 +1,83 @@
+-- Just-in-time linearization in which a read takes effect as soon as its reply fits, so that only
+-- writes are tried.
+use Rattle.std.specs.Prelude.{◌≡◌, ℕ, zero, suc, ◌⊎◌, Bool, true, false, List, [], ◌∷◌, length}
+use Rattle.std.specs.List.{AllByRecursion}
+use Rattle.tatp_tables.specs.Database.{Database}
+use Rattle.tatp_procs.specs.declared.call.Call.{Call}
+use Rattle.tatp_procs.specs.declared.call.Call.TheVariants.{GetSubscriberData, GetNewDestination, GetAccessData, UpdateSubscriberData, UpdateLocation, InsertCallForwarding, DeleteCallForwarding}
+use Rattle.tatp_procs.specs.Transactions.{transaction}
+use Rattle.tatp_history.specs.declared.event.Event.{Event}
+use Rattle.tatp_history.specs.declared.event.Event.TheVariants.{Asks, Ends}
+use Rattle.tatp_history.specs.declared.observed.Observed.{Observed}
+use Rattle.tatp_history.specs.Histories.{MayHaveReply}
+use Rattle.tatp_history.specs.Outcomes.{may_take_effect}
+use Rattle.tatp_history.specs.JustInTime.{Chooses, NoneAskedAt}
+use Rattle.tatp_history.specs.Configurations.{Configuration}
+
+-- whether a call only reads
+abbrev pub only_reads : Call → Bool
+only_reads (GetSubscriberData s) = true
+only_reads (GetNewDestination s t b e) = true
+only_reads (GetAccessData s t) = true
+only_reads (UpdateSubscriberData s x t y) = false
+only_reads (UpdateLocation n v) = false
+only_reads (InsertCallForwarding n t b e x) = false
+only_reads (DeleteCallForwarding n t b) = false
+
+-- a read whose reply on these rows is one with which it may have ended
+abbrev pub FitsAtOnce : Database → Observed → Type 0
+FitsAtOnce u x = (only_reads x.call ≡ true) × MayHaveReply x.outcome (transaction x.call u).reply
+
+-- the second are the first without such reads
+abbrev pub AreLeft : Database → List Observed → List Observed → Type 0
+AreLeft u [] left = left ≡ []
+AreLeft u (x ∷ more) left =
+    (FitsAtOnce u x × AreLeft u more left)
+    ⊎ ((FitsAtOnce u x → ⊥) × ((rest : List Observed) × (left ≡ x ∷ rest) × AreLeft u more rest))
+
+-- where it is such a read the one holds, and else the other
+abbrev pub IsSettledAt : Database → Observed → Type 0 → Type 0 → Type 0
+IsSettledAt u x Taken Kept = (FitsAtOnce u x × Taken) ⊎ ((FitsAtOnce u x → ⊥) × Kept)
+
+-- no such read is open
+abbrev pub IsSettled : Configuration → Type 0
+IsSettled c = AllByRecursion (λ (x : Observed). FitsAtOnce c.rows x → ⊥) c.opened
+
+-- a call that needn't be open: it was aborted, or it is such a read
+abbrev pub NeedsNoPlace : Database → Observed → Type 0
+NeedsNoPlace u x = (may_take_effect x.outcome ≡ false) ⊎ FitsAtOnce u x
+
+-- the second is the first after an open call that writes took effect, and reads whose reply then
+-- fits
+pub record TakesWrite (c d : Configuration) (x : Observed) (left : List Observed) : Type 0 where
+  pub chosen : Chooses c.opened x left
+  pub writes : only_reads x.call ≡ false
+  pub may : MayHaveReply x.outcome (transaction x.call c.rows).reply
+  pub rows : d.rows ≡ (transaction x.call c.rows).database
+  pub settled : AreLeft (transaction x.call c.rows).database left d.opened
+
+abbrev pub TakesOne : Configuration → Configuration → Type 0
+TakesOne c d = (x : Observed) × (left : List Observed) × TakesWrite c d x left
+
+-- the second is the first after at most so many open calls that write took effect, one after
+-- another, until the call that was asked then was no longer open
+abbrev pub TakeUntil : ℕ → ℕ → Configuration → Configuration → Type 0
+TakeUntil zero asked c d = ⊥
+TakeUntil (suc n) asked c d =
+    (e : Configuration) × TakesOne c e
+    × ((NoneAskedAt asked e.opened × (d ≡ e))
+    ⊎ ((NoneAskedAt asked e.opened → ⊥) × TakeUntil n asked e d))
+
+-- the second may follow on the first at the event
+abbrev pub FollowsAtOnce : Event → Configuration → Configuration → Type 0
+FollowsAtOnce (Asks x) c d =
+    (NeedsNoPlace c.rows x × (d ≡ c))
+    ⊎ ((NeedsNoPlace c.rows x → ⊥) × (d ≡ record { rows = c.rows; opened = x ∷ c.opened }))
+FollowsAtOnce (Ends asked at) c d =
+    (NoneAskedAt asked c.opened × (d ≡ c))
+    ⊎ ((NoneAskedAt asked c.opened → ⊥) × TakeUntil (length c.opened) asked c d)
+
+-- the events lead from the first to the second
+abbrev pub LeadAtOnce : List Event → Configuration → Configuration → Type 0
+LeadAtOnce [] c d = d ≡ c
+LeadAtOnce (event ∷ more) c d = (e : Configuration) × FollowsAtOnce event c e × LeadAtOnce more e d

@@ -1,0 +1,84 @@
+//! Reads that take effect at once.
+ghost use Rattle.std.specs.Prelude.{◌≡◌, ◌<◌, ◌↔◌, IsTrue, Ok, Some, length, remove, slice_get};
+ghost use Rattle.tatp_history.specs.declared.observed.Observed.{Observed as Asked};
+ghost use Rattle.tatp_procs.specs.Arguments.{arguments_accepted};
+ghost use Rattle.tatp_history.specs.Locality.{AreAccepted};
+ghost use Rattle.tatp_linearization.specs.AtOnce.{AreLeft, FitsAtOnce, IsSettledAt, NeedsNoPlace, only_reads as reads};
+
+use tatp_evaluation::evaluate;
+use tatp_history::{Observed, Outcome};
+use tatp_homes::Home;
+use tatp_procs::{Call, Reply};
+
+/// Whether a call changes nothing, whatever the rows.
+pub(crate) fn only_reads(call: &Call) -> bool
+    ensures { result ≡ reads call.now }
+{
+    match call {
+        Call::GetSubscriberData { .. } => true,
+        Call::GetNewDestination { .. } => true,
+        Call::GetAccessData { .. } => true,
+        Call::UpdateSubscriberData { .. } => false,
+        Call::UpdateLocation { .. } => false,
+        Call::InsertCallForwarding { .. } => false,
+        Call::DeleteCallForwarding { .. } => false,
+    }
+}
+
+/// Whether a call is a read whose reply is one with which it may have ended. The home keeps its
+/// rows.
+fn fits_at_once(home: &mut Home, x: &Observed) -> bool
+    requires accepted { arguments_accepted x.now.call ≡ Ok tt }
+    ensures fits { IsTrue result ↔ FitsAtOnce home.old.tables x.now }
+    ensures rows { home.new.tables ≡ home.old.tables }
+    ensures own { home.new.s_id ≡ home.old.s_id }
+{
+    if !only_reads(&x.call) {
+        return false;
+    }
+    let mut reply = Reply::Refused;
+    evaluate(home, &x.call, &mut reply);
+    x.outcome.allows(&reply)
+}
+
+/// Whether a call needn't be open. The home keeps its rows.
+pub(crate) fn needs_no_place(home: &mut Home, x: &Observed) -> bool
+    requires accepted { arguments_accepted x.now.call ≡ Ok tt }
+    ensures none { IsTrue result ↔ NeedsNoPlace home.old.tables x.now }
+    ensures rows { home.new.tables ≡ home.old.tables }
+    ensures own { home.new.s_id ≡ home.old.s_id }
+{
+    match x.outcome {
+        Outcome::Aborted { .. } => true,
+        _ => fits_at_once(home, x),
+    }
+}
+
+/// Takes an open call out, if it is a read whose reply fits. The home keeps its rows.
+fn settle_at(home: &mut Home, opened: &mut Vec<Observed>, place: usize)
+    requires inside { place < length opened.old.items }
+    requires accepted { AreAccepted opened.old.items }
+    ensures left { (x : Asked) → slice_get opened.old.items place ≡ Some x
+        → IsSettledAt home.old.tables x (opened.new.items ≡ remove opened.old.items place)
+        (opened.new.items ≡ opened.old.items) }
+    ensures rows { home.new.tables ≡ home.old.tables }
+    ensures own { home.new.s_id ≡ home.old.s_id }
+{
+    if !fits_at_once(home, &opened[place]) {
+        return;
+    }
+    opened.remove(place);
+}
+
+/// Takes the reads whose reply fits out of the open calls. The home keeps its rows.
+pub(crate) fn settle(home: &mut Home, opened: &mut Vec<Observed>)
+    requires accepted { AreAccepted opened.old.items }
+    ensures left { AreLeft home.old.tables opened.old.items opened.new.items }
+    ensures rows { home.new.tables ≡ home.old.tables }
+    ensures own { home.new.s_id ≡ home.old.s_id }
+{
+    let count = opened.len();
+    'calls: for i in 0..count {
+        settle_at(home, opened, count - 1 - i);
+    }
+}

@@ -69,17 +69,19 @@ fn trace<'a>(alloc: Global) -> Result<Command<'a>, AllocError>
         "trace",
         "Step, stop and look at the machines of partitions, and move ranges between them",
     )?;
-    let command = command.arg(CLIENTS.arg(alloc))?.arg(switch(
-        alloc,
-        "procedures",
-        "Run the procedures whose assembly text stands at the front of the input",
-    ))?;
-    let command = command.arg(switch(
-        alloc,
-        "echo",
-        "Write each line, after '> ', before its answers; one that begins with # is a comment",
-    ))?;
-    let command = command.arg(INPUT_LIMIT.arg(alloc))?;
+    let command = command
+        .arg(CLIENTS.arg(alloc))?
+        .arg(switch(
+            alloc,
+            "procedures",
+            "Run the procedures whose assembly text stands at the front of the input",
+        ))?
+        .arg(switch(
+            alloc,
+            "echo",
+            "Write each line of events after '> ' before its answers; one that begins with # is a comment",
+        ))?
+        .arg(INPUT_LIMIT.arg(alloc))?;
     Ok(command.after_help(TRACE))
 }
 

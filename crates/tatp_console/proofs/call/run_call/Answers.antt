@@ -19,10 +19,10 @@ returns-then-rows-clause-faults g c =
 
 pub returns-else-rows-clause-served : goal.returns-else-rows-clause-served
 returns-else-rows-clause-served g c =
-    rw c.if-rows.false (writes_as (AnswersWork answers_call (rows_after false) _) (λ m. Served false) Standard c.args.population (g.R.Read.remaining c.args.reader.now) (g.W.Write.contents c.args.writer.now) _ c.answer_all-2.result
-    (all_served false _) c.answer_all-2.ensures.answered)
+    rw c.if-rows.false (writes_as (AnswersWork answers_call (rows_after false) _) (λ m. Served false) Standard c.args.population (g.R.Read.remaining c.args.reader.now) (g.W.Write.contents c.args.writer.now) _ c.answer_all-else-rows.result
+    (all_served false _) c.answer_all-else-rows.ensures.answered)
 
 pub returns-else-rows-clause-faults : goal.returns-else-rows-clause-faults
 returns-else-rows-clause-faults g c =
-    rw c.if-rows.false (leaves_as (AnswersFront answers_call (rows_after false) _) (λ m. ServedFront false) Standard c.args.population (g.R.Read.remaining c.args.reader.now) (g.W.Write.contents c.args.writer.now) _ c.answer_all-2.result
-    (front_served false _) c.answer_all-2.ensures.faults)
+    rw c.if-rows.false (leaves_as (AnswersFront answers_call (rows_after false) _) (λ m. ServedFront false) Standard c.args.population (g.R.Read.remaining c.args.reader.now) (g.W.Write.contents c.args.writer.now) _ c.answer_all-else-rows.result
+    (front_served false _) c.answer_all-else-rows.ensures.faults)

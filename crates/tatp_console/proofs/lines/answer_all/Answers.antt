@@ -16,15 +16,15 @@ returns-in_err-world-clause-faults g c =
 pub returns-in_err-answered-clause-faults : goal.returns-in_err-answered-clause-faults
 returns-in_err-answered-clause-faults g c =
     let p = err_from_is_err_and c.from_residual-in_err-answered.result c.from_residual-in_err-answered.ensures.1 in
-    rw (p.1, p.2) (cut_short g.C.LineCommand.answers g.C.LineCommand.ending c.args.setup _ _ (g.R.Read.remaining c.args.reader.now) _ (g.W.Write.contents c.args.writer.now) (g.W.Write.contents c.answer_to_the_end-answered.new.writer) _ _ c.len.result c.in_ok-world.world c.in_err-answered.field-0.0
-    c.new-lines.ensures c.len.ensures c.in_ok-loaded.ensures.brought
+    rw (p.1, p.2) (cut_short g.C.LineCommand.answers g.C.LineCommand.ending c.args.setup _ _ (g.R.Read.remaining c.args.reader.now) _ (g.W.Write.contents c.args.writer.now) (g.W.Write.contents c.answer_to_the_end-answered.new.writer) _ _ c.len-subscribers.result c.in_ok-world.world c.in_err-answered.field-0.0
+    c.new-lines.ensures c.len-subscribers.ensures c.in_ok-loaded.ensures.brought
     (record { few = c.in_ok-world.ensures.few; clean = c.in_ok-world.ensures.clean; is_opened = c.in_ok-world.ensures.opened; world = c.in_ok-world.ensures.world })
     c.in_err-answered.ensures.front)
 
 pub returns-clause-answered : goal.returns-clause-answered
 returns-clause-answered g c =
-    all_written g.C.LineCommand.answers g.C.LineCommand.ending c.args.setup _ _ (g.R.Read.remaining c.args.reader.now) _ (g.W.Write.contents c.args.writer.now) _ _ _ c.len.result c.in_ok-world.world
-    c.new-lines.ensures c.len.ensures c.in_ok-loaded.ensures.brought
+    all_written g.C.LineCommand.answers g.C.LineCommand.ending c.args.setup _ _ (g.R.Read.remaining c.args.reader.now) _ (g.W.Write.contents c.args.writer.now) _ _ _ c.len-subscribers.result c.in_ok-world.world
+    c.new-lines.ensures c.len-subscribers.ensures c.in_ok-loaded.ensures.brought
     (record { few = c.in_ok-world.ensures.few; clean = c.in_ok-world.ensures.clean; is_opened = c.in_ok-world.ensures.opened; world = c.in_ok-world.ensures.world })
     c.in_ok-answered.ensures.ok
 

@@ -25,18 +25,18 @@ settle_run-requires-clause-few g c κs within =
 
 -- what the threads left
 abbrev left : (g : given.Over) (c : After-settle_run g) → Run
-left g c = run_left c.args.population.now c.parts.result c.args.work.lists.now
+left g c = run_left c.args.population.now c.parts-parts.result c.args.work.lists.now
 
 -- it is a run of the plan
 of_plan : (g : given.Over) (c : After-settle_run g) → IsRunOf c.args.plan.now (left g c)
 of_plan g c =
     let plan = c.args.plan.now in
     let lists = c.args.work.lists.now in
-    let parts = c.parts.result in
+    let parts = c.parts-parts.result in
     let same : lists_of lists ≡ calls_drawn plan = c.requires.work.calls in
     let population : c.args.population.now ≡ rows_drawn plan = c.requires.population in
-    let sites : vec_len parts.sites ≡ plan.partitions = ap (λ (p : RanParts). vec_len p.sites) c.parts.ensures ∙ c.in-Ok.ensures.sites in
-    let receipts : vec_len parts.receipts ≡ plan.clients = ap (λ (p : RanParts). vec_len p.receipts) c.parts.ensures ∙ c.in-Ok.ensures.receipts in
+    let sites : vec_len parts.sites ≡ plan.partitions = ap (λ (p : RanParts). vec_len p.sites) c.parts-parts.ensures ∙ c.in-Ok.ensures.sites in
+    let receipts : vec_len parts.receipts ≡ plan.clients = ap (λ (p : RanParts). vec_len p.receipts) c.parts-parts.ensures ∙ c.in-Ok.ensures.receipts in
     left_of_plan plan c.args.population.now parts lists population same sites receipts
 
 pub returns-in-Ok-clause-settled : goal.returns-in-Ok-clause-settled

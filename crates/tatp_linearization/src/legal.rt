@@ -48,7 +48,8 @@ fn is_listed(replies: &[Reply], reply: &Reply) -> bool
 /// Adds a reply, unless it is there.
 fn add_reply(replies: &mut Vec<Reply>, reply: &Reply) -> Result<(), AllocError>
     ensures added { OnOk result ((other : Replied)
-        → IsListed other replies.new.items ↔ (IsListed other replies.old.items ⊎ (other ≡ reply.now))) }
+        → IsListed other replies.new.items
+        ↔ (IsListed other replies.old.items ⊎ (other ≡ reply.now))) }
     ensures once { OnOk result (AreEachOnce replies.old.items → AreEachOnce replies.new.items) }
 {
     if is_listed(replies.as_slice(), reply) {
@@ -127,7 +128,8 @@ fn events_with(alloc: Global, y: &Observed, events: &[Event]) -> Result<Vec<Even
 }
 
 impl Explanations {
-    /// Whether an order explains these events, where the call is answered at a time with this reply.
+    /// Whether an order explains these events, where the call is answered at a time with this
+    /// reply.
     fn explain_with(
         &self,
         alloc: Global,

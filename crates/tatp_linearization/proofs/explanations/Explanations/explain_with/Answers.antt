@@ -6,7 +6,7 @@ use Rattle.tatp_linearization.specs.Held.{IsAcceptedEvent}
 use Rattle.tatp_linearization.specs.Single.{answered_with}
 use Rattle.tatp_linearization.specs.Legal.{events_with}
 use Rattle.tatp_linearization.specs.Listed.{IsExplainedBy, IsUnexplainedBy}
-use Rattle.tatp_linearization.proofs.LegalLaws.{accepted_with}
+use Rattle.tatp_linearization.proofs.PlacedLaws.{accepted_with}
 use Rattle.tatp_linearization.proofs.explanations.Explanations.explain_with.Goals as goal
 
 pub explain-requires-clause-accepted : goal.explain-requires-clause-accepted

@@ -4,3 +4,6 @@ pub mod Held
 pub mod Reached
 pub mod Single
 pub mod Cut
+pub mod Legal
+pub mod Leaving
+pub mod Listed

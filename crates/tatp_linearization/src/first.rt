@@ -44,7 +44,8 @@ impl Explanations {
             (past : List Event) → AreReached u past self.now → AreWindow past events.now
             → IsStrictlySerializable u (asked_in past ++ calls_by time (asked_in events.now)) → ⊥ }
         ensures undecided { result ≡ Ok Standing.Undecided → (u : Database) (past : List Event)
-            → AreReached u past self.now → NeedMore self.now.most u (past ++ events_then time events.now) }
+            → AreReached u past self.now
+            → NeedMore self.now.most u (past ++ events_then time events.now) }
     {
         let cut = events_by(alloc, events, time)?;
         self.explain(alloc, cut.as_slice())

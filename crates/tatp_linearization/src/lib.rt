@@ -8,7 +8,9 @@ mod effects;
 mod explanations;
 mod first;
 mod following;
+mod legal;
 mod reading;
+mod rows;
 mod single;
 mod stopped;
 

@@ -363,3 +363,51 @@ fn a_call_alone(rt: HostRuntime) -> Result<(), Fail> {
     );
     Ok(())
 }
+
+/// The replies with which a call that overlaps another could have been answered; none where they
+/// aren't accepted or known.
+fn legal(
+    alloc: Global,
+    home: &Home,
+    other: Call,
+    call: Call,
+) -> Result<Option<Vec<Reply>>, AllocError> {
+    let first = Observed {
+        asked: 1,
+        call: other,
+        outcome: Outcome::Answered {
+            at: 3,
+            recorded: SUCCESS,
+        },
+    };
+    let x = Observed {
+        asked: 2,
+        call,
+        outcome: Outcome::Answered {
+            at: 5,
+            recorded: SUCCESS,
+        },
+    };
+    let events = [Event::Asks(first), Event::Asks(x), ends(1, 3), ends(2, 5)];
+    if !are_accepted(&events) {
+        return Ok(None);
+    }
+    let explanations = Explanations::new(alloc, home, 8)?;
+    explanations.legal_replies(alloc, &events, &x, 5)
+}
+
+#[test]
+fn legal_replies(rt: HostRuntime) -> Result<(), Fail> {
+    let alloc = rt.alloc();
+    let home = fresh(alloc)?.expect(&rt, "a home");
+    let call = insert(facility(&home));
+    let insert = legal(alloc, &home, call, call)?.expect(&rt, "replies");
+    assert_eq!(rt; insert.as_slice(), [Reply::Failed(2)].as_slice());
+    let moves = Call::UpdateLocation {
+        sub_nbr: 1,
+        vlr_location: 7,
+    };
+    let read = legal(alloc, &home, moves, Call::GetSubscriberData { s_id: 1 })?;
+    assert_eq!(rt; read.expect(&rt, "replies").len(), 2);
+    Ok(())
+}

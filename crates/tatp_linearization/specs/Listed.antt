@@ -1,0 +1,41 @@
+-- Replies in a list.
+use Rattle.std.specs.Prelude.{◌≡◌, ◌⊎◌, List, [], ◌∷◌, ◌++◌}
+use Rattle.tatp_tables.specs.Database.{Database}
+use Rattle.tatp_procs.specs.declared.reply.Reply.{Reply}
+use Rattle.tatp_history.specs.declared.event.Event.{Event}
+use Rattle.tatp_history.specs.Histories.{IsStrictlySerializable}
+use Rattle.tatp_history.specs.Events.{asked_in, TimesRise, HaveEnds}
+use Rattle.tatp_linearization.specs.declared.explanations.Explanations.{Explanations}
+use Rattle.tatp_linearization.specs.Reached.{AreReached}
+
+abbrev pub IsListed : Reply → List Reply → Type 0
+IsListed reply [] = ⊥
+IsListed reply (other ∷ more) = (reply ≡ other) ⊎ IsListed reply more
+
+-- each stands there once
+abbrev pub AreEachOnce : List Reply → Type 0
+AreEachOnce [] = Unit {0}
+AreEachOnce (reply ∷ more) = (IsListed reply more → ⊥) × AreEachOnce more
+
+-- ---- replies that explain
+-- an order explains all that is before and these events
+abbrev pub IsExplainedBy : Explanations → List Event → Type 0
+IsExplainedBy explanations events =
+    (u : Database) (past : List Event) → AreReached u past explanations
+    → TimesRise (past ++ events) → HaveEnds (past ++ events)
+    → IsStrictlySerializable u (asked_in (past ++ events))
+
+-- none does
+abbrev pub IsUnexplainedBy : Explanations → List Event → Type 0
+IsUnexplainedBy explanations events =
+    (u : Database) (past : List Event) → AreReached u past explanations
+    → TimesRise (past ++ events) → HaveEnds (past ++ events)
+    → IsStrictlySerializable u (asked_in (past ++ events)) → ⊥
+
+-- of the replies, those with which an order explains the events, each once
+pub record AreSifted (explanations : Explanations) (told : Reply → List Event)
+    (replies legal : List Reply) : Type 0 where
+  pub sound : (reply : Reply) → IsListed reply legal → IsExplainedBy explanations (told reply)
+  pub found : (reply : Reply) → IsListed reply replies
+      → IsListed reply legal ⊎ IsUnexplainedBy explanations (told reply)
+  pub once : AreEachOnce legal

@@ -1,0 +1,5 @@
+pub mod WordLaws
+pub mod ColumnLaws
+pub mod ValuesLaws
+pub mod ReplyLaws
+pub mod LineLaws

@@ -1,0 +1,6 @@
+pub mod OutcomeLaws
+pub mod AcceptedLaws
+pub mod GatheredLaws
+pub mod SearchLaws
+pub mod PopulationLaws
+pub mod VerdictLaws

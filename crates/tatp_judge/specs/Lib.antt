@@ -1,0 +1,5 @@
+pub mod Accepted
+pub mod Searched
+pub mod Population
+pub mod Gathered
+pub mod Verdicts

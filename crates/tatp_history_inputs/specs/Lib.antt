@@ -1,0 +1,2 @@
+pub mod HistoryTexts
+pub mod Reading

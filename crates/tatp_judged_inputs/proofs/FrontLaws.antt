@@ -1,0 +1,116 @@
+-- The first texts tell the first lines.
+use Rattle.std.specs.Prelude.{◌≡◌, ℕ, zero, suc, ◌+◌, ◌-◌, ◌≤◌, List, [], ◌∷◌, length, take, slice_get, Option, Some, None, Result, Ok, Err}
+use Rattle.std.proofs.Common.{refl, sym, ap, subst, ◌∙◌, arith}
+use Rattle.std.proofs.lemmas.Option.{none-some, same_Some}
+use Rattle.tatp_tables.specs.Database.{Database}
+use Rattle.tatp_history.specs.declared.line.Line.{Line}
+use Rattle.tatp_history_lines.specs.declared.fault.LineFault.{LineFault}
+use Rattle.tatp_history_lines.specs.Open.{CallsOpen, opened_by}
+use Rattle.tatp_history_inputs.specs.HistoryTexts.{Told, BadText, said_in, onto, tell_on, history_from, none_open}
+use Rattle.tatp_judge.specs.Verdicts.{IsLegal, IsFirstIllegal}
+use Rattle.tatp_judged_inputs.specs.Judged.{IsIllegalAt}
+
+-- the first k lines
+abbrev front : ℕ → Told → Told
+front k t = record { numbers = take k t.numbers; lines = take k t.lines }
+
+abbrev nothing : Told
+nothing = record { numbers = []; lines = [] }
+
+abbrev told_ok : Told → Result Told BadText
+told_ok t = Ok t
+
+same_Ok : (x y : Told) → told_ok x ≡ told_ok y → x ≡ y
+same_Ok x y e = cc
+
+abbrev told_err : BadText → Result Told BadText
+told_err bad = Err bad
+
+no_Err : (bad : BadText) (t : Told) → told_err bad ≡ told_ok t → ⊥
+no_Err bad t e = cc
+
+onto_some : (n : ℕ) (line : Line) (r : Result Told BadText) (t : Told) → onto n line r ≡ Ok t → (more : Told) × (r ≡ Ok more) × (record { numbers = n ∷ more.numbers; lines = line ∷ more.lines } ≡ t)
+onto_some n line (Ok more) t e = (more, refl, same_Ok (record { numbers = n ∷ more.numbers; lines = line ∷ more.lines }) t e)
+onto_some n line (Err bad) t e = absurd (no_Err bad t e)
+
+-- so many of the texts, the last of which has the number, tell the lines up to place k
+record IsFront (opened : CallsOpen) (taken : ℕ) (texts : List (List ℕ)) (t : Told) (k number : ℕ) : Type 0 where
+  pub count : ℕ
+  pub number_is : number ≡ taken + suc count
+  pub within : suc count ≤ length texts
+  pub with : history_from opened (taken + 1) (take (suc count) texts) ≡ Ok (front (suc k) t)
+  pub without : history_from opened (taken + 1) (take count texts) ≡ Ok (front k t)
+
+-- the first texts, by what the first of them says
+taken_texts : (opened : CallsOpen) (taken : ℕ) (text : List ℕ) (more : List (List ℕ)) (said : Result (Option Line) LineFault) (n : ℕ) → said_in opened text ≡ said
+    → history_from opened (taken + 1) (take (suc n) (text ∷ more)) ≡ tell_on (taken + 1) opened said (λ after. history_from after (taken + 1 + 1) (take n more))
+taken_texts opened taken text more said n e = ap (λ s. tell_on (taken + 1) opened s (λ after. history_from after (taken + 1 + 1) (take n more))) e
+
+-- a text that says nothing
+after_nothing : (opened : CallsOpen) (taken : ℕ) (text : List ℕ) (more : List (List ℕ)) (t : Told) (k number : ℕ) → said_in opened text ≡ Ok None → IsFront opened (taken + 1) more t k number → IsFront opened taken (text ∷ more) t k number
+after_nothing opened taken text more t k number e f = record {
+  count = suc f.count;
+  number_is = omega (arith, f.number_is);
+  within = omega (arith, f.within);
+  with = taken_texts opened taken text more (Ok None) (suc f.count) e ∙ f.with;
+  without = taken_texts opened taken text more (Ok None) f.count e ∙ f.without;
+}
+
+-- a line, and one of those that follow
+abbrev onto_told : ℕ → Line → Told → Told
+onto_told n line m = record { numbers = n ∷ m.numbers; lines = line ∷ m.lines }
+
+after_line : (opened : CallsOpen) (taken : ℕ) (text : List ℕ) (more : List (List ℕ)) (line : Line) (m : Told) (k number : ℕ) → said_in opened text ≡ Ok (Some line) → IsFront (opened_by opened line) (taken + 1) more m k number
+    → IsFront opened taken (text ∷ more) (onto_told (taken + 1) line m) (suc k) number
+after_line opened taken text more line m k number e f = record {
+  count = suc f.count;
+  number_is = omega (arith, f.number_is);
+  within = omega (arith, f.within);
+  with = taken_texts opened taken text more (Ok (Some line)) (suc f.count) e ∙ ap (onto (taken + 1) line) f.with;
+  without = taken_texts opened taken text more (Ok (Some line)) f.count e ∙ ap (onto (taken + 1) line) f.without;
+}
+
+-- the line itself
+the_line : (opened : CallsOpen) (taken : ℕ) (text : List ℕ) (more : List (List ℕ)) (line : Line) (m : Told) → said_in opened text ≡ Ok (Some line) → IsFront opened taken (text ∷ more) (onto_told (taken + 1) line m) 0 (taken + 1)
+the_line opened taken text more line m e = record {
+  count = 0;
+  number_is = omega arith;
+  within = omega arith;
+  with = taken_texts opened taken text more (Ok (Some line)) 0 e;
+  without = refl;
+}
+
+front_of_line : (opened : CallsOpen) (taken : ℕ) (text : List ℕ) (more : List (List ℕ)) (line : Line) (m : Told) (k number : ℕ) → said_in opened text ≡ Ok (Some line) → slice_get (onto_told (taken + 1) line m).numbers k ≡ Some number
+    → ((j : ℕ) → slice_get m.numbers j ≡ Some number → IsFront (opened_by opened line) (taken + 1) more m j number) → IsFront opened taken (text ∷ more) (onto_told (taken + 1) line m) k number
+front_of_line opened taken text more line m zero number e h own =
+    subst (IsFront opened taken (text ∷ more) (onto_told (taken + 1) line m) 0) (same_Some (taken + 1) number h) (the_line opened taken text more line m e)
+front_of_line opened taken text more line m (suc j) number e h own = after_line opened taken text more line m j number e (own j h)
+
+front_by : (opened : CallsOpen) (taken : ℕ) (text : List ℕ) (more : List (List ℕ)) (t : Told) (k number : ℕ) (said : Result (Option Line) LineFault) → said_in opened text ≡ said
+    → ((o : CallsOpen) (t : Told) (k : ℕ) → history_from o (taken + 1 + 1) more ≡ Ok t → slice_get t.numbers k ≡ Some number → IsFront o (taken + 1) more t k number)
+    → tell_on (taken + 1) opened said (λ after. history_from after (taken + 1 + 1) more) ≡ Ok t → slice_get t.numbers k ≡ Some number → IsFront opened taken (text ∷ more) t k number
+front_by opened taken text more t k number (Err fault) e own h at = absurd (no_Err (record { number = taken + 1; fault = fault }) t h)
+front_by opened taken text more t k number (Ok None) e own h at = after_nothing opened taken text more t k number e (own opened t k h at)
+front_by opened taken text more t k number (Ok (Some line)) e own h at =
+    let m = onto_some (taken + 1) line (history_from (opened_by opened line) (taken + 1 + 1) more) t h in
+    subst (λ t. IsFront opened taken (text ∷ more) t k number) m.2
+    (front_of_line opened taken text more line m.0 k number e (ap (λ (t : Told). slice_get t.numbers k) m.2 ∙ at) (λ j got. own (opened_by opened line) m.0 j m.1 got))
+
+front_of : (opened : CallsOpen) (taken : ℕ) (texts : List (List ℕ)) (t : Told) (k number : ℕ) → history_from opened (taken + 1) texts ≡ Ok t → slice_get t.numbers k ≡ Some number → IsFront opened taken texts t k number
+front_of opened taken [] t k number h at =
+    let none : nothing ≡ t = same_Ok nothing t h in
+    absurd (none-some number (ap (λ (t : Told). slice_get t.numbers k) none ∙ at))
+front_of opened taken (text ∷ more) t k number h at = front_by opened taken text more t k number (said_in opened text) refl (λ o t k h at. front_of o (taken + 1) more t k number h at) h at
+
+pub told_illegal : (u : Database) (taken : ℕ) (texts : List (List ℕ)) (t : Told) (n number : ℕ) → history_from none_open (taken + 1) texts ≡ Ok t → IsFirstIllegal u t.lines n → slice_get t.numbers (n - 1) ≡ Some number → IsIllegalAt u taken texts number
+told_illegal u taken texts t n number h first at =
+    let f = front_of none_open taken texts t (n - 1) number h at in
+    let last : suc (n - 1) ≡ n = omega (arith, first.first) in
+    let some : suc f.count ≡ number - taken = omega (arith, f.number_is) in
+    let fewer : f.count ≡ number - taken - 1 = omega (arith, f.number_is) in
+    record {
+      later = omega (arith, f.number_is);
+      within = omega (arith, f.number_is, f.within);
+      illegal = (front (suc (n - 1)) t, sym (ap (λ m. history_from none_open (taken + 1) (take m texts)) some) ∙ f.with, λ legal. first.illegal (subst (λ m. IsLegal u (take m t.lines)) last legal));
+      before = (front (n - 1) t, sym (ap (λ m. history_from none_open (taken + 1) (take m texts)) fewer) ∙ f.without, first.before);
+    }

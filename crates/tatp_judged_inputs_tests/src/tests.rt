@@ -1,0 +1,2 @@
+//! What is tested.
+mod inputs;

@@ -5,10 +5,10 @@ use std::test::Fail;
 use tatp_history::{Line, Recorded};
 use tatp_history_inputs::{History, HistoryFault, read_history};
 use tatp_procs::{BadArgument, Call};
-use tatp_streams::LineReader;
+use tatp_streams::{LineReader, MAX_INPUT_LIMIT};
 
 fn history_of(alloc: Global, mut input: &[u8]) -> Result<History, HistoryFault> {
-    let mut lines = LineReader::new(alloc);
+    let mut lines = LineReader::new(alloc, MAX_INPUT_LIMIT);
     read_history(alloc, &mut lines, &mut input)
 }
 

@@ -9,13 +9,13 @@ use tatp_history_inputs::HistoryFault;
 use tatp_judge::Judge;
 use tatp_judged_inputs::{Judged, judge_history};
 use tatp_population::generate;
-use tatp_streams::LineReader;
+use tatp_streams::{LineReader, MAX_INPUT_LIMIT};
 
 /// The verdict on an input.
 fn judged(alloc: Global, judge: &Judge, mut input: &[u8]) -> Result<Judged, HistoryFault>
     requires { (u : Database) × JudgesFrom u judge.now }
 {
-    let mut lines = LineReader::new(alloc);
+    let mut lines = LineReader::new(alloc, MAX_INPUT_LIMIT);
     judge_history(alloc, judge, &mut lines, &mut input)
 }
 

@@ -1,6 +1,6 @@
 -- What follows on configurations at an event, and after all events.
 use Rattle.std.proofs.Common.{◌≡◌, ℕ, zero, suc, ◌+◌, ◌<◌, ◌==◌, ◌↔◌, false, List, [], ◌∷◌, ◌++◌, take, drop, length, Some, slice_get, refl, sym, ◌∙◌, ap, subst, arith, true≢false, inl, inr}
-use Rattle.std.proofs.lemmas.List.{append-nil}
+use Rattle.std.proofs.lemmas.List.{append-nil, append_assoc}
 use Rattle.tatp_tables.specs.Database.{Database}
 use Rattle.tatp_history.specs.declared.observed.Observed.{Observed}
 use Rattle.tatp_history.specs.declared.event.Event.{Event}
@@ -17,6 +17,7 @@ use Rattle.tatp_linearization.specs.Held.{seen, Has, AreReady, AreApart, Adds, H
 use Rattle.tatp_linearization.specs.Reached.{AreKept}
 use Rattle.tatp_linearization.proofs.AtOnceLaws.{lead_on, lead_by, at_once_exact}
 use Rattle.tatp_linearization.proofs.PossibleLaws.{need_more}
+use Rattle.tatp_linearization.proofs.PlaceLaws.{take_more}
 use Rattle.tatp_linearization.proofs.TurnLaws.{until_some}
 
 -- ---- one configuration
@@ -54,17 +55,6 @@ follows_tried (Asks x) c d h = h
 follows_tried (Ends asked at) c d h = elim h [ inl k ↦ (0, k.1) | inr k ↦ until_some (length c.opened) asked c d k.1 ]
 
 -- ---- explanations
-pub take_more : (events : List Event) (i : ℕ) (event : Event) → slice_get events i ≡ Some event → take (i + 1) events ≡ take i events ++ event ∷ []
-take_more events i event at = subst (λ n. take n events ≡ take i events ++ event ∷ []) one (one_more events i at)
-  where
-    one : suc i ≡ i + 1
-    one = omega arith
-
-    one_more : (es : List Event) (j : ℕ) → slice_get es j ≡ Some event → take (suc j) es ≡ take j es ++ event ∷ []
-    one_more [] j h = absurd cc
-    one_more (e ∷ es) zero h = let is : e ≡ event = cc in ap (λ v. v ∷ []) is
-    one_more (e ∷ es) (suc j) h = ap (λ vs. e ∷ vs) (one_more es j h)
-
 pub kept_none : (u : Database) (cs : List Held) (c : Held) → cs ≡ c ∷ [] → c.home.tables ≡ u → c.opened.items ≡ [] → AreKept u [] cs
 kept_none u cs c is rows none =
     let there : seen c ≡ starting u = λ k. record { rows = rows k; opened = none k } in
@@ -112,19 +102,11 @@ some_explain u past cs kept rise have some = let first = first_of cs some in (at
 -- ---- windows
 -- events up to a place, and the one there
 window_more : (past events : List Event) (i : ℕ) (event : Event) → slice_get events i ≡ Some event → past ++ take (i + 1) events ≡ (past ++ take i events) ++ event ∷ []
-window_more past events i event at = ap (λ es. past ++ es) (take_more events i event at) ∙ again past (take i events) (event ∷ [])
-  where
-    again : (xs ys zs : List Event) → xs ++ (ys ++ zs) ≡ (xs ++ ys) ++ zs
-    again [] ys zs = refl
-    again (x ∷ xs) ys zs = ap (λ vs. x ∷ vs) (again xs ys zs)
+window_more past events i event at = ap (λ es. past ++ es) (take_more events i event at) ∙ sym (append_assoc past (take i events) (event ∷ []))
 
 window_whole : (past events : List Event) (i : ℕ) (event : Event) → slice_get events i ≡ Some event → past ++ events ≡ (past ++ take i events) ++ event ∷ drop (suc i) events
-window_whole past events i event at = ap (λ es. past ++ es) (both events i event at) ∙ again past (take i events) (event ∷ drop (suc i) events)
+window_whole past events i event at = ap (λ es. past ++ es) (both events i event at) ∙ sym (append_assoc past (take i events) (event ∷ drop (suc i) events))
   where
-    again : (xs ys zs : List Event) → xs ++ (ys ++ zs) ≡ (xs ++ ys) ++ zs
-    again [] ys zs = refl
-    again (x ∷ xs) ys zs = ap (λ vs. x ∷ vs) (again xs ys zs)
-
     both : (es : List Event) (j : ℕ) (e : Event) → slice_get es j ≡ Some e → es ≡ take j es ++ e ∷ drop (suc j) es
     both [] j e h = absurd cc
     both (d ∷ es) zero e h = let is : d ≡ e = cc in ap (λ v. v ∷ es) is

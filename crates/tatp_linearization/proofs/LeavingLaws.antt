@@ -1,5 +1,6 @@
 -- Rows that calls leave, as the search holds them.
 use Rattle.std.proofs.Common.{◌≡◌, ℕ, zero, suc, ◌+◌, ◌<◌, ◌≤◌, List, [], ◌∷◌, ◌++◌, length, take, Some, get_or, slice_get, refl, sym, ◌∙◌, ap, subst, arith, inl, inr}
+use Rattle.std.proofs.lemmas.List.{append-nil, append_assoc}
 use Rattle.tatp_tables.specs.Database.{Database}
 use Rattle.tatp_procs.specs.declared.call.Call.{Call}
 use Rattle.tatp_procs.specs.Order.{in_order}
@@ -14,24 +15,16 @@ use Rattle.tatp_linearization.specs.Possible.{AreMoreThan}
 use Rattle.tatp_linearization.specs.Held.{seen, Has, AreApart, Adds, StandFirst, IsOldOr, HoldsOfOne}
 use Rattle.tatp_linearization.specs.Legal.{IsAmong, MayLeave, calls_in, open_calls}
 use Rattle.tatp_linearization.specs.Leaving.{without_calls, left_by, AreFrom, AreClosed}
-use Rattle.tatp_linearization.proofs.PlaceLaws.{all_get, all_more, below_or_is, same_item}
+use Rattle.tatp_linearization.proofs.PlaceLaws.{take_more, all_get, all_more, below_or_is, same_item}
 use Rattle.tatp_linearization.proofs.HeldLaws.{get_has, has_get}
 use Rattle.tatp_linearization.proofs.PossibleLaws.{more_than}
 
 -- ---- lists that begin with others
 pub first_same : (cs : List Held) → StandFirst cs cs
-first_same cs = ([], nothing cs)
-  where
-    nothing : (bs : List Held) → bs ≡ bs ++ []
-    nothing [] = refl
-    nothing (b ∷ bs) = ap (λ xs. b ∷ xs) (nothing bs)
+first_same cs = ([], sym (append-nil cs))
 
 pub first_on : (old mid new : List Held) → StandFirst old mid → StandFirst mid new → StandFirst old new
-first_on old mid new first second = (first.0 ++ second.0, second.1 ∙ (ap (λ xs. xs ++ second.0) first.1 ∙ again old first.0 second.0))
-  where
-    again : (xs ys zs : List Held) → (xs ++ ys) ++ zs ≡ xs ++ (ys ++ zs)
-    again [] ys zs = refl
-    again (x ∷ xs) ys zs = ap (λ vs. x ∷ vs) (again xs ys zs)
+first_on old mid new first second = (first.0 ++ second.0, second.1 ∙ (ap (λ xs. xs ++ second.0) first.1 ∙ append_assoc old first.0 second.0))
 
 get_first : (xs ys : List Held) (i : ℕ) (c : Held) → i < length xs → slice_get (xs ++ ys) i ≡ Some c → slice_get xs i ≡ Some c
 get_first [] ys i c lt h = absurd (omega (arith, lt))
@@ -218,39 +211,20 @@ closing_all most set calls i rows p le d h call among =
     subst (λ (b : Configuration). Has rows (left_by call b)) (sym there.4) (p.closed there.0 there.2 (omega (arith, lt, le)) there.3 call among)
 
 -- ---- the calls that are tried
-again : {X : Type 0} (xs ys zs : List X) → (xs ++ ys) ++ zs ≡ xs ++ (ys ++ zs)
-again [] ys zs = refl
-again (x ∷ xs) ys zs = ap (λ vs. x ∷ vs) (again xs ys zs)
-
 both_calls : (xs ys : List Observed) → calls_in (xs ++ ys) ≡ calls_in xs ++ calls_in ys
 both_calls [] ys = refl
 both_calls (x ∷ xs) ys = ap (λ zs. x.call ∷ zs) (both_calls xs ys)
 
 both_open : (cs ds : List Held) → open_calls (cs ++ ds) ≡ open_calls cs ++ open_calls ds
 both_open [] ds = refl
-both_open (c ∷ cs) ds = ap (λ zs. calls_in c.opened.items ++ zs) (both_open cs ds) ∙ sym (again (calls_in c.opened.items) (open_calls cs) (open_calls ds))
-
-one_on : {X : Type 0} (xs : List X) (i : ℕ) (x : X) → slice_get xs i ≡ Some x → take (i + 1) xs ≡ take i xs ++ x ∷ []
-one_on {X = X} xs i x at = subst (λ n. take n xs ≡ take i xs ++ x ∷ []) next (more xs i at)
-  where
-    next : suc i ≡ i + 1
-    next = omega arith
-
-    more : (ys : List X) (j : ℕ) → slice_get ys j ≡ Some x → take (suc j) ys ≡ take j ys ++ x ∷ []
-    more [] j h = absurd cc
-    more (y ∷ ys) zero h = let is : y ≡ x = cc in ap (λ v. v ∷ []) is
-    more (y ∷ ys) (suc j) h = ap (λ vs. y ∷ vs) (more ys j h)
+both_open (c ∷ cs) ds = ap (λ zs. calls_in c.opened.items ++ zs) (both_open cs ds) ∙ sym (append_assoc (calls_in c.opened.items) (open_calls cs) (open_calls ds))
 
 pub added_calls : (old : List Call) (xs : List Observed) (i : ℕ) (x : Observed) (before new : List Call) → slice_get xs i ≡ Some x → before ≡ old ++ calls_in (take i xs) → new ≡ before ++ x.call ∷ [] → new ≡ old ++ calls_in (take (i + 1) xs)
 added_calls old xs i x before new at is pushed =
-    pushed ∙ (ap (λ zs. zs ++ x.call ∷ []) is ∙ (again old (calls_in (take i xs)) (x.call ∷ []) ∙ ap (λ zs. old ++ zs) (sym (both_calls (take i xs) (x ∷ [])) ∙ ap calls_in (sym (one_on xs i x at)))))
+    pushed ∙ (ap (λ zs. zs ++ x.call ∷ []) is ∙ (append_assoc old (calls_in (take i xs)) (x.call ∷ []) ∙ ap (λ zs. old ++ zs) (sym (both_calls (take i xs) (x ∷ [])) ∙ ap calls_in (sym (take_more xs i x at)))))
 
 pub opened_more : (cs : List Held) (i : ℕ) (c : Held) → slice_get cs i ≡ Some c → open_calls (take (i + 1) cs) ≡ open_calls (take i cs) ++ calls_in c.opened.items
-opened_more cs i c at = ap open_calls (one_on cs i c at) ∙ (both_open (take i cs) (c ∷ []) ∙ ap (λ zs. open_calls (take i cs) ++ zs) (nothing (calls_in c.opened.items)))
-  where
-    nothing : (zs : List Call) → zs ++ [] ≡ zs
-    nothing [] = refl
-    nothing (z ∷ zs) = ap (λ vs. z ∷ vs) (nothing zs)
+opened_more cs i c at = ap open_calls (take_more cs i c at) ∙ (both_open (take i cs) (c ∷ []) ∙ ap (λ zs. open_calls (take i cs) ++ zs) (append-nil (calls_in c.opened.items)))
 
 both_asked : (es fs : List Event) → asked_in (es ++ fs) ≡ asked_in es ++ asked_in fs
 both_asked [] fs = refl
@@ -259,8 +233,8 @@ both_asked (Ends asked at ∷ es) fs = both_asked es fs
 
 pub asked_more : (old : List Call) (events : List Event) (i : ℕ) (event : Event) (before new : List Call) → slice_get events i ≡ Some event → before ≡ old ++ calls_in (asked_in (take i events)) → new ≡ before ++ calls_in (asked_in (event ∷ [])) → new ≡ old ++ calls_in (asked_in (take (i + 1) events))
 asked_more old events i event before new at is added =
-    added ∙ (ap (λ zs. zs ++ calls_in (asked_in (event ∷ []))) is ∙ (again old (calls_in (asked_in (take i events))) (calls_in (asked_in (event ∷ [])))
-    ∙ ap (λ zs. old ++ zs) (sym (both_calls (asked_in (take i events)) (asked_in (event ∷ []))) ∙ ap calls_in (sym (both_asked (take i events) (event ∷ [])) ∙ ap asked_in (sym (one_on events i event at))))))
+    added ∙ (ap (λ zs. zs ++ calls_in (asked_in (event ∷ []))) is ∙ (append_assoc old (calls_in (asked_in (take i events))) (calls_in (asked_in (event ∷ [])))
+    ∙ ap (λ zs. old ++ zs) (sym (both_calls (asked_in (take i events)) (asked_in (event ∷ []))) ∙ ap calls_in (sym (both_asked (take i events) (event ∷ [])) ∙ ap asked_in (sym (take_more events i event at))))))
 
 pub at_or : {X : Type 0} (xs : List X) (i : ℕ) (x : X) → i < length xs → slice_get xs i ≡ Some (get_or xs i x)
 at_or [] i x lt = absurd (omega (arith, lt))

@@ -24,20 +24,20 @@ all_remove P [] (suc i) h = tt
 all_remove P (y ∷ ys) zero h = h.1
 all_remove P (y ∷ ys) (suc i) h = (h.0, all_remove P ys i h.1)
 
+pub take_more : {X : Type 0} (xs : List X) (i : ℕ) (x : X) → slice_get xs i ≡ Some x → take (i + 1) xs ≡ take i xs ++ x ∷ []
+take_more {X = X} xs i x at = subst (λ n. take n xs ≡ take i xs ++ x ∷ []) next (more xs i at)
+  where
+    next : suc i ≡ i + 1
+    next = omega arith
+
+    more : (ys : List X) (j : ℕ) → slice_get ys j ≡ Some x → take (suc j) ys ≡ take j ys ++ x ∷ []
+    more [] j h = absurd cc
+    more (y ∷ ys) zero h = let is : y ≡ x = cc in ap (λ v. v ∷ []) is
+    more (y ∷ ys) (suc j) h = ap (λ vs. y ∷ vs) (more ys j h)
+
 -- lists that are alike up to a place
 pub alike_more : {X : Type 0} (xs ys : List X) (i : ℕ) (x y : X) → slice_get xs i ≡ Some x → slice_get ys i ≡ Some y → x ≡ y → take i xs ≡ take i ys → take (i + 1) xs ≡ take (i + 1) ys
-alike_more xs ys i x y at at' e alike = one_more xs i x at ∙ ((λ k. alike k ++ e k ∷ []) ∙ sym (one_more ys i y at'))
-  where
-    next : (n : ℕ) → suc n ≡ n + 1
-    next n = omega arith
-
-    more : {X : Type 0} (zs : List X) (j : ℕ) (z : X) → slice_get zs j ≡ Some z → take (suc j) zs ≡ take j zs ++ z ∷ []
-    more [] j z h = absurd cc
-    more (w ∷ ws) zero z h = let is : w ≡ z = cc in ap (λ v. v ∷ []) is
-    more (w ∷ ws) (suc j) z h = ap (λ vs. w ∷ vs) (more ws j z h)
-
-    one_more : {X : Type 0} (zs : List X) (j : ℕ) (z : X) → slice_get zs j ≡ Some z → take (j + 1) zs ≡ take j zs ++ z ∷ []
-    one_more zs j z h = subst (λ n. take n zs ≡ take j zs ++ z ∷ []) (next j) (more zs j z h)
+alike_more xs ys i x y at at' e alike = take_more xs i x at ∙ ((λ k. alike k ++ e k ∷ []) ∙ sym (take_more ys i y at'))
 
 pub chooses_at : (xs : List Observed) (i : ℕ) (x : Observed) → slice_get xs i ≡ Some x → Chooses xs x (remove xs i)
 chooses_at [] i x e = absurd cc

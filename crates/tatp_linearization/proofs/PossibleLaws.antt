@@ -1,5 +1,6 @@
 -- What the search keeps and tries is possible.
 use Rattle.std.proofs.Common.{◌≡◌, ℕ, zero, suc, Bool, true, false, cond, List, [], ◌∷◌, ◌++◌, length, refl, sym, ◌∙◌, ap, subst, inl, inr}
+use Rattle.std.proofs.lemmas.List.{append-nil, append_assoc}
 use Rattle.tatp_tables.specs.Database.{Database}
 use Rattle.tatp_procs.specs.Transactions.{transaction}
 use Rattle.tatp_history.specs.declared.event.Event.{Event}
@@ -116,11 +117,7 @@ event_becomes past (Ends asked at) s c d may h = elim h [
 ]
 
 pub lead_becomes : (past more : List Event) (s c d : Configuration) → MayBecome past s c → LeadAtOnce more c d → MayBecome (past ++ more) s d
-lead_becomes past [] s c d may h = subst (λ es. MayBecome es s d) (sym (append_nothing past)) (subst (MayBecome past s) (sym h) may)
-  where
-    append_nothing : (es : List Event) → es ++ [] ≡ es
-    append_nothing [] = refl
-    append_nothing (e ∷ es) = ap (λ zs. e ∷ zs) (append_nothing es)
+lead_becomes past [] s c d may h = subst (λ es. MayBecome es s d) (sym (append-nil past)) (subst (MayBecome past s) (sym h) may)
 lead_becomes past (event ∷ more) s c d may h =
     subst (λ es. MayBecome es s d) (sym (shift past event more))
     (lead_becomes (past ++ event ∷ []) more s h.0 d (event_becomes past event s c h.0 may h.1) h.2)
@@ -151,8 +148,4 @@ need_more u past (Ends asked at) rest most cs kept p = (
 
 -- where more than so many are needed by some of the first events, they are by all
 pub need_on : (most : ℕ) (u : Database) (first second : List Event) → NeedMore most u first → NeedMore most u (first ++ second)
-need_on most u first second p = (p.0, p.1 ++ second, ap (λ es. es ++ second) p.2 ∙ again p.0 p.1, p.3)
-  where
-    again : (xs ys : List Event) → (xs ++ ys) ++ second ≡ xs ++ (ys ++ second)
-    again [] ys = refl
-    again (x ∷ xs) ys = ap (λ zs. x ∷ zs) (again xs ys)
+need_on most u first second p = (p.0, p.1 ++ second, ap (λ es. es ++ second) p.2 ∙ append_assoc p.0 p.1 second, p.3)

@@ -1,8 +1,7 @@
 use Rattle.std.proofs.Common.{◌≡◌, ◌<◌, ◌≤◌, [], ◌∷◌, ◌++◌, length, take, Some, slice_get, sym, ap, ◌∙◌, arith}
 use Rattle.std.proofs.lemmas.List.{take_all}
 use Rattle.tatp_linearization.specs.Cut.{events_by}
-use Rattle.tatp_linearization.proofs.PlaceLaws.{get_at}
-use Rattle.tatp_linearization.proofs.FollowLaws.{take_more}
+use Rattle.tatp_linearization.proofs.PlaceLaws.{get_at, take_more}
 use Rattle.tatp_linearization.proofs.CutLaws.{by_append}
 use Rattle.tatp_linearization.proofs.cut.events_by.Goals as goal
 

@@ -1,8 +1,7 @@
 use Rattle.std.proofs.Common.{◌≡◌, [], ◌∷◌, ◌++◌, take, Some, slice_get, sym, ap, ◌∙◌}
 use Rattle.std.proofs.lemmas.List.{take_all}
 use Rattle.tatp_linearization.specs.Legal.{events_with}
-use Rattle.tatp_linearization.proofs.PlaceLaws.{get_at}
-use Rattle.tatp_linearization.proofs.FollowLaws.{take_more}
+use Rattle.tatp_linearization.proofs.PlaceLaws.{get_at, take_more}
 use Rattle.tatp_linearization.proofs.PlacedLaws.{with_append}
 use Rattle.tatp_linearization.proofs.legal.events_with.Goals as goal
 

@@ -2,8 +2,7 @@ use Rattle.std.proofs.Common.{◌≡◌, take, Some, slice_get, sym, subst}
 use Rattle.std.specs.List.{AllByRecursion}
 use Rattle.std.proofs.lemmas.List.{take_all}
 use Rattle.tatp_linearization.specs.Held.{IsAcceptedEvent}
-use Rattle.tatp_linearization.proofs.PlaceLaws.{get_at, all_more}
-use Rattle.tatp_linearization.proofs.FollowLaws.{take_more}
+use Rattle.tatp_linearization.proofs.PlaceLaws.{get_at, all_more, take_more}
 use Rattle.tatp_linearization_tests.proofs.tests.forwardings.are_accepted.Goals as goal
 
 pub loop-i-preserved : goal.loop-i-preserved

@@ -3,8 +3,7 @@ use Rattle.std.specs.List.{AllByRecursion}
 use Rattle.std.proofs.lemmas.List.{take_all}
 use Rattle.tatp_history.specs.Events.{time_of}
 use Rattle.tatp_history.specs.declared.event.Event.{Event}
-use Rattle.tatp_linearization.proofs.PlaceLaws.{get_at, all_more}
-use Rattle.tatp_linearization.proofs.FollowLaws.{take_more}
+use Rattle.tatp_linearization.proofs.PlaceLaws.{get_at, all_more, take_more}
 use Rattle.tatp_linearization_tests.proofs.tests.forwardings.are_after.Goals as goal
 
 pub loop-i-preserved : goal.loop-i-preserved

@@ -18,7 +18,6 @@ use Rattle.tatp_history_lines.specs.declared.fault.LineFault.{LineFault}
 use Rattle.tatp_history_lines.specs.declared.fault.LineFault.TheVariants as lines
 use Rattle.tatp_history_lines.specs.Open.{CallsOpen, open_call, opened_by}
 use Rattle.tatp_history_inputs.specs.declared.fault.HistoryFault.{HistoryFault}
-use Rattle.tatp_history_inputs.specs.declared.fault.HistoryFault.TheVariants.{BadLine, BadArgument, Stream}
 use Rattle.tatp_history_inputs.specs.declared.history.Reading.{Reading}
 use Rattle.tatp_history_inputs.specs.HistoryTexts.{Told, BadText, said_in, onto, tell_on, history_from, none_open}
 use Rattle.tatp_history_inputs.specs.Reading.{told_of, before, told_by, IsHistory, TellsHistory, RefusesText, RefusesHistory}

@@ -1,7 +1,6 @@
 -- The history that texts tell, line by line: docs/FORMATS.md.
 use Rattle.std.specs.Prelude.{ℕ, ◌+◌, List, [], ◌∷◌, Option, Some, None, Result, Ok, Err, if◌then◌else◌}
 use Rattle.std.specs.Str.{is_utf8}
-use Rattle.tatp_procs.specs.declared.call.Call.{Call}
 use Rattle.tatp_history.specs.declared.line.Line.{Line}
 use Rattle.tatp_history_lines.specs.declared.fault.LineFault.{LineFault}
 use Rattle.tatp_history_lines.specs.declared.fault.LineFault.TheVariants.{BadLine}

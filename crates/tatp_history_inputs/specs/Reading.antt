@@ -1,9 +1,8 @@
 -- What was read of a history, and why it is none.
-use Rattle.std.specs.Prelude.{◌≡◌, ℕ, ◌+◌, ◌≤◌, List, [], ◌++◌, length, Option, Result, Ok, Err}
+use Rattle.std.specs.Prelude.{◌≡◌, ℕ, ◌+◌, ◌≤◌, List, [], ◌++◌, length, Result, Ok, Err}
 use Rattle.tatp_limits.specs.declared.limits.TheConstants.{MAX_INPUT_BYTES}
 use Rattle.tatp_streams.specs.LineReading.{LinesLeft}
 use Rattle.tatp_streams.specs.declared.fault.StreamFault.TheVariants.{WriteFault}
-use Rattle.tatp_history.specs.declared.line.Line.{Line}
 use Rattle.tatp_history.specs.HistoryLines.{AreAcceptedLines}
 use Rattle.tatp_history_lines.specs.declared.fault.LineFault.{LineFault}
 use Rattle.tatp_history_lines.specs.declared.fault.LineFault.TheVariants as lines

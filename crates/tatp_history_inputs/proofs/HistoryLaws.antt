@@ -11,8 +11,7 @@ use Rattle.tatp_history.specs.declared.line.Line.TheVariants.{Ask, End, Abort, L
 use Rattle.tatp_history.specs.HistoryLines.{AreAcceptedLines}
 use Rattle.tatp_history_lines.specs.Lines.{line_of, is_passed_over, if_accepted, accepted, told}
 use Rattle.tatp_history_inputs.specs.declared.history.History.{History}
-use Rattle.tatp_limits.specs.declared.limits.TheConstants.{MAX_INPUT_BYTES}
-use Rattle.tatp_streams.specs.LineReading.{LinesLeft, with_line}
+use Rattle.tatp_streams.specs.LineReading.{LinesLeft, IsWithinLimit, with_line}
 use Rattle.tatp_history.specs.declared.line.Line.{Line}
 use Rattle.tatp_history_lines.specs.declared.fault.LineFault.{LineFault}
 use Rattle.tatp_history_lines.specs.declared.fault.LineFault.TheVariants as lines
@@ -56,7 +55,7 @@ text_refused r n text fault f e h more = by_fault n (told_by r n (text ∷ more)
 -- ---- all texts
 pub record ReadSoFar (r : Reading) (taken now : ℕ) (all left : LinesLeft) : Type 0 where
   pub told : told_by r (now + 1) left.lines ≡ history_from none_open (taken + 1) all.lines
-  pub input_length : left.input_length ≡ all.input_length
+  pub input : left.input ≡ all.input
 
 before_nothing : (r : Result Told BadText) → before (record { numbers = []; lines = [] }) r ≡ r
 before_nothing (Ok told) = refl
@@ -65,22 +64,22 @@ before_nothing (Err bad) = refl
 pub reading_starts : (r : Reading) (n : ℕ) (left : LinesLeft) → r.history.numbers.items ≡ [] → r.history.lines.items ≡ [] → ((client : ℕ) → open_call r.opened client ≡ None) → ReadSoFar r n n left left
 reading_starts r n left h k o = record {
   told = (λ i. before (record { numbers = h i; lines = k i }) (history_from (λ client. o client i) (n + 1) left.lines)) ∙ before_nothing (history_from none_open (n + 1) left.lines);
-  input_length = refl;
+  input = refl;
 }
 
 pub reading_goes_on : (r r' : Reading) (taken now now' : ℕ) (text : List ℕ) (all left : LinesLeft) → now' ≡ now + 1 → ((more : List (List ℕ)) → told_by r' (now' + 1) more ≡ told_by r now' (text ∷ more))
     → ReadSoFar r taken now all (with_line text left) → ReadSoFar r' taken now' all left
 reading_goes_on r r' taken now now' text all left next step s = record {
   told = step left.lines ∙ (ap (λ n. told_by r n (text ∷ left.lines)) next ∙ s.told);
-  input_length = s.input_length;
+  input = s.input;
 }
 
-pub reading_ends : (r : Reading) (taken now : ℕ) (all left : LinesLeft) → left.lines ≡ [] → left.input_length ≤ MAX_INPUT_BYTES → ReadSoFar r taken now all left → TellsHistory taken r.history all left
+pub reading_ends : (r : Reading) (taken now : ℕ) (all left : LinesLeft) → left.lines ≡ [] → IsWithinLimit left.input → ReadSoFar r taken now all left → TellsHistory taken r.history all left
 reading_ends r taken now all left none within s = record {
   told = sym s.told ∙ (ap (told_by r (now + 1)) none ∙ (λ i. Ok (record { numbers = append-nil r.history.numbers.items i; lines = append-nil r.history.lines.items i })));
   none = none;
-  input_length = s.input_length;
-  within = subst (λ n. n ≤ MAX_INPUT_BYTES) s.input_length within;
+  input = s.input;
+  within = subst IsWithinLimit s.input within;
 }
 
 pub reading_refused : (r : Reading) (taken now now' : ℕ) (text : List ℕ) (f : HistoryFault) (all left : LinesLeft) → now' ≡ now + 1 → ((more : List (List ℕ)) → RefusesHistory (told_by r now' (text ∷ more)) f)

@@ -1,7 +1,6 @@
 -- What was read of a history, and why it is none.
-use Rattle.std.specs.Prelude.{◌≡◌, ℕ, ◌+◌, ◌≤◌, List, [], ◌++◌, length, Result, Ok, Err}
-use Rattle.tatp_limits.specs.declared.limits.TheConstants.{MAX_INPUT_BYTES}
-use Rattle.tatp_streams.specs.LineReading.{LinesLeft}
+use Rattle.std.specs.Prelude.{◌≡◌, ℕ, ◌+◌, List, [], ◌++◌, length, Result, Ok, Err}
+use Rattle.tatp_streams.specs.LineReading.{LinesLeft, IsWithinLimit}
 use Rattle.tatp_streams.specs.declared.fault.StreamFault.TheVariants.{WriteFault}
 use Rattle.tatp_history.specs.HistoryLines.{AreAcceptedLines}
 use Rattle.tatp_history_lines.specs.declared.fault.LineFault.{LineFault}
@@ -43,8 +42,8 @@ pub record IsHistory (history : History) : Type 0 where
 pub record TellsHistory (taken : ℕ) (history : History) (all left : LinesLeft) : Type 0 where
   pub told : history_from none_open (taken + 1) all.lines ≡ Ok (told_of history)
   pub none : left.lines ≡ []
-  pub input_length : left.input_length ≡ all.input_length
-  pub within : all.input_length ≤ MAX_INPUT_BYTES
+  pub input : left.input ≡ all.input
+  pub within : IsWithinLimit all.input
 
 -- the fault is that of the first text that is no line. A reader can fail, and memory run out, at
 -- any

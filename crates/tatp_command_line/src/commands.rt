@@ -79,7 +79,7 @@ fn trace<'a>(alloc: Global) -> Result<Command<'a>, AllocError>
         .arg(switch(
             alloc,
             "echo",
-            "Write each line of events after '> ' before its answers; one that begins with # is a comment",
+            "Write each line after '> ' before its answers; one that begins with # is a comment",
         ))?
         .arg(INPUT_LIMIT.arg(alloc))?;
     Ok(command.after_help(TRACE))

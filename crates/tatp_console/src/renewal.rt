@@ -59,7 +59,7 @@ fn opened_anew_at_rest<'m>(alloc: Global, world: &World<'m>) -> Option<World<'m>
 }
 
 /// Lets go what is kept of the completed calls, where one was completed since there were so many,
-/// and they are many now: the rows are opened anew. What calls reply and leave doesn't depend on it.
+/// and they are many now: the rows are opened anew. Neither replies nor rows depend on it.
 pub(crate) fn let_calls_go<'m>(alloc: Global, world: &mut World<'m>, before: usize)
     requires standard { world.old.modul ≡ standard_module }
     ensures standard { world.new.modul ≡ standard_module }

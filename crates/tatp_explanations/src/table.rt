@@ -389,7 +389,7 @@ pub(crate) fn about_streams(number: u64) -> Explanation
   tatp: 47 ReadFault"
             "  See that standard input is open and is no folder. At most 134,217,728 bytes
   are read; wc -c counts those of a file. For a longer input tell call, trace or
-  audit by --input-limit how many bytes to read; asm, dis and check read no more."
+  audit by --input-limit how many to read; asm, dis and check read no more."
         48 "NoProcedure" "there is no such procedure, or it takes more or fewer arguments"
             "  $ echo 'raw 0 4 id 1 1' | tatp trace --gen 1
   REFUSED 48 NoProcedure"

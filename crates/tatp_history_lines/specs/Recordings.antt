@@ -55,8 +55,8 @@ recorded_text call (Exactly reply) = reply_text (Txn call) reply
 recorded_text call Success = codes "OK ?"
 recorded_text call Failure = codes "FAILED ?"
 
--- the form of the call's replies: as many values as one may have, or a failure whose number is below
--- 2 ^ 32
+-- the form of the call's replies: as many values as one may have, or a failure whose number is
+-- below 2 ^ 32
 abbrev pub HasReplyForm : Call → Reply → Type 0
 HasReplyForm call (Values values) =
     (has_values call (length values) ≡ true) × (length values ≤ length (answer_columns call))

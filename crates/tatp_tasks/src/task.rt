@@ -4,8 +4,8 @@ use crate::{BenchPlan, CallsPlan, Population, RowsPlan, Setup};
 /// What the program is asked to do: one of its commands.
 #[derive(Clone, Copy, Debug, PartialEq, Eq)]
 pub enum Task<'a> {
-    /// Answer calls, over so many partitions, 1 to `MAX_PARTITIONS`, and then write the rows or not.
-    /// So many bytes of the input are read at most, 1 to `MAX_INPUT_LIMIT`.
+    /// Answer calls, over this many partitions, 1 to `MAX_PARTITIONS`, and then write the rows or
+    /// not. The input limit is the most bytes that are read, 1 to `MAX_INPUT_LIMIT`.
     Call {
         population: Population,
         partitions: u8,

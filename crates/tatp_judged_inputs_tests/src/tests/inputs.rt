@@ -27,7 +27,7 @@ fn the_line_of_the_input_is_told(rt: HostRuntime) -> Result<(), Fail> {
     let legal = "# nobody has this s_id\nask 0 GET_SUBSCRIBER_DATA 9\nend 0 FAILED 1\n";
     assert_eq!(rt; judged(alloc, &judge, legal.as_bytes()), Ok(Judged::Legal));
     let illegal =
-        "# nobody has this s_id\nask 0 GET_SUBSCRIBER_DATA 9\n\nend 0 OK ?\nask 0 GET_SUBSCRIBER_DATA 9\n";
+        "# nobody has it\nask 0 GET_SUBSCRIBER_DATA 9\n\nend 0 OK ?\nask 0 GET_SUBSCRIBER_DATA 9\n";
     assert_eq!(rt;
         judged(alloc, &judge, illegal.as_bytes()),
         Ok(Judged::Illegal(4))

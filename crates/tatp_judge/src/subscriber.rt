@@ -12,11 +12,7 @@ use tatp_linearization::{Explanations, Standing};
 
 /// Whether the calls of one subscriber, whose home was this, are strictly serializable. As many
 /// configurations are kept as there is memory for: where these are too many, memory is refused.
-pub(crate) fn is_explained(
-    alloc: Global,
-    home: &Home,
-    events: &[Event],
-) -> Result<bool, AllocError>
+pub(crate) fn is_explained(alloc: Global, home: &Home, events: &[Event]) -> Result<bool, AllocError>
     requires rise { TimesRise events.now }
     requires ends { HaveEnds events.now }
     requires accepted { AllByRecursion IsAcceptedEvent events.now }

@@ -2,14 +2,10 @@
 import os
 import subprocess
 import sys
+import tempfile
 
-ROOT = os.path.join(os.path.dirname(os.path.abspath(__file__)), "..")
+ROOT = os.path.dirname(os.path.dirname(os.path.abspath(__file__)))
 PROGRAM = "crates/tatp/out/tatp"
-
-
-def usage(doc, name):
-    """The first line of a script's text, and how it is called."""
-    return "usage: %s [FILE], or %s --help\n%s" % (name, name, doc.strip().partition("\n")[0])
 
 
 def program_of(doc, name, words):
@@ -18,15 +14,25 @@ def program_of(doc, name, words):
         print(doc.strip())
         sys.exit(0)
     if len(words) > 1 or any(word.startswith("-") for word in words):
-        print(usage(doc, name), file=sys.stderr)
+        print("usage: %s [FILE], or %s --help" % (name, name), file=sys.stderr)
         sys.exit(2)
+    program = os.path.abspath(words[0]) if words else os.path.join(ROOT, PROGRAM)
     os.chdir(ROOT)
-    program = os.path.abspath(words[0] if words else PROGRAM)
     if not os.access(program, os.X_OK):
         print("failed: there is no program %s: the first use of ./tatp builds it" % program)
         print("0 passed, 1 failed")
         sys.exit(1)
     return program
+
+
+def no_words(doc, name, words):
+    """Goes on where there are no words. What are such end the script."""
+    if words == ["--help"]:
+        print(doc.strip())
+        sys.exit(0)
+    if words:
+        print("usage: %s, or %s --help" % (name, name), file=sys.stderr)
+        sys.exit(2)
 
 
 def number_from(name, default):
@@ -65,10 +71,10 @@ class Done:
         self.status, self.output, self.error = status, output, error
 
 
-def run(program, words, data=b"", seconds=60):
-    """Runs the program with these words on the input."""
+def run(program, words, data=b"", seconds=60, surroundings=None):
+    """Runs the program with these words on the input, in these surroundings where they are given."""
     try:
-        done = subprocess.run([program, *words], input=data, capture_output=True, timeout=seconds)
+        done = subprocess.run([program, *words], input=data, capture_output=True, timeout=seconds, env=surroundings)
     except subprocess.TimeoutExpired:
         return Done(None, b"", b"it took over %d seconds" % seconds)
     return Done(done.returncode, done.stdout, done.stderr)
@@ -77,6 +83,13 @@ def run(program, words, data=b"", seconds=60):
 def shown(data, most=200):
     """The begin of some bytes, for a message."""
     return data[:most].decode("utf-8", "backslashreplace").replace("\n", "\\n")
+
+
+def kept(name, data):
+    """Keeps an input under a script's name, for whoever looks at a failure. Gives the file."""
+    with tempfile.NamedTemporaryFile(prefix=name + ".", delete=False) as file:
+        file.write(data)
+    return file.name
 
 
 def first_difference(wanted, came):

@@ -71,12 +71,14 @@ class Drawing(Damage):
 
 class Run:
     """A drawn run: the words of its command and its input, what has to be written, and for each line of that the number
-    of the input's line. Where only transactions ended, `call` has to answer them in the order of their ends."""
+    of the input's line. Where only transactions ended, `call` has to answer them in the order of their ends. A run of
+    transactions alone has no raw calls, and the standard module."""
 
-    def __init__(self, seed, number):
+    def __init__(self, seed, number, transactions_alone=False):
         words = Words(seed, number)
         n, partitions, self.clients = (words.one_of(values) for values in (SIZES, PARTITIONS, CLIENTS))
-        is_generated, with_raw, self.has_own = words.chance(25), words.chance(75), words.chance(15)
+        is_generated, with_raw, has_own = words.chance(25), words.chance(75), words.chance(15)
+        with_raw, self.has_own = with_raw and not transactions_alone, has_own and not transactions_alone
         options = ["--partitions", str(partitions)]
         text = own_text() if self.has_own else None
         rows, self.head = self.population(words, n, is_generated, options)

@@ -4,7 +4,7 @@
      INTERRUPT_READ=N             the Nth read fails with EINTR
      NO_WRITE=N                   the Nth write takes nothing
      READ_MOST=N, WRITE_MOST=N    each call takes at most N bytes
-   At the end it writes to the file that FAIL_TOLD names how many reads and writes there were, and how many failed. */
+   At the end it writes to the file that TOLD names how many reads and writes there were, and how many failed. */
 #define _GNU_SOURCE
 #include <dlfcn.h>
 #include <errno.h>
@@ -36,7 +36,7 @@ __attribute__((constructor)) static void begin(void) {
 }
 
 __attribute__((destructor)) static void tell(void) {
-    const char *file = getenv("FAIL_TOLD");
+    const char *file = getenv("TOLD");
     char text[96];
     if (file != NULL) {
         int out = open(file, O_WRONLY | O_CREAT | O_TRUNC, 0600);

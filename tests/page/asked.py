@@ -4,12 +4,10 @@ then answers. This is a reading of FORMATS of its own: nothing of tools/timeline
 
 import subprocess
 
+from model.calls import TRANSACTIONS as STANDARD
+
 BAD = "REFUSED 5 BadLine"
 BETWEEN = b"between two answers"
-STANDARD = ["GET_SUBSCRIBER_DATA", "GET_NEW_DESTINATION", "GET_ACCESS_DATA", "UPDATE_SUBSCRIBER_DATA",
-            "UPDATE_LOCATION", "INSERT_CALL_FORWARDING", "DELETE_CALL_FORWARDING"]
-
-
 # What a step is in the plain world, by the first word of its answer.
 PLAIN = {"BEGAN": "A call of client {} enters the plain world.",
          "REFUSED": "The event is refused: nothing changes, here or in the plain world.",

@@ -4,11 +4,13 @@ It is spoken to through two pipes by its own protocol, so nothing but the browse
 """
 
 import base64
+import contextlib
 import json
 import os
 import select
 import shutil
 import subprocess
+import tempfile
 import time
 
 NAMES = ("chromium", "chromium-browser", "google-chrome", "google-chrome-stable")
@@ -18,6 +20,16 @@ KEYS = {"ArrowRight": 39, "ArrowLeft": 37, "Home": 36, "End": 35, " ": 32}
 def executable():
     """Where the browser is, or None."""
     return next((found for name in NAMES if (found := shutil.which(name))), None)
+
+
+@contextlib.contextmanager
+def room():
+    """A temporary folder, in which a browser that goes may still write."""
+    folder = tempfile.mkdtemp(prefix="page.")
+    try:
+        yield folder
+    finally:
+        shutil.rmtree(folder, ignore_errors=True)
 
 
 class Browser:

@@ -7,6 +7,7 @@ from pathlib import Path
 
 from asked import asked_again, expected_board
 from browser import Browser, executable
+from runs import Tally
 
 ROOT = Path(__file__).resolve().parents[2]
 PROGRAM = str((Path(sys.argv[1]) if sys.argv[1:] else ROOT / "crates/tatp/out/tatp").resolve())
@@ -36,22 +37,18 @@ MANY_EVENTS = (["--gen", "1024", "--partitions", "16", "--clients", "64"], many_
 
 
 class Walk:
-    """Walks through pages; counts what passed and what failed."""
+    """Walks through pages, and counts what passed and what failed."""
 
     def __init__(self, room):
         self.room = Path(room)
-        self.passed = self.failed = 0
+        self.tally = Tally()
         self.name = ""
         self.browser = Browser(executable(), str(self.room / "profile"))
         self.browser.ask("Network.enable")
 
     def check(self, well, what):
         """Counts one more."""
-        if well:
-            self.passed += 1
-        else:
-            self.failed += 1
-            print(f"failed: {self.name}: {what}")
+        self.tally.count(self.name, None if well else what)
 
     def make(self, words, text):
         """The page of an input; gives its file."""

@@ -1,6 +1,6 @@
 /* Refuses one growth of memory: the one whose number REFUSE_AT names, counted from 1 over all calls of malloc,
    calloc, realloc and their aligned kin. It is loaded before the C library, by LD_PRELOAD. At the end it writes to
-   the file that REFUSE_TOLD names how many growths there were and how many of them were refused. */
+   the file that TOLD names how many growths there were and how many of them were refused. */
 #define _GNU_SOURCE
 #include <dlfcn.h>
 #include <errno.h>
@@ -51,7 +51,7 @@ __attribute__((constructor)) static void begin(void) {
 }
 
 __attribute__((destructor)) static void tell(void) {
-    const char *file = getenv("REFUSE_TOLD");
+    const char *file = getenv("TOLD");
     char text[64];
     if (file != NULL) {
         int out = open(file, O_WRONLY | O_CREAT | O_TRUNC, 0600);

@@ -1,6 +1,7 @@
 """The SQL engine: python3's own SQLite, under the schema and the transactions of examples/sql/sqlite; and wrong edits
 of these, each of which the comparison has to see."""
 import collections
+import functools
 import os
 import sys
 
@@ -65,8 +66,6 @@ def replies_of(database, calls):
     return [database.answer(call) for call in calls]
 
 
-def wrong_databases(rows):
-    """For each wrong edit its name and a database with these rows."""
-    for name, edit in WRONG_EDITS.items():
-        yield name, opened(rows, edit)
-    yield "no rollback where the facility is missing", opened(rows, kind=NotUndone)
+# How a wrong database is opened with rows, by what is wrong with it.
+WRONG_DATABASES = {name: functools.partial(opened, edit=edit) for name, edit in WRONG_EDITS.items()}
+WRONG_DATABASES["no rollback where the facility is missing"] = functools.partial(opened, kind=NotUndone)

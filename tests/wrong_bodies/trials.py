@@ -15,25 +15,10 @@ PARTS = (*SOURCES, "out/incremental", "out/rlib")
 BELOW = ("src", "specs", "proofs", "out/rlib")
 
 
-def stands_on():
-    """The crates that each crate of the repository stands on, and other libraries, by its name."""
-    below = {}
-    for line in read_lines("crates.txt"):
-        name, colon, rest = line.partition(":")
-        if colon and not line.startswith("#"):
-            below[name.split(" ")[0]] = rest.split()
-    return below
-
-
 def needed(names):
     """These crates and those that they stand on."""
-    below, found, left = stands_on(), set(), list(names)
-    while left:
-        name = left.pop()
-        if name not in found:
-            found.add(name)
-            left += [other for other in below.get(name, []) if other in below]
-    return found
+    told = (subprocess.run(["tools/crates", name], capture_output=True, text=True, check=True) for name in names)
+    return {name for done in told for name in done.stdout.split()}
 
 
 def lanes():

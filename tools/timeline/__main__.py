@@ -1,4 +1,4 @@
-"""Draws a run of the command trace: `./timeline --help` tells more."""
+"""Draws a run of the command trace, or a history: `./timeline --help` tells more."""
 
 import os
 import subprocess
@@ -7,6 +7,10 @@ from pathlib import Path
 
 from columns import Columns
 from conversation import Stopped, Trace, explanation
+from history import Choice, History
+from history_page import history_page
+from history_picture import HistoryPicture
+from judging import judged
 from page import page
 from picture import Picture
 from reading import Input
@@ -19,7 +23,7 @@ ROOT = Path(__file__).resolve().parents[2]
 
 
 def main():
-    """Reads the words and the input, makes the run and writes what was asked for; gives the status."""
+    """Reads the words and the input, and writes what was asked for; gives the status."""
     if sys.stdout is None:
         raise OSError("there is no standard output")
     words = Words(sys.argv[1:])
@@ -28,21 +32,26 @@ def main():
         sys.stdout.write(USAGE)
         return 0
     if words.version:
-        return subprocess.run([program, "trace", "--version"], check=False).returncode
-    standard = (ROOT / "examples/standard.txt").read_bytes().splitlines()
-    source = Input(sys.stdin.buffer.read(), words, standard)
-    trace = Trace(program, words.trace)
-    watcher = Watcher(trace, source, words.partitions) if words.page else Unwatched()
-    events = make_run(trace, source, watcher)
-    trace.close()
-    lines = picture(words, source, events)
-    if words.page:
-        lines = page(words.title(), lines, watcher, source, lambda number: explanation(program, number))
-    else:
-        lines = lines.lines()
+        return subprocess.run([program, words.command, "--version"], check=False).returncode
+    raw = sys.stdin.buffer.read()
+    lines = history_drawn(program, words, raw) if words.history else run_drawn(program, words, raw)
     with open(sys.stdout.fileno(), "wb", closefd=False) as out:
         out.write("".join(line + "\n" for line in lines).encode())
     return 0
+
+
+def run_drawn(program, words, raw):
+    """The lines of the picture of a run, or of its page."""
+    standard = (ROOT / "examples/standard.txt").read_bytes().splitlines()
+    source = Input(raw, words, standard)
+    trace = Trace(program, words.handed)
+    watcher = Watcher(trace, source, words.partitions) if words.page else Unwatched()
+    events = make_run(trace, source, watcher)
+    trace.close()
+    drawn = picture(words, source, events)
+    if words.page:
+        return page(words.title(), drawn, watcher, source, lambda number: explanation(program, number))
+    return drawn.lines()
 
 
 def picture(words, source, events):
@@ -51,6 +60,16 @@ def picture(words, source, events):
     names = [procedure.name for procedure in source.procedures]
     story = Story(columns, names, words.partitions).tell(events)
     return Picture(words.title(), events, columns, story, strip=words.page)
+
+
+def history_drawn(program, words, raw):
+    """The lines of the picture of a history that was judged, or of its page."""
+    judgement = judged(program, words.handed, raw)
+    history = History(raw, words)
+    choice = Choice(history, judgement, words.subscriber)
+    columns = Columns(choice.lines, fold=not words.page, most=5, least=0.8)
+    drawn = HistoryPicture("A history, judged by " + words.title(), choice, judgement, columns, strip=words.page)
+    return history_page(drawn, history) if words.page else drawn.lines()
 
 
 if __name__ == "__main__":

@@ -9,12 +9,14 @@ FITTING = 1070
 
 
 class Columns:
-    """Where each event and each of its answers is. What isn't folded is one band, however wide."""
+    """Where each event and each of its answers is. What isn't folded is one band, however wide. A line is 30 pixels
+    wide, times at most and at least as many as are given.
+    """
 
-    def __init__(self, events, fold=True):
+    def __init__(self, events, fold=True, most=2.4, least=0.25):
         natural = [_natural_width(event) for event in events]
         total = sum(natural)
-        scale = _scale(total, MOST if fold else FITTING)
+        scale = _scale(total, MOST if fold else FITTING, most, least)
         self.line_width = 30 * scale
         wanted = total * scale
         self.band_width = max(wanted if wanted + 0.5 < MOST or not fold else MOST, 600)
@@ -52,11 +54,11 @@ def _natural_width(event):
     return 10 * event.different() if event.different() > 3 else 30
 
 
-def _scale(total, room):
+def _scale(total, room, most, least):
     """How many pixels one is of the natural widths, which together are so many: as far as there is room for all."""
     if total == 0:
         return 1
-    scale = min(room / total, 2.4)
-    if scale >= 0.5:
+    scale = min(room / total, most)
+    if scale >= max(0.5, least):
         return scale
-    return max(min(12 * scale, 0.5), 0.25)
+    return max(min(12 * scale, 0.5), least)

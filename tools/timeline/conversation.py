@@ -21,7 +21,8 @@ class Trace:
     """A run of `trace`, which echoes and answers each line when it has come."""
 
     def __init__(self, program, words):
-        self.process = subprocess.Popen([program, "trace", *words, "--echo"], stdin=subprocess.PIPE, stdout=subprocess.PIPE)
+        self.process = subprocess.Popen(
+            [program, "trace", *words, "--echo"], stdin=subprocess.PIPE, stdout=subprocess.PIPE)
 
     def send(self, data):
         """Hands bytes to the program. Where it has ended already, the status tells, once an answer is missed."""

@@ -3,17 +3,16 @@
 from html import escape
 from itertools import groupby
 
+import frame
 from lanes import Lanes
 from legend import Legend
 from shapes import Layers, fitted, point, px, text_width
 from story import WAY, WHOLE, ending_kind
-from style import colour, style_sheet
+from style import colour
 
 GUTTER = 96
 TAIL = 64
 ORDER = ("ground", "grid", "stops", "moves", "links", "bars", "ticks", "marks", "texts", "legend", "hits")
-HATCH = ('<defs><pattern id="stopped" width="6" height="6" patternUnits="userSpaceOnUse">'
-         '<path class="hatch" d="M0 6L6 0M-1 1L1 -1M5 7L7 5"/></pattern></defs>')
 
 
 class Picture:
@@ -22,7 +21,7 @@ class Picture:
     """
 
     def __init__(self, title, events, columns, story, strip=False):
-        self.title = escape(title[:90])
+        self.title = title
         self.events = events
         self.columns = columns
         self.story = story
@@ -48,7 +47,9 @@ class Picture:
             self.lanes = Lanes(self.story, self.columns, 38 + room)
             height = self._legend(self.lanes.bottom[0] + 28).bottom + 16
         self._draw(texts)
-        return [*self._head(height), *self.layers.lines(), "</svg>"]
+        told = summary(self.events, self.story)
+        head = frame.head("A run of " + self.title, told, self.width, height, self.strip)
+        return [*head, *self.layers.lines(), "</svg>"]
 
     def _texts_above(self):
         """How the texts of the lines stand above their columns: level, upright or not at all."""
@@ -73,21 +74,6 @@ class Picture:
         for lane in (WHOLE, *range(self.story.partitions)):
             self._draw_marks(lane)
         self._draw_names()
-
-    def _head(self, height):
-        """The first lines: frame, title and style."""
-        size = f'viewBox="0 0 {px(self.width)} {px(height)}" width="{px(self.width)}" height="{px(height)}"'
-        label = f'role="img" aria-label="A run of {self.title}, event by event."'
-        yield f'<svg xmlns="http://www.w3.org/2000/svg" {size} {label}>'
-        yield f"<title>A run of {self.title}</title>"
-        yield "<style>"
-        yield from style_sheet(".picture" if self.strip else "")
-        yield "</style>"
-        yield HATCH
-        if not self.strip:
-            yield f'<rect class="page" width="{px(self.width)}" height="{px(height)}"/>'
-            yield f'<text class="title" x="12" y="22">A run of {self.title}</text>'
-            yield f'<text class="key" x="12" y="38">{summary(self.events, self.story)}</text>'
 
     def _x(self, place):
         return GUTTER + self.columns.across(place)

@@ -1,4 +1,4 @@
-"""Reading the input: the procedures of a text, the subscribers of rows, and the event lines with their comments."""
+"""Reading the input of a run: the procedures of a text, the subscribers of rows, and events with their comments."""
 
 import re
 
@@ -41,8 +41,25 @@ def procedures_of(lines):
     return procedures
 
 
+class Population:
+    """Who the subscribers are: how many there are, and whom each sub_nbr names. In drawn rows these are the s_ids."""
+
+    def __init__(self, rows, drawn):
+        fields = [row.split(b" ") for row in rows if row.startswith(b"S ")]
+        known = [field for field in fields if len(field) > 2 and field[1].isdigit() and field[2].isdigit()]
+        self.subscribers = drawn if drawn is not None else len(fields)
+        self.drawn = drawn is not None
+        self.home_of_number = {int(field[2]): int(field[1]) for field in known}
+
+    def subscriber_of(self, kind, key):
+        """The subscriber whom a key of a call names, or None: then the call has no home."""
+        if self.drawn or kind == "id":
+            return key if 1 <= key <= (self.subscribers or 0) else None
+        return self.home_of_number.get(key)
+
+
 class Line:
-    """An event line of the input: its number among them from 1, its bytes, and the comment above it."""
+    """A line of the input that is no comment: its number, its bytes, and the comment above it."""
 
     def __init__(self, number, raw, caption):
         self.number = number
@@ -52,29 +69,19 @@ class Line:
         self.fields = self.text.split(" ")
 
 
-class Input:
-    """The whole input, taken apart: what stands before the events, and the events."""
+class Input(Population):
+    """The whole input of a run, taken apart: what stands before the events, and the events, numbered from 1."""
 
     def __init__(self, raw, words, standard):
-        lines = raw.split(b"\n")
-        if lines[-1] == b"":
-            lines.pop()
-        text, rest = _before_dot(lines) if words.has_text else (None, lines)
-        rows, rest = _before_dot(rest) if words.has_rows else (None, rest)
+        lines = lines_of(raw)
+        text, rest = before_dot(lines) if words.has_text else ([], lines)
+        rows, rest = before_dot(rest) if words.has_rows else ([], rest)
+        super().__init__(rows, words.drawn)
         before = len(lines) - len(rest)
         self.head = b"".join(line + b"\n" for line in lines[:before])
         self.procedures = procedures_of(text if words.has_text else standard)
         self.number_of = {procedure.name: n for n, procedure in reversed(list(enumerate(self.procedures)))}
-        self._read_rows(rows or [], words.drawn)
         self._read_events(rest)
-
-    def _read_rows(self, rows, drawn):
-        """Keeps how many subscribers there are, and whom each sub_nbr names; in drawn rows these are the s_ids."""
-        fields = [row.split(b" ") for row in rows if row.startswith(b"S ")]
-        known = [field for field in fields if len(field) > 2 and field[1].isdigit() and field[2].isdigit()]
-        self.subscribers = drawn if drawn is not None else len(fields)
-        self.drawn = drawn is not None
-        self.home_of_number = {int(field[2]): int(field[1]) for field in known}
 
     def _read_events(self, lines):
         """Parts events from comments; the comments above an event are its caption, those at the end `last_words`."""
@@ -82,17 +89,11 @@ class Input:
         comment = []
         for raw in lines:
             if raw.startswith(b"#"):
-                comment.append(raw[1:].decode("utf-8", "replace").strip())
+                comment.append(comment_of(raw))
             else:
                 self.lines.append(Line(len(self.lines) + 1, raw, " ".join(comment)))
                 comment = []
         self.last_words = " ".join(comment)
-
-    def subscriber_of(self, kind, key):
-        """The subscriber whom a key of a call names, or None: then the call has no home."""
-        if self.drawn or kind == "id":
-            return key if 1 <= key <= (self.subscribers or 0) else None
-        return self.home_of_number.get(key)
 
     def line_for_trace(self, line):
         """The line as trace reads it: a procedure's name becomes its number."""
@@ -107,7 +108,18 @@ class Input:
         return b" ".join(fields)
 
 
-def _before_dot(lines):
+def lines_of(raw):
+    """The lines of an input, of which the last may lack its line feed."""
+    lines = raw.split(b"\n")
+    return lines[:-1] if lines[-1] == b"" else lines
+
+
+def comment_of(raw):
+    """What a line that begins with # says."""
+    return raw[1:].decode("utf-8", "replace").strip()
+
+
+def before_dot(lines):
     """The lines before the first that is a dot, and those after it; without one all lines stand before it."""
     place = lines.index(b".") if b"." in lines else len(lines)
     return lines[:place], lines[place + 1:]

@@ -75,6 +75,29 @@ _NIGHT = [
 ]
 
 
+# What only the picture of a history has, on light ground and on dark.
+HISTORY = [
+    (".verdict", f"font-family: {SANS}; font-weight: 600; font-size: 13px;"),
+    (".reads", "fill: #9cc9e8;"),
+    (".writes", "fill: #0072b2;"),
+    (".aborted", "fill: url(#stopped); stroke: #8796ab;"),
+    (".unanswered", "fill: #ffffff; stroke: #0072b2; stroke-dasharray: 4 2;"),
+    (".window", "fill: #fff3cd; fill-opacity: 0.75; stroke: #c79a00; stroke-dasharray: 5 3;"),
+    (".outline", "fill: none; stroke: #d55e00; stroke-width: 2.5;"),
+    (".wrong", "fill: #a33b00; font-weight: 700;"),
+    (".dim", "opacity: 0.35;"),
+]
+HISTORY_NIGHT = [
+    (".reads", "fill: #6fa8cf;"),
+    (".writes", "fill: #2b7fc0;"),
+    (".aborted", "stroke: #8796ab;"),
+    (".unanswered", "fill: #14181d; stroke: #3f9fdc;"),
+    (".window", "fill: #4a3d12; stroke: #d8b13a;"),
+    (".outline", "stroke: #ff8a3d;"),
+    (".wrong", "fill: #ff9b66;"),
+]
+
+
 def _rules(rules, inside):
     """Rules as lines; inside of an element where it is named, so that they change nothing around the picture."""
     for selector, what in rules:
@@ -82,6 +105,7 @@ def _rules(rules, inside):
         yield f"{names} {{ {what} }}"
 
 
-def style_sheet(inside=""):
-    """The lines of the style sheet."""
-    return [*_rules(_ALL, inside), "@media (prefers-color-scheme: dark) {", *_rules(_NIGHT, inside), "}"]
+def style_sheet(inside="", light=(), dark=()):
+    """The lines of the style sheet, with rules that a kind of picture adds."""
+    night = _rules([*_NIGHT, *dark], inside)
+    return [*_rules([*_ALL, *light], inside), "@media (prefers-color-scheme: dark) {", *night, "}"]

@@ -3,6 +3,7 @@
 #![tactic(auto)]
 
 ghost use Rattle.std.specs.Prelude.{IfOk};
+ghost use Rattle.tatp_tasks.specs.Plans.{IsPlan};
 ghost use Rattle.tatp_tasks.specs.Tasks.{IsTask};
 
 use clap::Error;
@@ -13,11 +14,12 @@ use std::sync::Wait;
 use std::thread::Threads;
 use std::{env, fmt, io};
 use tatp_assembly::{run_asm, run_check, run_dis};
-use tatp_bench::{NoGate, Reporter, report_bench};
+use tatp_bench::{BenchPlan, NoGate, Progress, Reporter, report_bench, report_history};
 use tatp_command_line::{not_explained, not_text, task_of};
 use tatp_console::{run_call, run_trace};
 use tatp_explanations::{run_explain, run_explain_all};
 use tatp_inputs::run_audit;
+use tatp_judged_inputs::{Judged, run_judge};
 use tatp_load::{run_calls, run_rows};
 use tatp_streams::StreamFault;
 use tatp_tasks::Task;
@@ -27,6 +29,9 @@ const STOPPED: u8 = 1;
 
 /// The status where the words were refused.
 const REFUSED: u8 = 2;
+
+/// The status where it isn't known whether a history is legal.
+const UNDECIDED: u8 = 3;
 
 fn main(rt: HostRuntime) -> ExitCode {
     let alloc = rt.alloc();
@@ -101,6 +106,24 @@ fn explain<R: Print + Eprint>(rt: &R, alloc: Global, word: &str) -> ExitCode {
     }
 }
 
+/// Runs the benchmark, and writes what the run counts, or that and its history.
+fn bench<R: Print + Eprint + Threads + Wait + Sync, P: Progress + Sync>(
+    rt: &R,
+    alloc: Global,
+    plan: &BenchPlan,
+    progress: &P,
+    history: bool,
+) -> ExitCode
+    requires { IsPlan plan.now }
+{
+    let writer = &mut io::writer(rt);
+    if history {
+        status(rt, report_history(rt, alloc, writer, plan, progress))
+    } else {
+        status(rt, report_bench(rt, alloc, writer, plan, progress))
+    }
+}
+
 /// Runs a command over the standard streams.
 fn run<R: Input + Print + Eprint + Threads + Wait + Sync>(
     rt: &R,
@@ -138,17 +161,22 @@ fn run<R: Input + Print + Eprint + Threads + Wait + Sync>(
             Ok(false) => ExitCode::from(STOPPED),
             Err(fault) => tell(rt, &fault),
         },
+        Task::Judge(plan) => match run_judge(alloc, reader, writer, &plan) {
+            Ok(Judged::Legal) => ExitCode::SUCCESS,
+            Ok(Judged::Illegal(_)) => ExitCode::from(STOPPED),
+            Ok(Judged::Undecided { .. }) => ExitCode::from(UNDECIDED),
+            Err(fault) => tell(rt, &fault),
+        },
         Task::Bench {
             plan,
             progress: false,
-        } => status(rt, report_bench(rt, alloc, writer, &plan, &NoGate)),
+            history,
+        } => bench(rt, alloc, &plan, &NoGate, history),
         Task::Bench {
             plan,
             progress: true,
-        } => {
-            let reporter = Reporter::new(rt, &plan);
-            status(rt, report_bench(rt, alloc, writer, &plan, &reporter))
-        }
+            history,
+        } => bench(rt, alloc, &plan, &Reporter::new(rt, &plan), history),
         Task::Rows(plan) => status(rt, run_rows(alloc, writer, &plan)),
         Task::Calls(plan) => status(rt, run_calls(alloc, writer, &plan)),
         Task::Explain(None) => status(rt, run_explain_all(alloc, writer)),

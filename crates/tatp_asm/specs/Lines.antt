@@ -11,7 +11,7 @@ use Rattle.tatp_encoding.specs.Spelling.{IsInstr}
 use Rattle.tatp_asm.specs.Instrs.{has_target, aimed}
 
 -- a line that isn't empty: a procedure begins, a label, an instruction, the procedure ends; a jump
--- stands with the target 0, beside the label that it names
+-- has the target 0 here, beside the label that it names
 pub data Line : Type 0 where
   Opens : List ℕ → ℕ → Line
   Names : List ℕ → Line

@@ -55,7 +55,7 @@ pub record State : Type 0 where
   pub closed : List Procedure
   pub current : Option Open
 
--- where a label stands
+-- the place of a label
 abbrev pub position_of : List (List ℕ × ℕ) → List ℕ → Option ℕ
 position_of [] label = None
 position_of (l ∷ labels) label = if bytes_eq label l.0 then Some l.1 else position_of labels label

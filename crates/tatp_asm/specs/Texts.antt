@@ -14,13 +14,13 @@ count [] = 0
 count (Does instr label ∷ lines) = suc (count lines)
 count (_ ∷ lines) = count lines
 
--- the label stands among the lines after so many instructions
+-- the label is among the lines, with that number of instructions before it
 abbrev pub Stands : List Line → List ℕ → ℕ → Type 0
 Stands lines label position =
     (before after : List Line)
     × (lines ≡ before ++ (Names label ∷ after)) × (position ≡ count before)
 
--- no label stands twice
+-- no label occurs twice
 abbrev pub NoneTwice : List Line → Type 0
 NoneTwice [] = Unit {0}
 NoneTwice (Names label ∷ lines) =
@@ -28,7 +28,7 @@ NoneTwice (Names label ∷ lines) =
 NoneTwice (_ ∷ lines) = NoneTwice lines
 
 -- what the instruction of a line means among the lines of its procedure: a jump goes where its
--- label stands
+-- label is
 abbrev pub Means : Bool → List Line → Instr → List ℕ → Instr → Type 0
 Means true body instr label meant =
     (position : ℕ) × Stands body label position × (meant ≡ aimed instr position)

@@ -55,12 +55,12 @@ operands_of (a ∷ b ∷ c ∷ []) = option_and_then
 operands_of fields = None
 
 -- ---- instructions, by the table of their mnemonics and operands
--- the operands that stand for a row's registers
+-- the operands of a row's registers
 abbrev pub for_registers : Row → List Operand → List Operand
 for_registers row operands =
     if row.word_first then drop 1 operands else take row.shape.registers operands
 
--- those that stand for its u32
+-- those of its u32
 abbrev pub for_word : Row → List Operand → List Operand
 for_word row operands =
     if row.word_first then take 1 operands else drop row.shape.registers operands
@@ -128,7 +128,7 @@ instruction_of mnemonic text =
     option_and_then (instruction_with mnemonic) (operands_of (fields_of 44 text))
 
 -- ---- lines
--- what stands before a colon at the end
+-- what comes before a colon at the end
 unfoldable pub before_colon : List ℕ → Option (List ℕ)
 before_colon [] = None
 before_colon (b ∷ []) = if b == 58 then Some [] else None
@@ -137,7 +137,7 @@ before_colon (b ∷ c ∷ more) = option_map (λ front. b ∷ front) (before_col
 abbrev pub label_line : List ℕ → Option Line
 label_line label = if is_label label then Some (Names label) else None
 
--- a word that isn't `end`: with a colon at its end a label, and else a mnemonic that stands alone
+-- a word that isn't `end`: with a colon at its end a label, and else a mnemonic alone
 abbrev pub label_or_instruction : List ℕ → Option (List ℕ) → Option Line
 label_or_instruction word (Some label) = label_line label
 label_or_instruction word None = instruction_with word []

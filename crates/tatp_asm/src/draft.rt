@@ -68,7 +68,7 @@ fn resolve_all(alloc: Global, labels: &Labels, code: &[Unresolved]) -> Result<Ve
     Ok(instrs)
 }
 
-/// A procedure that begins after so many others.
+/// A procedure that begins after `closed` others.
 pub(crate) fn open_draft(
     alloc: Global,
     closed: usize,

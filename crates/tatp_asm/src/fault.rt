@@ -8,7 +8,7 @@ use thiserror::Error;
 /// What is wrong with a line. Its text is its number and its name.
 #[derive(Clone, Copy, Debug, PartialEq, Eq, Error)]
 pub enum AsmFaultKind {
-    /// The line is of no form, or stands where it may not.
+    /// The line is of no form, or is where it may not be.
     #[error("9 Syntax")]
     Syntax = 9,
     /// The procedure doesn't have the label that the line names.

@@ -10,14 +10,14 @@ use std::alloc::Global;
 /// Labels in the order of their lines, each with the number of instructions before it.
 pub(crate) type Labels = IndexMap<String, u32>;
 
-/// Where a label stands.
+/// The place of a label.
 pub(crate) fn position_of(labels: &Labels, label: &str) -> Option<u32>
     ensures { result ≡ position_of (labels_view labels.now.entries) label.now }
 {
     labels.get(label).copied()
 }
 
-/// Puts in a label that stands nowhere yet.
+/// Puts in a label that isn't there yet.
 #[tactic(auto, using(crate::proofs::LabelLaws::insert_label))]
 pub(crate) fn put_label(
     alloc: Global,

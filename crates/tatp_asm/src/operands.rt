@@ -29,7 +29,7 @@ struct Given {
     label: Name,
 }
 
-/// A number that stands for itself.
+/// A number as it is.
 fn numbered(number: u32) -> Given
     ensures { given_view result ≡ words.numbered number }
 {
@@ -72,7 +72,7 @@ fn read_operand(text: &str) -> Option<Operand>
     }
 }
 
-/// The first so many operands, and the others.
+/// The first `count` operands, and the others.
 fn parted_at(operands: &[Operand], count: usize) -> (&[Operand], &[Operand])
     ensures first { result.0.now ≡ take count operands.now }
     ensures others { result.1.now ≡ drop count operands.now }
@@ -80,7 +80,7 @@ fn parted_at(operands: &[Operand], count: usize) -> (&[Operand], &[Operand])
     operands.split_at(count.min(operands.len()))
 }
 
-/// The operands that stand for a row's registers, and those that stand for its u32.
+/// The operands of a row's registers, and those of its u32.
 fn parted<'a>(row: &OpRow, operands: &'a [Operand]) -> (&'a [Operand], &'a [Operand])
     ensures registers { operands_view result.0.now
         ≡ for_registers (row_view row.now) (operands_view operands.now) }

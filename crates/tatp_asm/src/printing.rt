@@ -124,7 +124,7 @@ fn module_text(alloc: Global, m: &Module) -> Result<String, AllocError>
     Ok(out)
 }
 
-/// The text of a module, each line ended by a line feed. The label `Lk:` stands before the
+/// The text of a module, each line ended by a line feed. The label `Lk:` comes before the
 /// instruction k where a jump names k, and at the end where the length is k.
 pub fn disassemble(alloc: Global, m: &Module) -> Result<String, AllocError>
     // The text is this module's, and no other's.

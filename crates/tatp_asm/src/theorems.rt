@@ -1,4 +1,4 @@
-//! That the text which is printed of a module is assembled to it, and that each instruction stands
+//! That the text which is printed of a module is assembled to it, and that each instruction is
 //! in it with its own text. The program runs nothing of this.
 ghost use Rattle.std.specs.Prelude.{◌≡◌, Ok};
 ghost use Rattle.tatp_instr.specs.declared.instr.Instr.{Instr};

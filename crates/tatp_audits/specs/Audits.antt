@@ -68,14 +68,14 @@ pub record Test : Type 0 where
 abbrev pub id_tests : Rows → List Test
 id_tests r = record { fails = is_astray r.subscribers; verdict = λ k. Ids (slice_index k 0) } ∷ []
 
--- no number stands twice
+-- no number occurs twice
 abbrev pub number_tests : Rows → List Test
 number_tests r = record {
   fails = is_twice (numbers r.subscribers);
   verdict = λ k. NumberTwice (slice_index k 0);
 } ∷ []
 
--- no primary key stands twice
+-- no primary key occurs twice
 abbrev pub key_tests : Rows → List Test
 key_tests r =
     record { fails = is_twice (map (take 2) r.accesses); verdict = λ k. KeyTwice (A k) }

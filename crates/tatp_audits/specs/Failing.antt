@@ -9,11 +9,11 @@ use Rattle.tatp_tables.specs.Tuples.{Tuple, same}
 abbrev pub is_above : Tuple → Tuple → Bool
 is_above a b = is_gt (slice_cmp nat_cmp a b)
 
--- how often a key stands in a list
+-- how often a key occurs in a list
 abbrev pub times : List Tuple → Tuple → ℕ
 times keys k = count_by (same k) keys
 
--- whether a key stands twice
+-- whether a key occurs twice
 abbrev pub is_twice : List Tuple → Tuple → Bool
 is_twice keys k = nat_le 2 (times keys k)
 

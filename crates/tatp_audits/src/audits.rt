@@ -25,7 +25,7 @@ fn audit_ids(alloc: Global, rows: &Rows) -> Result<Option<Verdict>, AllocError>
     Ok(Some(Verdict::Ids(key[0])))
 }
 
-/// No number stands twice.
+/// No number occurs twice.
 fn audit_numbers(alloc: Global, rows: &Rows) -> Result<Option<Verdict>, AllocError>
     ensures { IfOk result (Told (number_tests rows.now)) }
 {
@@ -35,7 +35,7 @@ fn audit_numbers(alloc: Global, rows: &Rows) -> Result<Option<Verdict>, AllocErr
     Ok(Some(Verdict::NumberTwice(key[0])))
 }
 
-/// No primary key stands twice.
+/// No primary key occurs twice.
 fn audit_keys(alloc: Global, rows: &Rows) -> Result<Option<Verdict>, AllocError>
     ensures { IfOk result (Told (key_tests rows.now)) }
 {

@@ -1,4 +1,4 @@
-//! Keys of rows, sorted, and how often a key stands among them.
+//! Keys of rows, sorted, and how often a key occurs among them.
 ghost use Rattle.std.specs.Prelude.{◌≡◌, ℕ, ◌≤◌, ◌<◌, length, take, map, IfOk, IsSorted, IsPermutation};
 ghost use Rattle.std.specs.Cmp.Lexicographic.{slice_cmp};
 ghost use Rattle.std.specs.Ordering.{nat_cmp, is_lt, is_le};
@@ -64,7 +64,7 @@ pub(crate) fn sorted_numbers<const M: usize>(
     Ok(keys)
 }
 
-/// How often a key stands among sorted keys.
+/// How often a key occurs among sorted keys.
 pub(crate) fn times_of<const N: usize>(keys: &[[u64; N]], key: &[u64; N]) -> usize
     requires { IsSorted (slice_cmp nat_cmp) keys.now }
     ensures { result ≡ times keys.now key.now }

@@ -1,4 +1,4 @@
-//! Keys that stand twice.
+//! Keys that occur twice.
 ghost use Rattle.std.specs.Prelude.{◌≡◌, ◌≤◌, ◌<◌, take, map, IfOk, IsSorted};
 ghost use Rattle.std.specs.Cmp.Lexicographic.{slice_cmp};
 ghost use Rattle.std.specs.Ordering.{nat_cmp};
@@ -9,7 +9,7 @@ use crate::keys::{sorted_keys, sorted_numbers};
 use std::alloc::{AllocError, Global};
 use tatp_tables::Rows;
 
-/// The least key that stands twice among sorted keys.
+/// The least key that occurs twice among sorted keys.
 fn least_twice<const N: usize>(keys: &[[u64; N]]) -> Option<[u64; N]>
     requires { IsSorted (slice_cmp nat_cmp) keys.now }
     ensures { Finds (is_twice keys.now) result }
@@ -22,7 +22,7 @@ fn least_twice<const N: usize>(keys: &[[u64; N]]) -> Option<[u64; N]>
     None
 }
 
-/// The least number that stands twice.
+/// The least number that occurs twice.
 fn least_number_twice<const M: usize>(
     alloc: Global,
     rows: &[[u64; M]],
@@ -34,7 +34,7 @@ fn least_number_twice<const M: usize>(
     Ok(least_twice(&keys))
 }
 
-/// The least key that stands twice.
+/// The least key that occurs twice.
 fn least_key_twice<const M: usize, const N: usize>(
     alloc: Global,
     rows: &[[u64; M]],

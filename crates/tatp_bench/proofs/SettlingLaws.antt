@@ -1,5 +1,5 @@
 -- What a settled run of a plan counts.
-use Rattle.std.specs.Prelude.{◌≡◌, ℕ, ◌+◌, ◌*◌, not, Bool, true, false, cond, List, [], ◌∷◌, map, length, count_by, Vec, vec_len}
+use Rattle.std.specs.Prelude.{◌≡◌, ℕ, ◌+◌, ◌*◌, not, Bool, true, false, cond, List, [], ◌∷◌, map, length, count_by, Result, Ok, Err, IfOk, Vec, vec_len}
 use Rattle.std.specs.List.{range_with_len}
 use Rattle.std.proofs.Common.{refl, sym, ◌∙◌, ap, arith}
 use Rattle.std.specs.declared.alloc.Global.{Global}
@@ -7,7 +7,7 @@ use Rattle.std.proofs.lemmas.List.{length-map}
 use Rattle.std.proofs.lemmas.List.Sums.{sum_by-cons}
 use Rattle.tatp_tables.specs.declared.row.Rows.{Rows}
 use Rattle.tatp_procs.specs.declared.ask.Ask.{Ask}
-use Rattle.tatp_logs.specs.Receipts.{ReceiptsState}
+use Rattle.tatp_logs.specs.Receipts.{ReceiptsState, receipts_of}
 use Rattle.tatp_settle.specs.declared.settled.Settled.{Settled}
 use Rattle.tatp_settle.specs.Closings.{closed_site}
 use Rattle.tatp_settle.specs.Receipts.{is_done}
@@ -21,7 +21,8 @@ use Rattle.tatp_bench.specs.declared.fault.BenchFault.{BenchFault}
 use Rattle.tatp_bench.specs.declared.fault.BenchFault.TheVariants.{ExtentMissing, Unsettled, NoMemory, NoThread}
 use Rattle.tatp_drawing.specs.Drawing.{rows_drawn, calls_drawn}
 use Rattle.tatp_bench.specs.SettledRuns.{run_left, SettlesRun, RefusesToSettleRun}
-use Rattle.tatp_bench.specs.Benching.{IsRunOf, SettlesPlan, RefusesBench, kinds_drawn}
+use Rattle.tatp_bench.specs.declared.closing.SettledRun.{SettledRun}
+use Rattle.tatp_bench.specs.Benching.{IsRunOf, SettlesPlan, ReceivesPlan, RefusesBench, kinds_drawn}
 use Rattle.tatp_bench.proofs.PlanLaws.{calls_counted}
 
 one_or_other : (b : Bool) → cond {A = ℕ} b 1 0 + cond {A = ℕ} (not b) 1 0 ≡ 1
@@ -65,6 +66,14 @@ left_of_plan plan population parts lists same asked sites clients = record {
 
 pub plan_settled : (plan : BenchPlan) (run : Run) → IsRunOf plan run → (settled : Settled) → SettlesRun run settled → SettlesPlan plan settled
 plan_settled plan run of_plan settled settles = record { run = run; of_plan = of_plan; settles = settles }
+
+-- settled beside its receipts
+pub received : (plan : BenchPlan) (run : Run) (receipts : List ReceiptsState) (ended : Result SettledRun BenchFault)
+    → IsRunOf plan run → run.receipts ≡ receipts_of receipts
+    → IfOk ended (λ (s : SettledRun). SettlesRun run s.settled) → IfOk ended (λ (s : SettledRun). s.receipts.items ≡ receipts)
+    → IfOk ended (λ (s : SettledRun). ReceivesPlan plan s.receipts.items s.settled)
+received plan run receipts (Ok s) of_plan same settles kept = record { run = run; of_plan = of_plan; settles = settles; received = same ∙ ap receipts_of (sym kept) }
+received plan run receipts (Err fault) of_plan same settles kept = tt
 
 pub plan_refused : (plan : BenchPlan) (run : Run) → IsRunOf plan run → (fault : BenchFault) → RefusesToSettleRun run fault → RefusesBench plan fault
 plan_refused plan run of_plan (ExtentMissing e) refused = record { run = run; of_plan = of_plan; refused = refused }

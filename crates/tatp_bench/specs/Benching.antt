@@ -2,6 +2,7 @@
 -- What a run of the benchmark is of, and why it isn't settled.
 use Rattle.std.specs.Prelude.{◌≡◌, ℕ, List, map, count_by, length}
 use Rattle.std.specs.List.{range_with_len}
+use Rattle.tatp_logs.specs.Receipts.{ReceiptsState, receipts_of}
 use Rattle.tatp_settle.specs.declared.settled.Settled.{Settled}
 use Rattle.tatp_settle.specs.Answering.{is_of_kind}
 use Rattle.tatp_settle.specs.Runs.{Run, joined}
@@ -24,6 +25,14 @@ pub record SettlesPlan (plan : BenchPlan) (settled : Settled) : Type 0 where
   pub run : Run
   pub of_plan : IsRunOf plan run
   pub settles : SettlesRun run settled
+
+-- so it is, with these receipts of its clients
+pub record ReceivesPlan (plan : BenchPlan) (receipts : List ReceiptsState) (settled : Settled)
+    : Type 0 where
+  pub run : Run
+  pub of_plan : IsRunOf plan run
+  pub settles : SettlesRun run settled
+  pub received : run.receipts ≡ receipts_of receipts
 
 -- how many calls there are of each kind, in the order of the mix
 abbrev pub kinds_drawn : BenchPlan → List ℕ

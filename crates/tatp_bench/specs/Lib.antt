@@ -1,4 +1,5 @@
 pub mod Reports
+pub mod RunHistories
 pub mod SettledRuns
 pub mod Benching
 pub mod Works

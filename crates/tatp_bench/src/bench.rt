@@ -2,18 +2,20 @@
 ghost use Rattle.std.specs.Prelude.{◌≡◌, ◌+◌, ◌*◌, IfOk, IfErr};
 ghost use Rattle.tatp_tables.specs.Clean.{IsClean};
 ghost use Rattle.tatp_tasks.specs.Plans.{IsPlan};
-ghost use Rattle.tatp_drawing.specs.Drawing.{rows_drawn};
+ghost use Rattle.tatp_settle.specs.Runs.{lists_of};
+ghost use Rattle.tatp_drawing.specs.Drawing.{rows_drawn, calls_drawn};
 ghost use Rattle.tatp_drawing.specs.DrawnRuns.{IsDrawn};
-ghost use Rattle.tatp_bench.specs.Benching.{SettlesPlan, RefusesBench, kinds_drawn};
+ghost use Rattle.tatp_bench.specs.Benching.{SettlesPlan, ReceivesPlan, RefusesBench, kinds_drawn};
 ghost use Rattle.tatp_bench.specs.Works.{IsWorkOf};
 
-use crate::freeing::free_calls;
-use crate::{BenchFault, BenchPlan, Progress, Work, run_work, settle_run};
+use crate::freeing::{free_calls, free_receipts};
+use crate::{BenchFault, BenchPlan, Progress, SettledRun, Work, run_work, settle_run};
 use std::alloc::Global;
 use std::sync::Wait;
 use std::thread::Threads;
 use tatp_drawing::{Drawn, draw};
-use tatp_procs::standard;
+use tatp_logs::Receipts;
+use tatp_procs::{Ask, standard};
 use tatp_settle::Settled;
 use tatp_tables::Rows;
 
@@ -25,15 +27,16 @@ fn run_and_settle<R: Threads + Wait + Sync, P: Progress + Sync>(
     population: &Rows,
     work: Work<'_, '_>,
     progress: &P,
-) -> Result<Settled, BenchFault>
+) -> Result<SettledRun, BenchFault>
     requires plan { IsPlan plan.now }
     requires population { population.now ≡ rows_drawn plan.now }
     requires clean { IsClean (rows_drawn plan.now) }
     requires work { IsWorkOf plan.now work }
-    ensures settled { IfOk result (SettlesPlan plan.now) }
-    ensures kinds { IfOk result (λ settled. settled.kinds ≡ kinds_drawn plan.now) }
-    ensures calls { IfOk result
-        (λ settled. settled.completed + settled.refused ≡ plan.now.clients * plan.now.calls) }
+    ensures settled { IfOk result
+        (λ run. ReceivesPlan plan.now run.receipts.items run.settled) }
+    ensures kinds { IfOk result (λ run. run.settled.kinds ≡ kinds_drawn plan.now) }
+    ensures calls { IfOk result (λ run. run.settled.completed + run.settled.refused
+        ≡ plan.now.clients * plan.now.calls) }
     ensures refusal { IfErr result (RefusesBench plan.now) }
 {
     let lists = work.lists;
@@ -47,6 +50,30 @@ fn run_and_settle<R: Threads + Wait + Sync, P: Progress + Sync>(
     }
 }
 
+/// What a settled run of a plan counts, and what its clients asked and received.
+#[derive(Drop)]
+pub struct BenchRun {
+    pub(crate) settled: Settled,
+    pub(crate) lists: Vec<Vec<Ask>>,
+    pub(crate) receipts: Vec<Receipts>,
+}
+
+impl BenchRun {
+    /// Spends it: what it counts. The clients' lists are freed, by several threads.
+    pub fn settled<R: Threads + Sync>(self, rt: &R, alloc: Global) -> Settled
+        ensures { result ≡ self.settled }
+    {
+        let BenchRun {
+            settled,
+            lists,
+            receipts,
+        } = self;
+        free_calls(rt, alloc, lists);
+        free_receipts(rt, alloc, receipts);
+        settled
+    }
+}
+
 /// Runs what was drawn for a plan under the standard module, by threads that the gate watches, and
 /// settles what the run left. Which run of the plan it was no clause says, since threads may meet
 /// in any order: [`settle_run`] says of the run at hand that it is settled, or why it isn't.
@@ -56,13 +83,15 @@ pub fn run_drawn<R: Threads + Wait + Sync, P: Progress + Sync>(
     plan: &BenchPlan,
     drawn: Drawn,
     progress: &P,
-) -> Result<Settled, BenchFault>
+) -> Result<BenchRun, BenchFault>
     requires plan { IsPlan plan.now }
     requires drawn { IsDrawn plan.now drawn }
-    ensures settled { IfOk result (SettlesPlan plan.now) }
-    ensures kinds { IfOk result (λ settled. settled.kinds ≡ kinds_drawn plan.now) }
-    ensures calls { IfOk result
-        (λ settled. settled.completed + settled.refused ≡ plan.now.clients * plan.now.calls) }
+    ensures settled { IfOk result
+        (λ run. ReceivesPlan plan.now run.receipts.items run.settled) }
+    ensures asked { IfOk result (λ run. lists_of run.lists.items ≡ calls_drawn plan.now) }
+    ensures kinds { IfOk result (λ run. run.settled.kinds ≡ kinds_drawn plan.now) }
+    ensures calls { IfOk result (λ run. run.settled.completed + run.settled.refused
+        ≡ plan.now.clients * plan.now.calls) }
     ensures refusal { IfErr result (RefusesBench plan.now) }
 {
     let loaded = standard(alloc)?;
@@ -75,9 +104,17 @@ pub fn run_drawn<R: Threads + Wait + Sync, P: Progress + Sync>(
         moves: &moves,
         chapter: plan.chapter,
     };
-    let settled = run_and_settle(rt, alloc, plan, &population, work, progress);
-    free_calls(rt, alloc, lists);
-    settled
+    match run_and_settle(rt, alloc, plan, &population, work, progress) {
+        Err(fault) => {
+            free_calls(rt, alloc, lists);
+            Err(fault)
+        }
+        Ok(SettledRun { settled, receipts }) => Ok(BenchRun {
+            settled,
+            lists,
+            receipts,
+        }),
+    }
 }
 
 /// Runs the benchmark: draws the population and each client's calls from the plan's seed, runs the
@@ -97,5 +134,6 @@ pub fn run_bench<R: Threads + Wait + Sync, P: Progress + Sync>(
     ensures refusal { IfErr result (RefusesBench plan.now) }
 {
     let drawn = draw(rt, alloc, plan)?;
-    run_drawn(rt, alloc, plan, drawn, progress)
+    let run = run_drawn(rt, alloc, plan, drawn, progress)?;
+    Ok(run.settled(rt, alloc))
 }

@@ -9,25 +9,37 @@ use crate::chapters::join_chapters;
 use crate::freeing::free_receipts;
 use std::alloc::Global;
 use std::thread::Threads;
+use tatp_logs::Receipts;
 use tatp_partition::{close_sites, discard_all, discard_parcels};
 use tatp_procs::Ask;
 use tatp_settle::{NotGathered, NotSettled, Settled, gather, settle};
 use tatp_tables::Rows;
 use tatp_threads::RanParts;
 
+/// What a settled run counts, and the receipts of its clients.
+#[derive(Drop)]
+pub struct SettledRun {
+    /// What it counts.
+    pub settled: Settled,
+    /// The receipts of each client.
+    pub receipts: Vec<Receipts>,
+}
+
 /// Gathers what a run of the clients' lists of calls left, and settles it. The parts are consumed,
-/// on a refusal too.
+/// on a refusal too; the receipts of a settled run are given back.
 pub fn settle_run<R: Threads + Sync>(
     rt: &R,
     alloc: Global,
     population: &Rows,
     parts: RanParts<'_>,
     lists: &[Vec<Ask>],
-) -> Result<Settled, BenchFault>
+) -> Result<SettledRun, BenchFault>
     requires clean { IsClean population.now }
     requires few { length (joined (lists_of lists.now)) < 2 ^ 64 }
     requires landings { vec_len parts.landings ≡ 0 }
-    ensures settled { IfOk result (SettlesRun (run_left population.now parts.entry lists.now)) }
+    ensures settled { IfOk result
+        (λ run. SettlesRun (run_left population.now parts.entry lists.now) run.settled) }
+    ensures receipts { IfOk result (λ run. run.receipts.items ≡ parts.entry.receipts.items) }
     ensures refusal { IfErr result
         (RefusesToSettleRun (run_left population.now parts.entry lists.now)) }
 {
@@ -63,11 +75,10 @@ pub fn settle_run<R: Threads + Sync>(
             return Err(BenchFault::from(error));
         }
     };
-    let judged = settle(rt, alloc, population, closed, receipts.as_slice(), lists);
-    free_receipts(rt, alloc, receipts);
-    match judged {
-        Ok(settled) => Ok(settled),
+    match settle(rt, alloc, population, closed, receipts.as_slice(), lists) {
+        Ok(settled) => Ok(SettledRun { settled, receipts }),
         Err(NotSettled { error, closed }) => {
+            free_receipts(rt, alloc, receipts);
             closed.discard(rt);
             Err(BenchFault::from(error))
         }

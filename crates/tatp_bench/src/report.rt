@@ -6,13 +6,15 @@ ghost use Rattle.tatp_audits.specs.Printing.{field};
 ghost use Rattle.tatp_streams.specs.Writing.{WritesText};
 ghost use Rattle.tatp_tasks.specs.Plans.{IsPlan};
 ghost use Rattle.tatp_bench.specs.Reports.{settled_text, TellsSettled, LeavesSettled};
+ghost use Rattle.tatp_bench.specs.RunHistories.{TellsHistory, LeavesHistory};
 
-use crate::{Progress, ReportFault, draw, run_drawn};
+use crate::{Progress, Recorder, ReportFault, draw, run_drawn};
 use std::alloc::{AllocError, Global};
 use std::fmt;
 use std::io::Write;
 use std::sync::Wait;
 use std::thread::Threads;
+use tatp_run_history::write_history;
 use tatp_settle::Settled;
 use tatp_streams::write_last;
 use tatp_tasks::BenchPlan;
@@ -64,9 +66,41 @@ pub fn report_bench<R: Threads + Wait + Sync, P: Progress + Sync, W: Write>(
 {
     let drawn = draw(rt, alloc, plan)?;
     progress.tell("rows drawn");
-    let settled = run_drawn(rt, alloc, plan, drawn, progress)?;
+    let run = run_drawn(rt, alloc, plan, drawn, progress)?;
+    let settled = run.settled(rt, alloc);
     progress.tell("settled");
     let text = lines_of(alloc, &settled)?;
     write_last(writer, text.as_bytes())?;
+    Ok(())
+}
+
+/// As [`report_bench`], and writes behind these lines the history of the run: what each client
+/// asked and received, line by line in the order of time. What clients do is numbered, for which
+/// memory is taken before the threads start. A run that isn't settled is a fault, and nothing of it
+/// is written.
+///
+/// Of that order no clause says more than that it keeps each client's: a contract can't say that
+/// the numbers rise with time.
+pub fn report_history<R: Threads + Wait + Sync, P: Progress + Sync, W: Write>(
+    rt: &R,
+    alloc: Global,
+    writer: &mut W,
+    plan: &BenchPlan,
+    progress: &P,
+) -> Result<(), ReportFault>
+    requires plan { IsPlan plan.now }
+    ensures written { OnOk result
+        (WritesText (TellsHistory plan.now) (W.contents writer.old) (W.contents writer.new)) }
+    ensures faults { IfErr result
+        (LeavesHistory plan.now (W.contents writer.old) (W.contents writer.new)) }
+{
+    let recorder = Recorder::new(alloc, plan, progress)?;
+    let drawn = draw(rt, alloc, plan)?;
+    progress.tell("rows drawn");
+    let run = run_drawn(rt, alloc, plan, drawn, &recorder)?;
+    progress.tell("settled");
+    let head = lines_of(alloc, &run.settled)?;
+    let numbers = recorder.numbers();
+    write_history(alloc, writer, head, &run.lists, &run.receipts, numbers)?;
     Ok(())
 }

@@ -3,10 +3,10 @@ use Rattle.std.specs.Prelude.{◌≡◌, List, IsSomeAnd, codes, option_map}
 use Rattle.clap.specs.Walk.{Row, Text}
 use Rattle.clap.specs.Simple.{subcommand_of}
 use Rattle.tatp_tasks.specs.declared.task.Task.{Task}
-use Rattle.tatp_tasks.specs.declared.task.Task.TheVariants.{Call, Trace, Audit, Bench, Rows, Calls, Explain}
+use Rattle.tatp_tasks.specs.declared.task.Task.TheVariants.{Call, Trace, Audit, Judge, Bench, Rows, Calls, Explain}
 use Rattle.tatp_tasks.specs.Tasks.{name_of}
 use Rattle.tatp_command_line.specs.Numbers.{HasNumber, number_asked}
-use Rattle.tatp_command_line.specs.Options.{partitions, input_limit, is_given, word_asked, HasPopulation, population_asked, HasSetup, setup_asked, HasPlan, plan_asked, HasRowsPlan, rows_plan_asked, HasCallsPlan, calls_plan_asked}
+use Rattle.tatp_command_line.specs.Options.{partitions, input_limit, is_given, word_asked, HasPopulation, population_asked, HasSetup, setup_asked, HasPlan, plan_asked, HasRowsPlan, rows_plan_asked, HasJudgePlan, judge_plan_asked, HasCallsPlan, calls_plan_asked}
 use Rattle.tatp_command_line.specs.CommandLine.{command_line}
 
 -- the options of the task's command have their values, and each field of the task is what they ask
@@ -20,8 +20,10 @@ IsAskedBy given (Trace setup echo) =
     HasSetup given × (setup ≡ setup_asked given) × (echo ≡ is_given (codes "echo") given)
 IsAskedBy given (Audit limit) =
     HasNumber input_limit given × (limit ≡ number_asked input_limit given)
-IsAskedBy given (Bench plan progress) =
+IsAskedBy given (Judge plan) = HasJudgePlan given × (plan ≡ judge_plan_asked given)
+IsAskedBy given (Bench plan progress history) =
     HasPlan given × (plan ≡ plan_asked given) × (progress ≡ is_given (codes "progress") given)
+    × (history ≡ is_given (codes "history") given)
 IsAskedBy given (Rows plan) = HasRowsPlan given × (plan ≡ rows_plan_asked given)
 IsAskedBy given (Calls plan) = HasCallsPlan given × (plan ≡ calls_plan_asked given)
 IsAskedBy given (Explain word) = option_map (λ text. text.now) word ≡ word_asked given

@@ -7,7 +7,7 @@ use Rattle.clap.specs.declared.builder.action.ArgAction.TheVariants.{SetTrue}
 use Rattle.clap.specs.declared.builder.command.Command.{Command}
 use Rattle.clap.specs.declared.builder.command.Command.TheViews.{out-Command}
 use Rattle.tatp_command_line.specs.Numbers.{Ranged}
-use Rattle.tatp_command_line.specs.Options.{gen, subscribers, seed, partitions, clients, calls, moves, stops, chapter, input_limit, rows_gen, drawn_calls, client}
+use Rattle.tatp_command_line.specs.Options.{gen, subscribers, seed, partitions, clients, calls, moves, stops, chapter, input_limit, rows_gen, drawn_calls, client, most}
 
 -- ---- what the parse of the words goes by
 -- an option that takes a number: any text, which is read afterwards
@@ -44,13 +44,16 @@ trace_rules = rows_rules ++ number_rule clients ∷ switch_rule (codes "procedur
 abbrev pub audit_rules : List Rule
 audit_rules = number_rule input_limit ∷ []
 
+abbrev pub judge_rules : List Rule
+judge_rules = number_rule gen ∷ number_rule seed ∷ number_rule most ∷ []
+
 abbrev pub bench_rules : List Rule
 bench_rules = number_rule subscribers ∷ number_rule partitions ∷ number_rule clients
     ∷ number_rule calls ∷ number_rule seed ∷ []
 
 abbrev pub meanwhile_rules : List Rule
 meanwhile_rules = switch_rule (codes "uniform") ∷ number_rule moves ∷ number_rule stops
-    ∷ number_rule chapter ∷ switch_rule (codes "progress") ∷ []
+    ∷ number_rule chapter ∷ switch_rule (codes "progress") ∷ switch_rule (codes "history") ∷ []
 
 abbrev pub drawn_rows_rules : List Rule
 drawn_rows_rules = number_rule rows_gen ∷ number_rule seed ∷ []
@@ -67,6 +70,7 @@ commands =
     ∷ command_with [] (codes "dis")
     ∷ command_with [] (codes "check")
     ∷ command_with audit_rules (codes "audit")
+    ∷ command_with judge_rules (codes "judge")
     ∷ command_with (bench_rules ++ meanwhile_rules) (codes "bench")
     ∷ command_with drawn_rows_rules (codes "rows")
     ∷ command_with drawn_calls_rules (codes "calls")

@@ -6,6 +6,8 @@ use Rattle.tatp_limits.specs.declared.limits.TheConstants.{MAX_BENCH_CALLS, MAX_
 use Rattle.tatp_streams.specs.declared.limit.TheConstants.{MAX_INPUT_LIMIT}
 use Rattle.tatp_driver.specs.declared.distribution.Distribution.{Distribution}
 use Rattle.tatp_driver.specs.declared.distribution.Distribution.TheVariants.{Skewed, Uniform}
+use Rattle.tatp_tasks.specs.declared.judging.JudgePlan.{JudgePlan}
+use Rattle.tatp_tasks.specs.declared.judging.TheConstants.{MAX_CONFIGURATIONS}
 use Rattle.tatp_tasks.specs.declared.load.CallsPlan.{CallsPlan}
 use Rattle.tatp_tasks.specs.declared.load.RowsPlan.{RowsPlan}
 use Rattle.tatp_tasks.specs.declared.load.TheConstants.{MAX_DRAWN_CALLS}
@@ -80,6 +82,10 @@ client = optional_from 0 (MAX_CLIENTS - 1) (Some (codes "0")) (codes "client")
 abbrev pub input_limit : Ranged
 input_limit = optional_from 1 MAX_INPUT_LIMIT (Some (codes "134217728")) (codes "input-limit")
 
+-- of `judge`: how many configurations of one subscriber are kept at most
+abbrev pub most : Ranged
+most = optional_from 1 MAX_CONFIGURATIONS (Some (codes "65536")) (codes "most")
+
 -- ---- the switches
 -- the switch of this name is given
 abbrev pub is_given : List ℕ → List Row → Bool
@@ -149,6 +155,17 @@ plan_asked given = record {
   moves = number_asked moves given;
   stops = number_asked stops given;
   chapter = number_asked chapter given;
+}
+
+-- ---- a history that is judged
+pub record HasJudgePlan (given : List Row) : Type 0 where
+  pub population : HasPopulation given
+  pub most : HasNumber most given
+
+abbrev pub judge_plan_asked : List Row → JudgePlan
+judge_plan_asked given = record {
+  population = population_asked given;
+  most = number_asked most given;
 }
 
 -- ---- rows that are drawn and written

@@ -1,14 +1,15 @@
 //! The commands of the command line, with their options.
 ghost use Rattle.std.specs.Prelude.{◌≡◌, ◌++◌, [], ◌∷◌, true, false, IfOk, codes};
 ghost use Rattle.clap.specs.Walk.{rule_of};
-ghost use Rattle.tatp_command_line.specs.CommandLine.{number_rule, switch_rule, word_rule, command_with, rows_rules, call_rules, trace_rules, audit_rules, bench_rules, meanwhile_rules, drawn_rows_rules, drawn_calls_rules, program, command_line, IsApp, IsLeaf};
+ghost use Rattle.tatp_command_line.specs.CommandLine.{number_rule, switch_rule, word_rule, command_with, rows_rules, call_rules, trace_rules, audit_rules, bench_rules, meanwhile_rules, drawn_rows_rules, drawn_calls_rules, judge_rules, program, command_line, IsApp, IsLeaf};
 
 use crate::help::{
-    ABOUT, ASM, AUDIT, BENCH, CALL, CALLS_HELP, CHECK, DIS, EXPLAIN, PROGRAM, ROWS, TRACE, USAGE,
+    ABOUT, ASM, AUDIT, BENCH, CALL, CALLS_HELP, CHECK, DIS, EXPLAIN, JUDGE, PROGRAM, ROWS, TRACE,
+    USAGE,
 };
 use crate::options::{
-    CALLS, CHAPTER, CLIENT, CLIENTS, DRAWN_CALLS, GEN, INPUT_LIMIT, MOVES, PARTITIONS, ROWS_GEN,
-    SEED, STOPS, SUBSCRIBERS,
+    CALLS, CHAPTER, CLIENT, CLIENTS, DRAWN_CALLS, GEN, INPUT_LIMIT, MOST, MOVES, PARTITIONS,
+    ROWS_GEN, SEED, STOPS, SUBSCRIBERS,
 };
 use clap::{Arg, ArgAction, Command};
 use std::alloc::{AllocError, Global};
@@ -94,6 +95,17 @@ fn audit<'a>(alloc: Global) -> Result<Command<'a>, AllocError>
         .arg(INPUT_LIMIT.arg(alloc))
 }
 
+fn judge<'a>(alloc: Global) -> Result<Command<'a>, AllocError>
+    ensures { IfOk result (IsLeaf (command_with judge_rules (codes "judge"))) }
+{
+    Command::new(alloc, "judge")
+        .about("Judge a history of any database: whether what its clients saw is serializable")
+        .after_help(JUDGE)
+        .arg(GEN.arg(alloc))?
+        .arg(SEED.arg(alloc))?
+        .arg(MOST.arg(alloc))
+}
+
 /// The options of a run of the benchmark that tell of its database and its clients.
 fn bench<'a>(alloc: Global) -> Result<Command<'a>, AllocError>
     ensures { IfOk result (IsLeaf (command_with bench_rules (codes "bench"))) }
@@ -126,6 +138,11 @@ fn bench_with_moves<'a>(alloc: Global) -> Result<Command<'a>, AllocError>
             alloc,
             "progress",
             "Tell on standard error how the run goes on",
+        ))?
+        .arg(switch(
+            alloc,
+            "history",
+            "Write also what clients asked and were answered, in the order of time",
         ))
 }
 
@@ -208,6 +225,7 @@ pub(crate) fn command<'a>(alloc: Global) -> Result<Command<'a>, AllocError>
         .subcommand(plain(alloc, "dis", "Print a module as assembly text", DIS))?
         .subcommand(plain(alloc, "check", "Test whether a module may be run", CHECK))?
         .subcommand(audit(alloc)?)?
+        .subcommand(judge(alloc)?)?
         .subcommand(bench_with_moves(alloc)?)?
         .subcommand(rows(alloc)?)?
         .subcommand(calls(alloc)?)?
@@ -220,6 +238,7 @@ pub(crate) fn command_named<'a>(alloc: Global, name: &str) -> Result<Command<'a>
         "call" => call(alloc)?,
         "trace" => trace(alloc)?,
         "audit" => audit(alloc)?,
+        "judge" => judge(alloc)?,
         "bench" => bench_with_moves(alloc)?,
         "rows" => rows(alloc)?,
         "calls" => calls(alloc)?,

@@ -113,6 +113,30 @@ Examples:
   tatp audit < rows.txt
   tatp audit --input-limit 1000000000 < rows.txt";
 
+/// Of `judge`.
+pub(crate) const JUDGE: &str = "\
+The input is the rows with which the history begins, a line with a dot, and the history: a row or a
+line of it on each line. Its lines are in the order of time:
+
+  ask C CALL     client C, 0 to 4,294,967,295, asks for a call, as the command call reads it
+  end C REPLY    its call is answered: OK and the values, or FAILED and a number; ? stands for any
+  abort C        its call was aborted, and changed nothing
+  lost C         its call will have no answer: it may take effect later, or never
+  # TEXT         a comment
+
+A client has one call open. Where it asks again, the call before has no answer either. Write the ask
+before the call is sent, and the end when its reply has come.
+
+Prints LEGAL where the calls have an order that keeps the order of time and gives every answer.
+Otherwise prints ILLEGAL L: up to line L of the input they have none, and up to the line before they
+have one; then the status is 1. Prints UNDECIDED L and a line SUBSCRIBER S where it doesn't know:
+by line L more than M configurations of subscriber S are possible, each of them rows that it may
+have and open calls that may still take effect. Then the status is 3, and a larger --most may help.
+
+Examples:
+  tatp judge < examples/history.txt
+  tatp judge --gen 1000 --seed 7 < history.txt";
+
 /// Of `bench`.
 pub(crate) const BENCH: &str = "\
 Nothing is read. Each partition has an executor, each client is a thread of its own, and two more
@@ -129,9 +153,14 @@ of 6,400,000 calls, chapters of 1000 calls take 0.24 GB, and chapters of 10 take
 for which memory is refused isn't handed out, and the run goes on.
 
 The first two lines depend on the clients, their calls, the subscribers, --uniform and the seed
-alone. With moves and stops, in 2 partitions and in 8:
+alone. With --history they are followed by what the clients asked and were answered, a line each:
+ask C CALL, end C REPLY, and abort C where memory was refused. Lines of one client stand in its
+order, and those of several in the order in which they asked and had their answers.
+
+With moves and stops, in 2 partitions and in 8; and the history of such a run alone:
   tatp bench --subscribers 1000 --calls 5000 --moves 100 --stops 100
-  tatp bench --subscribers 1000 --calls 5000 --moves 100 --stops 100 --partitions 8 --progress";
+  tatp bench --subscribers 1000 --calls 5000 --moves 100 --stops 100 --partitions 8 --progress
+  tatp bench --subscribers 1000 --calls 5000 --moves 100 --stops 100 --history | tail -n +4";
 
 /// Of `rows`.
 pub(crate) const ROWS: &str = "\

@@ -113,6 +113,12 @@ pub(crate) const INPUT_LIMIT: NumberOption = number_option!(
     "Read at most B bytes of the input"
 );
 
+/// Of `judge`.
+pub(crate) const MOST: NumberOption = number_option!(
+    "most" "M" in 1 to 1000000, Some("65536"), false,
+    "Keep at most M configurations of one subscriber"
+);
+
 /// What is wrong with an option: its text is no number of its range.
 #[derive(Clone, Copy, Debug, PartialEq, Eq)]
 pub(crate) struct BadNumber<'a> {

@@ -5,24 +5,25 @@ ghost use Rattle.clap.specs.Matches.{found_of};
 ghost use Rattle.clap.specs.Simple.{subcommand_rows_of};
 ghost use Rattle.clap.specs.Walk.{rows_of};
 ghost use Rattle.tatp_tasks.specs.Loads.{IsRowsPlan, IsCallsPlan};
+ghost use Rattle.tatp_tasks.specs.Judging.{IsJudgePlan};
 ghost use Rattle.tatp_tasks.specs.Plans.{IsPlan};
 ghost use Rattle.tatp_tasks.specs.Populations.{IsPopulation, IsSetup, IsInputLimit};
 ghost use Rattle.tatp_tasks.specs.Tasks.{IsTask};
 ghost use Rattle.tatp_command_line.specs.Asked.{IsNamedBy, AskFor};
 ghost use Rattle.tatp_command_line.specs.Numbers.{HasNumber, number_asked};
-ghost use Rattle.tatp_command_line.specs.Options.{partitions, clients, input_limit, HasPopulation, population_asked, HasSetup, setup_asked, HasPlan, plan_asked, distribution_asked, procedures_asked, HasRowsPlan, rows_plan_asked, HasCallsPlan, calls_plan_asked};
+ghost use Rattle.tatp_command_line.specs.Options.{partitions, clients, input_limit, HasPopulation, population_asked, HasSetup, setup_asked, HasPlan, plan_asked, distribution_asked, procedures_asked, HasRowsPlan, rows_plan_asked, HasJudgePlan, judge_plan_asked, HasCallsPlan, calls_plan_asked};
 
 use crate::commands::{command, command_named};
 use crate::options::{
-    BadNumber, CALLS, CHAPTER, CLIENT, CLIENTS, DRAWN_CALLS, GEN, INPUT_LIMIT, MOVES, PARTITIONS,
-    ROWS_GEN, SEED, STOPS, SUBSCRIBERS, given, is_given,
+    BadNumber, CALLS, CHAPTER, CLIENT, CLIENTS, DRAWN_CALLS, GEN, INPUT_LIMIT, MOST, MOVES,
+    PARTITIONS, ROWS_GEN, SEED, STOPS, SUBSCRIBERS, given, is_given,
 };
 use clap::error::ErrorKind;
 use clap::{ArgMatches, Error};
 use std::alloc::{AllocError, Global};
 use tatp_driver::Distribution;
 use tatp_limits::{MAX_CLIENTS, MAX_PARTITIONS};
-use tatp_tasks::{BenchPlan, CallsPlan, Population, Procedures, RowsPlan, Setup, Task};
+use tatp_tasks::{BenchPlan, CallsPlan, JudgePlan, Population, Procedures, RowsPlan, Setup, Task};
 
 /// Where the procedures of a run come from.
 fn procedures_of(options: &ArgMatches<'_>) -> Procedures
@@ -122,6 +123,18 @@ fn plan_of<'a>(options: &ArgMatches<'a>) -> Result<BenchPlan, BadNumber<'a>>
     })
 }
 
+/// The history that is to be judged.
+fn judge_plan_of<'a>(options: &ArgMatches<'a>) -> Result<JudgePlan, BadNumber<'a>>
+    ensures asked { OkIff result (HasJudgePlan (rows_of (found_of options.now)))
+        (judge_plan_asked (rows_of (found_of options.now))) }
+    ensures possible { IfOk result IsJudgePlan }
+{
+    Ok(JudgePlan {
+        population: population_of(options)?,
+        most: MOST.number(options)? as usize,
+    })
+}
+
 /// The rows that are to be drawn and written.
 fn rows_plan_of<'a>(options: &ArgMatches<'a>) -> Result<RowsPlan, BadNumber<'a>>
     ensures asked { OkIff result (HasRowsPlan (rows_of (found_of options.now)))
@@ -175,9 +188,11 @@ fn task_in<'a>(matches: &ArgMatches<'a>) -> Result<Option<Task<'a>>, BadNumber<'
         "audit" => Ok(Some(Task::Audit {
             input_limit: input_limit_of(options)?,
         })),
+        "judge" => Ok(Some(Task::Judge(judge_plan_of(options)?))),
         "bench" => Ok(Some(Task::Bench {
             plan: plan_of(options)?,
             progress: is_given(options, "progress"),
+            history: is_given(options, "history"),
         })),
         "rows" => Ok(Some(Task::Rows(rows_plan_of(options)?))),
         "calls" => Ok(Some(Task::Calls(calls_plan_of(options)?))),

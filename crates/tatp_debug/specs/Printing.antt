@@ -35,7 +35,7 @@ current_text c =
     ++ codes " " ++ key_field SpecialFacility c.facility
     ++ codes " " ++ key_field CallForwarding c.forwarding
 
--- four lines, parted by line feeds: where the call stands, by its procedure's name, the position
+-- four lines, parted by line feeds: where the call is: its procedure's name, the position
 -- and the text of the instruction; the registers; the current keys; the outputs
 abbrev pub snapshot_text : Snapshot → List ℕ
 snapshot_text s =

@@ -32,7 +32,7 @@ impl fmt::Display for KeyField {
     }
 }
 
-/// Values, each ahead of which a space stands.
+/// Values, each after a space.
 #[derive(Clone, Copy)]
 struct ValueFields<'a>(&'a [u64]);
 
@@ -72,7 +72,7 @@ impl fmt::Display for CurrentKeys {
     }
 }
 
-/// Four lines: where it stands, the registers, the current keys, the outputs. The last has no line
+/// Four lines: where it is, the registers, the current keys, the outputs. The last has no line
 /// feed.
 impl fmt::Display for Snapshot {
     ghost output = { λ snapshot. Some (snapshot_text snapshot) };

@@ -19,7 +19,7 @@ pub record CheckpointsIn (sites : List SiteState) (p e : ℕ)
   pub whole : IsSite after_it
   pub after : sites' ≡ slice_set sites p after_it
 
--- why it hands out none, as the whole tells it: of memory that ran out as everywhere
+-- why it hands out none, as the system reports it: its NoMemory is that of the system
 abbrev pub refusal_told : SiteRefusal → Refusal
 refusal_told site.NoMemory = NoMemory
 refusal_told refusal = Site refusal

@@ -1,4 +1,4 @@
--- What the whole keeps of its clients, and how it changes.
+-- What the system keeps of its clients, and how it changes.
 use Rattle.std.specs.Prelude.{◌≡◌, ℕ, ◌+◌, true, false, List, Some, slice_get, slice_set}
 use Rattle.tatp_dispatch.specs.declared.client.Client.{Client}
 

@@ -144,7 +144,7 @@ pub record EndsAt (w : WorldState) (p : ℕ) (completion : Completion) (w' : Wor
         (with_call_ended completion.entry.stamp c);
   }
 
--- one instruction more, where this stands against it
+-- one instruction more, unless it is refused for this
 abbrev pub AdvancesAt : Option Refusal → WorldState → ℕ → Answered → WorldState → Type 0
 AdvancesAt obstacle w p (Ok Moved) w' = (obstacle ≡ None) × MovesAt w p w'
 AdvancesAt obstacle w p (Ok (Ended client reply)) w' =
@@ -167,7 +167,7 @@ pub record TakesAt (w : WorldState) (p e number moves : ℕ) (w' : WorldState) :
   pub of_moves : moves ≡ parcel.moves
   pub after : w' ≡ record (with_site w p after_it) { parcels = slice_set w.parcels e (Some parcel) }
 
--- room for the parcel's landing is taken first, at a site that is there
+-- memory for the parcel's landing is taken first, at a site that is there
 abbrev pub TakesExtent : WorldState → ℕ → ℕ → Answered → WorldState → Type 0
 TakesExtent w p e (Ok (Parcel number moves)) w' =
     (take_obstacle_at w p e ≡ None) × TakesAt w p e number moves w'
@@ -196,7 +196,7 @@ GivesExtent w p e (Ok (Landed number moves)) w' =
 GivesExtent w p e (Ok other) w' = ⊥
 GivesExtent w p e (Err refusal) w' = IsRefused (give_obstacle w p e) refusal w w'
 
--- a landing of the extent after so many moves is told to the routes, and is no longer in hand
+-- the landing of extent e after that number of moves is routed, and is no longer in hand
 pub record RoutesLanding (w : WorldState) (e moves : ℕ) (settled : RouteUpdate)
     (landed : LandedState) (w' : WorldState) : Type 0 where
   pub i : ℕ
@@ -234,7 +234,7 @@ pub record KeepsChapter (w : WorldState) (p e extent index entries : ℕ) (w' : 
   pub of_entries : entries ≡ length chapter.entries
   pub after : w' ≡ record (with_site w p after_it) { chapters = w.chapters ++ chapter ∷ [] }
 
--- room for the chapter is taken first, at a site that is there
+-- memory for the chapter is taken first, at a site that is there
 abbrev pub CheckpointsAt : WorldState → ℕ → ℕ → Answered → WorldState → Type 0
 CheckpointsAt w p e (Ok (Chapter extent index entries)) w' =
     (checkpoint_obstacle_at w p e ≡ None) × KeepsChapter w p e extent index entries w'

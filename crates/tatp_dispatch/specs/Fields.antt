@@ -1,4 +1,4 @@
--- How the fields of the whole show it, and what holds of them.
+-- How the fields of the system show it, and what holds of them.
 use Rattle.std.specs.Prelude.{◌≡◌, ℕ, ◌+◌, ◌≤◌, List, Option, length, vec_len, None}
 use Rattle.std.specs.Vec.{vec_capacity}
 use Rattle.tatp_limits.specs.declared.limits.TheConstants.{MAX_CLIENTS}

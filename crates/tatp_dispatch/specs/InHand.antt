@@ -1,4 +1,4 @@
--- What is in hand: parcels until they land, and landings until they are told to the routes.
+-- What is in hand: parcels until they land, and landings until they are routed.
 use Rattle.std.specs.Prelude.{◌≡◌, ◌≢◌, ◌⊎◌, ℕ, Some, None, Ok, slice_get}
 use Rattle.tatp_extents.specs.Extents.{ExtentState}
 use Rattle.tatp_partition.specs.Moving.{LandedState}
@@ -36,7 +36,7 @@ pub record NoneInHand (w : WorldState) (e : ℕ) : Type 0 where
   pub parcel : slot w.parcels e ≡ None
   pub landing : (landed : LandedState) → HoldsLanding w landed → landed.number ≢ e
 
--- the route of extent e names the partition at whose site it stands
+-- the route of extent e names the partition at whose site it is
 pub record NamesTheHolder (w : WorldState) (e : ℕ) : Type 0 where
   pub route : Route
   pub site : SiteState

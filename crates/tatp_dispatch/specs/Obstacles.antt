@@ -23,7 +23,7 @@ where_holds holds refusal = if holds then Some refusal else None
 abbrev pub argument_obstacle : Ask → Option Refusal
 argument_obstacle ask = option_map BadArgument (bad_argument ask)
 
--- what stands against a call of this client
+-- why a call of this client is refused, if it is
 abbrev pub call_obstacle : ModuleState → Ask → Client → Option Refusal
 call_obstacle modul ask c =
     or_else (where_holds c.busy ClientBusy)
@@ -39,7 +39,7 @@ abbrev pub submit_obstacle : WorldState → ℕ → Ask → Option Refusal
 submit_obstacle w client ask = client_obstacle w ask (slice_get w.clients client)
 
 -- ---- at a site
--- what stands against an event at this site
+-- why an event at this site is refused, if it is
 abbrev pub at_site : WorldState → ℕ → (SiteState → Option SiteRefusal) → Option Refusal
 at_site w p obstacle =
     option_map_or (λ (s : SiteState). option_map Site (obstacle s)) (slice_get w.sites p)
@@ -49,7 +49,7 @@ at_site w p obstacle =
 abbrev pub front_of : WorldState → ℕ → Option Item
 front_of w p = front_in w.queues p
 
--- what stands against beginning the front call of a partition; that its home isn't there is the
+-- why the front call of a partition can't begin, if so; that its home isn't there is the
 -- site's NotHere
 abbrev pub front_obstacle : SiteState → Option Item → Option Refusal
 front_obstacle s None = Some NothingQueued

@@ -1,5 +1,5 @@
 -- trusted: read it
--- A whole that was just opened.
+-- A system that was just opened.
 use Rattle.std.specs.Prelude.{◌≡◌, ℕ, ◌+◌, false, List, [], length, replicate, None}
 use Rattle.tatp_encoding.specs.Modules.{ModuleState}
 use Rattle.tatp_tables.specs.Database.{Database, database_of}
@@ -25,9 +25,9 @@ new_client = record { accepted = 0; refused = 0; busy = false; seen = 0 }
 abbrev pub extents_of : Rows → List ExtentState
 extents_of rows = opened_extents (database_of rows) (length rows.subscribers)
 
--- a whole that was just opened with these rows in so many partitions and for so many clients:
+-- a system that was just opened with these rows, and these numbers of partitions and clients:
 -- its database is that of the rows, no call runs or waits, none was completed, and each extent
--- stands where its route says
+-- is where its route says
 pub record IsOpened (modul : ModuleState) (rows : Rows) (partitions client_count : ℕ)
     (w : WorldState) : Type 0 where
   pub runs : w.modul ≡ modul

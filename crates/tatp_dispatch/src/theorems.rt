@@ -27,7 +27,7 @@ ghost use Rattle.tatp_dispatch.specs.Serving.{IsWorld, ServesTransactions, Tells
 // ---- the theorem
 
 /// From a population to the end of any run: for whatever module, partitions, clients and events,
-/// the answers, and the whole after them, are the benchmark, one call after another.
+/// the answers, and the system after them, are the benchmark, one call after another.
 pub fn every_run_is_the_benchmark()
     ensures { (modul : ModuleState) (population : Rows) (partitions clients : ℕ)
         (opened after : WorldState) (events : List Event) (answers : List Answered)
@@ -77,7 +77,7 @@ pub fn gathered_rows_are_clean()
 
 // ---- sites, routes, and what is in hand
 
-/// What is seen at a site is the whole's, in mid-call too: the call that runs there is its
+/// What is seen at a site is the system's, in mid-call too: the call that runs there is its
 /// client's in the plain world, and a home there has its subscriber's rows in the gathered
 /// database.
 pub fn sites_show_the_whole()
@@ -88,7 +88,7 @@ pub fn sites_show_the_whole()
 {}
 
 /// Where neither a parcel nor a landing of an extent is in hand, its route names the partition
-/// where it stands.
+/// where it is.
 pub fn routes_name_the_holders()
     ensures { (w : WorldState) (e : ℕ)
         → IsWorld w → 1 ≤ e → e ≤ extent_count w.routes.subscribers
@@ -96,7 +96,7 @@ pub fn routes_name_the_holders()
 {}
 
 /// Whatever happens, a parcel in hand stays as it is until it lands, and a landing in hand until it
-/// is told to the routes.
+/// is routed.
 pub fn what_is_in_hand_stays()
     ensures parcels { (w after : WorldState) (event : Event) (answered : Answered) (e : ℕ)
         (parcel : ExtentState)

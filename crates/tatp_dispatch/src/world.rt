@@ -1,4 +1,4 @@
-//! The whole: all sites, what is under way between them, and the clients.
+//! The system: all sites, what is under way between them, and the clients.
 ghost use Rattle.std.specs.Prelude.{◌≡◌, ◌<◌, ◌≤◌, IfErr, IfOk, length};
 ghost use Rattle.tatp_events.specs.declared.refusal.Refusal.TheVariants.{NoPartition};
 

@@ -1,6 +1,6 @@
-//! Tests of the whole, step by step, and of lines of `trace`, through their public calls.
+//! Tests of the system, step by step, and of lines of `trace`, through their public calls.
 //!
-//! They stand in a crate of their own, since a crate with tests is proved a second time with them.
+//! They are in a crate of their own, since a crate with tests is proved a second time with them.
 #![tactic(auto)]
 
 #[cfg(test)]

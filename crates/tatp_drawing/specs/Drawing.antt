@@ -40,7 +40,7 @@ abbrev pub calls_drawn : BenchPlan → List (List Ask)
 calls_drawn plan = map (client_calls plan) (range_with_len 0 plan.clients)
 
 -- ---- what the mover does, from the stream after those of the clients
--- the next n moves, each of one of so many extents to one of so many partitions
+-- the next n moves, each of one of the extents to one of the partitions
 unfoldable pub next_moves : ℕ → ℕ → ℕ → Stream → List (ℕ × ℕ) × Stream
 next_moves extents partitions zero stream = ([], stream)
 next_moves extents partitions (suc n) stream =

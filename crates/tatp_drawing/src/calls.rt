@@ -17,7 +17,7 @@ use tatp_tasks::BenchPlan;
 /// be made.
 const HALVINGS: u32 = 3;
 
-/// The next so many calls of a driver. All memory is reserved before the first word is taken.
+/// The next `count` calls of a driver. All memory is reserved before the first word is taken.
 fn draw_list(alloc: Global, driver: Driver, count: u64) -> Result<Vec<Ask>, AllocError>
     ensures { IfOk result
         (λ list. list.items ≡ map Ask.Txn (next_calls driver.distribution driver.subscribers count

@@ -8,7 +8,7 @@ use rand_core::Rng;
 use std::alloc::{AllocError, Global};
 use tatp_population::choose;
 
-/// So many moves, each of one of the extents, counted from 1, to one of the partitions. All memory
+/// Drawn moves, each of one of the extents, counted from 1, to one of the partitions. All memory
 /// is reserved before the first word is taken.
 pub(crate) fn draw_moves<R: Rng>(
     alloc: Global,
@@ -31,7 +31,7 @@ pub(crate) fn draw_moves<R: Rng>(
     Ok(moves)
 }
 
-/// So many stops, each of one of the partitions. All memory is reserved before the first word is
+/// Drawn stops, each of one of the partitions. All memory is reserved before the first word is
 /// taken.
 pub(crate) fn draw_stops<R: Rng>(
     alloc: Global,

@@ -17,7 +17,7 @@ pub enum Event {
     Take(u64, u64),
     /// A parcel is given to a site: the partition, the extent.
     Give(u64, u64),
-    /// A landing is told to the routes: the extent, its moves.
+    /// A landing is routed: the extent, its moves.
     Route(u64, u64),
     /// An extent hands out a chapter: the partition, the extent.
     Checkpoint(u64, u64),
@@ -48,9 +48,9 @@ pub enum Answer {
     Moved,
     /// The client's call has ended with this reply.
     Ended(u64, Reply),
-    /// The extent is in hand, after so many moves.
+    /// The extent is in hand: its number, its moves.
     Parcel(u32, u16),
-    /// The extent has landed, after so many moves.
+    /// The extent has landed: its number, its moves.
     Landed(u32, u16),
     /// The extent's route is set to a partition.
     Set(u32, u8),

@@ -1,4 +1,4 @@
-//! Events: what may happen to the whole, what is answered, and why it is refused.
+//! Events: what may happen to the system, what is answered, and why it is refused.
 #![tactic(auto)]
 
 mod event;

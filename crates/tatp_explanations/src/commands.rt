@@ -22,7 +22,7 @@ fn text_of(alloc: Global, explanation: &Explanation) -> Result<String, AllocErro
 }
 
 /// Writes what a number means, with an example and what to do. The word is the number, in digits
-/// alone, or the name that stands behind it wherever it is answered. `false` where no refusal and
+/// alone, or the name that follows it wherever it is answered. `false` where no refusal and
 /// no fault has it, and then nothing.
 pub fn run_explain<W: Write>(alloc: Global, writer: &mut W, word: &str) -> Result<bool, StreamFault>
     ensures written { IfOk result (λ found. found ≡ true →

@@ -8,7 +8,7 @@ use std::fmt;
 /// that is written of one is wider than 80 columns.
 #[derive(Clone, Copy, Debug, PartialEq, Eq)]
 pub struct Explanation {
-    /// The number, which stands before the name wherever it is answered.
+    /// The number, which comes before the name wherever it is answered.
     pub number: u64,
     /// The name.
     pub name: &'static str,

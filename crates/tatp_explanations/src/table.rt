@@ -70,7 +70,9 @@ pub(crate) fn about_changes(number: u64) -> Explanation
   - Rows and calls are parted by a line with a dot. Where it is missing, the
     first call is taken for a row, as above; where no call follows either, the
     number is one more than that of the last line. With --gen there are no rows
-    and no such line."
+    and no such line.
+  - In a history a client ends a call that it has open, and a reply has as many
+    values as the call's columns."
     )
 }
 
@@ -234,7 +236,7 @@ pub(crate) fn about_openings(number: u64) -> Explanation
   REFUSED 26 BadArgument 1"
             "  Places count from 0, so here it is the ai_type, which is 1 to 4. An argument
   has the values of the column that it names; an s_id may be any number. The
-  call wasn't run."
+  call wasn't run. Of a history the line is told too, before the place."
         27 "NotClean" "rows don't pass the audits; the verdict follows"
             "  $ grep -v A examples/first-run.txt | tatp call
   tatp: 27 NotClean A6 1"
@@ -244,7 +246,7 @@ pub(crate) fn about_openings(number: u64) -> Explanation
   outside its column's values. A6: too few or too many rows of a subscriber.
   tatp audit tells the same, and runs nothing."
         28 "TooMany" "more than 1,000,000 subscribers"
-            "  An input of call or trace has 1,000,001 rows that begin with S."
+            "  An input of call, trace or judge has 1,000,001 rows that begin with S."
             "  Leave some out, from the highest s_id on, with all their rows. tatp audit
   takes more."
     )
@@ -389,7 +391,8 @@ pub(crate) fn about_streams(number: u64) -> Explanation
   tatp: 47 ReadFault"
             "  See that standard input is open and is no folder. At most 134,217,728 bytes
   are read; wc -c counts those of a file. For a longer input tell call, trace or
-  audit by --input-limit how many to read; asm, dis and check read no more."
+  audit by --input-limit how many to read; asm, dis and check read no more. Of
+  a history judge reads up to 1,099,511,627,776."
         48 "NoProcedure" "there is no such procedure, or it takes more or fewer arguments"
             "  $ echo 'raw 0 4 id 1 1' | tatp trace --gen 1
   REFUSED 48 NoProcedure"

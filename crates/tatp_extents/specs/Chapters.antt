@@ -104,7 +104,7 @@ homeless_chapter_of h = record {
   after = [];
 }
 
--- room for more entries isn't kept
+-- memory for more entries isn't kept
 pub record IsHomelessAfterCheckpoint (h h' : HomelessState) : Type 0 where
   pub mixed : h'.mixed ≡ false
   pub chapters : h'.chapters ≡ h.chapters + 1

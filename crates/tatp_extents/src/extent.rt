@@ -150,7 +150,7 @@ impl Extent {
         add_rows(&self.parts.homes, rows)
     }
 
-    /// Makes room in its log for about so many more calls of the benchmark's mix: a log that grows
+    /// Reserves its log for about `calls` more calls of the benchmark's mix: a log that grows
     /// while calls run is copied, and asks for memory each time.
     pub(crate) fn reserve_for(&mut self, calls: usize) -> Result<(), AllocError>
         ensures { self.new ≡ self.old }
@@ -169,8 +169,8 @@ impl Extent {
         Extent { parts }
     }
 
-    /// The extent while a call runs on the home of this subscriber, with room for one more entry in
-    /// its log; where that room is refused, the extent.
+    /// The extent while a call runs on the home of this subscriber, with memory for one more entry
+    /// in its log; where that is refused, the extent.
     pub fn pin(self, alloc: Global, s_id: u64) -> Result<Pinned, Extent>
         requires { LiesIn s_id self }
         ensures pinned { IfOk result (λ pinned. pinned ≡ record { extent = self; s_id = s_id }) }

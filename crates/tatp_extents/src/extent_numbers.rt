@@ -12,7 +12,7 @@ pub fn extent_of(s_id: u64) -> u64
     s_id.div_ceil(EXTENT_SUBSCRIBERS)
 }
 
-/// Into how many extents so many subscribers are divided.
+/// Into how many extents the subscribers are divided.
 pub fn extent_count(subscribers: u64) -> u64
     ensures { result ≡ extent_count subscribers }
 {

@@ -87,7 +87,7 @@ impl Homeless {
         self.log.last_stamp()
     }
 
-    /// Makes room for one more entry.
+    /// Reserves memory for one more entry.
     pub fn reserve(&mut self) -> Result<(), AllocError>
         ensures mixed { self.new.mixed ≡ self.old.mixed }
         ensures chapters { self.new.chapters ≡ self.old.chapters }

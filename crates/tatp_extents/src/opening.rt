@@ -27,7 +27,7 @@ pub fn discard(extents: Vec<Extent>) {
     rest.destroy_empty();
 }
 
-/// Makes room in the log of each extent for about so many calls of the benchmark's mix.
+/// Reserves the log of each extent for about `calls` calls of the benchmark's mix.
 pub fn reserve_logs(extents: &mut [Extent], calls: usize) -> Result<(), AllocError>
     ensures { extents.new ≡ extents.old }
 {

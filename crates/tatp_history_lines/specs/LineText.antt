@@ -42,7 +42,7 @@ IsTextOf opened (End client recorded) text = IsEndText opened client recorded te
 IsTextOf opened (Abort client) text = IsEndedText (codes "abort ") opened client text
 IsTextOf opened (Lost client) text = IsEndedText (codes "lost ") opened client text
 
--- ---- the numbers that stand in it, but for the client
+-- ---- the numbers in it, but for the client
 abbrev pub reply_numbers : Reply → List ℕ
 reply_numbers (Values values) = values
 reply_numbers (Failed n) = n ∷ []

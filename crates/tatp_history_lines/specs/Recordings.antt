@@ -13,7 +13,7 @@ use Rattle.tatp_history_lines.specs.Words.{short_number_of}
 use Rattle.tatp_history_lines.specs.ReplyValues.{values_within, has_values}
 
 -- ---- the reply that a text records
--- a success with these values, where the call's reply may have so many
+-- a success with these values, where the call's reply may have that number of them
 abbrev pub with_values : Call → List ℕ → Option Reply
 with_values call values = if has_values call (length values) then Some (Values values) else None
 

@@ -33,8 +33,8 @@ values_within (c ∷ columns) (field ∷ more) =
     (λ v. option_map (λ rest. v ∷ rest) (values_within columns more))
     (printed_value_of c field)
 
--- whether a reply to the call may have so many values: one of each column that it answers, and of
--- the numbers of forwardings any of those that there is room for
+-- whether a reply to the call may have this number of values: one of each column that it answers;
+-- of the numbers of forwardings, any number up to the most that a reply may have
 abbrev pub has_values : Call → ℕ → Bool
 has_values (GetSubscriberData s) n = n == 34
 has_values (GetNewDestination s t b e) n = true

@@ -3,7 +3,7 @@ use Rattle.std.specs.Prelude.{ℕ, ◌==◌, ◌^◌, nat_lt, if◌then◌else�
 use Rattle.std.specs.Option.{option_map, option_and_then}
 use Rattle.tatp_lines.specs.Numbers.{number_of}
 
--- what stands before the first space of a text, and what follows it, where there is one
+-- what comes before the first space of a text, and what follows it, where there is one
 unfoldable pub split_word : List ℕ → Option (List ℕ × List ℕ)
 split_word [] = None
 split_word (b ∷ bs) =

@@ -15,7 +15,7 @@ use tatp_texts::{Fields, read_value};
 /// The column of the numbers of forwardings.
 const NUMBERX: u8 = 50;
 
-/// The number at this place of so many in a row.
+/// The number at this place, of `count` numbers in a row.
 #[tactic(auto, using(crate::proofs::ColumnLaws::run_at, crate::proofs::ColumnLaws::run_past))]
 fn in_run(first: u8, count: usize, place: usize) -> Option<u8>
     requires { first + count ≤ 256 }
@@ -29,7 +29,7 @@ fn in_run(first: u8, count: usize, place: usize) -> Option<u8>
     }
 }
 
-/// The number that stands at each of so many places.
+/// The number at each of `count` places.
 #[tactic(auto, using(crate::proofs::ColumnLaws::copies_at, crate::proofs::ColumnLaws::copies_past))]
 fn in_copies(number: u8, count: usize, place: usize) -> Option<u8>
     ensures number { result ≡ slice_get (replicate count number) place }
@@ -38,7 +38,7 @@ fn in_copies(number: u8, count: usize, place: usize) -> Option<u8>
     if place < count { Some(number) } else { None }
 }
 
-/// The column in whose form the value at this place of a reply to the call stands.
+/// The column in whose form the value at this place of a reply to the call is.
 fn column_at(call: &Call, place: usize) -> Option<u8>
     ensures column { result ≡ slice_get (answer_columns call.now) place }
     ensures room { IfSome result (λ _. place < MAX_OUTPUTS) }
@@ -86,7 +86,7 @@ pub(crate) fn read_values(call: &Call, fields: &mut Fields) -> Option<ArrayVec<u
     }
 }
 
-/// Whether a reply to the call may have so many values.
+/// Whether a reply to the call may have this number of values.
 pub(crate) fn has_values(call: &Call, count: usize) -> bool
     ensures { result ≡ has_values call.now count }
 {

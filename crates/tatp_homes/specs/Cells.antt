@@ -9,7 +9,7 @@ use Rattle.tatp_homes.specs.Home.{IsHome}
 abbrev pub Cells : Type 0
 Cells = List (Option Tuple)
 
--- the rows that stand in cells
+-- the rows in cells
 abbrev pub present : Cells → List Tuple
 present [] = []
 present (None ∷ more) = present more
@@ -27,7 +27,7 @@ forwarding_keys =
     (1 ∷ 0 ∷ []) ∷ (1 ∷ 8 ∷ []) ∷ (1 ∷ 16 ∷ []) ∷ (2 ∷ 0 ∷ []) ∷ (2 ∷ 8 ∷ []) ∷ (2 ∷ 16 ∷ [])
     ∷ (3 ∷ 0 ∷ []) ∷ (3 ∷ 8 ∷ []) ∷ (3 ∷ 16 ∷ []) ∷ (4 ∷ 0 ∷ []) ∷ (4 ∷ 8 ∷ []) ∷ (4 ∷ 16 ∷ []) ∷ []
 
--- each row stands at the place of its key
+-- each row is at the place of its key
 abbrev pub StandAt : ℕ → List (List ℕ) → Cells → Type 0
 StandAt s [] [] = Unit {0}
 StandAt s [] (c ∷ cells) = ⊥

@@ -32,9 +32,15 @@ abbrev pub brought : ℕ → List (List ℕ) → Result Work ℕ
 brought n lines =
     work_by (n + length lines) (rows_of_lines n (before_dot lines)) (after_dot lines)
 
--- of all these lines the first bring these rows, and the others are left
-pub record BringsLines (first : ℕ) (rows : Rows) (all left : LinesLeft) : Type 0 where
-  pub work : brought first all.lines ≡ Ok (record { rows = rows; lines = left.lines })
+-- how many lines the rows take, with the line `.`
+abbrev pub lines_of_rows : List (List ℕ) → ℕ
+lines_of_rows lines = length (before_dot lines) + 1
+
+-- of all these lines the first bring these rows, and the others are left; before them and after
+-- them so many lines are taken in all
+pub record BringsLines (rows : Rows) (before after : ℕ) (all left : LinesLeft) : Type 0 where
+  pub work : brought (before + 1) all.lines ≡ Ok (record { rows = rows; lines = left.lines })
+  pub counted : after ≡ before + lines_of_rows all.lines
   pub input : left.input ≡ all.input
 
 -- ---- rows that are drawn
@@ -51,10 +57,18 @@ work_of Read n lines = brought n lines
 work_of (Generated count seed) n lines =
     Ok (record { rows = generated count seed; lines = lines })
 
--- of all these lines the work has these rows, and those that are left
-pub record BringsWork (population : Population) (first : ℕ) (rows : Rows) (all left : LinesLeft)
-    : Type 0 where
-  pub work : work_of population first all.lines ≡ Ok (record { rows = rows; lines = left.lines })
+-- how many of the lines come before those that are answered
+abbrev pub lines_before : Population → List (List ℕ) → ℕ
+lines_before Read lines = lines_of_rows lines
+lines_before (Generated count seed) lines = 0
+
+-- of all these lines the work has these rows, and those that are left; before it is brought and
+-- after so many lines are taken in all
+pub record BringsWork (population : Population) (rows : Rows) (before after : ℕ)
+    (all left : LinesLeft) : Type 0 where
+  pub work : work_of population (before + 1) all.lines
+      ≡ Ok (record { rows = rows; lines = left.lines })
+  pub counted : after ≡ before + lines_before population all.lines
   pub input : left.input ≡ all.input
 
 -- where the population is drawn, these rows are clean, and not too many

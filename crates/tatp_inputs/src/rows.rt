@@ -96,7 +96,7 @@ pub(crate) fn read_work<R: Read>(
     ensures work { IfOk result (λ rows. Relates
         (lines_left lines.old (R.remaining reader.old))
         (lines_left lines.new (R.remaining reader.new))
-        (BringsLines (lines.old.number + 1) rows)) }
+        (BringsLines rows lines.old.number lines.new.number)) }
     ensures faults { IfErr result (λ fault.
         IfSome (lines_left lines.old (R.remaining reader.old)) (λ all.
         RefusesReading (brought (lines.old.number + 1) all.lines) fault)) }

@@ -28,7 +28,7 @@ pub fn work_of<R: Read>(
     ensures work { IfOk result (λ rows. Relates
         (lines_left lines.old (R.remaining reader.old))
         (lines_left lines.new (R.remaining reader.new))
-        (BringsWork population (lines.old.number + 1) rows)) }
+        (BringsWork population rows lines.old.number lines.new.number)) }
     ensures clean { IfOk result (λ rows. AreCleanWhereDrawn population rows) }
     ensures faults { IfErr result (λ fault.
         IfSome (lines_left lines.old (R.remaining reader.old)) (λ all.

@@ -11,14 +11,14 @@ use Rattle.tatp_instr.specs.declared.instr.Parts.{Parts}
 abbrev pub shape_with : ℕ → Word → Shape
 shape_with registers word = record { registers = registers; word = word }
 
--- a row of the table; in the text, the u32 stands before the registers where it is first
+-- a row of the table; in the text, the u32 comes before the registers where it is first
 pub record Row : Type 0 where
   pub op : ℕ
   pub mnemonic : List ℕ
   pub shape : Shape
   pub word_first : Bool
 
--- a row whose u32, if there is one, stands after the registers
+-- a row whose u32, if there is one, comes after the registers
 abbrev pub row : ℕ → List ℕ → ℕ → Word → Row
 row op mnemonic registers word = record {
   op = op;
@@ -27,7 +27,7 @@ row op mnemonic registers word = record {
   word_first = false;
 }
 
--- a row whose u32 stands before them
+-- a row whose u32 comes before them
 abbrev pub row_word_first : ℕ → List ℕ → Word → ℕ → Row
 row_word_first op mnemonic word registers = record {
   op = op;

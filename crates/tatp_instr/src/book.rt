@@ -5,7 +5,7 @@ ghost use Rattle.tatp_instr.specs.Instrs.{parts_of};
 ghost use Rattle.tatp_instr.specs.Rows.{IsRowOf, row_view};
 ghost use Rattle.tatp_instr.specs.Shapes.{shape_at, rows, named, row_named};
 
-/// What stands in an instruction's u32.
+/// What is in an instruction's u32.
 #[derive(Clone, Copy, Debug, PartialEq, Eq)]
 pub enum Word {
     /// No u32: it is 0.
@@ -27,7 +27,7 @@ pub struct Shape {
     pub word: Word,
 }
 
-/// One row of the table. In the text, the u32 operand stands before the registers where
+/// One row of the table. In the text, the u32 operand comes before the registers where
 /// `word_first`, and otherwise after them.
 #[derive(Clone, Copy, Debug, PartialEq, Eq)]
 pub struct OpRow {
@@ -37,7 +37,7 @@ pub struct OpRow {
     pub word_first: bool,
 }
 
-// One row. Its operands stand in the order of the text: the number of the registers, and what the
+// One row. Its operands are in the order of the text: the number of the registers, and what the
 // u32 holds, where the op has one.
 macro_rules! row {
     ($op:literal, $mnemonic:literal, $registers:literal) => {

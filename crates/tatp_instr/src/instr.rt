@@ -7,7 +7,7 @@ ghost use Rattle.tatp_instr.specs.Shapes.{shape_at, HasShape};
 use crate::registers::{KeyRegisters, Register, RowRegisters};
 use tatp_limits::REGISTERS;
 
-/// One instruction; one variant per row of the table, in its order. The registers stand before the
+/// One instruction; one variant per row of the table, in its order. The registers come before the
 /// u32, as in the encoding: so an instruction takes 8 bytes.
 #[derive(Clone, Copy, Debug, PartialEq, Eq)]
 pub enum Instr {

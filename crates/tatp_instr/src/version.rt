@@ -9,7 +9,7 @@ use crate::instr::Instr;
 pub enum Version {
     /// The ops 1 to 21. Jumps go forward, so the code of a procedure bounds what its calls do.
     One = 1,
-    /// LOOP besides. A call is stopped past so many steps, outputs and writes.
+    /// LOOP besides. A call is stopped past its limits of steps, outputs and writes.
     Two = 2,
 }
 

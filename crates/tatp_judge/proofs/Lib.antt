@@ -1,6 +1,11 @@
-pub mod OutcomeLaws
-pub mod AcceptedLaws
-pub mod GatheredLaws
+pub mod NextLineLaws
+pub mod FirstLinesLaws
+pub mod NoneLaws
+pub mod WindowLaws
+pub mod ClosingLaws
+pub mod WritingLaws
 pub mod SearchLaws
+pub mod PlaceLaws
+pub mod StepLaws
+pub mod JudgeLaws
 pub mod PopulationLaws
-pub mod VerdictLaws

@@ -1,71 +1,31 @@
--- What the search on each subscriber's events, and the calls of none, say of a history.
-use Rattle.std.proofs.Common.{◌≡◌, ℕ, zero, suc, ◌+◌, ◌-◌, ◌<◌, ◌≤◌, ◌∙◌, ◌↔◌, sym, ap, subst, Bool, true, false, cond, List, [], ◌∷◌, length, map, drop, get_or, slice_get, refl, arith, Option, Some, None, ne_eqb, IsTrue, inl, inr}
-use Rattle.std.specs.List.{AllByRecursion, range_with_len}
+-- The first illegal line, by what is said of each window.
+use Rattle.std.proofs.Common.{◌≡◌, ℕ, zero, suc, ◌+◌, ◌-◌, ◌<◌, ◌≤◌, ◌⊎◌, ◌∙◌, sym, ap, subst, Bool, true, false, cond, List, [], ◌∷◌, length, map, slice_get, take, refl, arith, Option, Some, None, ne_eqb, IsTrue, inl, inr}
+use Rattle.std.specs.List.{range_with_len}
 use Rattle.std.proofs.lemmas.Bool.{cases_lt, false≢true}
-use Rattle.std.proofs.lemmas.List.{drop_all, length-map}
+use Rattle.std.proofs.lemmas.List.{take_all}
 use Rattle.std.proofs.lemmas.Option.{none-some, same_Some}
 use Rattle.tatp_tables.specs.Database.{Database, of_subscriber}
 use Rattle.tatp_homes.specs.Home.{SubscriberRows, home_in}
-use Rattle.tatp_numbers.specs.Listing.{Listing, answer}
+use Rattle.tatp_numbers.specs.Listing.{Listing}
 use Rattle.tatp_procs.specs.declared.call.Call.{Call}
 use Rattle.tatp_procs.specs.Calls.{key_of_call}
 use Rattle.tatp_history.specs.declared.line.Line.{Line}
 use Rattle.tatp_history.specs.declared.line.Line.TheVariants.{Ask, End, Abort, Lost}
-use Rattle.tatp_history.specs.declared.event.Event.{Event}
-use Rattle.tatp_history.specs.declared.event.Event.TheVariants.{Asks}
 use Rattle.tatp_history.specs.declared.observed.Observed.{Observed}
 use Rattle.tatp_history.specs.Histories.{IsStrictlySerializable}
-use Rattle.tatp_history.specs.HistoryLines.{call_at, calls_from, calls_of, AreAcceptedLines}
-use Rattle.tatp_history.specs.Locality.{subscriber_of, is_this, is_on, calls_on, FailWithout, IsSerializableAtEach}
-use Rattle.tatp_history.specs.Events.{asked_in, TimesRise, HaveEnds}
-use Rattle.tatp_history.specs.SubscriberEvents.{OpenCalls, no_calls, with_call, end_before, events_with, events_of}
+use Rattle.tatp_history.specs.HistoryLines.{calls_of, AreAcceptedLines}
+use Rattle.tatp_history.specs.Locality.{subscriber_of, is_this, is_on, calls_on, FailWithout}
 use Rattle.tatp_history.proofs.LineLaws.{are_calls}
 use Rattle.tatp_history.proofs.LocalityLaws.{combined, parted}
-use Rattle.tatp_history.proofs.SubscriberEventLaws.{same_or_not, asked_on, times_rise, have_ends, opened_none}
-use Rattle.tatp_linearization.specs.Held.{IsAcceptedEvent}
-use Rattle.tatp_judge.specs.declared.gathering.Events.{Events}
-use Rattle.tatp_judge.specs.Gathered.{lists_of, AreEventsOfEach}
-use Rattle.tatp_judge.proofs.GatheredLaws.{list_at}
-use Rattle.tatp_judge.proofs.OutcomeLaws.{dropped}
-use Rattle.tatp_judge.specs.Searched.{AreHomesOf, FailsAt, IsSerializableOnEach}
-use Rattle.tatp_judge.specs.Population.{IsDirectoryOf, AreRowsOf}
-
--- ---- events of accepted calls
-accepted_end : (o : Option ℕ) (number : ℕ) (events : List Event) → AllByRecursion IsAcceptedEvent events → AllByRecursion IsAcceptedEvent (end_before o number events)
-accepted_end None number events h = h
-accepted_end (Some asked) number events h = (tt, h)
-
-accepted_events : (u : Database) (s number : ℕ) (opened : OpenCalls) (lines : List Line) → AreAcceptedLines lines → AllByRecursion IsAcceptedEvent (events_with u s number opened lines)
-accepted_events u s number opened [] h = tt
-accepted_events u s number opened (Ask client call ∷ more) h =
-    elim (is_on u s call) as (λ b. AllByRecursion IsAcceptedEvent (cond b (Asks (call_at number client call more) ∷ events_with u s (suc number) (with_call opened client (Some number)) more) (events_with u s (suc number) (with_call opened client None) more))) [
-      | true ↦ (h.0, accepted_events u s (suc number) (with_call opened client (Some number)) more h.1)
-      | false ↦ accepted_events u s (suc number) (with_call opened client None) more h.1
-    ]
-accepted_events u s number opened (End client recorded ∷ more) h =
-    accepted_end (opened client) number (events_with u s (suc number) (with_call opened client None) more) (accepted_events u s (suc number) (with_call opened client None) more h)
-accepted_events u s number opened (Abort client ∷ more) h = accepted_events u s (suc number) (with_call opened client None) more h
-accepted_events u s number opened (Lost client ∷ more) h = accepted_events u s (suc number) (with_call opened client None) more h
-
--- what the search wants of a subscriber's events
-pub record AreSearchable (events : List Event) : Type 0 where
-  pub rise : TimesRise events
-  pub ends : HaveEnds events
-  pub accepted : AllByRecursion IsAcceptedEvent events
-
-pub searchable : (u : Database) (s : ℕ) (lines : List Line) (events : List Event) → AreAcceptedLines lines → events ≡ events_of u s lines → AreSearchable events
-searchable u s lines events h e = subst AreSearchable (sym e) (record {
-  rise = times_rise u s 1 no_calls lines;
-  ends = have_ends u s 1 no_calls lines (opened_none 1);
-  accepted = accepted_events u s 1 no_calls lines h;
-})
-
--- what it says of them
-pub searched : (u : Database) (s : ℕ) (lines : List Line) (events : List Event) (rows : Database) (b : Bool) → events ≡ events_of u s lines → rows ≡ of_subscriber u s → (IsTrue b ↔ IsStrictlySerializable rows (asked_in events))
-    → (IsTrue b ↔ IsStrictlySerializable (of_subscriber u s) (calls_on u s (calls_of lines)))
-searched u s lines events rows b e r h =
-    let calls : asked_in events ≡ calls_on u s (calls_of lines) = ap asked_in e ∙ asked_on u s 1 no_calls lines in
-    subst (λ (v : Database). IsTrue b ↔ IsStrictlySerializable v (calls_on u s (calls_of lines))) r (subst (λ (xs : List Observed). IsTrue b ↔ IsStrictlySerializable rows xs) calls h)
+use Rattle.tatp_history.proofs.SubscriberEventLaws.{same_or_not}
+use Rattle.tatp_linearization.specs.declared.first.First.TheVariants.{Never, At}
+use Rattle.tatp_judge.specs.declared.judge.Judge.{Judge}
+use Rattle.tatp_judge.specs.declared.window.Window.{Window}
+use Rattle.tatp_judge.specs.Followed.{HasRead, IsSearchable}
+use Rattle.tatp_judge.specs.Population.{IsDirectoryOf}
+use Rattle.tatp_judge.specs.Searched.{AreHomesOf}
+use Rattle.tatp_judge.specs.Verdicts.{IsLegal, IsFirstIllegal}
+use Rattle.tatp_judge.specs.Windows.{IsWindowAfter, IsSpent, IsExplainedBy, IsExplainedBefore, IsFirstOf}
 
 -- ---- homes
 home_from : (u : Database) (n first p : ℕ) (home : SubscriberRows) → slice_get (map (home_in u) (range_with_len first n)) p ≡ Some home → home ≡ home_in u (first + p)
@@ -78,15 +38,8 @@ home_at u homes p home are h =
     let is = home_from u (length homes) 1 p home (ap (λ hs. slice_get hs p) (sym are) ∙ h) in
     ap (λ (h : SubscriberRows). h.tables) is ∙ ap (of_subscriber u) (omega arith)
 
--- ---- calls that name no subscriber
-pub fails_first : (u : Database) (number : ℕ) (line : Line) (more : List Line) → FailWithout u (calls_from number (line ∷ more)) ↔ (FailsAt u number line more × FailWithout u (calls_from (suc number) more))
-fails_first u number (Ask client call) more = (λ h. h, λ h. h)
-fails_first u number (End client recorded) more = (λ h. (tt, h), λ h. h.1)
-fails_first u number (Abort client) more = (λ h. (tt, h), λ h. h.1)
-fails_first u number (Lost client) more = (λ h. (tt, h), λ h. h.1)
-
 -- ---- subscribers that aren't there
-named_within : (u : Database) (n : ℕ) (directory : Listing) (call : Call) (s : ℕ) → IsDirectoryOf u n directory → subscriber_of u call ≡ Some s → (1 ≤ s) × (s ≤ n)
+pub named_within : (u : Database) (n : ℕ) (directory : Listing) (call : Call) (s : ℕ) → IsDirectoryOf u n directory → subscriber_of u call ≡ Some s → (1 ≤ s) × (s ≤ n)
 named_within u n directory call s d h = d.named (key_of_call call) s (d.keys (key_of_call call) ∙ h)
 
 not_on : (u : Database) (n : ℕ) (directory : Listing) (s : ℕ) → IsDirectoryOf u n directory → ((1 ≤ s) × (s ≤ n) → ⊥) → (call : Call) → is_on u s call ≡ false
@@ -106,8 +59,22 @@ none_on u s f (x ∷ calls) = ap (λ b. cond b (x ∷ calls_on u s calls) (calls
 no_calls_serializable : (v : Database) → IsStrictlySerializable v []
 no_calls_serializable v = ([], record { made = tt; once = tt; all = λ x h a. h; real_time = tt; replies = tt })
 
+accepted_front : (k : ℕ) (lines : List Line) → AreAcceptedLines lines → AreAcceptedLines (take k lines)
+accepted_front zero lines h = tt
+accepted_front (suc k) [] h = tt
+accepted_front (suc k) (Ask client call ∷ more) h = (h.0, accepted_front k more h.1)
+accepted_front (suc k) (End client recorded ∷ more) h = accepted_front k more h
+accepted_front (suc k) (Abort client ∷ more) h = accepted_front k more h
+accepted_front (suc k) (Lost client ∷ more) h = accepted_front k more h
+
+pub none_explained : (u : Database) (n : ℕ) (directory : Listing) (s : ℕ) (lines : List Line) → IsDirectoryOf u n directory → ((1 ≤ s) × (s ≤ n) → ⊥) → IsStrictlySerializable (of_subscriber u s) (calls_on u s (calls_of lines))
+none_explained u n directory s lines d out = subst (IsStrictlySerializable (of_subscriber u s)) (sym (none_on u s (not_on u n directory s d out) (calls_of lines))) (no_calls_serializable (of_subscriber u s))
+
 -- ---- all together
-on_every : (u : Database) (n : ℕ) (directory : Listing) (lines : List Line) → IsDirectoryOf u n directory → IsSerializableOnEach u n lines → (s : ℕ) → IsStrictlySerializable (of_subscriber u s) (calls_on u s (calls_of lines))
+abbrev AreExplained : Database → ℕ → List Line → Type 0
+AreExplained u n lines = (place : ℕ) → place < n → IsStrictlySerializable (of_subscriber u (suc place)) (calls_on u (suc place) (calls_of lines))
+
+on_every : (u : Database) (n : ℕ) (directory : Listing) (lines : List Line) → IsDirectoryOf u n directory → AreExplained u n lines → (s : ℕ) → IsStrictlySerializable (of_subscriber u s) (calls_on u s (calls_of lines))
 on_every u n directory lines d each zero =
     subst (IsStrictlySerializable (of_subscriber u 0)) (sym (none_on u 0 (not_on u n directory 0 d (λ r. omega (arith, r.0))) (calls_of lines))) (no_calls_serializable (of_subscriber u 0))
 on_every u n directory lines d each (suc p) = elim (cases_lt p n) [
@@ -115,68 +82,103 @@ on_every u n directory lines d each (suc p) = elim (cases_lt p n) [
   | inr le ↦ subst (IsStrictlySerializable (of_subscriber u (suc p))) (sym (none_on u (suc p) (not_on u n directory (suc p) d (λ r. omega (arith, r.1, le))) (calls_of lines))) (no_calls_serializable (of_subscriber u (suc p)))
 ]
 
-pub legal : (u : Database) (homes : List SubscriberRows) (directory : Listing) (lines : List Line) → AreRowsOf u homes directory → AreAcceptedLines lines → FailWithout u (calls_of lines) → IsSerializableOnEach u (length homes) lines → IsStrictlySerializable u (calls_of lines)
-legal u homes directory lines rows accepted none each =
-    combined u (calls_of lines) rows.consistent (are_calls 1 lines accepted) (record { each = on_every u (length homes) directory lines rows.directory_is each; none = none })
+legal : (u : Database) (lines : List Line) (judge : Judge) (k : ℕ) → HasRead u lines judge → FailWithout u (calls_of (take k lines)) → ((place : ℕ) → place < length judge.windows.items → IsExplainedBy u (suc place) lines k) → IsLegal u (take k lines)
+legal u lines judge k read none each =
+    combined u (calls_of (take k lines)) read.consistent (are_calls 1 (take k lines) (accepted_front k lines read.accepted))
+    (record { each = on_every u (length judge.windows.items) judge.directory (take k lines) read.directory_is each; none = none })
 
-pub legal_at_each : (u : Database) (homes : List SubscriberRows) (directory : Listing) (lines : List Line) → AreRowsOf u homes directory → AreAcceptedLines lines → IsStrictlySerializable u (calls_of lines) → IsSerializableAtEach u (calls_of lines)
-legal_at_each u homes directory lines rows accepted h = parted u (calls_of lines) rows.consistent (are_calls 1 lines accepted) h
+pub legal_at : (u : Database) (lines : List Line) (judge : Judge) (k s : ℕ) → HasRead u lines judge → IsLegal u (take k lines) → IsExplainedBy u s lines k
+legal_at u lines judge k s read h = (parted u (calls_of (take k lines)) read.consistent (are_calls 1 (take k lines) (accepted_front k lines read.accepted)) h).each s
 
--- ---- loops
--- the lines from place i on say the rest
-abbrev pub IsFailing : Database → List Line → ℕ → Type 0
-IsFailing u lines i = FailWithout u (calls_from (suc i) (drop i lines)) ↔ FailWithout u (calls_of lines)
+pub legal_none : (u : Database) (lines : List Line) (judge : Judge) → HasRead u lines judge → IsLegal u lines → FailWithout u (calls_of lines)
+legal_none u lines judge read h = (parted u (calls_of lines) read.consistent (are_calls 1 lines read.accepted) h).none
 
-here : (u : Database) (lines : List Line) (i : ℕ) (line : Line) → i < length lines → line ≡ get_or lines i line
-    → FailWithout u (calls_from (suc i) (drop i lines)) ↔ (FailsAt u (suc i) line (drop (suc i) lines) × FailWithout u (calls_from (suc (suc i)) (drop (suc i) lines)))
-here u lines i line lt at =
-    subst (λ (ls : List Line). FailWithout u (calls_from (suc i) ls) ↔ (FailsAt u (suc i) line (drop (suc i) lines) × FailWithout u (calls_from (suc (suc i)) (drop (suc i) lines))))
-    (sym (dropped lines i line lt at)) (fails_first u (suc i) line (drop (suc i) lines))
+-- ---- the loop over windows
+nothing_legal : (u : Database) → IsLegal u []
+nothing_legal u = ([], record { made = tt; once = tt; all = λ x h a. h; real_time = tt; replies = tt })
 
-pub failing_more : (u : Database) (lines : List Line) (i : ℕ) (line : Line) → i < length lines → line ≡ get_or lines i line → IsFailing u lines i → FailsAt u (suc i) line (drop (suc i) lines) → IsFailing u lines (suc i)
-failing_more u lines i line lt at so_far fails =
-    let first = here u lines i line lt at in
-    (λ h. so_far.0 (first.1 (fails, h)), λ h. (first.0 (so_far.1 h)).1)
+-- before the least line all is explained of the subscribers up to a place, and at it the lines are illegal
+pub record IsLeast (u : Database) (lines : List Line) (illegal : Bool) (i least : ℕ) : Type 0 where
+  pub first : 1 ≤ least
+  pub bound : IsTrue illegal → least ≤ length lines
+  pub each : (place : ℕ) → place < i → IsExplainedBefore u (suc place) lines least
+  pub none : (k : ℕ) → k < least → k ≤ length lines → FailWithout u (calls_of (take k lines))
+  pub illegal_at : least ≤ length lines → IsLegal u (take least lines) → ⊥
 
-pub not_failing : (u : Database) (lines : List Line) (i : ℕ) (line : Line) → i < length lines → line ≡ get_or lines i line → IsFailing u lines i → (FailsAt u (suc i) line (drop (suc i) lines) → ⊥) → FailWithout u (calls_of lines) → ⊥
-not_failing u lines i line lt at so_far fails h = fails ((here u lines i line lt at).0 (so_far.1 h)).0
+pub least_known : (u : Database) (most : ℕ) (lines : List Line) (illegal : Bool) (judge : Judge) → IsSearchable u most lines illegal judge → illegal ≡ true → IsLeast u lines illegal 0 judge.number
+least_known u most lines illegal judge is e = subst (IsLeast u lines illegal 0) (sym is.read.number_is) (record {
+  first = some lines (is.known e);
+  bound = λ _. omega arith;
+  each = λ place lt. absurd (omega (arith, lt));
+  none = λ k lt le. is.none k le (λ _. lt);
+  illegal_at = λ le h. is.known e (subst (IsLegal u) (take_all (length lines) lines (omega arith)) h);
+})
+  where
+    some : (ls : List Line) → (IsLegal u ls → ⊥) → 1 ≤ length ls
+    some [] h = absurd (h (nothing_legal u))
+    some (line ∷ more) h = omega arith
 
-pub all_failing : (u : Database) (lines : List Line) (i : ℕ) → length lines ≤ i → IsFailing u lines i → FailWithout u (calls_of lines)
-all_failing u lines i l so_far = so_far.0 (subst (λ (ls : List Line). FailWithout u (calls_from (suc i) ls)) (sym (drop_all i lines l)) tt)
+pub least_unknown : (u : Database) (most : ℕ) (lines : List Line) (illegal : Bool) (judge : Judge) → IsSearchable u most lines illegal judge → illegal ≡ false → IsLeast u lines illegal 0 (judge.number + 1)
+least_unknown u most lines illegal judge is e = subst (λ k. IsLeast u lines illegal 0 (k + 1)) (sym is.read.number_is) (record {
+  first = omega arith;
+  bound = λ t. absurd (false≢true (sym e ∙ t));
+  each = λ place lt. absurd (omega (arith, lt));
+  none = λ k lt le. is.none k le (λ t. absurd (false≢true (sym e ∙ t)));
+  illegal_at = λ le. absurd (omega (arith, le));
+})
 
-pub one_more_explained : (u : Database) (lines : List Line) (i : ℕ) → IsSerializableOnEach u i lines → IsStrictlySerializable (of_subscriber u (suc i)) (calls_on u (suc i) (calls_of lines)) → IsSerializableOnEach u (suc i) lines
-one_more_explained u lines i each one p lt = elim (cases_lt p i) [
-  | inl lt ↦ each p lt
-  | inr le ↦ let same : i ≡ p = omega (arith, lt, le) in subst (λ k. IsStrictlySerializable (of_subscriber u (suc k)) (calls_on u (suc k) (calls_of lines))) same one
+-- one window more
+each_more : (u : Database) (lines : List Line) (i least : ℕ) → ((place : ℕ) → place < i → IsExplainedBefore u (suc place) lines least) → IsExplainedBefore u (suc i) lines least → (place : ℕ) → place < i + 1 → IsExplainedBefore u (suc place) lines least
+each_more u lines i least each one place lt = elim (cases_lt place i) [
+  | inl early ↦ each place early
+  | inr late ↦ let same : i ≡ place = omega (arith, lt, late) in subst (λ p. IsExplainedBefore u (suc p) lines least) same one
 ]
 
--- ---- places of subscribers
-pub place_named : (u : Database) (n : ℕ) (d : Listing) (call : Call) (s : ℕ) → IsDirectoryOf u n d → answer d (key_of_call call) ≡ Some s → (subscriber_of u call ≡ Some (suc (s - 1))) × (s - 1 < n)
-place_named u n d call s dir h =
-    let r = dir.named (key_of_call call) s h in
-    (sym (dir.keys (key_of_call call)) ∙ (h ∙ ap Some (omega (arith, r.0))), omega (arith, r.0, r.1))
+pub least_never : (u : Database) (most : ℕ) (lines : List Line) (illegal : Bool) (i least : ℕ) (w : Window) → IsLeast u lines illegal i least → IsWindowAfter u most (suc i) lines w ⊎ (IsTrue illegal × IsSpent u (suc i) lines w)
+    → (IsWindowAfter u most (suc i) lines w → IsFirstOf u most (suc i) lines Never) → IsLeast u lines illegal (i + 1) least
+least_never u most lines illegal i least w is kept told = record {
+  first = is.first;
+  bound = is.bound;
+  each = each_more u lines i least is.each (elim kept [
+    | inl window ↦ λ k lt le. told window k (omega (arith, le)) le
+    | inr spent ↦ λ k lt le. let within = is.bound spent.0 in spent.1.before k (omega (arith, lt, within)) le
+  ]);
+  none = is.none;
+  illegal_at = is.illegal_at;
+}
 
-pub none_named : (u : Database) (n : ℕ) (d : Listing) (call : Call) → IsDirectoryOf u n d → answer d (key_of_call call) ≡ None → subscriber_of u call ≡ None
-none_named u n d call dir h = sym (dir.keys (key_of_call call)) ∙ h
+pub least_later : (u : Database) (most : ℕ) (lines : List Line) (illegal : Bool) (i least line : ℕ) → IsLeast u lines illegal i least → IsFirstOf u most (suc i) lines (At line) → least ≤ line → IsLeast u lines illegal (i + 1) least
+least_later u most lines illegal i least line is told later = record {
+  first = is.first;
+  bound = is.bound;
+  each = each_more u lines i least is.each (λ k lt le. told.2 k (omega (arith, lt, later)) le);
+  none = is.none;
+  illegal_at = is.illegal_at;
+}
 
--- ---- one subscriber's events among all
-pub events_found : (u : Database) (lines : List Line) (n : ℕ) (all : List Events) (i : ℕ) (e : Events) (events : List Event) → AreEventsOfEach u n lines (lists_of all) → i < length all → e ≡ get_or all i e → events ≡ e.list.items → events ≡ events_of u (suc i) lines
-events_found u lines n all i e events each lt at is = is ∙ each.each i e.list.items (list_at all i e lt at)
+pub least_sooner : (u : Database) (most : ℕ) (lines : List Line) (illegal : Bool) (judge : Judge) (i least line : ℕ) → HasRead u lines judge → IsLeast u lines illegal i least → IsFirstOf u most (suc i) lines (At line) → line < least → IsLeast u lines illegal (i + 1) line
+least_sooner u most lines illegal judge i least line read is told sooner = record {
+  first = told.0;
+  bound = λ t. told.1;
+  each = each_more u lines i line (λ place lt k early le. is.each place lt k (omega (arith, early, sooner)) le) told.2;
+  none = λ k lt le. is.none k (omega (arith, lt, sooner)) le;
+  illegal_at = λ le h. told.3 (legal_at u lines judge line (suc i) read h);
+}
 
-pub home_found : (u : Database) (homes : List SubscriberRows) (i : ℕ) (home : SubscriberRows) → AreHomesOf u homes → i < length homes → home ≡ get_or homes i home → home.tables ≡ of_subscriber u (suc i)
-home_found u homes i home are lt at = home_at u homes i home are (found homes i home lt at)
-  where
-    found : (xs : List SubscriberRows) (k : ℕ) (x : SubscriberRows) → k < length xs → x ≡ get_or xs k x → slice_get xs k ≡ Some x
-    found [] k x lt at = absurd (omega (arith, lt))
-    found (y ∷ ys) zero x lt at = ap Some (sym at)
-    found (y ∷ ys) (suc k) x lt at = found ys k x (omega (arith, lt)) at
+-- all windows
+before_least : (u : Database) (lines : List Line) (illegal : Bool) (judge : Judge) (i least k : ℕ) → HasRead u lines judge → IsLeast u lines illegal i least → length judge.windows.items ≤ i → k < least → k ≤ length lines → IsLegal u (take k lines)
+before_least u lines illegal judge i least k read is all lt le = legal u lines judge k read (is.none k lt le) (λ place within. is.each place (omega (arith, within, all)) k lt le)
 
-pub lists_length : (all : List Events) (n : ℕ) → length (lists_of all) ≡ n → length all ≡ n
-lists_length all n h = sym (length-map all (λ (events : Events). events.list.items)) ∙ h
+pub least_illegal : (u : Database) (lines : List Line) (illegal : Bool) (judge : Judge) (i least : ℕ) → HasRead u lines judge → IsLeast u lines illegal i least → length judge.windows.items ≤ i → least ≤ judge.number → IsFirstIllegal u lines least
+least_illegal u lines illegal judge i least read is all le =
+    let within : least ≤ length lines = omega (arith, le, read.number_is) in
+    record {
+      first = is.first;
+      within = within;
+      illegal = is.illegal_at within;
+      before = before_least u lines illegal judge i least (least - 1) read is all (omega (arith, is.first)) (omega (arith, within));
+    }
 
--- a test that is false where one of the subscribers' calls aren't explained
-pub one_unexplained : (u : Database) (lines : List Line) (n i : ℕ) (b : Bool) → b ≡ false → i < n → (IsTrue b ↔ IsStrictlySerializable (of_subscriber u (suc i)) (calls_on u (suc i) (calls_of lines))) → (IsTrue false ↔ IsSerializableOnEach u n lines)
-one_unexplained u lines n i b e lt h = (λ t. absurd (false≢true t), λ each. sym e ∙ h.1 (each i lt))
-
-pub each_serializable : (u : Database) (n : ℕ) (lines : List Line) → IsSerializableAtEach u (calls_of lines) → IsSerializableOnEach u n lines
-each_serializable u n lines h = λ place lt. h.each (suc place)
+pub least_none : (u : Database) (lines : List Line) (illegal : Bool) (judge : Judge) (i least : ℕ) → HasRead u lines judge → IsLeast u lines illegal i least → length judge.windows.items ≤ i → judge.number < least → IsLegal u lines
+least_none u lines illegal judge i least read is all lt =
+    subst (IsLegal u) (take_all (length lines) lines (omega arith)) (before_least u lines illegal judge i least (length lines) read is all (omega (arith, lt, read.number_is)) (omega arith))

@@ -1,5 +1,9 @@
 pub mod Accepted
+pub mod Asked
+pub mod NextLine
 pub mod Searched
 pub mod Population
-pub mod Gathered
 pub mod Verdicts
+pub mod Windows
+pub mod Followed
+pub mod Steps

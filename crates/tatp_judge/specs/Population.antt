@@ -7,7 +7,6 @@ use Rattle.tatp_numbers.specs.Homes.{home_of_key}
 use Rattle.tatp_numbers.specs.Listing.{Listing, answer}
 use Rattle.tatp_procs.specs.Consistent.{IsConsistent}
 use Rattle.tatp_judge.specs.Searched.{AreHomesOf}
-use Rattle.tatp_judge.specs.declared.judge.Judge.{Judge}
 
 -- the directory answers for the database, whose subscribers are 1 to n
 pub record IsDirectoryOf (u : Database) (n : ℕ) (directory : Listing) : Type 0 where
@@ -21,7 +20,3 @@ pub record AreRowsOf (u : Database) (homes : List SubscriberRows) (directory : L
   pub consistent : IsConsistent u
   pub homes_are : AreHomesOf u homes
   pub directory_is : IsDirectoryOf u (length homes) directory
-
--- the judge judges histories that begin with the database
-abbrev pub JudgesFrom : Database → Judge → Type 0
-JudgesFrom u judge = AreRowsOf u judge.homes.items judge.directory

@@ -1,16 +1,31 @@
-//! The verdict on a history.
-ghost use Rattle.std.specs.Prelude.{◌≡◌, ◌↔◌, ℕ, ◌≤◌, IfOk, IsTrue, List, length};
+//! The judge, line after line.
+ghost use Rattle.std.specs.Prelude.{◌≡◌, ℕ, suc, ◌+◌, ◌<◌, ◌≤◌, ◌^◌, [], ◌∷◌, ◌++◌, IfOk, IfSome, OnOk, Ok, None, Some, List, length, nat_eq, slice_get};
+ghost use Rattle.indexmap.specs.IndexMap.{get};
 ghost use Rattle.tatp_tables.specs.Clean.{IsClean};
 ghost use Rattle.tatp_tables.specs.Database.{Database, database_of};
-ghost use Rattle.tatp_history.specs.HistoryLines.{AreAcceptedLines};
-ghost use Rattle.tatp_judge.specs.Population.{JudgesFrom};
-ghost use Rattle.tatp_judge.specs.Verdicts.{IsLegal, IsFirstIllegal, IsVerdictOn};
+ghost use Rattle.tatp_history.specs.declared.line.Line.{Line as ALine};
+ghost use Rattle.tatp_history.specs.declared.line.Line.TheVariants.{Ask};
+ghost use Rattle.tatp_history.specs.HistoryLines.{end_at};
+ghost use Rattle.tatp_judge.specs.declared.window.Window.{Window as AWindow};
+ghost use Rattle.tatp_judge.specs.Accepted.{IsAcceptedLine};
+ghost use Rattle.tatp_judge.specs.Asked.{asked_on};
+ghost use Rattle.tatp_judge.specs.Followed.{EndsAs, Forgets, HasFollowed, HasNoted};
+ghost use Rattle.tatp_judge.specs.NextLine.{asks_of};
+ghost use Rattle.tatp_judge.specs.Population.{IsDirectoryOf};
+ghost use Rattle.tatp_judge.specs.Steps.{AreEach, IsAskedIn, IsEndedIn, IsNotedBy, also_asked};
+ghost use Rattle.tatp_judge.specs.Verdicts.{AreExplainedWhereClosed, IsVerdictOn};
 
-use crate::searching::is_legal;
+use crate::asked::{Asked, none_asked, subscriber_of};
+use crate::outcome::{client_of, may_fail};
+use crate::window::Window;
+use crate::windows::{ask_in, close_in, end_in, windows_of};
+use indexmap::IndexMap;
 use std::alloc::{AllocError, Global};
-use tatp_history::Line;
-use tatp_homes::{Home, homes};
+use tatp_history::{Line, Observed, Outcome};
+use tatp_homes::homes;
+use tatp_linearization::Standing;
 use tatp_numbers::Directory;
+use tatp_procs::Call;
 use tatp_tables::Rows;
 
 /// What is said of a history.
@@ -19,68 +34,191 @@ pub enum Verdict {
     /// It is strictly serializable.
     Legal,
     /// Its lines up to this one, counted from 1, aren't, and those before it are.
-    Illegal(usize),
+    Illegal(u64),
+    /// It isn't known, since more configurations of a subscriber are possible than may be kept.
+    Undecided {
+        /// How many lines were followed.
+        line: u64,
+        /// The subscriber.
+        s_id: u64,
+    },
 }
 
-/// The judge of histories that begin with the same rows.
+/// The judge of a history, which follows it line after line. Of each subscriber it keeps what
+/// explains its calls so far, and what happened to them since none of them was open.
 #[derive(Drop)]
 pub struct Judge {
-    homes: Vec<Home>,
-    directory: Directory,
+    pub(crate) directory: Directory,
+    /// Of each subscriber, by s_id from 1 on.
+    pub(crate) windows: Vec<Window>,
+    /// By client.
+    pub(crate) asked: IndexMap<u64, Asked>,
+    /// How many lines it followed.
+    pub(crate) number: u64,
 }
 
 impl Judge {
-    /// That of these rows.
-    pub fn new(alloc: Global, rows: &Rows) -> Result<Judge, AllocError>
+    /// That of a history which begins with these rows. At most so many configurations of one
+    /// subscriber are kept.
+    pub fn new(alloc: Global, rows: &Rows, most: usize) -> Result<Judge, AllocError>
         requires { IsClean rows.now }
-        ensures { IfOk result (JudgesFrom (database_of rows.now)) }
+        ensures { IfOk result (HasFollowed (database_of rows.now) most []) }
     {
         let homes = homes(alloc, rows)?;
         let directory = Directory::of_clean(alloc, rows)?;
-        Ok(Judge { homes, directory })
+        let windows = windows_of(alloc, homes.as_slice(), most)?;
+        Ok(Judge {
+            directory,
+            windows,
+            asked: none_asked(alloc),
+            number: 0,
+        })
     }
 
-    /// The verdict on a history.
-    pub fn judge(&self, alloc: Global, lines: &[Line]) -> Result<Verdict, AllocError>
-        requires rows { (u : Database) × JudgesFrom u self.now }
-        requires accepted { AreAcceptedLines lines.now }
-        ensures { IfOk result (λ verdict. (u : Database)
-            → JudgesFrom u self.now → IsVerdictOn u lines.now verdict) }
+    /// Follows a line. A verdict decides the history, whatever follows.
+    pub fn follow(&mut self, alloc: Global, line: &Line) -> Result<Option<Verdict>, AllocError>
+        requires followed { (u : Database) × (most : ℕ) × (lines : List ALine)
+            × HasFollowed u most lines self.old × (length lines + 2 < 2 ^ 64) }
+        requires accepted { IsAcceptedLine line.now }
+        ensures followed { result ≡ Ok None → (u : Database) (most : ℕ) (lines : List ALine)
+            → HasFollowed u most lines self.old
+            → HasFollowed u most (lines ++ line.now ∷ []) self.new }
+        ensures decided { IfOk result (λ found. IfSome found (λ verdict.
+            (u : Database) (most : ℕ) (lines more : List ALine)
+            → HasFollowed u most lines self.old
+            → IsVerdictOn u most ((lines ++ line.now ∷ []) ++ more) verdict)) }
+        ensures never { result ≡ Ok (Some Verdict.Legal) → ⊥ }
+        ensures explained { result ≡ Ok None → (u : Database) (most : ℕ) (lines : List ALine)
+            → HasFollowed u most lines self.old
+            → AreExplainedWhereClosed u (lines ++ line.now ∷ []) }
     {
-        if self.is_legal(alloc, lines)? {
-            Ok(Verdict::Legal)
-        } else {
-            let first = self.first_illegal(alloc, lines)?;
-            Ok(Verdict::Illegal(first))
+        let number = self.number + 1;
+        let ended = self.asked.swap_remove(&client_of(line));
+        self.note(&ended, number, line)?;
+        self.number = number;
+        match ended {
+            Some(asked) => self.close(alloc, &asked, line),
+            None => Ok(None),
         }
     }
 
-    fn is_legal(&self, alloc: Global, lines: &[Line]) -> Result<bool, AllocError>
-        requires rows { (u : Database) × JudgesFrom u self.now }
-        requires accepted { AreAcceptedLines lines.now }
-        ensures { IfOk result (λ yes. (u : Database)
-            → JudgesFrom u self.now → (IsTrue yes ↔ IsLegal u lines.now)) }
+    /// The verdict on the lines that were followed.
+    pub fn finish(&self, alloc: Global) -> Result<Verdict, AllocError>
+        requires { (u : Database) × (most : ℕ) × (lines : List ALine)
+            × HasFollowed u most lines self.now }
+        ensures { IfOk result (λ verdict. (u : Database) (most : ℕ) (lines : List ALine)
+            → HasFollowed u most lines self.now → IsVerdictOn u most lines verdict) }
     {
-        is_legal(alloc, self.homes.as_slice(), &self.directory, lines)
+        self.search(alloc, false)
     }
 
-    /// The first line up to which an illegal history is illegal.
-    fn first_illegal(&self, alloc: Global, lines: &[Line]) -> Result<usize, AllocError>
-        requires rows { (u : Database) × JudgesFrom u self.now }
-        requires accepted { AreAcceptedLines lines.now }
-        ensures { IfOk result (λ first. (u : Database) → JudgesFrom u self.now
-            → (IsLegal u lines.now → ⊥) → IsFirstIllegal u lines.now first) }
+    /// The line of this number ends an open call, if there is one, and may ask another.
+    fn note(&mut self, ended: &Option<Asked>, number: u64, line: &Line) -> Result<(), AllocError>
+        requires directory { (u : Database)
+            × IsDirectoryOf u (length self.old.windows.items) self.old.directory }
+        requires within { IfSome ended.now (λ asked. IfSome asked.s_id (λ s.
+            (1 ≤ s) × (s ≤ length self.old.windows.items))) }
+        requires some { (place : ℕ) (w : AWindow) (asked : ℕ)
+            → asked_on (suc place) ended.now ≡ Some asked
+            → slice_get self.old.windows.items place ≡ Some w → 0 < w.waiting }
+        requires few { (place : ℕ) (w : AWindow)
+            → slice_get self.old.windows.items place ≡ Some w → w.waiting + 1 < 2 ^ 64 }
+        ensures { OnOk result ((u : Database)
+            → IsDirectoryOf u (length self.old.windows.items) self.old.directory
+            → IsNotedBy u ended.now number line.now self.old self.new) }
     {
-        let mut legal = 0;
-        let mut illegal = lines.len();
-        'halves: while illegal - legal > 1 {
-            let middle = legal + (illegal - legal) / 2;
-            if self.is_legal(alloc, &lines[..middle])? {
-                legal = middle;
-            } else {
-                illegal = middle;
+        self.end(ended, number, line)?;
+        match line {
+            Line::Ask { client, call } => self.ask(*client, call, number),
+            Line::End { .. } => Ok(()),
+            Line::Abort { .. } => Ok(()),
+            Line::Lost { .. } => Ok(()),
+        }
+    }
+
+    /// The line of this number ends an open call, if there is one.
+    fn end(&mut self, ended: &Option<Asked>, number: u64, line: &Line) -> Result<(), AllocError>
+        requires within { IfSome ended.now (λ asked. IfSome asked.s_id (λ s.
+            (1 ≤ s) × (s ≤ length self.old.windows.items))) }
+        requires some { (place : ℕ) (w : AWindow) (asked : ℕ)
+            → asked_on (suc place) ended.now ≡ Some asked
+            → slice_get self.old.windows.items place ≡ Some w → 0 < w.waiting }
+        ensures directory { self.new.directory ≡ self.old.directory }
+        ensures asked { self.new.asked ≡ self.old.asked }
+        ensures windows { OnOk result (AreEach (λ place.
+            IsEndedIn (asked_on (suc place) ended.now) number line.now)
+            self.old.windows.items self.new.windows.items) }
+    {
+        match ended {
+            Some(asked) => end_in(&mut self.windows, asked, number, line),
+            None => Ok(()),
+        }
+    }
+
+    /// A client asks in the line of this number.
+    fn ask(&mut self, client: u64, call: &Call, number: u64) -> Result<(), AllocError>
+        requires directory { (u : Database)
+            × IsDirectoryOf u (length self.old.windows.items) self.old.directory }
+        requires few { (place : ℕ) (w : AWindow)
+            → slice_get self.old.windows.items place ≡ Some w → w.waiting + 1 < 2 ^ 64 }
+        ensures directory { OnOk result (self.new.directory ≡ self.old.directory) }
+        ensures asked { OnOk result ((u : Database)
+            → IsDirectoryOf u (length self.old.windows.items) self.old.directory
+            → (other : ℕ) → get nat_eq self.new.asked other
+            ≡ also_asked u number (get nat_eq self.old.asked) (Ask client call.now) other) }
+        ensures windows { OnOk result ((u : Database)
+            → IsDirectoryOf u (length self.old.windows.items) self.old.directory
+            → AreEach (λ place. IsAskedIn (asks_of u (suc place) number (Ask client call.now)))
+            self.old.windows.items self.new.windows.items) }
+    {
+        let s_id = subscriber_of(&self.directory, call);
+        self.asked.insert(client, Asked { s_id, number })?;
+        let x = Observed {
+            asked: number,
+            call: *call,
+            outcome: Outcome::Unknown,
+        };
+        ask_in(&mut self.windows, s_id, &x)
+    }
+
+    /// After the last line ended a call: whether that decides the history.
+    fn close(
+        &mut self,
+        alloc: Global,
+        asked: &Asked,
+        line: &Line,
+    ) -> Result<Option<Verdict>, AllocError>
+        requires noted { (u : Database) × (most : ℕ) × (lines : List ALine)
+            × HasNoted u most lines self.old
+            × EndsAs u lines asked.now (end_at self.old.number line.now) }
+        requires within { IfSome asked.now.s_id (λ s.
+            (1 ≤ s) × (s ≤ length self.old.windows.items)) }
+        requires forgets { Forgets self.old asked.now.s_id }
+        ensures followed { result ≡ Ok None → (u : Database) (most : ℕ) (lines : List ALine)
+            → HasNoted u most lines self.old
+            → EndsAs u lines asked.now (end_at self.old.number line.now)
+            → HasFollowed u most lines self.new }
+        ensures decided { IfOk result (λ found. IfSome found (λ verdict.
+            (u : Database) (most : ℕ) (lines more : List ALine)
+            → HasNoted u most lines self.old
+            → EndsAs u lines asked.now (end_at self.old.number line.now)
+            → IsVerdictOn u most (lines ++ more) verdict)) }
+        ensures never { result ≡ Ok (Some Verdict.Legal) → ⊥ }
+    {
+        let number = self.number;
+        match asked.s_id {
+            Some(s_id) => match close_in(alloc, &mut self.windows, s_id, number)? {
+                Standing::Explained => Ok(None),
+                Standing::Unexplained => Ok(Some(self.search(alloc, true)?)),
+                Standing::Undecided => Ok(Some(Verdict::Undecided { line: number, s_id })),
+            },
+            None => {
+                if may_fail(number, line) {
+                    Ok(None)
+                } else {
+                    Ok(Some(self.search(alloc, true)?))
+                }
             }
         }
-        Ok(illegal)
     }
 }

@@ -2,11 +2,13 @@
 #![tactic(auto)]
 
 mod accepted;
-mod gathering;
+mod asked;
+mod closing;
 mod judge;
 mod outcome;
 mod searching;
-mod subscriber;
+mod window;
+mod windows;
 
-pub use accepted::are_accepted;
+pub use accepted::is_accepted;
 pub use judge::{Judge, Verdict};

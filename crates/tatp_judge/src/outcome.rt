@@ -1,11 +1,15 @@
-//! How open calls end.
-ghost use Rattle.std.specs.Prelude.{◌≡◌, ◌+◌, ◌<◌, ◌^◌, length};
-ghost use Rattle.tatp_history.specs.HistoryLines.{client_of, end_at, end_of};
+//! What a line says of its client's open call.
+ghost use Rattle.std.specs.Prelude.{◌≡◌, ◌↔◌, ℕ, IsTrue, None, [], ◌∷◌, if◌then◌else◌};
+ghost use Rattle.tatp_history.specs.declared.event.Event.TheVariants.{Ends};
+ghost use Rattle.tatp_history.specs.HistoryLines.{client_of, end_at};
+ghost use Rattle.tatp_history.specs.Locality.{FailsWithout};
+ghost use Rattle.tatp_judge.specs.NextLine.{ends_of};
 
 use tatp_history::{Line, Outcome};
+use tatp_procs::Reply;
 
 /// Whose line it is.
-fn client_of(line: &Line) -> u64
+pub(crate) fn client_of(line: &Line) -> u64
     ensures { result ≡ client_of line.now }
 {
     match line {
@@ -17,7 +21,7 @@ fn client_of(line: &Line) -> u64
 }
 
 /// How the line of this number ends the call that its client had open.
-fn end_at(number: u64, line: &Line) -> Outcome
+pub(crate) fn end_at(number: u64, line: &Line) -> Outcome
     ensures { result ≡ end_at number line.now }
 {
     match line {
@@ -31,17 +35,33 @@ fn end_at(number: u64, line: &Line) -> Outcome
     }
 }
 
-/// How the open call of a client ends by these lines, the first of which has this number.
-#[tactic(auto, using(crate::proofs::OutcomeLaws::none_passed, crate::proofs::OutcomeLaws::own_line, crate::proofs::OutcomeLaws::other_line, crate::proofs::OutcomeLaws::all_passed))]
-pub(crate) fn end_of(client: u64, number: u64, lines: &[Line]) -> Outcome
-    requires { number + length lines.now < 2 ^ 64 }
-    ensures { result ≡ end_of client number lines.now }
+/// Whether the line answers its client's open call.
+pub(crate) fn is_answer(line: &Line) -> bool
+    ensures { (asked number : ℕ)
+        → ends_of asked number line.now ≡ (if result then Ends asked number ∷ [] else []) }
 {
-    'lines: for i in 0..lines.len() {
-        let line = &lines[i];
-        if client_of(line) == client {
-            return end_at(number + i as u64, line);
-        }
+    match line {
+        Line::Ask { .. } => false,
+        Line::End { .. } => true,
+        Line::Abort { .. } => false,
+        Line::Lost { .. } => false,
     }
-    Outcome::Unknown
+}
+
+/// Whether a call whose key names no subscriber may have ended so.
+fn may_have_failed(outcome: &Outcome) -> bool
+    ensures { IsTrue result ↔ FailsWithout None outcome.now }
+{
+    match outcome {
+        Outcome::Answered { .. } => outcome.allows(&Reply::Failed(1)),
+        Outcome::Aborted { .. } => true,
+        Outcome::Unknown => true,
+    }
+}
+
+/// Whether the open call may end by the line of this number, if its key names no subscriber.
+pub(crate) fn may_fail(number: u64, line: &Line) -> bool
+    ensures { IsTrue result ↔ FailsWithout None (end_at number line.now) }
+{
+    may_have_failed(&end_at(number, line))
 }

@@ -1,6 +1,6 @@
 //! Tests of the judge, through the public functions of `tatp_judge`.
 //!
-//! They stand in a crate of their own, since a crate with tests is proved a second time with them.
+//! They are in a crate of their own, since a crate with tests is proved a second time with them.
 #![tactic(auto)]
 
 #[cfg(test)]

@@ -1,14 +1,19 @@
 -- The first texts tell the first lines.
-use Rattle.std.specs.Prelude.{◌≡◌, ℕ, zero, suc, ◌+◌, ◌-◌, ◌≤◌, List, [], ◌∷◌, length, take, slice_get, Option, Some, None, Result, Ok, Err}
+use Rattle.std.specs.Prelude.{◌≡◌, ℕ, zero, suc, ◌+◌, ◌-◌, ◌≤◌, List, [], ◌∷◌, ◌++◌, length, take, slice_get, Option, Some, None, Result, Ok, Err}
 use Rattle.std.proofs.Common.{refl, sym, ap, subst, ◌∙◌, arith}
+use Rattle.std.proofs.lemmas.List.{append-nil, length-append, take_all}
 use Rattle.std.proofs.lemmas.Option.{none-some, same_Some}
 use Rattle.tatp_tables.specs.Database.{Database}
 use Rattle.tatp_history.specs.declared.line.Line.{Line}
 use Rattle.tatp_history_lines.specs.declared.fault.LineFault.{LineFault}
 use Rattle.tatp_history_lines.specs.Open.{CallsOpen, opened_by}
-use Rattle.tatp_history_inputs.specs.HistoryTexts.{Told, BadText, said_in, onto, tell_on, history_from, none_open}
-use Rattle.tatp_judge.specs.Verdicts.{IsLegal, IsFirstIllegal}
-use Rattle.tatp_judged_inputs.specs.Judged.{IsIllegalAt}
+use Rattle.tatp_judged_inputs.specs.HistoryTexts.{Told, BadText, said_in, onto, tell_on, history_from, none_open}
+use Rattle.tatp_judge.specs.declared.judge.Verdict.{Verdict}
+use Rattle.tatp_judge.specs.declared.judge.Verdict.TheVariants as verdicts
+use Rattle.tatp_judge.specs.Verdicts.{IsLegal, IsFirstIllegal, NeedMoreBy, IsVerdictOn}
+use Rattle.tatp_judged_inputs.specs.declared.judging.Judged.{Judged}
+use Rattle.tatp_judged_inputs.specs.Judged.{Tell, TellLegal, TellIllegal, IsIllegalAt, IsUndecidedAt, IsJudged, IsTold}
+use Rattle.tatp_judged_inputs.proofs.HistoryLaws.{ReadAll}
 
 -- the first k lines
 abbrev front : ℕ → Told → Told
@@ -114,3 +119,50 @@ told_illegal u taken texts t n number h first at =
       illegal = (front (suc (n - 1)) t, sym (ap (λ m. history_from none_open (taken + 1) (take m texts)) some) ∙ f.with, λ legal. first.illegal (subst (λ m. IsLegal u (take m t.lines)) last legal));
       before = (front (n - 1) t, sym (ap (λ m. history_from none_open (taken + 1) (take m texts)) fewer) ∙ f.without, first.before);
     }
+
+-- ---- verdicts
+pub taken_front : (k : ℕ) (read more : List (List ℕ)) → k ≤ length read → take k (read ++ more) ≡ take k read
+taken_front zero read more le = refl
+taken_front (suc k) [] more le = absurd (omega (arith, le))
+taken_front (suc k) (text ∷ read) more le = ap (λ ts. text ∷ ts) (taken_front k read more (omega (arith, le)))
+
+-- unread texts follow
+illegal_stays : (u : Database) (taken : ℕ) (read more : List (List ℕ)) (number : ℕ) → IsIllegalAt u taken read number → IsIllegalAt u taken (read ++ more) number
+illegal_stays u taken read more number h =
+    let both = length-append read more in
+    let same : take (number - taken) read ≡ take (number - taken) (read ++ more) = sym (taken_front (number - taken) read more (omega (arith, h.within))) in
+    let fewer : take (number - taken - 1) read ≡ take (number - taken - 1) (read ++ more) = sym (taken_front (number - taken - 1) read more (omega (arith, h.within))) in
+    record {
+      later = h.later;
+      within = omega (arith, h.within, both);
+      illegal = subst (TellIllegal u taken) same h.illegal;
+      before = subst (TellLegal u taken) fewer h.before;
+    }
+
+undecided_there : (u : Database) (most taken number line s : ℕ) (read more : List (List ℕ)) (t : Told) → ReadAll taken number read t → NeedMoreBy u most t.lines line s → IsUndecidedAt u most taken (read ++ more) number s
+undecided_there u most taken number line s read more t all h =
+    let both = length-append read more in
+    let front : take (number - taken) (read ++ more) ≡ read = taken_front (number - taken) read more (omega (arith, all.count)) ∙ take_all (number - taken) read (omega (arith, all.count)) in
+    record {
+      later = omega (arith, all.count);
+      within = omega (arith, all.count, both);
+      many = subst (λ texts. Tell taken texts (λ told. NeedMoreBy u most told.lines (length told.lines) s)) (sym front) (
+        t,
+        all.told,
+        record {
+          within = omega arith;
+          first = h.first;
+          by = omega (arith, h.by, h.within);
+          many = h.many;
+        },
+      );
+    }
+
+pub is_judged : (u : Database) (most taken number : ℕ) (read more : List (List ℕ)) (t : Told) (verdict : Verdict) (judged : Judged) → ReadAll taken number read t → (verdict ≡ verdicts.Legal → more ≡ []) → IsVerdictOn u most t.lines verdict
+    → IsTold t.numbers number verdict judged → IsJudged u most taken (read ++ more) judged
+is_judged u most taken number read more t verdicts.Legal judged all last legal told =
+    subst (IsJudged u most taken (read ++ more)) (sym told) (t, ap (history_from none_open (taken + 1)) (ap (λ ts. read ++ ts) (last refl) ∙ append-nil read) ∙ all.told, legal)
+is_judged u most taken number read more t (verdicts.Illegal first) judged all last illegal told =
+    subst (IsJudged u most taken (read ++ more)) (sym told.2) (illegal_stays u taken read more told.0 (told_illegal u taken read t first told.0 all.told illegal told.1))
+is_judged u most taken number read more t (verdicts.Undecided line s) judged all last many told =
+    subst (IsJudged u most taken (read ++ more)) (sym told) (undecided_there u most taken number line s read more t all many)

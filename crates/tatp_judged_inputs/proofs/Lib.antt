@@ -1,1 +1,4 @@
+pub mod HistoryLaws
 pub mod FrontLaws
+pub mod JudgingLaws
+pub mod VerdictLaws

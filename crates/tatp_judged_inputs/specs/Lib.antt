@@ -1,1 +1,4 @@
+pub mod HistoryTexts
+pub mod Reading
 pub mod Judged
+pub mod Judging

@@ -121,7 +121,7 @@ until_open (suc n) asked at more c d h are = let on = one_open (Ends asked at �
 ]
 
 module _ (Q : Database → Type 0) where
-  one_sound : (events : List Event) → HaveEnds events → (c d : Configuration) → TakesOne c d → AreOpen events c.opened → HasOrder Q d.rows events d.opened → HasOrder Q c.rows events c.opened
+  pub one_sound : (events : List Event) → HaveEnds events → (c d : Configuration) → TakesOne c d → AreOpen events c.opened → HasOrder Q d.rows events d.opened → HasOrder Q c.rows events c.opened
   one_sound events have c d h are order =
       let v : Database = (transaction h.0.call c.rows).database in
       let on = open_chosen events c.opened h.0 h.1 h.2.chosen are in

@@ -116,15 +116,17 @@ window_whole past events i event at = ap (λ es. past ++ es) (both events i even
 pub record IsFollowed (set : List Held) (events : List Event) (i : ℕ) (after : List Held) : Type 0 where
   pub kept : (u : Database) (past : List Event) → AreKept u past set → AreKept u (past ++ take i events) after
   pub ready : AreReady after
+  pub apart : (s : ℕ) → AreApart s set → AreApart s after
 
 pub followed_none : (set : List Held) (events : List Event) → AreReady set → IsFollowed set events 0 set
-followed_none set events ready = record { kept = λ u past k. subst (λ es. AreKept u es set) (sym (append-nil past)) k; ready = ready }
+followed_none set events ready = record { kept = λ u past k. subst (λ es. AreKept u es set) (sym (append-nil past)) k; ready = ready; apart = λ s h. h }
 
 pub followed_more : (set : List Held) (events : List Event) (i : ℕ) (event : Event) (before after : List Held) → slice_get events i ≡ Some event → IsFollowed set events i before
     → FollowAll event before after → AreReady after → ((s : ℕ) → AreApart s before → AreApart s after) → IsFollowed set events (i + 1) after
 followed_more set events i event before after at f all ready apart = record {
   kept = λ u past k. subst (λ es. AreKept u es after) (sym (window_more past events i event at)) (kept_more u (past ++ take i events) event before after all ready apart (f.kept u past k));
   ready = ready;
+  apart = λ s h. apart s (f.apart s h);
 }
 
 pub followed_many : (most : ℕ) (set : List Held) (events : List Event) (i : ℕ) (event : Event) (before : List Held) → slice_get events i ≡ Some event → IsFollowed set events i before

@@ -16,7 +16,7 @@ use Rattle.tatp_history.proofs.OrderLaws.{all_map}
 use Rattle.tatp_linearization.specs.declared.configuration.Configuration.{Configuration as Held}
 use Rattle.tatp_linearization.specs.AtOnce.{FitsAtOnce, AreLeft, IsSettled, TakesOne, TakeUntil, FollowsAtOnce, LeadAtOnce}
 use Rattle.tatp_linearization.specs.Possible.{CallTakesEffect, CallsTakeEffect, Passes, MayBecome, AreMoreThan, IsPossible, NeedMore}
-use Rattle.tatp_linearization.specs.Held.{Has, HoldsOfOne, TakeMany, IsTried}
+use Rattle.tatp_linearization.specs.Held.{Has, HoldsOfOne, TakeMany, TakeSome, IsTried}
 use Rattle.tatp_linearization.specs.Reached.{AreKept}
 use Rattle.tatp_linearization.proofs.SettlingLaws.{chooses_mid, shift, reads_leave}
 use Rattle.tatp_linearization.proofs.AtOnceLaws.{one_settled, event_settled, lead_settled}
@@ -127,6 +127,13 @@ kept_possible u past cs kept d h =
     let led = (kept.exact d).0 h in
     (lead_becomes [] past (starting u) (starting u) d (0, refl) led, lead_settled past (starting u) d tt led)
 
+-- so is what open calls make of it
+pub tried_possible : (u : Database) (past : List Event) (cs : List Held) → AreKept u past cs → (d : Configuration) → HoldsOfOne TakeSome cs d → IsPossible u past d
+tried_possible u past cs kept d h =
+    let own = kept_possible u past cs kept h.0 h.1 in
+    let takes = many_take h.2.0 h.0 d own.1 h.2.1 in
+    (becomes_on past (starting u) h.0 d own.0 takes.0, takes.1)
+
 pub need_more : (u : Database) (past : List Event) (event : Event) (rest : List Event) (most : ℕ) (cs : List Held) → AreKept u past cs → AreMoreThan most (HoldsOfOne (IsTried event) cs) → NeedMore most u (past ++ event ∷ rest)
 need_more u past (Asks x) rest most cs kept p = (
   past ++ Asks x ∷ [],
@@ -140,10 +147,7 @@ need_more u past (Ends asked at) rest most cs kept p = (
   past,
   Ends asked at ∷ rest,
   refl,
-  more_than most (HoldsOfOne (IsTried (Ends asked at)) cs) (IsPossible u past) (λ d h.
-      let own = kept_possible u past cs kept h.0 h.1 in
-      let takes = many_take h.2.0 h.0 d own.1 h.2.1 in
-      (becomes_on past (starting u) h.0 d own.0 takes.0, takes.1)) p,
+  more_than most (HoldsOfOne (IsTried (Ends asked at)) cs) (IsPossible u past) (tried_possible u past cs kept) p,
 )
 
 -- where more than so many are needed by some of the first events, they are by all

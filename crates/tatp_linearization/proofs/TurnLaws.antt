@@ -21,7 +21,7 @@ join_now m asked c d h = (d, h.0, inl (h.1, refl))
 join_later : (m asked : ℕ) (c s d : Configuration) → TakesOther asked c s → TakeUntil m asked s d → TakeUntil (suc m) asked c d
 join_later m asked c s d h e = (s, h.0, inr (h.1, e))
 
-many_one : (n : ℕ) (c d e : Configuration) → TakeMany n c d → TakesOne d e → TakeMany (suc n) c e
+pub many_one : (n : ℕ) (c d e : Configuration) → TakeMany n c d → TakesOne d e → TakeMany (suc n) c e
 many_one zero c d e h one = (e, subst (λ (b : Configuration). TakesOne b e) h one, refl)
 many_one (suc n) c d e h one = (h.0, h.1, many_one n h.0 d e h.2 one)
 

@@ -19,3 +19,7 @@ pub record AreReached (u : Database) (past : List Event) (explanations : Explana
     : Type 0 where
   pub kept : AreKept u past explanations.configurations.items
   pub some : 0 < length explanations.configurations.items
+
+-- their homes are of this s_id
+abbrev pub AreOfSubscriber : ℕ → Explanations → Type 0
+AreOfSubscriber s explanations = AreApart s explanations.configurations.items

@@ -6,11 +6,11 @@ ghost use Rattle.tatp_history.specs.declared.event.Event.{Event};
 ghost use Rattle.tatp_history.specs.Histories.{IsStrictlySerializable};
 ghost use Rattle.tatp_history.specs.Events.{TimesRise, HaveEnds, asked_in};
 ghost use Rattle.tatp_linearization.specs.Possible.{NeedMore};
-ghost use Rattle.tatp_linearization.specs.Held.{IsAcceptedEvent, AreReady};
-ghost use Rattle.tatp_linearization.specs.Reached.{AreKept, AreReached};
+ghost use Rattle.tatp_linearization.specs.Held.{IsAcceptedEvent, AreApart, AreReady};
+ghost use Rattle.tatp_linearization.specs.Reached.{AreKept, AreOfSubscriber, AreReached};
 
 use crate::configuration::Configuration;
-use crate::following::after_event;
+use crate::following::{after_event, leaves_all};
 use crate::stopped::Stopped;
 use std::alloc::{AllocError, Global};
 use tatp_history::Event;
@@ -48,13 +48,18 @@ fn after_events(
     requires ready { AreReady set.now }
     ensures kept { IfOk result (λ after. (u : Database) (past : List Event)
         → AreKept u past set.now → AreKept u (past ++ events.now) after.items) }
+    ensures apart { IfOk result (λ after. (s : ℕ) → AreApart s set.now
+        → AreApart s after.items) }
     ensures many { IsErrOf result Stopped.MoreThanMost → (u : Database) (past : List Event)
         → AreKept u past set.now → NeedMore most u (past ++ events.now) }
 {
     let mut after = after_event(alloc, set, &events[0], most)?;
     'events: for i in 1..events.len() {
-        let next = after_event(alloc, after.as_slice(), &events[i], most)?;
-        after = next;
+        let event = &events[i];
+        if !leaves_all(after.as_slice(), event) {
+            let next = after_event(alloc, after.as_slice(), event, most)?;
+            after = next;
+        }
     }
     Ok(after)
 }
@@ -63,6 +68,7 @@ impl Explanations {
     /// Before any event, on this home, with at most so many configurations to be kept.
     pub fn new(alloc: Global, home: &Home, most: usize) -> Result<Explanations, AllocError>
         ensures reached { IfOk result (AreReached home.now.tables []) }
+        ensures own { IfOk result (AreOfSubscriber home.now.s_id) }
         ensures most { IfOk result (λ explanations. explanations.most ≡ most) }
     {
         let mut configurations = Vec::new(alloc);
@@ -123,6 +129,7 @@ impl Explanations {
             → IsStrictlySerializable u (asked_in (past ++ events.now)) → ⊥ }
         ensures undecided { result ≡ Ok Standing.Undecided → (u : Database) (past : List Event)
             → AreReached u past self.old → NeedMore self.old.most u (past ++ events.now) }
+        ensures own { (s : ℕ) → AreOfSubscriber s self.old → AreOfSubscriber s self.new }
         ensures same { (result ≡ Ok Standing.Explained → ⊥) → self.new ≡ self.old }
         ensures most { self.new.most ≡ self.old.most }
     {

@@ -1,5 +1,6 @@
 //! What may follow on configurations at an event.
-ghost use Rattle.std.specs.Prelude.{◌≡◌, ℕ, IfOk, OnOk, IsErrOf};
+ghost use Rattle.std.specs.Prelude.{◌≡◌, ◌↔◌, ℕ, IsTrue, IfOk, OnOk, IsErrOf};
+ghost use Rattle.tatp_history.specs.Configurations.{Configuration as Seen};
 ghost use Rattle.tatp_history.specs.Locality.{AreAccepted};
 ghost use Rattle.tatp_linearization.specs.AtOnce.{FollowsAtOnce};
 ghost use Rattle.tatp_linearization.specs.Possible.{AreMoreThan};
@@ -7,9 +8,39 @@ ghost use Rattle.tatp_linearization.specs.Held.{Adds, AreApart, AreReady, Follow
 
 use crate::configuration::{Configuration, add, ask, copy, none_asked};
 use crate::effects::take_effect;
+use crate::reading::needs_no_place;
 use crate::stopped::Stopped;
 use std::alloc::Global;
 use tatp_history::Event;
+
+/// Whether an event leaves a configuration as it is: a call that needn't be open is asked, or one
+/// ends that isn't open.
+fn leaves(c: &Configuration, event: &Event) -> bool
+    requires accepted { IsAcceptedEvent event.now }
+    ensures { IsTrue result → (d : Seen)
+        → (d ≡ seen c.now) ↔ FollowsAtOnce event.now (seen c.now) d }
+{
+    match event {
+        Event::Asks(x) => {
+            let mut home = c.home.copy();
+            needs_no_place(&mut home, x)
+        }
+        Event::Ends { asked, .. } => none_asked(c, *asked),
+    }
+}
+
+/// Whether an event leaves all of these as they are.
+pub(crate) fn leaves_all(set: &[Configuration], event: &Event) -> bool
+    requires accepted { IsAcceptedEvent event.now }
+    ensures { IsTrue result → FollowAll event.now set.now set.now }
+{
+    for i in 0..set.len() {
+        if !leaves(&set[i], event) {
+            return false;
+        }
+    }
+    true
+}
 
 /// Adds what may follow on a configuration at an event.
 fn follow(

@@ -13,6 +13,7 @@ mod reading;
 mod rows;
 mod single;
 mod stopped;
+mod to_rows;
 
 pub use explanations::{Explanations, Standing};
 pub use first::First;

@@ -6,7 +6,7 @@ ghost use Rattle.tatp_procs.specs.Arguments.{arguments_accepted};
 ghost use Rattle.tatp_history.specs.declared.event.Event.{Event};
 ghost use Rattle.tatp_history.specs.Histories.{IsStrictlySerializable, MayHaveReply};
 ghost use Rattle.tatp_history.specs.Events.{TimesRise, HaveEnds, asked_in};
-ghost use Rattle.tatp_linearization.specs.Reached.{AreReached};
+ghost use Rattle.tatp_linearization.specs.Reached.{AreOfSubscriber, AreReached};
 ghost use Rattle.tatp_linearization.specs.Single.{IsSingle, answered_with, events_alone};
 
 use crate::explanations::Explanations;
@@ -42,6 +42,7 @@ impl Explanations {
             → (IsStrictlySerializable u
             (asked_in (past ++ events_alone (answered_with x.now at other) at))
             ↔ (other ≡ reply.new)) }
+        ensures own { (s : ℕ) → AreOfSubscriber s self.old → AreOfSubscriber s self.new }
         ensures most { self.new.most ≡ self.old.most }
     {
         evaluate(&mut self.configurations[0].home, &x.call, reply);

@@ -1,2 +1,3 @@
 //! What is tested.
 mod forwardings;
+mod to_rows;

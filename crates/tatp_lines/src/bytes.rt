@@ -9,7 +9,7 @@ fn line_feed(text: &[u8]) -> Option<usize>
     text.iter().position(|byte| *byte == b'\n')
 }
 
-/// How many bytes stand before the first line feed.
+/// How many bytes come before the first line feed.
 #[tactic(auto, using(crate::proofs::LineLaws::place_or_len))]
 fn line_len(text: &[u8]) -> usize
     ensures { result ≡ position_or_len (λ byte. byte == 10) text.now }

@@ -34,7 +34,7 @@ pub fn push_decimal(text: &mut String, number: u64) -> Result<(), AllocError>
     push_digits(text, number)
 }
 
-/// The same of any number. It stands apart, since it clears the memory of a whole number's digits.
+/// The same of any number. It is not inlined, since it clears the memory of all digits.
 #[inline(never)]
 fn push_digits(text: &mut String, number: u64) -> Result<(), AllocError>
     ensures ok { OnOk result (string_bytes text.new ≡ string_bytes text.old ++ decimal number) }

@@ -27,7 +27,7 @@ fn name(call: &Call) -> &'static str
     }
 }
 
-/// The columns in whose forms its arguments stand.
+/// The columns in whose forms its arguments are.
 fn columns(call: &Call) -> &'static [u8]
     ensures { result.now ≡ columns_of call.now }
 {
@@ -74,7 +74,7 @@ fn push_values(text: &mut String, columns: &[u8], values: &[u64]) -> Result<(), 
 }
 
 /// Appends a call as a line.
-pub(crate) fn push_call(text: &mut String, call: &Call) -> Result<(), AllocError>
+pub fn push_call(text: &mut String, call: &Call) -> Result<(), AllocError>
     ensures { OnOk result (string_bytes text.new ≡ string_bytes text.old ++ line_of call.now) }
 {
     text.push_str(name(call))?;

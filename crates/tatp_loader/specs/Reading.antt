@@ -58,7 +58,7 @@ abbrev pub byte_at : LoadFault → List ℕ → Result (ℕ × List ℕ) LoadFau
 byte_at ends [] = Err ends
 byte_at ends (byte ∷ rest) = Ok (byte, rest)
 
--- so many bytes; the input may end before their last
+-- the next k bytes; the input may end before their last
 abbrev pub bytes_at : LoadFault → ℕ → List ℕ → Result (List ℕ × List ℕ) LoadFault
 bytes_at ends k bytes =
     if nat_lt (length bytes) k then Err ends else Ok (take k bytes, drop k bytes)
@@ -100,7 +100,7 @@ instr_at version n i bytes = do
   instr ← placed n i (decoded version field.0)
   Ok (instr, field.1)
 
--- so many instructions, the first of them being i
+-- this number of instructions, the first of them being i
 unfoldable pub code_at : Version → ℕ → ℕ → ℕ → List ℕ → Result (List Instr × List ℕ) LoadFault
 code_at version n i zero bytes = Ok ([], bytes)
 code_at version n i (suc k) bytes = do
@@ -117,7 +117,7 @@ procedure_at version n bytes = do
   Ok (record { name = name.0; arity = arity.0; code = code.0 }, code.1)
 
 -- ---- the module
--- so many procedures, the first of them being n
+-- this number of procedures, the first of them being n
 unfoldable pub procedures_at : Version → ℕ → ℕ → List ℕ → Result (List Procedure × List ℕ) LoadFault
 procedures_at version n zero bytes = Ok ([], bytes)
 procedures_at version n (suc k) bytes = do

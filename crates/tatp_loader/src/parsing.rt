@@ -47,7 +47,7 @@ fn bytes_at(bytes: &[u8], len: usize, ends: LoadFault) -> Result<(&[u8], &[u8]),
     Ok(bytes.split_at(len))
 }
 
-/// The text of bytes that may stand in a name, all of them.
+/// The text of bytes that may be in a name, all of them.
 fn name_of(bytes: &[u8]) -> Option<&str>
     ensures some { IfSome result (λ name. name.now ≡ bytes.now) }
     ensures passes { is_some result ≡ list_all is_name_byte bytes.now }

@@ -62,8 +62,8 @@ fn instr_misfit(procedure: &Proc, position: usize, instr: &Instr) -> Option<Load
     }
 }
 
-/// Whether the instruction is one OUT, or one PUT, INS or DEL, too many after so many. Those of
-/// version 2 are not counted.
+/// Whether the instruction is one OUT too many after `outs`, or one PUT, INS or DEL too many after
+/// `writes`. Those of version 2 are not counted.
 fn instr_excess(
     version: Version,
     outs: usize,

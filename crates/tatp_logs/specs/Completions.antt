@@ -6,7 +6,7 @@ use Rattle.tatp_procs.specs.declared.ask.Ask.{Ask}
 use Rattle.tatp_procs.specs.declared.entry.Entry.{Entry}
 use Rattle.tatp_procs.specs.contracts.entry.Entry as entry
 
--- what contracts see of completed calls: those, and for how many more there is room
+-- what contracts see of completed calls: those, and for how many more memory is reserved
 pub record CompletionsState : Type 0 where
   pub entries : List Entry
   pub room : ℕ

@@ -1,4 +1,4 @@
--- Logs, as they are kept: calls, whose outputs stand in one list.
+-- Logs, as they are kept: calls, whose outputs are in one list.
 use Rattle.std.specs.Prelude.{ℕ, ◌-◌, List, All, map, vec_len, Vec}
 use Rattle.std.specs.Vec.{vec_capacity}
 use Rattle.std.specs.declared.alloc.Global.{Global}
@@ -8,11 +8,11 @@ use Rattle.tatp_logs.specs.declared.log.LoggedCall.{LoggedCall}
 use Rattle.tatp_logs.specs.Logs.{LogState}
 use Rattle.tatp_logs.specs.KeptReplies.{StandsIn, reply_in, room_in}
 
--- the outputs of all replies stand in this list
+-- the outputs of all replies are in this list
 abbrev pub AllStand : List ℕ → List LoggedCall → Type 0
 AllStand outputs calls = All (λ (x : LoggedCall). StandsIn outputs x.reply) calls
 
--- the entry whose outputs stand in this list
+-- the entry whose outputs are in this list
 abbrev pub entry_in : List ℕ → LoggedCall → Entry
 entry_in outputs x = record {
   client = x.client;
@@ -22,7 +22,7 @@ entry_in outputs x = record {
   stamp = x.stamp;
 }
 
--- the log of these calls, whose outputs stand in this list, after that stamp
+-- the log of these calls, whose outputs are in this list, after that stamp
 abbrev pub log_of_calls : ℕ → Vec LoggedCall Global → Vec ℕ Global → LogState
 log_of_calls kept_stamp calls outputs = record {
   kept_stamp = kept_stamp;

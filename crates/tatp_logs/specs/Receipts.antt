@@ -8,7 +8,7 @@ use Rattle.tatp_logs.specs.contracts.receipt.Receipt as receipt
 use Rattle.tatp_logs.specs.declared.receipt.ReceiptRef.{ReceiptRef}
 use Rattle.tatp_logs.specs.declared.receipt.ReceiptRef.TheVariants as seen
 
--- what contracts see of a client's receipts: those, and for how many more there is room
+-- what contracts see of a client's receipts: those, and for how many more memory is reserved
 pub record ReceiptsState : Type 0 where
   pub receipts : List Receipt
   pub room : ℕ
@@ -21,7 +21,7 @@ receipts_state_code =
     (λ p. record { receipts = p.0; room = p.1 })
     (λ _. refl)
 
--- the receipt whose outputs stand elsewhere
+-- the receipt whose outputs are elsewhere
 abbrev pub receipt_seen : ReceiptRef → Receipt
 receipt_seen (seen.Done client number reply extent stamp) =
     Done client number (reply_seen reply) extent stamp

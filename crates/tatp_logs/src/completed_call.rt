@@ -2,7 +2,7 @@
 use crate::kept_ask::KeptAsk;
 use crate::kept_reply::KeptReply;
 
-/// A completed call whose arguments and outputs stand in the list of all values.
+/// A completed call whose arguments and outputs are in the list of all values.
 #[derive(Clone, Copy, Debug)]
 pub(crate) struct CompletedCall {
     pub client: u64,

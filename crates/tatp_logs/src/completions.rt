@@ -16,8 +16,8 @@ use tatp_procs::{Ask, Entry, Reply, ReplyRef};
 const MOST_VALUES: usize = MAX_OUTPUTS + MAX_ARGUMENTS;
 
 /// Completed calls, in the order of their ends. One takes as much memory as its arguments and
-/// outputs need, where an [`Entry`] of its own has room for forty outputs. Contracts see the
-/// entries, and for how many more there is room.
+/// outputs need, where an [`Entry`] of its own has places for forty. Contracts see the entries,
+/// and for how many more memory is reserved.
 #[derive(Debug, Drop)]
 pub struct Completions {
     calls: Vec<CompletedCall>,
@@ -87,7 +87,7 @@ impl Completions {
         call.reply.reply(&self.values)
     }
 
-    /// What was replied to the last call, with its outputs where they stand.
+    /// What was replied to the last call, with its outputs where they are.
     pub fn last_reply_ref(&self) -> ReplyRef<'_>
         requires { 0 < length self.now.entries }
         ensures { (before : List Entry) (entry : Entry) → self.now.entries ≡ before ++ entry ∷ []
@@ -97,7 +97,7 @@ impl Completions {
         call.reply.reply_ref(&self.values)
     }
 
-    /// Makes room for so many more entries, whatever their arguments and outputs.
+    /// Reserves memory for `more` entries, whatever their arguments and outputs.
     pub fn reserve(&mut self, more: usize) -> Result<(), AllocError>
         ensures entries { self.new.entries ≡ self.old.entries }
         ensures room { self.old.room ≤ self.new.room }
@@ -108,7 +108,7 @@ impl Completions {
         self.values.reserve(values)
     }
 
-    /// Puts an entry behind the others, where there is room for it.
+    /// Puts an entry behind the others, where memory for it is reserved.
     pub fn push(&mut self, entry: &Entry)
         requires { 1 ≤ self.old.room }
         ensures entries { self.new.entries ≡ self.old.entries ++ entry.now ∷ [] }

@@ -7,13 +7,13 @@ use tatp_limits::MAX_ARGUMENTS;
 use tatp_numbers::Key;
 use tatp_procs::{Ask, Call, Raw};
 
-/// What was asked, where the arguments of a call that is no transaction stand in a list of the
-/// values of many. A [`Raw`] of its own has room for eight.
+/// What was asked, where the arguments of a call that is no transaction are in a list of the
+/// values of many. A [`Raw`] of its own has places for eight.
 #[derive(Clone, Copy, Debug)]
 pub(crate) enum KeptAsk {
     /// A call of a transaction.
     Txn(Call),
-    /// A call of any procedure, with so many arguments, which stand from this place on.
+    /// A call of any procedure, with `count` arguments, which are from the place `first` on.
     Raw {
         procedure: u64,
         key: Key,
@@ -23,8 +23,8 @@ pub(crate) enum KeptAsk {
 }
 
 impl KeptAsk {
-    /// Puts the arguments of a call that is no transaction behind all other values, where there is
-    /// room for them.
+    /// Puts the arguments of a call that is no transaction behind all other values, where memory
+    /// for them is reserved.
     pub(crate) fn keep(values: &mut Vec<u64>, ask: &Ask) -> KeptAsk
         requires { vec_len values.old + MAX_ARGUMENTS ≤ vec_capacity values.old }
         ensures behind { (more : List ℕ) × (values.new.items ≡ values.old.items ++ more) }

@@ -8,11 +8,11 @@ use tatp_limits::MAX_OUTPUTS;
 use tatp_machine::Trap;
 use tatp_procs::{Outputs, Reply, ReplyRef};
 
-/// A reply whose outputs stand in a list of the outputs of many. A [`Reply`] of its own has room
+/// A reply whose outputs are in a list of the outputs of many. A [`Reply`] of its own has room
 /// for forty.
 #[derive(Clone, Copy, Debug)]
 pub(crate) enum KeptReply {
-    /// It ended with so many outputs, which stand from this place on.
+    /// It ended with `count` outputs, which are from the place `first` on.
     Values { count: u8, first: usize },
     /// It ended with a failure.
     Failed(u32),
@@ -23,7 +23,7 @@ pub(crate) enum KeptReply {
 }
 
 impl KeptReply {
-    /// Puts the outputs of a reply behind all others, where there is room for them.
+    /// Puts the outputs of a reply behind all others, where memory for them is reserved.
     pub(crate) fn keep(outputs: &mut Vec<u64>, reply: &Reply) -> KeptReply
         requires { vec_len outputs.old + MAX_OUTPUTS ≤ vec_capacity outputs.old }
         ensures behind { (more : List ℕ) × (outputs.new.items ≡ outputs.old.items ++ more) }
@@ -64,7 +64,7 @@ impl KeptReply {
         }
     }
 
-    /// The reply, with its outputs where they stand.
+    /// The reply, with its outputs where they are.
     pub(crate) fn reply_ref<'o>(&self, outputs: &'o [u64]) -> ReplyRef<'o>
         requires { StandsIn outputs.now self.now }
         ensures { reply_seen result ≡ reply_in outputs.now self.now }

@@ -14,11 +14,11 @@ use std::mem;
 use tatp_limits::MAX_OUTPUTS;
 use tatp_procs::{Ask, Call, Entry, ReplyRef};
 
-/// How many outputs a call has, where room is made for many calls: one of the mix has 13 on
+/// How many outputs a call has, where memory for many is reserved: one of the mix has 13 on
 /// average.
 const OUTPUTS_A_CALL: usize = 15;
 
-/// An entry whose outputs stand in the list of all outputs.
+/// An entry whose outputs are in the list of all outputs.
 #[derive(Clone, Copy, Debug)]
 pub(crate) struct LoggedCall {
     client: u64,
@@ -29,7 +29,7 @@ pub(crate) struct LoggedCall {
 }
 
 /// Completed transactions, in the order of their stamps, and the last stamp before them. An entry
-/// takes as much memory as its outputs need, where an [`Entry`] of its own has room for forty.
+/// takes as much memory as its outputs need, where an [`Entry`] of its own has places for forty.
 #[derive(Debug, Drop)]
 pub struct Log {
     kept_stamp: u64,
@@ -75,7 +75,7 @@ fn has_said(
     logged.stamp == stamp && asks(ask, &logged.call) && logged.reply.is(outputs, reply)
 }
 
-/// Makes room for so many more values. A list that is full grows fourfold, since what it has is
+/// Reserves memory for `more` values. A list that is full grows fourfold, since what it has is
 /// copied.
 fn make_room<T>(list: &mut Vec<T>, more: usize) -> Result<(), AllocError>
     ensures items { list.new.items ≡ list.old.items }
@@ -137,7 +137,7 @@ impl Log {
     }
 
     /// Whether there is an entry in a place, counted from 0, with this ask, this reply and this
-    /// stamp. It is compared where it stands, since an [`Entry`] is large.
+    /// stamp. It is compared where it is, since an [`Entry`] is large.
     pub fn has_said(&self, index: usize, ask: &Ask, reply: ReplyRef<'_>, stamp: u64) -> bool
         ensures { IsTrue result
             ↔ HasSaid (slice_get self.now.entries index) ask.now (reply_seen reply.entry) stamp }
@@ -198,7 +198,7 @@ impl Log {
         Ok(log)
     }
 
-    /// Makes room for one more entry.
+    /// Reserves memory for one more entry.
     pub fn reserve(&mut self) -> Result<(), AllocError>
         ensures stamp { self.new.kept_stamp ≡ self.old.kept_stamp }
         ensures entries { self.new.entries ≡ self.old.entries }
@@ -208,7 +208,7 @@ impl Log {
         make_room(&mut self.outputs, MAX_OUTPUTS)
     }
 
-    /// Makes room for about so many more entries of the benchmark's mix.
+    /// Reserves memory for about `calls` more entries of the benchmark's mix.
     pub fn reserve_for(&mut self, calls: usize) -> Result<(), AllocError>
         ensures stamp { self.new.kept_stamp ≡ self.old.kept_stamp }
         ensures entries { self.new.entries ≡ self.old.entries }
@@ -217,7 +217,7 @@ impl Log {
         self.outputs.reserve(calls.saturating_mul(OUTPUTS_A_CALL))
     }
 
-    /// Appends an entry, where there is room for it.
+    /// Appends an entry, where memory for it is reserved.
     pub fn push(&mut self, entry: &Entry)
         requires transaction { AsksTransaction entry.now }
         requires room { 1 ≤ self.old.room }
@@ -237,7 +237,7 @@ impl Log {
         });
     }
 
-    /// A copy, without room for more.
+    /// A copy, without memory for more.
     pub fn copy(&self, alloc: Global) -> Result<Log, AllocError>
         ensures stamp { IfOk result (λ copy. copy.kept_stamp ≡ self.now.kept_stamp) }
         ensures entries { IfOk result (λ copy. copy.entries ≡ self.now.entries) }

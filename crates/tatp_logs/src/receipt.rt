@@ -12,7 +12,7 @@ pub enum Receipt {
         number: u64,
         /// The reply.
         reply: Reply,
-        /// The extent in whose log it stands, 0 without a home.
+        /// The extent in whose log it is, 0 without a home.
         extent: u32,
         /// Its stamp there.
         stamp: u64,
@@ -26,7 +26,7 @@ pub enum Receipt {
     },
 }
 
-/// A receipt among those that a client keeps: the outputs of its reply stand with theirs.
+/// A receipt among those that a client keeps: the outputs of its reply are with theirs.
 #[derive(Clone, Copy, Debug)]
 pub enum ReceiptRef<'a> {
     /// The call was completed.
@@ -37,7 +37,7 @@ pub enum ReceiptRef<'a> {
         number: u64,
         /// The reply.
         reply: ReplyRef<'a>,
-        /// The extent in whose log it stands, 0 without a home.
+        /// The extent in whose log it is, 0 without a home.
         extent: u32,
         /// Its stamp there.
         stamp: u64,

@@ -10,7 +10,7 @@ use std::alloc::{AllocError, Global};
 use std::marker::Model;
 use tatp_limits::MAX_OUTPUTS;
 
-/// A receipt whose outputs stand in the list of all outputs. In this order it takes 48 bytes.
+/// A receipt whose outputs are in the list of all outputs. In this order it takes 48 bytes.
 #[derive(Clone, Copy, Debug)]
 pub(crate) enum KeptReceipt {
     Done {
@@ -27,8 +27,8 @@ pub(crate) enum KeptReceipt {
 }
 
 /// Receipts, in the order in which a client got them. One takes as much memory as its outputs need,
-/// where a [`Receipt`] of its own has room for forty. Contracts see the receipts, and for how many
-/// more there is room.
+/// where a [`Receipt`] of its own has places for forty. Contracts see the receipts, and for how
+/// many more memory is reserved.
 #[derive(Debug, Drop)]
 pub struct Receipts {
     kept: Vec<KeptReceipt>,
@@ -48,7 +48,7 @@ impl Model for Receipts {
     ghost invariant = { λ a. AllStand a.outputs.items a.kept.items };
 }
 
-/// A receipt that was kept, where it stands.
+/// A receipt that was kept, where it is.
 fn see<'o>(outputs: &'o [u64], kept: &KeptReceipt) -> ReceiptRef<'o>
     requires { StandsWith outputs.now kept.now }
     ensures { receipt_seen result ≡ receipt_in outputs.now kept.now }
@@ -75,7 +75,7 @@ fn see<'o>(outputs: &'o [u64], kept: &KeptReceipt) -> ReceiptRef<'o>
 }
 
 impl Receipts {
-    /// No receipts, and no room.
+    /// No receipts, and no memory for any.
     pub fn new(alloc: Global) -> Receipts
         ensures { result.receipts ≡ [] }
     {
@@ -85,7 +85,7 @@ impl Receipts {
         }
     }
 
-    /// No receipts yet, and room for so many, whatever their outputs.
+    /// No receipts yet, and memory for `room` of them, whatever their outputs.
     pub fn with_room(alloc: Global, room: usize) -> Result<Receipts, AllocError>
         ensures receipts { IfOk result (λ receipts. receipts.receipts ≡ []) }
         ensures room { IfOk result (λ receipts. room ≤ receipts.room) }
@@ -104,7 +104,7 @@ impl Receipts {
         self.kept.len()
     }
 
-    /// For how many more there is room.
+    /// For how many more memory is reserved.
     pub fn room(&self) -> usize
         ensures { result ≡ self.now.room }
     {
@@ -121,7 +121,7 @@ impl Receipts {
         Some(see(&self.outputs, kept))
     }
 
-    /// Puts a receipt behind the others, where there is room for it.
+    /// Puts a receipt behind the others, where memory for it is reserved.
     pub fn push(&mut self, receipt: &Receipt)
         requires { 1 ≤ self.old.room }
         ensures receipts { self.new.receipts ≡ self.old.receipts ++ receipt.now ∷ [] }
@@ -153,8 +153,8 @@ impl Receipts {
         }
     }
 
-    /// Writes to the places of the next receipt, where there is room for one: the first write to
-    /// new memory takes long.
+    /// Writes to the places of the next receipt, where memory for one is reserved: the first write
+    /// to new memory takes long.
     pub fn touch_next(&mut self)
         requires { 1 ≤ self.old.room }
         ensures receipts { self.new.receipts ≡ self.old.receipts }

@@ -55,7 +55,7 @@ pub enum Progress {
 }
 
 /// What became of a write that an instruction makes. It fits a register, as a [`Progress`] doesn't:
-/// a step that gives room to an answer pays for that whether or not it writes.
+/// a step with a place for an answer pays for that whether or not it writes.
 #[derive(Clone, Copy)]
 pub(crate) enum Write {
     /// It was made, or it wasn't and the call was told why.

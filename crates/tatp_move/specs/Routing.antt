@@ -11,17 +11,17 @@ use Rattle.tatp_move.specs.declared.route.RouteUpdate.{RouteUpdate}
 use Rattle.tatp_move.specs.declared.route.RouteUpdate.TheVariants.{Set, Superseded}
 
 -- how many subscribers and partitions there are, and the route at each extent's number; at 0, which
--- is no extent's, stands partition 0
+-- is no extent's, is partition 0
 pub record RoutesState : Type 0 where
   pub subscribers : ℕ
   pub partitions : ℕ
   pub routes : List Route
 
--- the route to an extent that was just opened, in so many partitions
+-- the route to an extent that was just opened, with this number of partitions
 abbrev pub opening_route : ℕ → ℕ → Route
 opening_route partitions e = record { partition = opening_partition partitions e; moves = 0 }
 
--- the routes to the extents of so many subscribers that were just opened in so many partitions
+-- the routes to extents just opened, with these numbers of subscribers and of partitions
 abbrev pub opened_routes : ℕ → ℕ → RoutesState
 opened_routes subscribers partitions = record {
   subscribers = subscribers;

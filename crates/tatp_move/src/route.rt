@@ -59,7 +59,7 @@ impl Routes {
     ghost use Rattle.tatp_move.specs.Routing.{opened_routes, route_of, UpdatesRoute};
     ghost use Rattle.tatp_move.specs.Ranges.{plan_of};
 
-    /// The routes to the extents of so many subscribers, which open in so many partitions.
+    /// The routes to the extents of all subscribers, which open in the partitions in turn.
     pub fn open(alloc: Global, subscribers: u64, partitions: u8) -> Result<Routes, AllocError>
         requires few { subscribers ≤ MAX_SUBSCRIBERS }
         requires some { 1 ≤ partitions }

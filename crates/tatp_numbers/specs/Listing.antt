@@ -6,7 +6,7 @@ use Rattle.std.specs.FinMap as map
 use Rattle.tatp_numbers.specs.declared.key.Key.{Key}
 use Rattle.tatp_numbers.specs.declared.key.Key.TheVariants.{Id, Number}
 
--- how many subscribers there are, their s_ids being 1 to this, and which s_id stands at which
+-- how many subscribers there are, their s_ids being 1 to this, and which s_id is at which
 -- number
 pub record Listing : Type 0 where
   pub count : ℕ

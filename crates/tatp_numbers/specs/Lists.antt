@@ -1,4 +1,4 @@
--- Lists of Subscriber rows: which s_ids and numbers stand in them. Equal rows count twice.
+-- Lists of Subscriber rows: which s_ids and numbers are in them. Equal rows count twice.
 use Rattle.std.specs.Prelude.{◌≡◌, ℕ, ◌≤◌, List, [], ◌∷◌, Option, length, find, count_by}
 use Rattle.std.specs.Option.{option_map}
 use Rattle.tatp_tables.specs.Tuples.{Tuple}
@@ -10,11 +10,11 @@ use Rattle.tatp_numbers.specs.Homes.{s_id_of}
 abbrev pub IdsRunToLength : List Tuple → Type 0
 IdsRunToLength rows = (s : ℕ) → 1 ≤ s → s ≤ length rows → count_of_key (s ∷ []) rows ≡ 1
 
--- no number stands twice
+-- no number occurs twice
 abbrev pub NumbersStandOnce : List Tuple → Type 0
 NumbersStandOnce rows = (n : ℕ) → count_by (has_number n) rows ≤ 1
 
--- some number stands twice
+-- some number occurs twice
 abbrev pub NumberRepeats : List Tuple → Type 0
 NumberRepeats rows = (n : ℕ) × (2 ≤ count_by (has_number n) rows)
 

@@ -43,7 +43,7 @@ abbrev pub is_chapter_count_full : Option LogHere → Bool
 is_chapter_count_full log =
     option_map_or (λ (l : LogHere). l.chapters == MAX_EXTENT_CHAPTERS) log false
 
--- what stands against handing out a chapter of this log
+-- why this log hands out no chapter, if it doesn't
 abbrev pub log_obstacle : Bool → Option LogHere → Option SiteRefusal
 log_obstacle running log = first_of (
     record { holds = running; refusal = Running }
@@ -97,7 +97,7 @@ Checkpoints s e (Err refusal) s' = (checkpoint_obstacle s e ≡ Some refusal) ×
 abbrev pub KeepsLastStamps : SiteState → SiteState → Type 0
 KeepsLastStamps s s' = (home : Option ℕ) → last_stamp_here s' home ≡ last_stamp_here s home
 
--- ---- why no chapter is handed out, as the site tells it
+-- ---- why no chapter is handed out, as the site reports it
 abbrev pub refusal_by : CheckpointError → SiteRefusal
 refusal_by error.LogEnded = LogEnded
 refusal_by error.ChapterCountFull = ChapterCountFull

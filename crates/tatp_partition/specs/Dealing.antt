@@ -7,11 +7,11 @@ use Rattle.tatp_partition.specs.Moving.{with_extent}
 use Rattle.tatp_partition.specs.Sites.{SiteState}
 use Rattle.tatp_partition.specs.Sound.{IsSite}
 
--- the partition in which extent e opens, of so many: the extents are dealt in turn
+-- the partition in which extent e opens: the extents are dealt to the partitions in turn
 abbrev pub opening_partition : ℕ → ℕ → ℕ
 opening_partition partitions e = (e - 1) % partitions
 
--- whether an extent opens in partition p, of so many
+-- whether an extent opens in partition p
 abbrev pub opens_in : ℕ → ℕ → ExtentState → Bool
 opens_in partitions p x = opening_partition partitions x.number == p
 
@@ -19,8 +19,8 @@ opens_in partitions p x = opening_partition partitions x.number == p
 abbrev pub dealt_to : ℕ → ℕ → List ExtentState → List ExtentState
 dealt_to partitions p extents = filter (opens_in partitions p) extents
 
--- the site of partition p, just opened for so many extents, with those of these that were dealt to
--- it
+-- the site of partition p, just opened with slots for all extents, and with those of these that
+-- were dealt to it
 pub record IsSiteDealt
     (modul : ModuleState) (partitions p total : ℕ) (extents : List ExtentState)
     (s : SiteState)
@@ -28,7 +28,7 @@ pub record IsSiteDealt
   pub site : IsSite s
   pub fields : s ≡ opened_site modul p total (dealt_to partitions p extents) s.standard
 
--- the sites of all partitions, just opened for so many extents, with these
+-- the sites of all partitions, just opened with slots for all extents, and with these
 pub record AreSitesDealt
     (modul : ModuleState) (partitions total : ℕ) (extents : List ExtentState)
     (sites : List SiteState)

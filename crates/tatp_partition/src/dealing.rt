@@ -12,7 +12,7 @@ use std::alloc::{AllocError, Global};
 use tatp_extents::Extent;
 use tatp_loader::Loaded;
 
-/// The sites of all partitions, for so many extents, none of which is there yet.
+/// The sites of all partitions, for `count` extents, none of which is there yet.
 fn open_without_extents<'m>(
     alloc: Global,
     loaded: &'m Loaded,
@@ -78,7 +78,7 @@ pub fn open_sites<'m>(
     Ok(sites)
 }
 
-/// Spends sites, with the extents that stand at them.
+/// Spends sites, with the extents there.
 pub fn close_sites(sites: Vec<Site<'_>>) {
     discard_all(sites);
 }

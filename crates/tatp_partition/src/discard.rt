@@ -19,7 +19,7 @@ impl Discard for Chapter {
     }
 }
 
-/// Spends a list, and all that stands in it.
+/// Spends a list, and all that is in it.
 pub fn discard_all<T: Discard>(list: Vec<T>) {
     let mut rest = list;
     while let Some(value) = rest.pop() {

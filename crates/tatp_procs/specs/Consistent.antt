@@ -13,7 +13,7 @@ NumbersAreUnique u =
     → slice_index row 1 ≡ slice_index other 1
     → row ≡ other
 
--- no s_id and no other key stands twice, no number does, parents exist, and values are in their
+-- no s_id and no other key occurs twice, no number does, parents exist, and values are in their
 -- domains
 pub record IsConsistent (u : Database) : Type 0 where
   pub keys : KeysAreUnique u

@@ -6,7 +6,7 @@ use Rattle.std.proofs.lemmas.List.{length-take-le}
 abbrev pub padded : ℕ → List ℕ → List ℕ
 padded room xs = xs ++ replicate (room - length xs) 0
 
--- so many of them are values, and the rest is 0
+-- the first `count` of them are values, and the rest is 0
 pub record ArePadded (room count : ℕ) (all : List ℕ) : Type 0 where
   pub room_is : length all ≡ room
   pub most : count ≤ room

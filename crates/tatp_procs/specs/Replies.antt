@@ -13,7 +13,7 @@ reply_to Done outputs = Values outputs
 reply_to (WithFailure n) outputs = Failed n
 reply_to (WithTrap trap) outputs = Trapped trap
 
--- the reply whose outputs stand elsewhere
+-- the reply whose outputs are elsewhere
 abbrev pub reply_seen : ReplyRef → Reply
 reply_seen (seen.Values outputs) = Values outputs.now
 reply_seen (seen.Failed n) = Failed n

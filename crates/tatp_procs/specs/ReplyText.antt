@@ -23,7 +23,7 @@ answer_columns (UpdateLocation n v) = []
 answer_columns (InsertCallForwarding n t b e x) = []
 answer_columns (DeleteCallForwarding n t b) = []
 
--- the columns in whose forms a reply's values stand
+-- the columns in whose forms a reply's values are
 abbrev pub reply_columns : Ask → List ℕ
 reply_columns (Txn call) = answer_columns call
 reply_columns (Raw call) = []

@@ -1,6 +1,6 @@
 -- trusted: read it
 -- The seven transactions, on four sets of tuples: what each answers, and the database after it.
--- TATP Benchmark Description 1.0, transactions; their SQL stands with each. A failure leaves the
+-- TATP Benchmark Description 1.0, transactions; their SQL is beside each. A failure leaves the
 -- database. The failure numbers, the parent test and the order of the numbers answered are this
 -- profile's: docs/FORMATS.md.
 use Rattle.std.specs.Prelude.{ℕ, Bool, false, ◌&&◌, ◌==◌, nat_lt, nat_le, List, [], ◌∷◌, Option, Some, None, map, filter, drop, slice_index, slice_set}
@@ -58,7 +58,7 @@ is_destination u s t b e cf =
     && (is_active (row_at u.facilities (s ∷ t ∷ []))
     && (nat_le (start_time_of cf) b && nat_lt e (end_time_of cf)))
 
--- the rows of a set stand in the order of their columns, so these rise in start_time
+-- the rows of a set are in the order of their columns, so these rise in start_time
 abbrev pub destinations : Database → ℕ → ℕ → ℕ → ℕ → List ℕ
 destinations u s t b e = map numberx_of (filter (is_destination u s t b e) (rows_of u.forwardings))
 

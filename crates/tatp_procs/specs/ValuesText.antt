@@ -1,4 +1,4 @@
--- Values in text, one after another, each in the form of the column that stands at its place.
+-- Values in text, one after another, each in the form of the column at its place.
 use Rattle.std.specs.Prelude.{ℕ, Bool, true, false, ◌&&◌, List, [], ◌∷◌, ◌++◌, Option, Some, None, decimal}
 use Rattle.std.specs.Option.{option_map, option_and_then}
 use Rattle.tatp_texts.specs.Text.{value_of, value_text, is_printable}

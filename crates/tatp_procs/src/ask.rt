@@ -68,8 +68,8 @@ impl Ask {
         }
     }
 
-    /// Whether among procedures that take so many arguments there is the one that is asked, with as
-    /// many, which are in their domains where it is a transaction.
+    /// Whether among procedures of these arities is the one that is asked, with that number of
+    /// arguments, in their domains where it is a transaction.
     pub fn fits(&self, arities: &[u8]) -> bool
         ensures { IsTrue result ↔ Fits arities.now self.now }
     {
@@ -97,7 +97,7 @@ impl Ask {
         }
     }
 
-    /// Whether a procedure that takes so many arguments takes what is asked.
+    /// Whether a procedure of this arity takes what is asked.
     fn is_taken(&self, arity: u8) -> bool
         ensures { IsTrue result
             ↔ ((arity ≡ length (arguments_asked self.now)) × AreInDomains self.now) }

@@ -6,7 +6,7 @@ use arrayvec::ArrayVec;
 use tatp_limits::MAX_ARGUMENTS;
 use tatp_numbers::Key;
 
-/// A call of one of the seven transactions, with its arguments. The variants stand in the order of
+/// A call of one of the seven transactions, with its arguments. The variants are in the order of
 /// the benchmark's mix, which is that of the standard procedures.
 #[derive(Clone, Copy, Debug, PartialEq, Eq)]
 pub enum Call {

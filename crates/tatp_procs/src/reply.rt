@@ -96,7 +96,7 @@ pub enum Reply {
     Refused,
 }
 
-/// A reply whose outputs stand elsewhere.
+/// A reply whose outputs are elsewhere.
 #[derive(Clone, Copy, Debug)]
 pub enum ReplyRef<'a> {
     /// It ended with these outputs.
@@ -110,7 +110,7 @@ pub enum ReplyRef<'a> {
 }
 
 impl Reply {
-    /// The reply, with its outputs where they stand.
+    /// The reply, with its outputs where they are.
     pub fn as_ref(&self) -> ReplyRef<'_>
         ensures { reply_seen result ≡ self.now }
     {
@@ -123,10 +123,10 @@ impl Reply {
     }
 
     /// The reply to a call that ended so, with these outputs, in place of this one. Outputs go
-    /// where outputs stand, so that only as many are copied as there are.
+    /// where outputs are, so that only as many are copied as there are.
     ///
-    /// What makes a whole reply stands apart, since a function clears the memory of all its locals
-    /// when it begins.
+    /// What makes a whole reply is not inlined, since a function clears the memory of all its
+    /// locals when it begins.
     pub fn set(&mut self, end: End, outputs: &[u64])
         requires { length outputs.now ≤ MAX_OUTPUTS }
         ensures { self.new ≡ reply_to end outputs.now }

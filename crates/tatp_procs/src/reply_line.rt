@@ -72,7 +72,7 @@ fn trapped(trap: &Trap) -> &'static str
     }
 }
 
-/// The columns in whose forms the values stand.
+/// The columns in whose forms the values are.
 fn reply_columns(ask: &Ask) -> &'static [u8]
     ensures { result.now ≡ reply_columns ask.now }
 {

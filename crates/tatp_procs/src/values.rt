@@ -1,4 +1,4 @@
-//! Values in text, one after another, each in the form of the column that stands at its place.
+//! Values in text, one after another, each in the form of the column at its place.
 ghost use Rattle.std.specs.Prelude.{◌≡◌, ◌<◌, ◌^◌, ◌∷◌, ◌++◌, All, IfOk, OnOk, OnErr, slice_index_or};
 ghost use Rattle.std.specs.String.{string_bytes};
 ghost use Rattle.tatp_texts.specs.Text.{value_text};
@@ -9,7 +9,7 @@ use std::alloc::{AllocError, Global};
 use tatp_lines::push_decimal;
 use tatp_texts::{Fields, is_decimal, push_value, read_value};
 
-/// Names no column, so that its values stand in decimal.
+/// Names no column, so that its values are in decimal.
 pub(crate) const NO_COLUMN: u8 = 255;
 
 /// Exactly one value of each of these columns, which are all the fields left.

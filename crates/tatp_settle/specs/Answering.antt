@@ -17,7 +17,7 @@ abbrev pub is_of_kind : ℕ → Ask → Bool
 is_of_kind kind (Txn call) = procedure_of call == kind
 is_of_kind kind (Raw raw) = false
 
--- at a place of a client's lists a call stands beside its receipt, or neither is there
+-- at a place of a client's lists a call is beside its receipt, or neither is there
 abbrev pub AreMatched : ℕ → ℕ → Option Ask → Option Receipt → Type 0
 AreMatched client number None None = Unit {0}
 AreMatched client number None (Some receipt) = ⊥
@@ -29,7 +29,7 @@ pub record IsEntryOf (of_client of_number : ℕ) (entry : Entry) : Type 0 where
   pub client : entry.client ≡ of_client
   pub number : entry.number ≡ of_number
 
--- an entry of the call, and where it stands
+-- an entry of the call, and where it is
 pub record EntryFound (closed : ClosedState) (client number : ℕ) : Type 0 where
   pub extent : ℕ
   pub place : ℕ
@@ -37,12 +37,12 @@ pub record EntryFound (closed : ClosedState) (client number : ℕ) : Type 0 wher
   pub stands : StandsAt closed extent place entry
   pub own : IsEntryOf client number entry
 
--- the receipt of a completed call: what its entry says, and in which extent's log it stands
+-- the receipt of a completed call: what its entry says, and in which extent's log it is
 abbrev pub receipt_of : PlacedEntry → Receipt
 receipt_of p = Done p.entry.client p.entry.number p.entry.reply p.extent p.entry.stamp
 
--- the call is refused and stands in no log; or the receipt equals an entry of its call, which
--- stands in the log of the receipt's extent
+-- the call is refused and is in no log; or the receipt equals an entry of its call, which
+-- is in the log of the receipt's extent
 abbrev pub IsAnswered : ClosedState → Ask → Receipt → Type 0
 IsAnswered closed ask (Done client number reply extent stamp) =
     (place : ℕ)
@@ -54,7 +54,7 @@ IsAnswered closed ask (Refused client number) = EntryFound closed client number 
 abbrev pub HasReceipt : List (List Receipt) → PlacedEntry → Type 0
 HasReceipt receipts p = at_call receipts p.entry.client p.entry.number ≡ Some (receipt_of p)
 
--- two entries of one call stand in one place
+-- two entries of one call are in one place
 abbrev pub EntriesStandOnce : ClosedState → Type 0
 EntriesStandOnce closed =
     (client number : ℕ) (one other : EntryFound closed client number)

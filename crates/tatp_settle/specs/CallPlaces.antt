@@ -2,7 +2,7 @@
 use Rattle.std.specs.Prelude.{◌≡◌, ℕ, ◌<◌, ◌≤◌, ◌⊎◌, Option, Some, None}
 use Rattle.tatp_settle.specs.declared.places.CallPlace.{CallPlace}
 
--- the first call stands before the second: by client, and then by call number
+-- the first call comes before the second: by client, and then by call number
 abbrev pub IsSooner : ℕ → ℕ → ℕ → ℕ → Type 0
 IsSooner client number client' number' =
     (client < client') ⊎ ((client ≡ client') × (number < number'))

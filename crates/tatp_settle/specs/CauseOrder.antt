@@ -21,16 +21,16 @@ kind_of (StampOrder client number) = 9
 kind_of (HasHome client number) = 10
 kind_of (Audit verdict) = 11
 
--- no cause of the first so many kinds holds
+-- no cause of a kind below `kinds` holds
 abbrev pub NoneOfFirst : ℕ → Run → Type 0
 NoneOfFirst kinds run = (cause : Unsettled) → kind_of cause < kinds → Holds run cause → ⊥
 
--- the first cause, if one of the first so many kinds holds
+-- the first cause, if one of a kind below `kinds` holds
 abbrev pub IsFirstOf : ℕ → Run → Option Unsettled → Type 0
 IsFirstOf kinds run None = NoneOfFirst kinds run
 IsFirstOf kinds run (Some cause) = IsFirstCause run cause
 
--- where no cause of the first so many kinds holds: the first cause, if one of these kinds does
+-- where no cause of a kind below `before` holds: the first cause, if one below `kinds` does
 abbrev pub IsFirstAfter : ℕ → ℕ → Run → Option Unsettled → Type 0
 IsFirstAfter before kinds run cause = NoneOfFirst before run → IsFirstOf kinds run cause
 

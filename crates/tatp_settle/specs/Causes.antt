@@ -141,7 +141,7 @@ pub record StampFalls (receipts : List (List Receipt)) (client number : ℕ) : T
   pub got_second : at_call receipts client number ≡ Some second
   pub falls : IsLater first second → ⊥
 
--- an entry of the call stands in the log of the calls without a home, and its key names one of
+-- an entry of the call is in the log of the calls without a home, and its key names one of
 -- these subscribers
 pub record NamesHome (subscribers : Tuples) (closed : ClosedState) (client number : ℕ)
     : Type 0 where
@@ -166,7 +166,7 @@ Holds run (HasHome client number) =
     NamesHome (database_of run.population).subscribers run.closed client number
 Holds run (Audit verdict) = IsVerdict (rows_left run) verdict × (says_clean verdict ≡ false)
 
--- where a cause stands in their order: which it is, and then the extent and the chapter's index, or
+-- where a cause is in their order: which it is, and then the extent and the chapter's index, or
 -- the client and the call number
 abbrev pub place_of : Unsettled → List ℕ
 place_of (Mixed e) = 0 ∷ e ∷ []
@@ -182,11 +182,11 @@ place_of (StampOrder client number) = 9 ∷ client ∷ number ∷ []
 place_of (HasHome client number) = 10 ∷ client ∷ number ∷ []
 place_of (Audit verdict) = 11 ∷ []
 
--- the first cause stands before the second
+-- the first cause comes before the second
 abbrev pub StandsBefore : Unsettled → Unsettled → Type 0
 StandsBefore cause other = slice_cmp nat_cmp (place_of cause) (place_of other) ≡ Less
 
--- the cause holds, and none that stands before it does: so it is the first of its kind too, for the
+-- the cause holds, and none that comes before it does: so it is the first of its kind too, for the
 -- least place
 pub record IsFirstCause (run : Run) (cause : Unsettled) : Type 0 where
   pub holds : Holds run cause

@@ -16,7 +16,7 @@ abbrev pub IsFirstChapter : (ℕ → ℕ → Type 0) → Option ChapterPlace →
 IsFirstChapter P None = HoldsNowhere P
 IsFirstChapter P (Some place) = IsLeastCall P place.extent place.index
 
--- the chapter stands no sooner than the least one so far
+-- the chapter comes no sooner than the least one so far
 abbrev pub IsChapterAtMost : Option ChapterPlace → ℕ → ℕ → Type 0
 IsChapterAtMost None extent index = ⊥
 IsChapterAtMost (Some place) extent index = IsSooner extent index place.extent place.index → ⊥
@@ -41,7 +41,7 @@ pub record HasRows (c : ClosedState) (table : List (List (Option (Bor ChapterSta
   pub count : length table ≡ least_above c
   pub rows : (e : ℕ) → option_map_or length (slice_get table e) 0 ≡ chapter_count c e
 
--- and in each cell stands the first chapter of that extent and index, if one came
+-- and in each cell is the first chapter of that extent and index, if one came
 pub record HasChapters (c : ClosedState) (table : List (List (Option (Bor ChapterState))))
     : Type 0 where
   pub rows : HasRows c table

@@ -7,7 +7,7 @@ use Rattle.tatp_settle.specs.Merging.{PlacedEntry, Begins, AllAreEmpty, without_
 use Rattle.tatp_settle.specs.Merging.{IsAnsweredInOrder}
 use Rattle.tatp_settle.specs.Runs.{Run, logs_left, rows_left}
 
--- the history takes, while entries are left, the first entry of any log. The log of extent e stands
+-- the history takes, while entries are left, the first entry of any log. The log of extent e is
 -- at e
 abbrev pub Interleaves : List (List Entry) → List PlacedEntry → Type 0
 Interleaves logs [] = AllAreEmpty logs

@@ -8,7 +8,7 @@ use Rattle.tatp_settle.specs.Closings.{ClosedState, entries_numbered, least_abov
 abbrev pub log_in : List (List Entry) → ℕ → List Entry
 log_in logs e = option_map_or (λ (log : List Entry). log) (slice_get logs e) []
 
--- at each number's place stands its whole log, up to the least number above all, and beyond it all
+-- at each number's place is its whole log, up to the least number above all, and beyond it all
 -- logs are empty
 pub record HasLogs (closed : ClosedState) (logs : List (List Entry)) : Type 0 where
   pub count : length logs ≡ least_above closed

@@ -5,7 +5,7 @@ use Rattle.tatp_procs.specs.declared.entry.Entry.{Entry}
 use Rattle.tatp_procs.specs.Asked.{key_asked}
 use Rattle.tatp_settle.specs.Answering.{IsEntryOf}
 
--- an entry of the call stands in the log, and its key names a subscriber
+-- an entry of the call is in the log, and its key names a subscriber
 pub record IsNamedIn (log : List Entry) (directory : Listing) (client number : ℕ) : Type 0 where
   pub index : ℕ
   pub entry : Entry

@@ -21,7 +21,7 @@ Cells A = ℕ → ℕ → Option (Option A)
 abbrev pub cells_of : {A : Type 0} → List (List (Option A)) → Cells A
 cells_of table client number = at_call table client number
 
--- there is an empty cell exactly where something stands
+-- there is an empty cell exactly where something is
 abbrev pub IsFreshCell : {A P : Type 0} → Option A → Option (Option P) → Type 0
 IsFreshCell None cell = cell ≡ None
 IsFreshCell (Some x) cell = cell ≡ Some None
@@ -39,7 +39,7 @@ Puts before client number place true after =
 Puts before client number place false after =
     (before client number ≡ Some None → ⊥) × ((c n : ℕ) → after c n ≡ before c n)
 
--- an entry of the call stands at the place
+-- an entry of the call is at the place
 pub record Points (closed : ClosedState) (client number : ℕ) (place : LogPlace) : Type 0 where
   pub entry : Entry
   pub stands : StandsAt closed place.extent place.index entry
@@ -63,7 +63,7 @@ pub record AllPlaced (closed : ClosedState) (receipts : List (List Receipt))
 abbrev pub ArePlaced : ClosedState → List (List Receipt) → Type 0
 ArePlaced closed receipts = (cells : Cells LogPlace) × AllPlaced closed receipts cells
 
--- the call stands no sooner than the least one so far
+-- the call comes no sooner than the least one so far
 abbrev pub IsAtMost : Option CallPlace → ℕ → ℕ → Type 0
 IsAtMost None client number = ⊥
 IsAtMost (Some place) client number = IsSooner client number place.client place.number → ⊥
@@ -86,7 +86,7 @@ pub record HasTooManyIn (closed : ClosedState) (receipts : List (List Receipt)) 
   pub belongs : BelongsAt receipts last at
   pub many : IsTooMany closed (at_call receipts at number) client number
 
--- each entry of a client that belongs there is in the cell of its call, or stands no sooner than
+-- each entry of a client that belongs there is in the cell of its call, or comes no sooner than
 -- the least call with an entry too many; each call that has a receipt has a cell, and no other
 pub record ArePlacedIn (closed : ClosedState) (receipts : List (List Receipt)) (first : ℕ)
     (last : Bool) (cells : Cells LogPlace) (least : Option CallPlace) : Type 0 where

@@ -45,7 +45,7 @@ shown run = run_of run.population.now run.closed.now run.receipts.now run.calls.
 abbrev pub joined : {A : Type 0} → List (List A) → List A
 joined lists = flat_map (λ list. list) lists
 
--- what stands for a client and one of its call numbers; a list that is lacking counts as empty
+-- what is kept of a client and one of its call numbers; a list that is lacking counts as empty
 abbrev pub at_call : {A : Type 0} → List (List A) → ℕ → ℕ → Option A
 at_call lists client number =
     option_and_then (λ list. slice_get list number) (slice_get lists client)
@@ -79,7 +79,7 @@ abbrev pub logs_left : Run → List (List Entry)
 logs_left run =
     map (entries_numbered run.closed) (range_with_len 0 (extents_populated run.population + 1))
 
--- the homes that stand now where the population has its extents, extent by extent
+-- the homes that are now where the population has its extents, extent by extent
 abbrev pub homes_left : Run → List SubscriberRows
 homes_left run =
     flat_map (homes_numbered run.closed) (range_with_len 1 (extents_populated run.population))
@@ -88,7 +88,7 @@ homes_left run =
 abbrev pub rows_left : Run → Rows
 rows_left run = rows_of_homes (homes_left run)
 
--- how often the extents were moved that stand where the population has them, counted one by one
+-- how often the extents were moved that are where the population has them, counted one by one
 abbrev pub moves_left : Run → ℕ
 moves_left run =
     sum_by (moves_numbered run.closed) (range_with_len 1 (extents_populated run.population))

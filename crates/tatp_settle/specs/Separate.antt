@@ -13,7 +13,7 @@ use Rattle.tatp_procs.specs.Consistent.{IsConsistent}
 use Rattle.tatp_extents.specs.Histories.{Leads}
 use Rattle.tatp_settle.specs.Merging.{PlacedEntry, IsAnsweredInOrder}
 
--- whose homes stand in each extent, and its last homes; extent 0 has none
+-- whose homes are in each extent, and its last homes; extent 0 has none
 pub record Parts : Type 0 where
   pub ids : ℕ → List ℕ
   pub last : ℕ → List SubscriberRows

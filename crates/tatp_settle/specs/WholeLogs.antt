@@ -9,7 +9,7 @@ use Rattle.tatp_settle.specs.declared.log_parts.JoinedPart.{JoinedPart}
 abbrev pub entries_of_parts : List JoinedPart → List Entry
 entries_of_parts parts = flat_map (λ (part : JoinedPart). part.entries.now.entries) parts
 
--- each part tells how many entries stand before it, counted from this many on; all together are so
+-- each part tells how many entries come before it, counted from this many on; all together are so
 -- many
 abbrev pub AreJoined : ℕ → List JoinedPart → ℕ → Type 0
 AreJoined before [] len = len ≡ before
@@ -17,7 +17,7 @@ AreJoined before (part ∷ more) len =
     (part.first ≡ before)
     × AreJoined (before + length part.entries.now.entries) more len
 
--- the entry of this place in all parts, if it stands in this one
+-- the entry of this place in all parts, if it is in this one
 abbrev pub entry_in_part : Option JoinedPart → ℕ → Option Entry
 entry_in_part part index =
     option_and_then (λ (p : JoinedPart). slice_get p.entries.now.entries (index - p.first)) part

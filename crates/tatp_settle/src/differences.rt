@@ -51,7 +51,7 @@ fn agrees(logs: &LogTable<'_>, cell: Option<LogPlace>, ask: &Ask, receipt: Recei
 pub(crate) struct Differing<'a, 'c> {
     /// The logs of the entries.
     pub(crate) logs: &'a LogTable<'c>,
-    /// Where the entry of each call stands.
+    /// Where the entry of each call is.
     pub(crate) table: &'a Table<LogPlace>,
     /// What each client got for its calls.
     pub(crate) receipts: &'a [Receipts],

@@ -20,7 +20,7 @@ pub(crate) enum ExtentCause {
     IsAsMixed,
     /// It came in a parcel.
     InParcel,
-    /// It stands twice.
+    /// It is there twice.
     StandsTwice,
 }
 
@@ -86,7 +86,7 @@ fn is_one_of(extents: &[Extent], number: u64) -> bool
         .any(|extent| extent.number() as u64 == number)
 }
 
-/// Whether the number stands twice.
+/// Whether the number occurs twice.
 fn is_doubled(closed: &Closed, number: u64) -> bool
     ensures { IsTrue result ↔ (2 ≤ times_standing closed.now number) }
 {

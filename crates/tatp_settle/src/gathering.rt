@@ -69,7 +69,7 @@ pub fn gather<'m>(
     })
 }
 
-/// The least extent that stands in no site and no parcel.
+/// The least extent in no site and no parcel.
 fn least_missing(sites: &[Site<'_>], parcels: &[Parcel]) -> Option<u64>
     ensures sound { All IsClosedSite (closed_of sites.now parcels.now []).sites }
     ensures missing { IfSome result (IsLeastMissing (closed_of sites.now parcels.now [])) }
@@ -90,7 +90,7 @@ fn greatest_number(sites: &[Site<'_>]) -> u32
         .fold(0, |most: u32, site| most.max(site.slots()))
 }
 
-/// Whether an extent stands in no site and no parcel.
+/// Whether an extent is in no site and no parcel.
 fn is_missing(sites: &[Site<'_>], parcels: &[Parcel], number: u64) -> bool
     requires few { number < 2 ^ 32 }
     requires sound { All IsSite sites.now }
@@ -100,7 +100,7 @@ fn is_missing(sites: &[Site<'_>], parcels: &[Parcel], number: u64) -> bool
     !stands(sites, parcels, number)
 }
 
-/// Whether an extent stands in a site or a parcel.
+/// Whether an extent is in a site or a parcel.
 fn stands(sites: &[Site<'_>], parcels: &[Parcel], number: u64) -> bool
     requires { number < 2 ^ 32 }
     ensures { result
@@ -110,7 +110,7 @@ fn stands(sites: &[Site<'_>], parcels: &[Parcel], number: u64) -> bool
     stands_at_one(sites, number) || is_one_of(parcels, number)
 }
 
-/// Whether an extent stands in one of the sites.
+/// Whether an extent is in one of the sites.
 fn stands_at_one(sites: &[Site<'_>], number: u64) -> bool
     requires { number < 2 ^ 32 }
     ensures { result
@@ -146,7 +146,7 @@ fn what_holds_of_these_chapters(chapters: &[Chapter])
     }
 }
 
-/// Whether an extent stands in a site. The log of the calls without a home stands in that of
+/// Whether an extent is in a site. The log of the calls without a home is in that of
 /// partition 0.
 fn stands_at(site: &Site<'_>, number: u64) -> bool
     requires { number < 2 ^ 32 }

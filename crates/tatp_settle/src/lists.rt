@@ -6,7 +6,7 @@ ghost use Rattle.tatp_settle.specs.Runs.{at_call, lists_of};
 
 use crate::{ReceiptRef, Receipts};
 
-/// What stands for a client and one of its call numbers.
+/// What is kept of a client and one of its call numbers.
 pub(crate) fn at<T>(lists: &[Vec<T>], client: u64, number: u64) -> Option<&T>
     ensures { option_copied result ≡ at_call (lists_of lists.now) client number }
 {
@@ -22,7 +22,7 @@ pub(crate) fn count_of<T>(lists: &[Vec<T>]) -> u64
     lists.len() as u64
 }
 
-/// How much stands for a client.
+/// How much is kept of a client.
 pub(crate) fn len_of<T>(lists: &[Vec<T>], client: u64) -> u64
     ensures count { result ≡ option_map_or length (slice_get (lists_of lists.now) client) 0 }
     ensures beyond { (number : ℕ)

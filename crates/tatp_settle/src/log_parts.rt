@@ -23,7 +23,7 @@ pub(crate) struct LogPart<'a> {
 /// A part that has its place in a whole log.
 #[derive(Clone, Copy)]
 struct JoinedPart<'a> {
-    /// How many entries stand before it.
+    /// How many entries come before it.
     first: usize,
     entries: &'a Log,
 }
@@ -78,7 +78,7 @@ impl<'a> WholeLog<'a> {
         self.len
     }
 
-    /// The part in which the entry of this place stands, if there is one.
+    /// The part in which the entry of this place is, if there is one.
     fn part_of(&self, index: usize) -> Option<&JoinedPart<'a>>
         ensures first { IfSome result (λ part. part.now.first ≤ index) }
         ensures entry { slice_get self.now index ≡ entry_in_part (option_copied result) index }
@@ -87,7 +87,7 @@ impl<'a> WholeLog<'a> {
         self.parts.get(later.checked_sub(1)?)
     }
 
-    /// The part of this number, where the entry of this place, if there is one, stands in it.
+    /// The part of this number, where the entry of this place, if there is one, is in it.
     fn part_around(&self, number: usize, index: usize) -> Option<&JoinedPart<'a>>
         ensures first { IfSome result (λ part. part.now.first ≤ index) }
         ensures entry { OnSome result
@@ -120,7 +120,7 @@ impl<'a> WholeLog<'a> {
         }
     }
 
-    /// The number of the part in which the entry of this place stands, if all parts are as long as
+    /// The number of the part in which the entry of this place is, if all parts are as long as
     /// the first, as most often they are.
     fn likely_part(&self, index: usize) -> usize {
         match self.parts.get(1) {

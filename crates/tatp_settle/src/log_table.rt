@@ -67,7 +67,7 @@ impl<'a> LogTable<'a> {
         self.logs.get(number as usize)
     }
 
-    /// How many entries stand under a number.
+    /// How many entries are under a number.
     pub(crate) fn len(&self, number: u64) -> usize
         ensures { result ≡ length (entries_numbered self.now number) }
     {

@@ -71,7 +71,7 @@ pub(crate) fn last_part(closed: &Closed, number: u64) -> Option<LogPart<'_>>
     })
 }
 
-/// How many chapters were handed out of a number, 0 where it doesn't stand.
+/// How many chapters were handed out of a number, 0 where it isn't there.
 pub(crate) fn chapter_count(closed: &Closed, number: u64) -> u16
     ensures { result ≡ chapter_count closed.now number }
 {

@@ -27,7 +27,7 @@ pub(crate) struct Part<'a> {
     pub(crate) last: bool,
 }
 
-/// Where the entry of each call stands.
+/// Where the entry of each call is.
 #[derive(Drop)]
 pub(crate) struct Placed {
     pub(crate) table: Table<LogPlace>,
@@ -35,7 +35,7 @@ pub(crate) struct Placed {
     pub(crate) extra: Option<CallPlace>,
 }
 
-/// Whether a client belongs to a part: one of so many from the first on, or, in the last part, any
+/// Whether a client belongs to a part: one of `count` from the first on, or, in the last part, any
 /// later one.
 fn belongs(client: u64, first: u64, count: u64, last: bool) -> bool
     ensures belongs { result ≡ true

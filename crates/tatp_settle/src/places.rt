@@ -1,4 +1,4 @@
-//! Where calls and entries stand.
+//! The places of calls and entries.
 ghost use Rattle.std.specs.Prelude.{◌≡◌, ◌⊎◌, ℕ, Some};
 ghost use Rattle.tatp_settle.specs.Placing.{IsAtMost};
 ghost use Rattle.tatp_settle.specs.ChapterTables.{IsChapterAtMost};
@@ -8,7 +8,7 @@ ghost use Rattle.tatp_settle.specs.ChapterTables.{IsChapterAtMost};
 pub struct CallPlace {
     /// Whose call it is.
     pub client: u64,
-    /// How many calls of the client stand before it.
+    /// How many calls of the client come before it.
     pub number: u64,
 }
 
@@ -17,7 +17,7 @@ pub struct CallPlace {
 pub(crate) struct ChapterPlace {
     /// Which extent, 0 for the calls without a home.
     pub(crate) extent: u64,
-    /// How many of its chapters stand before it.
+    /// How many of its chapters come before it.
     pub(crate) index: u64,
 }
 
@@ -26,7 +26,7 @@ pub(crate) struct ChapterPlace {
 pub(crate) struct LogPlace {
     /// Which extent, 0 for the calls without a home.
     pub(crate) extent: u64,
-    /// How many entries stand before it.
+    /// How many entries come before it.
     pub(crate) index: usize,
 }
 

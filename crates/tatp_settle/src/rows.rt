@@ -30,7 +30,7 @@ pub(crate) fn rows_now(alloc: Global, run: &Run<'_>) -> Result<Rows, AllocError>
     Ok(rows)
 }
 
-/// Adds the rows now of an extent, none where it doesn't stand.
+/// Adds the rows now of an extent, none where it isn't there.
 fn add_rows(rows: &mut Rows, closed: &Closed, number: u64) -> Result<(), AllocError>
     ensures { OnOk result (rows.new ≡ with_homes rows.old (homes_numbered closed.now number)) }
 {
@@ -51,7 +51,7 @@ pub(crate) fn count_moves(run: &Run<'_>) -> u64
     moves
 }
 
-/// How often an extent was moved, 0 where it doesn't stand.
+/// How often an extent was moved, 0 where it isn't there.
 fn moves_of(closed: &Closed, number: u64) -> u64
     ensures value { result ≡ moves_numbered closed.now number }
     ensures most { result ≤ MAX_EXTENT_MOVES }

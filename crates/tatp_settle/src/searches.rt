@@ -24,7 +24,7 @@ pub(crate) trait Search {
 /// can be made.
 const HALVINGS: u32 = 3;
 
-/// The first call that is sought, where none of a later client is than of the first so many.
+/// The first call that is sought, which is none of a client past the first `clients`.
 pub(crate) fn first_call<R: Threads + Sync, S: Search + Sync>(
     rt: &R,
     search: &S,

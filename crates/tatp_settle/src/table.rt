@@ -9,7 +9,7 @@ use crate::Receipts;
 use std::alloc::{AllocError, Global};
 use std::marker::Model;
 
-/// For each row so many cells, empty or filled.
+/// Rows of cells, each of which is empty or filled.
 #[derive(Drop)]
 pub(crate) struct Table<P> {
     rows: Vec<Vec<Option<P>>>,
@@ -47,7 +47,7 @@ impl<P: Copy> Table<P> {
         Ok(table)
     }
 
-    /// One row more, of so many empty cells.
+    /// One row more, of `count` empty cells.
     pub(crate) fn add_row(&mut self, alloc: Global, count: usize) -> Result<(), AllocError>
         ensures { OnOk result (self.new ≡ self.old ++ replicate count None ∷ []) }
     {
@@ -99,7 +99,7 @@ impl<P: Copy> Table<P> {
     }
 }
 
-/// So many empty cells.
+/// A row of `count` empty cells.
 fn fresh_row<P: Copy>(alloc: Global, count: usize) -> Result<Vec<Option<P>>, AllocError>
     ensures { IfOk result (λ row. row.items ≡ replicate count None) }
 {

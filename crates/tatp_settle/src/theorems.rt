@@ -35,7 +35,7 @@ pub fn merged_logs_are_one_history()
 {}
 
 /// The whole logs that a run left are one history, from the population to the rows that it left:
-/// where each extent stands once and unmixed, and its chapters lead end to end from the
+/// where each extent is there once and unmixed, and its chapters lead end to end from the
 /// population's homes to its log; no entry without a home names a subscriber; each entry has its
 /// receipt; and each client's stamps rise.
 pub fn runs_are_one_history()
@@ -45,7 +45,7 @@ pub fn runs_are_one_history()
 {}
 
 /// The whole logs that a run left are one history in every order that keeps each log's own, from
-/// the population to the rows that it left: where each extent stands once and unmixed, its chapters
+/// the population to the rows that it left: where each extent is there once, unmixed, its chapters
 /// lead end to end from the population's homes to its log, and no entry without a home names a
 /// subscriber. So it is of every settled run.
 pub fn runs_are_one_history_in_any_order()

@@ -54,7 +54,7 @@ struct Unmatched<'a> {
 }
 
 impl Unmatched<'_> {
-    /// Whether a call stands at this number without its receipt, or a receipt without its call.
+    /// Whether a call is at this number without its receipt, or a receipt without its call.
     fn is_unmatched(&self, client: u64, number: u64) -> bool
         ensures { IsTrue result
             ↔ IsUnmatched (lists_of self.now.calls.now) (receipts_of self.now.receipts.now)

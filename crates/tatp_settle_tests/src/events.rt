@@ -189,7 +189,7 @@ fn all_happen(alloc: Global, left: &mut Left<'_>, events: &[Event]) -> bool {
     true
 }
 
-/// The sites of these partitions, each with all extents of so many subscribers.
+/// The sites of these partitions, each with all extents of these subscribers.
 fn all_opened<'m>(
     alloc: Global,
     loaded: &'m Loaded,
@@ -216,7 +216,7 @@ fn all_opened<'m>(
     Ok(sites)
 }
 
-/// What is left of a run at the sites of these partitions, on so many subscribers, once the events
+/// What is left of a run at the sites of these partitions, on these subscribers, once the events
 /// have happened at the last of the sites. None where one did not happen.
 pub fn left_of<'m>(
     alloc: Global,

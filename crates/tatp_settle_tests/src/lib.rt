@@ -1,7 +1,7 @@
 //! Tests of sites, moves and settling, through their public calls; and what tests of whole runs
 //! share with them: clean rows, sites, and events at a site.
 //!
-//! They stand in a crate of their own, since a crate with tests is proved a second time with them.
+//! They are in a crate of their own, since a crate with tests is proved a second time with them.
 #![tactic(auto)]
 
 pub mod events;

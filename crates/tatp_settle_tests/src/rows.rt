@@ -3,7 +3,7 @@
 use std::alloc::{AllocError, Global};
 use tatp_tables::{Row, Rows};
 
-/// Rows of so many subscribers, each with one row in Access_Info and one in Special_Facility. These
+/// Rows of these subscribers, each with one row in Access_Info and one in Special_Facility. These
 /// subscribers have another location than the others.
 pub fn clean_rows(alloc: Global, subscribers: u64, elsewhere: &[u64]) -> Result<Rows, AllocError> {
     let mut rows = Rows::new(alloc);

@@ -15,7 +15,7 @@ pub fn module(alloc: Global) -> Result<Loaded, AllocError> {
     standard(alloc)
 }
 
-/// The site of a partition with all extents of so many subscribers.
+/// The site of a partition with all extents of these subscribers.
 pub fn opened<'m>(
     alloc: Global,
     loaded: &'m Loaded,

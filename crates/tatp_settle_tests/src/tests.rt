@@ -1,4 +1,4 @@
-//! Tests, and what is told of a run.
+//! Tests, and the verdict on a run as text.
 mod calls;
 mod chapters;
 mod checkpoints;

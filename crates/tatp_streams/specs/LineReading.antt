@@ -13,7 +13,7 @@ pub record LineReaderState : Type 0 where
   pub limit : ℕ  -- how many may be
   pub ended : Bool  -- whether the input has ended
 
--- no more than so many bytes may be read
+-- no more than `limit` bytes may be read
 abbrev pub nothing_taken : ℕ → LineReaderState
 nothing_taken limit =
     record { line = []; number = 0; ahead = []; count = 0; limit = limit; ended = false }
@@ -96,8 +96,8 @@ pub record HoldsNoLine (s : LineReaderState) : Type 0 where
   pub last : s.ended ≡ true → s.ahead ≡ []
 
 -- ---- the fields of a LineReader
--- the line stands from `start` to before `end`; what was not taken begins at `taken`, and at its
--- front so many bytes have no line feed
+-- the line goes from `start` to before `end`; what was not taken begins at `taken`, and at its
+-- front `clear` bytes have no line feed
 pub record HoldsLines (buffer : List ℕ) (start end taken clear number count limit : ℕ)
     : Type 0 where
   pub line : start ≤ end
@@ -108,7 +108,7 @@ pub record HoldsLines (buffer : List ℕ) (start end taken clear number count li
   pub count_within : count ≤ limit
   pub limit_within : limit ≤ MAX_INPUT_LIMIT
 
--- the first line of bytes is so long, and takes so many of them with its line feed, whatever
+-- the first line of bytes is `long`, and takes `taken` of them with its line feed, whatever
 -- follows; past the end of the input nothing does
 pub record IsFirstLine (bytes : List ℕ) (ended : Bool) (long taken : ℕ) : Type 0 where
   pub some : 0 < taken

@@ -5,7 +5,7 @@ use Rattle.tatp_streams.specs.declared.fault.StreamFault.{StreamFault}
 use Rattle.tatp_streams.specs.declared.fault.StreamFault.TheVariants.{NoMemory, ReadFault, WriteFault}
 
 -- ---- bytes at hand
--- new has besides the first so many of these bytes
+-- new has besides a first part of these bytes
 abbrev pub AppendsFront : List ℕ → Option (List ℕ) → Option (List ℕ) → Type 0
 AppendsFront bytes old new = (n : ℕ) × Appends old new (take n bytes)
 

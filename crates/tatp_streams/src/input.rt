@@ -11,8 +11,8 @@ use tatp_limits::MAX_INPUT_BYTES;
 /// How many bytes are asked for at a time.
 pub(crate) const PIECE: usize = 65_536;
 
-/// Appends what one read gives of an input of which so many bytes were read before, and no more
-/// than so many may be. `true`: at least a byte came. `false`: the input has ended.
+/// Appends what one read gives of an input of which `before` bytes were read, and no more than
+/// `limit` may be. `true`: at least a byte came. `false`: the input has ended.
 pub(crate) fn read_piece<R: Read>(
     reader: &mut R,
     before: usize,

@@ -18,13 +18,13 @@ use std::marker::Model;
 pub struct LineReader {
     /// What was read, from the last piece that was taken to its end.
     buffer: Vec<u8>,
-    /// The line that was taken last stands from here ..
+    /// The line that was taken last goes from here ..
     start: usize,
     /// .. to before this place.
     end: usize,
     /// What was not taken begins here.
     taken: usize,
-    /// So many bytes from there on were searched and have no line feed.
+    /// How many bytes from there on were searched and have no line feed.
     clear: usize,
     /// How many lines were taken.
     number: u64,
@@ -61,8 +61,8 @@ fn line_feed(bytes: &[u8]) -> Option<usize>
     bytes.iter().position(|byte| *byte == b'\n')
 }
 
-/// How long the first line is, and how many bytes it takes with its line feed. So many bytes at the
-/// front have none. The last line of an input that has ended may lack it.
+/// How long the first line is, and how many bytes it takes with its line feed. The first `clear`
+/// bytes have none. The last line of an input that has ended may lack it.
 fn first_line(bytes: &[u8], clear: usize, ended: bool) -> Option<(usize, usize)>
     requires within { clear ≤ length bytes.now }
     requires clear { HasNoLineFeed (take clear bytes.now) }
@@ -77,7 +77,7 @@ fn first_line(bytes: &[u8], clear: usize, ended: bool) -> Option<(usize, usize)>
     }
 }
 
-/// So many bytes at the front leave, and the others move there.
+/// The first `count` bytes leave, and the others move to the front.
 fn remove_front(buffer: &mut Vec<u8>, count: usize)
     requires { count ≤ vec_len buffer.old }
     ensures { buffer.new.items ≡ drop count buffer.old.items }
@@ -91,7 +91,7 @@ fn remove_front(buffer: &mut Vec<u8>, count: usize)
 }
 
 impl LineReader {
-    /// Nothing is read yet, and no more than so many bytes will be.
+    /// Nothing is read yet, and no more than `limit` bytes will be.
     pub fn new(alloc: Global, limit: usize) -> LineReader
         requires { limit ≤ MAX_INPUT_LIMIT }
         ensures { result ≡ nothing_taken limit }

@@ -24,7 +24,7 @@ module _ {M : Type 0} where
     history = view pass;
   }
 
-  -- an end by which nothing was put or taken yet, of an inbox with room for so many messages
+  -- an end by which nothing was put or taken yet, of an inbox for this number of messages
   abbrev pub IsNew : ℕ → End M → Type 0
   IsNew room e = (e.inbox.room ≡ room) × (e.history ≡ [])
 

@@ -88,7 +88,7 @@ impl<M: Drop, L: MessageRule<M>> Model for Port<M, L> {
 }
 
 impl<M: Drop, L: MessageRule<M>> Port<M, L> {
-    /// Puts a message at the back. It comes back where there is no room, and where no end that
+    /// Puts a message at the back. It comes back where the inbox is full, and where no end that
     /// takes is left: no contract of a channel tells these two apart.
     pub fn put<R: Wait>(&mut self, rt: &R, message: M) -> Result<(), M>
         requires { L.allows message }
@@ -162,7 +162,7 @@ impl<M: Drop, L: MessageRule<M>> Reader<M, L> {
     }
 }
 
-/// An inbox with room for so many messages, by its first two ends.
+/// An inbox for at most `room` messages, by its first two ends.
 fn open_inbox<M: Drop, L: MessageRule<M>>(
     alloc: Global,
     room: usize,
@@ -184,7 +184,7 @@ fn open_inbox<M: Drop, L: MessageRule<M>>(
     ))
 }
 
-/// So many inboxes with room for so many messages each: the ends that put, and those that take.
+/// Inboxes for at most `room` messages each: the ends that put, and those that take.
 /// The two at one place are of one inbox: new ends, whose histories are empty, are then equal.
 pub fn open_inboxes<M: Drop, L: MessageRule<M>>(
     alloc: Global,

@@ -7,7 +7,7 @@ use std::sync::{Condvar, Mutex, MutexGuard, Wait};
 use std::thread;
 
 /// The place of a message, which stays when it is taken: messages may be large, and are written and
-/// read where they stand.
+/// read where they are.
 #[derive(Drop)]
 struct Place<T> {
     is_filled: bool,
@@ -47,7 +47,7 @@ impl<T: Copy> Mailbox<T> {
         }
     }
 
-    /// Puts a message there, which is written where it stands.
+    /// Puts a message there, which is written where it is.
     pub fn put<R: Wait, F: FnOnce(&mut T)>(&self, rt: &R, writing: F)
         requires { F.IsAlwaysCallable writing }
     {

@@ -16,11 +16,11 @@ abbrev pub IdsRunFromOne : Rows → Type 0
 IdsRunFromOne r = (s : ℕ) → 1 ≤ s → s ≤ max 1 (length r.subscribers)
     → count_of_key (s ∷ []) r.subscribers ≡ 1
 
--- no number stands twice
+-- no number occurs twice
 abbrev pub NumbersStandOnce : Rows → Type 0
 NumbersStandOnce r = (n : ℕ) → count_by (has_number n) r.subscribers ≤ 1
 
--- no primary key stands twice in Access_Info, Special_Facility or Call_Forwarding
+-- no primary key occurs twice in Access_Info, Special_Facility or Call_Forwarding
 pub record KeysStandOnce (r : Rows) : Type 0 where
   pub accesses : (s kind : ℕ) → count_of_key (s ∷ kind ∷ []) r.accesses ≤ 1
   pub facilities : (s kind : ℕ) → count_of_key (s ∷ kind ∷ []) r.facilities ≤ 1

@@ -96,7 +96,7 @@ impl<const N: usize> RowList<N> {
     }
 }
 
-/// The rows of a database, table by table. Equal rows may stand in it.
+/// The rows of a database, table by table. Equal rows may be in it.
 #[derive(Drop)]
 pub struct Rows {
     pub subscribers: RowList<34>,

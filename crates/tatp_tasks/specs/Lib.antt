@@ -1,3 +1,4 @@
+pub mod Judging
 pub mod Loads
 pub mod Plans
 pub mod Populations

@@ -2,7 +2,8 @@
 use Rattle.std.specs.Prelude.{ℕ, ◌≤◌, List, codes}
 use Rattle.tatp_limits.specs.declared.limits.TheConstants.{MAX_PARTITIONS}
 use Rattle.tatp_tasks.specs.declared.task.Task.{Task}
-use Rattle.tatp_tasks.specs.declared.task.Task.TheVariants.{Call, Trace, Asm, Dis, Check, Audit, Bench, Rows, Calls, Explain}
+use Rattle.tatp_tasks.specs.declared.task.Task.TheVariants.{Call, Trace, Asm, Dis, Check, Audit, Judge, Bench, Rows, Calls, Explain}
+use Rattle.tatp_tasks.specs.Judging.{IsJudgePlan}
 use Rattle.tatp_tasks.specs.Loads.{IsRowsPlan, IsCallsPlan}
 use Rattle.tatp_tasks.specs.Plans.{IsPlan}
 use Rattle.tatp_tasks.specs.Populations.{IsPopulation, IsSetup, IsInputLimit}
@@ -15,7 +16,8 @@ IsTask (Call population partitions rows input_limit) =
     × IsInputLimit input_limit
 IsTask (Trace setup echo) = IsSetup setup
 IsTask (Audit input_limit) = IsInputLimit input_limit
-IsTask (Bench plan progress) = IsPlan plan
+IsTask (Judge plan) = IsJudgePlan plan
+IsTask (Bench plan progress history) = IsPlan plan
 IsTask (Rows plan) = IsRowsPlan plan
 IsTask (Calls plan) = IsCallsPlan plan
 IsTask task = Unit {0}
@@ -28,7 +30,8 @@ name_of Asm = codes "asm"
 name_of Dis = codes "dis"
 name_of Check = codes "check"
 name_of (Audit input_limit) = codes "audit"
-name_of (Bench plan progress) = codes "bench"
+name_of (Judge plan) = codes "judge"
+name_of (Bench plan progress history) = codes "bench"
 name_of (Rows plan) = codes "rows"
 name_of (Calls plan) = codes "calls"
 name_of (Explain word) = codes "explain"

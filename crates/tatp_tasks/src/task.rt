@@ -1,5 +1,5 @@
 //! What the program is asked to do.
-use crate::{BenchPlan, CallsPlan, Population, RowsPlan, Setup};
+use crate::{BenchPlan, CallsPlan, JudgePlan, Population, RowsPlan, Setup};
 
 /// What the program is asked to do: one of its commands.
 #[derive(Clone, Copy, Debug, PartialEq, Eq)]
@@ -28,10 +28,13 @@ pub enum Task<'a> {
     Audit {
         input_limit: usize,
     },
-    /// Run the benchmark, and tell how it goes on or not.
+    /// Judge a history.
+    Judge(JudgePlan),
+    /// Run the benchmark, and tell how it goes on or not, and write its history or not.
     Bench {
         plan: BenchPlan,
         progress: bool,
+        history: bool,
     },
     /// Write the rows of a drawn population.
     Rows(RowsPlan),

@@ -4,7 +4,7 @@ ghost use Rattle.tatp_texts.specs.Text.{fields_of};
 
 use std::marker::Model;
 
-/// What is left of a line, whose fields stand between single spaces. Contracts see the list of the
+/// What is left of a line, whose fields are between single spaces. Contracts see the list of the
 /// fields left.
 #[derive(Debug, Drop)]
 pub struct Fields<'a> {

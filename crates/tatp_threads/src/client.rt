@@ -11,7 +11,7 @@ use tatp_logs::Receipts;
 use tatp_partition::Item;
 use tatp_procs::Ask;
 use tatp_sync::Mailbox;
-use tatp_workers::{Delivery, Requester, ask_all};
+use tatp_workers::{Delivery, Gate, Requester, ask_all};
 
 /// A client's ends at the inboxes and its mailbox, with what the threads share.
 #[derive(Drop)]
@@ -22,13 +22,16 @@ struct ClientEnds<'c, 'f, 'a, 'm, R, G, A: Arities> {
     mailbox: &'c Mailbox<Delivery>,
 }
 
-impl<R: Wait, G, A: Arities> Requester for ClientEnds<'_, '_, '_, '_, R, G, A> {
+impl<R: Wait, G: Gate, A: Arities> Requester for ClientEnds<'_, '_, '_, '_, R, G, A> {
     fn ask(&mut self, item: &Item, receipts: &mut Receipts) -> bool {
+        self.shared.gate.before_ask(item.client, item.number);
         if !self.shared.send(self.rt, self.ports, item) {
             return false;
         }
         receipts.touch_next();
-        keep(self.mailbox.take(self.rt).message(), receipts)
+        let taken = self.mailbox.take(self.rt);
+        self.shared.gate.after_answer(item.client, item.number);
+        keep(taken.message(), receipts)
     }
 }
 
@@ -49,7 +52,7 @@ fn keep(delivery: &Delivery, receipts: &mut Receipts) -> bool
 /// Runs a client to its end. Without room for its receipts it asks nothing. While it runs, its list
 /// of receipts is its own: the seats of all clients are side by side, where each thread's writes
 /// would slow the others.
-pub(crate) fn run_client<'t, R: Wait, G, A: Arities>(
+pub(crate) fn run_client<'t, R: Wait, G: Gate, A: Arities>(
     rt: &'t R,
     shared: &'t Shared<G, A>,
     mailbox: &'t Mailbox<Delivery>,

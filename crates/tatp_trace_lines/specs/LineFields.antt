@@ -35,7 +35,7 @@ abbrev pub three_numbers : List (List ℕ) → Option (ℕ × ℕ × ℕ)
 three_numbers fields =
     next_number fields (λ n more. option_map (λ m. (n, m.0, m.1)) (two_numbers more))
 
--- numbers, so many at most
+-- numbers, at most `room` of them
 abbrev pub numbers_within : ℕ → List (List ℕ) → Option (List ℕ)
 numbers_within room [] = Some []
 numbers_within zero (field ∷ more) = None
@@ -82,7 +82,7 @@ abbrev pub steps_in : List (List ℕ) → Option TraceLine
 steps_in fields = option_and_then (λ (n : ℕ × ℕ). steps_of n.0 n.1) (two_numbers fields)
 
 -- ---- other events
--- one that is told by exactly one, two or three numbers
+-- one that exactly one, two or three numbers name
 abbrev pub event_of_one : (ℕ → AnEvent) → List (List ℕ) → Option TraceLine
 event_of_one event fields = option_map (λ n. Event (event n)) (one_number fields)
 

@@ -59,7 +59,7 @@ line_text (Home p s_id) = with_numbers (codes "home") (p ∷ s_id ∷ [])
 line_text Audit = codes "audit"
 
 -- ---- which of them are read back
--- the numbers that stand in it
+-- the numbers in it
 abbrev pub ask_numbers : Ask → List ℕ
 ask_numbers (Txn call) = arguments_of call
 ask_numbers (Raw call) = call.procedure ∷ key_number call.key ∷ call.arguments

@@ -1,4 +1,4 @@
-//! Who watches the executors and the debugger.
+//! Who watches the executors, the debugger and the clients.
 
 use tatp_debug::Snapshot;
 use tatp_partition::SiteRefusal;
@@ -17,6 +17,12 @@ pub trait Gate {
     /// The debugger has looked at the site of a partition that it stopped, and seen this of the
     /// running call, or that none runs. The step that it then makes there is still to come.
     fn after_look(&self, partition: u8, seen: &Result<Snapshot, SiteRefusal>);
+
+    /// A client is about to ask its call of this number, counted from 0.
+    fn before_ask(&self, _client: u64, _number: u64) {}
+
+    /// A client has what came of its call of this number: a receipt, or that it was dropped.
+    fn after_answer(&self, _client: u64, _number: u64) {}
 }
 
 /// Watches nothing.

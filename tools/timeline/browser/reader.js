@@ -54,8 +54,7 @@ function begin() {
   for (const [name, value] of Object.entries({ role: "slider", tabindex: "0", "aria-label": "Step of the run",
     "aria-valuemin": "0", "aria-valuemax": String(run.end) })) strip.setAttribute(name, value);
   $("now").hidden = $("board").hidden = false;
-  parts.className = run.partitions <= 4 ? "few" : "";
-  side.append(plainPanel);
+  layOut();
   $("board").append($("list"), parts, side);
   // (an address names a step, and not where to scroll)
   for (const entry of entries) entry.removeAttribute("id");

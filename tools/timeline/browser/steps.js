@@ -25,27 +25,6 @@ function nowPanel(step) {
   $("now").replaceChildren(...children);
 }
 
-const parts = el("div", ""), side = el("div", "");
-parts.id = "parts";
-side.id = "side";
-
-function showBoard(step) {
-  const extents = listed.map((extent) => `extent ${extent}`);
-  const moved = run.extents.map((extent) => changeAt(`extent ${extent}`, step)).join();
-  for (let p = 0; p < run.partitions; p++) {
-    const names = ["queue", "machine", "home", "entry", "stopped", "breaks"].map((name) => `${name} ${p}`);
-    const touched = run.partition[step - 1] === p;
-    const node = panel(p, signatureOf(names, step) + `|${moved}|${touched}`, () => partitionPanel(p, step, touched));
-    if (!node.parentNode) parts.append(node);
-  }
-  // (all places are read before the first is changed: the page is laid out once)
-  const next = [...parts.querySelectorAll(".code .at")].map((line) => [line.parentNode, line.offsetTop - 80]);
-  for (const [code, top] of next) code.scrollTop = top;
-  const table = panel("extents", signatureOf(extents, step), () => extentsPanel(step));
-  if (!table.parentNode) side.append(table);
-  showPlain(step);
-}
-
 const svg = document.querySelector("#strip svg");
 // (beside the picture, which isn't drawn again when the cursor moves)
 const cursor = el("div", "cursor");
@@ -54,15 +33,15 @@ $("strip").append(cursor);
 
 // The names of lanes stay in view when the timeline is scrolled past them.
 $("strip").addEventListener("scroll", () => $("strip").classList.toggle("scrolled", $("strip").scrollLeft > 80));
-$("strip").prepend(el("div", "lane-names", ...run.lanes.map(([top], p) => {
-  const name = el("span", "", `partition ${p}`);
+$("strip").prepend(el("div", "lane-names", ...run.lanes.map(([top, , text]) => {
+  const name = el("span", "", text);
   name.style.top = `${top + 3}px`;
   return name;
 })));
 const placeOf = (step) => (step === 0 ? 96 : step > run.places.length ? run.finish : run.places[step - 1]);
 
 function showCursor(step) {
-  const x = placeOf(step), strip = $("strip"), p = run.partition[step - 1];
+  const x = placeOf(step), strip = $("strip"), p = run.lane[step - 1];
   cursor.style.transform = `translateX(${x - 4}px)`;
   strip.setAttribute("aria-valuenow", String(step));
   strip.setAttribute("aria-valuetext", entries[step].querySelector("code").textContent);

@@ -34,7 +34,7 @@ fn count(lists: &[Vec<Chapter>], extent: u32) -> (u64, u64) {
     (chapters, calls)
 }
 
-/// The chapters of a run, of which each has so many calls or more, and how many calls were
+/// The chapters of a run, of which each has `chapter` calls or more, and how many calls were
 /// completed once it is settled.
 fn handed_out<R: Threads + Wait + Sync>(
     rt: &R,
@@ -70,7 +70,7 @@ fn handed_out<R: Threads + Wait + Sync>(
             ];
             match settle_run(rt, alloc, &population, parts, &lists) {
                 Err(_) => Err("not settled".into()),
-                Ok(settled) => Ok((counts, settled.completed())),
+                Ok(run) => Ok((counts, run.settled.completed())),
             }
         }
     }

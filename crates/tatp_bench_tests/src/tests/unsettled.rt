@@ -4,21 +4,21 @@ use std::alloc::{AllocError, Global};
 use std::test::*;
 use std::thread::Threads;
 use tatp_audits::{Verdict, audit};
-use tatp_bench::{BenchFault, settle_run};
+use tatp_bench::{BenchFault, SettledRun, settle_run};
 use tatp_partition::{close_sites, discard_all};
-use tatp_settle::{Settled, Unsettled};
+use tatp_settle::Unsettled;
 use tatp_settle_tests::events::{Event, Left, are_few, left_at, readings};
 use tatp_settle_tests::rows::clean_rows;
 use tatp_settle_tests::sites::{module, spend_parcels};
 use tatp_threads::RanParts;
 
-/// What is told of a run at one site, in which the first client asked one subscriber and got
+/// The verdict on a run at one site, in which the first client asked one subscriber and got
 /// nothing. None where one of its events did not happen.
 fn told_of<R: Threads + Sync>(
     rt: &R,
     alloc: Global,
     events: &[Event],
-) -> Result<Option<Result<Settled, BenchFault>>, AllocError> {
+) -> Result<Option<Result<SettledRun, BenchFault>>, AllocError> {
     let population = clean_rows(alloc, 192, &[])?;
     let calls = readings(alloc, &[&[1]])?;
     if !are_few(&calls) || !audit(alloc, &population)?.is_clean() {
@@ -78,7 +78,7 @@ fn runs_that_are_not_settled(rt: HostRuntime) -> Result<(), Fail> {
     Ok(())
 }
 
-// No run here leaves rows that aren't clean: what is told of them is seen of the fault alone.
+// No run here leaves rows that aren't clean: what is said of them is seen of the fault alone.
 #[test]
 fn the_verdict_on_rows_that_are_not_clean_is_told(rt: HostRuntime) -> Result<(), Fail> {
     let fault = BenchFault::Unsettled(Unsettled::Audit(Verdict::Counts(7)));

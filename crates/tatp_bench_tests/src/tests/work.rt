@@ -53,7 +53,7 @@ fn stops_made(sites: &[Site<'_>]) -> (u64, u64, u64) {
     made
 }
 
-/// How many chapters the executors kept, and how many of these have so many calls.
+/// How many chapters the executors kept, and how many of these have `calls` calls.
 fn chapters_kept(parts: &RanParts<'_>, calls: usize) -> (u64, u64) {
     let mut kept: u64 = 0;
     let mut full: u64 = 0;
@@ -116,9 +116,9 @@ fn seen_of<R: Threads + Wait + Sync>(rt: &R, alloc: Global, plan: &BenchPlan) ->
             let may_be_held = moves.moves.iter().any(|step| Some(step.0) == asked);
             match settle_run(rt, alloc, &population, parts, lists.as_slice()) {
                 Err(_) => Err("not settled".into()),
-                Ok(settled) => Ok(Seen {
+                Ok(run) => Ok(Seen {
                     stops,
-                    moves: settled.moves(),
+                    moves: run.settled.moves(),
                     chapters,
                     may_be_held,
                 }),

@@ -1,4 +1,4 @@
-//! Extents, and the log of calls without a home, hand out chapters, which the whole keeps.
+//! Extents, and the log of calls without a home, hand out chapters, which the system keeps.
 ghost use Rattle.std.specs.Prelude.{◌≡◌, ◌<◌, ◌≤◌, ◌^◌, length};
 ghost use Rattle.tatp_dispatch.specs.Checkpointing.{CheckpointsIn, refusal_told};
 
@@ -8,8 +8,8 @@ use std::alloc::Global;
 use tatp_extents::Chapter;
 use tatp_partition::{Site, SiteRefusal};
 
-/// The number of an extent as a site takes it, which tells what comes first where there is no such
-/// extent: the first number past the extents stands for every greater one.
+/// The number of an extent as a site takes it, which says what comes first where there is no such
+/// extent: every number past the extents becomes the first of these.
 fn number_at_site(e: u64, slots: u64) -> u32
     requires few { slots < 2 ^ 32 }
     ensures within { e < slots → result ≡ e }
@@ -18,7 +18,7 @@ fn number_at_site(e: u64, slots: u64) -> u32
     if e < slots { e as u32 } else { slots as u32 }
 }
 
-/// Why a site hands out no chapter, as the whole tells it: of memory that ran out as everywhere.
+/// Why a site hands out no chapter, as the system reports it: its NoMemory is that of the system.
 fn refusal_told(refusal: SiteRefusal) -> Refusal
     ensures { result ≡ refusal_told refusal }
 {
@@ -45,7 +45,7 @@ impl<'m> World<'m> {
     ghost use Rattle.tatp_dispatch.specs.Events.{CheckpointsAt};
     ghost use Rattle.tatp_dispatch.specs.Serving.{Tells};
 
-    /// An extent hands out a chapter, for which there is room before.
+    /// An extent hands out a chapter, for which memory is there before.
     pub(crate) fn checkpoint(&mut self, p: u64, e: u64) -> Result<Answer, Refusal>
         ensures happens { CheckpointsAt self.old p e result self.new }
         ensures tells { Tells self.old result self.new }

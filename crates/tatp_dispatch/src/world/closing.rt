@@ -1,4 +1,4 @@
-//! The whole is closed.
+//! The system is closed.
 
 use super::World;
 use tatp_partition::{Landed, close_sites, discard_all};

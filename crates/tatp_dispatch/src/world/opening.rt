@@ -1,4 +1,4 @@
-//! A whole that is opened.
+//! A system that is opened.
 ghost use Rattle.std.specs.Prelude.{◌≡◌, ◌≤◌, [], IfOk, IfErr, OnOk, length, replicate};
 ghost use Rattle.tatp_tables.specs.Clean.{IsClean};
 ghost use Rattle.tatp_extents.specs.Opening.{RefusesRows};
@@ -17,7 +17,7 @@ use tatp_move::Routes;
 use tatp_partition::{CompletionPlace, Slots, open_sites};
 use tatp_tables::Rows;
 
-/// Queues for so many partitions, all empty.
+/// A queue for each partition, all empty.
 fn empty_queues(alloc: Global, partitions: u8) -> Result<Vec<Queue>, AllocError>
     ensures { IfOk result (λ queues. queues.items ≡ replicate partitions []) }
 {
@@ -28,7 +28,7 @@ fn empty_queues(alloc: Global, partitions: u8) -> Result<Vec<Queue>, AllocError>
     Ok(queues)
 }
 
-/// So many clients that have asked nothing.
+/// The clients, which have asked nothing.
 fn new_clients(alloc: Global, clients: u16) -> Result<Vec<Client>, AllocError>
     ensures { IfOk result (λ made. made.items ≡ replicate clients new_client) }
 {
@@ -44,7 +44,7 @@ fn new_clients(alloc: Global, clients: u16) -> Result<Vec<Client>, AllocError>
     Ok(made)
 }
 
-/// What stands between the clients and the sites: the routes, the queues and the clients
+/// What is between the clients and the sites: the routes, the queues and the clients
 /// themselves.
 #[derive(Drop)]
 struct FrontEnd {
@@ -81,7 +81,7 @@ impl<'m> World<'m> {
     ghost use Rattle.tatp_dispatch.specs.Opened.{IsOpened};
     ghost use Rattle.tatp_dispatch.specs.Serving.{IsWorld};
 
-    /// The whole with these rows, in so many partitions and for so many clients. The rows are
+    /// The system with these rows, and these numbers of partitions and clients. The rows are
     /// consumed, on a refusal too.
     pub fn open(
         alloc: Global,
@@ -103,7 +103,7 @@ impl<'m> World<'m> {
         Ok(World::open_clean(alloc, loaded, rows, partitions, clients)?)
     }
 
-    /// The whole with these rows, as [`World::open`] opens it, where the rows are known to be
+    /// The system with these rows, as [`World::open`] opens it, where the rows are known to be
     /// clean, as drawn ones are, and so aren't audited. The rows are consumed, where memory is
     /// refused too.
     pub fn open_clean(

@@ -96,7 +96,7 @@ static ENDED: [&str; 4] = [
     "INSERT_CALL_FORWARDING 000000000000002 1 16 24 000000000000555",
 ];
 
-/// Puts the event of a line behind the others, so many times.
+/// Appends the event of a line, `times` times.
 fn push_times(events: &mut Vec<Event>, line: &str, times: usize) -> Result<(), AllocError> {
     for _ in 0..times {
         match read_trace_line(line) {

@@ -1,4 +1,4 @@
-//! Modules of either version in the whole: the standard module as it was in version 1, and
+//! Modules of either version in the system: the standard module as it was in version 1, and
 //! procedures with LOOP.
 use std::alloc::{AllocError, Global};
 use std::test::Fail;
@@ -155,7 +155,7 @@ fn stepped(world: &mut World<'_>) -> (usize, Option<Reply>) {
     (5000, None)
 }
 
-/// The reply where it stands, if there is one.
+/// The reply where it is, if there is one.
 fn seen(reply: &Option<Reply>) -> Option<ReplyRef<'_>> {
     match reply {
         None => None,
@@ -163,7 +163,7 @@ fn seen(reply: &Option<Reply>) -> Option<ReplyRef<'_>> {
     }
 }
 
-/// Whether a call of the module's procedure 0, which takes one argument, goes on after so many
+/// Whether a call of the module's procedure 0, which takes one argument, goes on for `moved`
 /// steps and has this reply at the next: on the home of subscriber 1, and without a home.
 fn ends_after(
     alloc: Global,

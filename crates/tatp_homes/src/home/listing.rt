@@ -41,7 +41,7 @@ impl Home {
     }
 }
 
-/// Appends the rows that stand in cells. An error leaves the list as it was.
+/// Appends the rows in cells. An error leaves the list as it was.
 fn append_cells<const N: usize>(
     rows: &mut RowList<N>,
     cells: &[Option<[u64; N]>],

@@ -125,7 +125,7 @@ pub fn put_access(
     Ok(row.get(place))
 }
 
-/// The rows that stand in the Access_Info cells of a home.
+/// The rows in the Access_Info cells of a home.
 pub fn accesses_in(cells: &[Option<StoredAccess>; 4]) -> [Option<[u64; 6]>; 4]
     ensures { result ≡ cells.now }
 {

@@ -126,7 +126,7 @@ pub fn put_facility(
     Ok(row.get(place))
 }
 
-/// The rows that stand in the Special_Facility cells of a home.
+/// The rows in the Special_Facility cells of a home.
 pub fn facilities_in(cells: &[Option<StoredFacility>; 4]) -> [Option<[u64; 6]>; 4]
     ensures { result ≡ cells.now }
 {

@@ -129,7 +129,7 @@ pub fn take_forwarding(cells: &mut [Option<StoredForwarding>; 12], at: usize) ->
     row
 }
 
-/// The rows that stand in the Call_Forwarding cells of a home.
+/// The rows in the Call_Forwarding cells of a home.
 pub fn forwardings_in(cells: &[Option<StoredForwarding>; 12]) -> [Option<[u64; 5]>; 12]
     ensures { result ≡ cells.now }
 {

@@ -140,7 +140,7 @@ pub fn copy_subscriber(cell: &Option<StoredSubscriber>) -> Option<StoredSubscrib
     }
 }
 
-/// The row that stands in the Subscriber cell of a home.
+/// The row in the Subscriber cell of a home.
 pub fn subscriber_in(cell: &Option<StoredSubscriber>) -> Option<[u64; 34]>
     ensures { result ≡ cell.now }
 {

@@ -1,36 +1,84 @@
-//! Histories of one client as inputs.
-ghost use Rattle.tatp_tables.specs.Database.{Database};
-ghost use Rattle.tatp_judge.specs.Population.{JudgesFrom};
+//! Histories as inputs.
+ghost use Rattle.tatp_tables.specs.Clean.{IsClean};
 
 use rand_pcg::Pcg64;
 use std::alloc::Global;
 use std::test::Fail;
-use tatp_history_inputs::HistoryFault;
 use tatp_judge::Judge;
-use tatp_judged_inputs::{Judged, judge_history};
+use tatp_judged_inputs::{HistoryFault, Judged, judge_history};
 use tatp_population::generate;
+use tatp_procs::BadArgument;
 use tatp_streams::{LineReader, MAX_INPUT_LIMIT};
+use tatp_tables::Rows;
 
-/// The verdict on an input.
-fn judged(alloc: Global, judge: &Judge, mut input: &[u8]) -> Result<Judged, HistoryFault>
-    requires { (u : Database) × JudgesFrom u judge.now }
+/// The verdict on an input, where so many configurations are kept of a subscriber.
+fn judged(alloc: Global, rows: &Rows, most: usize, mut input: &[u8]) -> Result<Judged, HistoryFault>
+    requires { IsClean rows.now }
 {
+    let mut judge = Judge::new(alloc, rows, most)?;
     let mut lines = LineReader::new(alloc, MAX_INPUT_LIMIT);
-    judge_history(alloc, judge, &mut lines, &mut input)
+    judge_history(alloc, &mut judge, &mut lines, &mut input)
 }
 
 #[test]
 fn the_line_of_the_input_is_told(rt: HostRuntime) -> Result<(), Fail> {
     let alloc = rt.alloc();
     let rows = generate(alloc, 3, &mut Pcg64::new(1, 0))?;
-    let judge = Judge::new(alloc, &rows)?;
     let legal = "# nobody has this s_id\nask 0 GET_SUBSCRIBER_DATA 9\nend 0 FAILED 1\n";
-    assert_eq!(rt; judged(alloc, &judge, legal.as_bytes()), Ok(Judged::Legal));
+    assert_eq!(rt;
+        judged(alloc, &rows, 1, legal.as_bytes()),
+        Ok(Judged::Legal)
+    );
     let illegal =
         "# nobody has it\nask 0 GET_SUBSCRIBER_DATA 9\n\nend 0 OK ?\nask 0 GET_SUBSCRIBER_DATA 9\n";
     assert_eq!(rt;
-        judged(alloc, &judge, illegal.as_bytes()),
+        judged(alloc, &rows, 1, illegal.as_bytes()),
         Ok(Judged::Illegal(4))
+    );
+    Ok(())
+}
+
+/// What comes after the line that decides a history isn't read.
+#[test]
+fn later_lines_are_not_read(rt: HostRuntime) -> Result<(), Fail> {
+    let alloc = rt.alloc();
+    let rows = generate(alloc, 3, &mut Pcg64::new(1, 0))?;
+    let input = "ask 0 GET_SUBSCRIBER_DATA 9\nend 0 OK ?\nno line\n";
+    assert_eq!(rt;
+        judged(alloc, &rows, 1, input.as_bytes()),
+        Ok(Judged::Illegal(2))
+    );
+    Ok(())
+}
+
+#[test]
+fn too_many_configurations_are_told(rt: HostRuntime) -> Result<(), Fail> {
+    let alloc = rt.alloc();
+    let rows = generate(alloc, 3, &mut Pcg64::new(1, 0))?;
+    let input = "# two updates\nask 0 UPDATE_LOCATION 000000000000002 7\n\
+        ask 1 UPDATE_LOCATION 000000000000002 8\nend 0 OK\nend 1 OK\n# the end\n";
+    assert_eq!(rt;
+        judged(alloc, &rows, 1, input.as_bytes()),
+        Ok(Judged::Undecided { line: 5, s_id: 2 })
+    );
+    assert_eq!(rt;
+        judged(alloc, &rows, 2, input.as_bytes()),
+        Ok(Judged::Legal)
+    );
+    Ok(())
+}
+
+#[test]
+fn the_first_fault_is_told(rt: HostRuntime) -> Result<(), Fail> {
+    let alloc = rt.alloc();
+    let rows = generate(alloc, 3, &mut Pcg64::new(1, 0))?;
+    let input = "ask 0 GET_ACCESS_DATA 1 5\nend 1 FAILED 1\n";
+    let argument = HistoryFault::BadArgument(1, BadArgument(1));
+    assert_eq!(rt; judged(alloc, &rows, 1, input.as_bytes()), Err(argument));
+    let input = "ask 0 GET_ACCESS_DATA 1 4\nend 1 FAILED 1\n";
+    assert_eq!(rt;
+        judged(alloc, &rows, 1, input.as_bytes()),
+        Err(HistoryFault::BadLine(2))
     );
     Ok(())
 }

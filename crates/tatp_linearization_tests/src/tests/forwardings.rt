@@ -14,18 +14,18 @@ use tatp_linearization::{Explanations, First, Standing};
 use tatp_population::generate;
 use tatp_procs::{Call, Reply, args_ok};
 
-const SUCCESS: Recorded = Recorded::Success;
+pub(super) const SUCCESS: Recorded = Recorded::Success;
 
 const FAILURE: Recorded = Recorded::Failure;
 
-const EXPLAINED: Option<Standing> = Some(Standing::Explained);
+pub(super) const EXPLAINED: Option<Standing> = Some(Standing::Explained);
 
-const UNEXPLAINED: Option<Standing> = Some(Standing::Unexplained);
+pub(super) const UNEXPLAINED: Option<Standing> = Some(Standing::Unexplained);
 
-const UNDECIDED: Option<Standing> = Some(Standing::Undecided);
+pub(super) const UNDECIDED: Option<Standing> = Some(Standing::Undecided);
 
 /// The facility of subscriber 1 that the calls are on.
-fn facility(home: &Home) -> u64 {
+pub(super) fn facility(home: &Home) -> u64 {
     for sf_type in 1..5 {
         if home.has_facility(1, sf_type) {
             return sf_type;
@@ -34,7 +34,7 @@ fn facility(home: &Home) -> u64 {
     0
 }
 
-fn insert(sf_type: u64) -> Call {
+pub(super) fn insert(sf_type: u64) -> Call {
     Call::InsertCallForwarding {
         sub_nbr: 1,
         sf_type,
@@ -44,7 +44,7 @@ fn insert(sf_type: u64) -> Call {
     }
 }
 
-fn delete(sf_type: u64) -> Call {
+pub(super) fn delete(sf_type: u64) -> Call {
     Call::DeleteCallForwarding {
         sub_nbr: 1,
         sf_type,
@@ -52,7 +52,7 @@ fn delete(sf_type: u64) -> Call {
     }
 }
 
-fn asks(asked: u64, call: Call, outcome: Outcome) -> Event {
+pub(super) fn asks(asked: u64, call: Call, outcome: Outcome) -> Event {
     Event::Asks(Observed {
         asked,
         call,
@@ -60,11 +60,11 @@ fn asks(asked: u64, call: Call, outcome: Outcome) -> Event {
     })
 }
 
-fn answered(asked: u64, call: Call, at: u64, recorded: Recorded) -> Event {
+pub(super) fn answered(asked: u64, call: Call, at: u64, recorded: Recorded) -> Event {
     asks(asked, call, Outcome::Answered { at, recorded })
 }
 
-fn ends(asked: u64, at: u64) -> Event {
+pub(super) fn ends(asked: u64, at: u64) -> Event {
     Event::Ends { asked, at }
 }
 
@@ -78,7 +78,7 @@ fn is_accepted(event: &Event) -> bool
 }
 
 /// Whether all events are accepted.
-fn are_accepted(events: &[Event]) -> bool
+pub(super) fn are_accepted(events: &[Event]) -> bool
     ensures { IsTrue result → AllByRecursion IsAcceptedEvent events.now }
 {
     for i in 0..events.len() {
@@ -89,7 +89,7 @@ fn are_accepted(events: &[Event]) -> bool
     true
 }
 
-/// Whether the events are explained on a home, where at most so many configurations may be kept;
+/// Whether the events are explained on a home, where at most `most` configurations may be kept;
 /// none where what is asked isn't accepted.
 fn are_explained_with(
     alloc: Global,
@@ -106,7 +106,7 @@ fn are_explained_with(
     Ok(Some(explanations.follow(alloc, events)?))
 }
 
-/// The same with room for what these tests need.
+/// The same with as many configurations as these tests need.
 fn are_explained(
     alloc: Global,
     home: &Home,
@@ -118,7 +118,7 @@ fn are_explained(
 }
 
 /// A home of subscriber 1 with no forwarding at 8 of its facility.
-fn fresh(alloc: Global) -> Result<Option<Home>, AllocError> {
+pub(super) fn fresh(alloc: Global) -> Result<Option<Home>, AllocError> {
     let rows = generate(alloc, 1, &mut Pcg64::new(1, 0))?;
     let mut all = homes(alloc, &rows)?;
     let Some(mut home) = all.pop() else {

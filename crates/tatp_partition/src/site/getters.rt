@@ -1,4 +1,4 @@
-//! What a site tells of itself.
+//! What can be read of a site.
 ghost use Rattle.std.specs.Prelude.{◌≡◌, ◌-◌, length};
 ghost use Rattle.std.specs.Option.{option_copied, option_map};
 

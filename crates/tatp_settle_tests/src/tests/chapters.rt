@@ -145,7 +145,7 @@ static CHAPTERS: [ChapterCase<'static>; 15] = [
     ),
 ];
 
-/// What is told of a run at one site and the chapters of the one beside it, in which the first
+/// The verdict on a run at one site and the chapters of the one beside it, in which the first
 /// client asked one subscriber, and got nothing.
 fn told_of_chapters<R: Threads + Sync>(
     rt: &R,

@@ -79,7 +79,7 @@ static EXTENTS: [ExtentCase<'static>; 11] = [
     (192, &[], &[0], &[], "45 Unsettled CallMissing 0 0"),
 ];
 
-/// What is told of a run in which the first client asked one subscriber, and got nothing.
+/// The verdict on a run in which the first client asked one subscriber, and got nothing.
 fn told_of_extents<R: Threads + Sync>(
     rt: &R,
     alloc: Global,

@@ -1,4 +1,4 @@
-//! What is told of a run: what it counts where it is settled, or the text of its first cause.
+//! The verdict on a run: what it counts where it is settled, or the text of its first cause.
 ghost use Rattle.std.specs.Prelude.{◌<◌, ◌^◌, length};
 ghost use Rattle.tatp_tables.specs.Clean.{IsClean};
 ghost use Rattle.tatp_settle.specs.Runs.{joined, lists_of};
@@ -18,7 +18,7 @@ use tatp_procs::Ask;
 use tatp_settle::{Closed, NotGathered, NotSettled, Settled, gather, settle};
 use tatp_tables::Rows;
 
-/// Another run, on so many subscribers at one site.
+/// Another run, on a number of subscribers at one site.
 #[derive(Clone, Copy)]
 pub struct Beside<'a> {
     pub subscribers: u64,
@@ -152,7 +152,7 @@ fn closed(alloc: Global, run: Run<'_>) -> Result<Option<Closed>, AllocError> {
     }
 }
 
-/// What is told of a run from these rows. None where nothing is gathered of it, or the rows aren't
+/// The verdict on a run from these rows. None where nothing is gathered of it, or the rows aren't
 /// clean.
 pub fn told_of<R: Threads + Sync>(
     rt: &R,
@@ -171,7 +171,7 @@ pub fn told_of<R: Threads + Sync>(
     }
 }
 
-/// What is told of a run at one site, on the rows of 192 subscribers.
+/// The verdict on a run at one site, on the rows of 192 subscribers.
 pub fn told_of_calls<'a, R: Threads + Sync>(
     rt: &R,
     alloc: Global,

@@ -109,7 +109,7 @@ impl<R: Clock> Gate for HoldEnds<'_, R> {
     fn after_look(&self, _partition: u8, _seen: &Result<Snapshot, SiteRefusal>) {}
 }
 
-// Each call is in another partition than the one before. Where the gate is told of an end before
+// Each call is in another partition than the one before. Where the gate sees an end before
 // the reply is in the slot, the client asks nothing more while the end is held.
 #[test]
 fn an_end_is_told_once_the_reply_can_be_taken(rt: HostRuntime) -> Result<(), Fail> {

@@ -41,7 +41,7 @@ struct StepClock {
     last: Vec<Vec<AtomicU64>>,
 }
 
-/// So many counters at 0.
+/// Counters at 0.
 pub fn counters(alloc: Global, count: u64) -> Result<Vec<AtomicU64>, AllocError> {
     let mut made = Vec::new(alloc);
     for _ in 0..count {

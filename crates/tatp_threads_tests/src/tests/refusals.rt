@@ -1,4 +1,4 @@
-//! What is told of runs that are refused.
+//! Why runs are refused.
 ghost use Rattle.std.specs.Prelude.{◌≤◌, length};
 
 use super::threads::unpack;
@@ -14,7 +14,7 @@ use tatp_settle_tests::sites::module;
 use tatp_tables::{Row, Rows};
 use tatp_threads::{Moves, NoGate, run_calls};
 
-/// What is told of a run of these calls on these rows, which is refused.
+/// Why a run of these calls on these rows is refused.
 fn told<R: Threads + Wait + Sync>(
     rt: &R,
     alloc: Global,

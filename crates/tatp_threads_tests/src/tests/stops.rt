@@ -1,4 +1,4 @@
-//! What the debugger does at the sites that it stops. The gate is told the steps of executors and
+//! What the debugger does at the sites that it stops. The gate sees the steps of executors and
 //! not the debugger's, but what the debugger sees of a call before it has it make a step.
 
 use super::real_time::counters;
@@ -93,7 +93,7 @@ impl<R: Clock> Gate for SlowSteps<'_, R> {
     }
 }
 
-/// So many stops of partition 1, and then of partition 0.
+/// `in_second` stops of partition 1, and then `in_first` of partition 0.
 fn stops_of(alloc: Global, in_second: u64, in_first: u64) -> Result<Moves, AllocError> {
     let mut stops = Vec::new(alloc);
     for _ in 0..in_second {

@@ -20,7 +20,7 @@ fn split_field(text: &str) -> Option<(&str, &str)>
     text.split_once(' ')
 }
 
-/// A transaction that a client asks for: what stands after the first word of a line.
+/// A transaction that a client asks for: what comes after the first word of a line.
 #[tactic(auto, unfolding(tatp_procs::specs::CallText::call_of_line))]
 pub(super) fn submitted(text: &str) -> Option<TraceLine>
     ensures { result ≡ submit_of (drop 1 (fields_of text.now)) }

@@ -1,13 +1,13 @@
-use Rattle.std.proofs.Common.{◌≡◌, ◌+◌, ◌*◌, ◌<◌, ◌^◌, None, length, vec_len, sym, ap, ◌∙◌, subst, arith, inl, inr}
+use Rattle.std.proofs.Common.{◌≡◌, ◌+◌, ◌*◌, ◌<◌, ◌^◌, None, length, vec_len, refl, sym, ap, ◌∙◌, subst, arith, inl, inr}
 use Rattle.std.proofs.lemmas.Result.{IfOk-weaker, IfErr-weaker}
-use Rattle.tatp_settle.specs.declared.settled.Settled.{Settled}
 use Rattle.tatp_settle.specs.Runs.{Run, joined, lists_of}
 use Rattle.tatp_threads.specs.declared.outcome.RanParts.{RanParts}
-use Rattle.tatp_bench.specs.Benching.{IsRunOf, SettlesPlan, RefusesBench}
+use Rattle.tatp_bench.specs.declared.closing.SettledRun.{SettledRun}
+use Rattle.tatp_bench.specs.Benching.{IsRunOf, RefusesBench, kinds_drawn}
 use Rattle.tatp_bench.specs.SettledRuns.{run_left, SettlesRun, RefusesToSettleRun}
 use Rattle.tatp_drawing.specs.Drawing.{rows_drawn, calls_drawn}
 use Rattle.tatp_bench.proofs.PlanLaws.{few_calls}
-use Rattle.tatp_bench.proofs.SettlingLaws.{left_of_plan, plan_settled, plan_refused, plan_counted}
+use Rattle.tatp_bench.proofs.SettlingLaws.{left_of_plan, plan_settled, plan_refused, plan_counted, plan_kinds, received}
 use Rattle.tatp_bench.proofs.bench.run_and_settle.Given as given
 use Rattle.tatp_bench.proofs.bench.run_and_settle.Goals as goal
 use Rattle.tatp_bench.proofs.bench.run_and_settle.Goals.{After-settle_run}
@@ -41,14 +41,19 @@ of_plan g c =
 
 pub returns-in-Ok-clause-settled : goal.returns-in-Ok-clause-settled
 returns-in-Ok-clause-settled g c =
+    received c.args.plan.now (left g c) c.parts-parts.result.receipts.items c.settle_run.result (of_plan g c) refl c.settle_run.ensures.settled c.settle_run.ensures.receipts
+
+pub returns-in-Ok-clause-kinds : goal.returns-in-Ok-clause-kinds
+returns-in-Ok-clause-kinds g c =
     let plan = c.args.plan.now in
-    IfOk-weaker c.settle_run.result (SettlesRun (left g c)) (SettlesPlan plan) (plan_settled plan (left g c) (of_plan g c)) c.settle_run.ensures.settled
+    IfOk-weaker c.settle_run.result (λ (run : SettledRun). SettlesRun (left g c) run.settled) (λ (run : SettledRun). run.settled.kinds ≡ kinds_drawn plan)
+    (λ run settles. plan_kinds plan run.settled (plan_settled plan (left g c) (of_plan g c) run.settled settles)) c.settle_run.ensures.settled
 
 pub returns-in-Ok-clause-calls : goal.returns-in-Ok-clause-calls
 returns-in-Ok-clause-calls g c =
     let plan = c.args.plan.now in
-    IfOk-weaker c.settle_run.result (SettlesRun (left g c)) (λ (settled : Settled). settled.completed + settled.refused ≡ plan.clients * plan.calls)
-    (λ settled settles. plan_counted plan settled (plan_settled plan (left g c) (of_plan g c) settled settles)) c.settle_run.ensures.settled
+    IfOk-weaker c.settle_run.result (λ (run : SettledRun). SettlesRun (left g c) run.settled) (λ (run : SettledRun). run.settled.completed + run.settled.refused ≡ plan.clients * plan.calls)
+    (λ run settles. plan_counted plan run.settled (plan_settled plan (left g c) (of_plan g c) run.settled settles)) c.settle_run.ensures.settled
 
 pub returns-in-Ok-clause-refusal : goal.returns-in-Ok-clause-refusal
 returns-in-Ok-clause-refusal g c =

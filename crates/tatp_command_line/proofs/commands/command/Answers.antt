@@ -10,7 +10,8 @@ returns c =
     let four = one_command_more _ _ _ _ _ three c.plain-2.ensures c.in_ok-subcommand-4.ensures in
     let five = one_command_more _ _ _ _ _ four c.plain-3.ensures c.in_ok-subcommand-5.ensures in
     let six = one_command_more _ _ _ _ _ five c.in_ok-audit.ensures c.in_ok-subcommand-6.ensures in
-    let seven = one_command_more _ _ _ _ _ six c.in_ok-bench_with_moves.ensures c.in_ok-subcommand-7.ensures in
-    let eight = one_command_more _ _ _ _ _ seven c.in_ok-rows.ensures c.in_ok-subcommand-8.ensures in
-    let nine = one_command_more _ _ _ _ _ eight c.in_ok-calls.ensures c.in_ok-subcommand-9.ensures in
-    IfOk-weaker c.subcommand-10.result _ _ (λ command adds. one_command_more _ _ _ _ _ nine c.in_ok-explain.ensures adds) c.subcommand-10.ensures
+    let seven = one_command_more _ _ _ _ _ six c.in_ok-judge.ensures c.in_ok-subcommand-7.ensures in
+    let eight = one_command_more _ _ _ _ _ seven c.in_ok-bench_with_moves.ensures c.in_ok-subcommand-8.ensures in
+    let nine = one_command_more _ _ _ _ _ eight c.in_ok-rows.ensures c.in_ok-subcommand-9.ensures in
+    let ten = one_command_more _ _ _ _ _ nine c.in_ok-calls.ensures c.in_ok-subcommand-10.ensures in
+    IfOk-weaker c.subcommand-11.result _ _ (λ command adds. one_command_more _ _ _ _ _ ten c.in_ok-explain.ensures adds) c.subcommand-11.ensures

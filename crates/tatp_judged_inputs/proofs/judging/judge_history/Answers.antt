@@ -1,25 +1,110 @@
-use Rattle.std.proofs.Common.{◌<◌, ◌-◌, length, refl, subst, arith}
-use Rattle.std.proofs.lemmas.Option.{slice_get_read}
+use Rattle.std.specs.Prelude.{ℕ, List, [], IfSome}
+use Rattle.std.specs.Option.{option_map}
+use Rattle.std.proofs.Common.{◌≡◌, ◌∷◌, ◌++◌, Option, Ok, Some, None, refl, sym, ap, ◌∙◌, subst}
+use Rattle.std.proofs.lemmas.List.{append-nil}
+use Rattle.std.proofs.lemmas.Result.{err_from_is_err_and}
 use Rattle.tatp_tables.specs.Database.{Database}
-use Rattle.tatp_streams.specs.LineReading.{lines_left}
-use Rattle.tatp_streams.proofs.LineReadingLaws.{relates_all}
-use Rattle.tatp_history_inputs.specs.Reading.{told_of, TellsHistory}
-use Rattle.tatp_judge.specs.Population.{JudgesFrom}
-use Rattle.tatp_judge.specs.Verdicts.{IsFirstIllegal, IsVerdictOn}
-use Rattle.tatp_judged_inputs.specs.Judged.{IsIllegalAt}
-use Rattle.tatp_judged_inputs.proofs.FrontLaws.{told_illegal}
+use Rattle.tatp_history.specs.declared.line.Line.{Line}
+use Rattle.tatp_streams.specs.LineReading.{lines_left, Stays, with_line}
+use Rattle.tatp_judge.specs.declared.judge.Verdict.{Verdict}
+use Rattle.tatp_judge.specs.Followed.{HasFollowed}
+use Rattle.tatp_judged_inputs.specs.Judged.{IsJudged, IsTold}
+use Rattle.tatp_judged_inputs.specs.Reading.{Decides, IsNumbered, told_by, told_of, RefusesHistory}
+use Rattle.tatp_judged_inputs.proofs.FrontLaws.{is_judged}
+use Rattle.tatp_judged_inputs.proofs.HistoryLaws.{ReadSoFar, by_all, one_numbered, read_all, read_decided, read_one, read_to_end, reading_goes_on, reading_refused, reading_starts}
 use Rattle.tatp_judged_inputs.proofs.judging.judge_history.Goals as goal
 
-pub returns-clause-judged : goal.returns-clause-judged
-returns-clause-judged g c =
-    let history = c.in_ok-history.history in
+pub lines-init : goal.lines-init
+lines-init g c = λ u most is.
+    let all = lines_left c.args.lines.now (g.R.Read.remaining c.args.reader.now) in
+    reading_starts u most c.args.judge.now (record { opened = c.new.result; numbers = c.new-2.result }) c.args.lines.now.number all is c.new-2.ensures.items c.new.ensures
+
+pub finish-requires : goal.finish-requires
+finish-requires g c = let q = c.requires in let s = c.lines.invariant q.0 q.1 q.2 in (q.0, q.1, s.past, s.followed)
+
+pub judged-requires : goal.judged-requires
+judged-requires g c = let q = c.requires in let s = c.lines.invariant q.0 q.1 q.2 in (q.0, q.1, s.past, s.numbered, c.in_ok-verdict.ensures q.0 q.1 s.past s.followed)
+
+pub take-requires : goal.take-requires
+take-requires g c = let q = c.requires in let s = c.lines.invariant q.0 q.1 q.2 in (q.0, q.1, s.past, s.followed, s.numbered)
+
+pub returns-then-not-branch-clause-judged : goal.returns-then-not-branch-clause-judged
+returns-then-not-branch-clause-judged g c =
     let taken = c.args.lines.now.number in
-    let first = c.in-Illegal.first in
-    let sound = c.in_ok-history.ensures.history in
-    relates_all (lines_left c.args.lines.now (g.R.Read.remaining c.args.reader.now)) (lines_left c.read_history.new.lines (g.R.Read.remaining c.read_history.new.reader)) (TellsHistory taken history)
-    (λ all. (u : Database) → JudgesFrom u c.args.judge.now → IsIllegalAt u taken all.lines c.index.result.now)
-    c.in_ok-history.ensures.told
-    (λ all left t. λ u from.
-    let illegal : IsFirstIllegal u history.lines.items first = subst (λ ls. IsFirstIllegal u ls first) c.as_slice.ensures.value (subst (IsVerdictOn u c.as_slice.result.now) c.in-Illegal.is (c.in_ok-judge.ensures u from)) in
-    let lt : first - 1 < length history.numbers.items = omega (arith, illegal.first, illegal.within, sound.numbered) in
-    told_illegal u taken all.lines (told_of history) first c.index.result.now t.told illegal (slice_get_read history.numbers.items (length history.numbers.items) (first - 1) c.index.result.now refl lt c.index.ensures))
+    let all = lines_left c.args.lines.now (g.R.Read.remaining c.args.reader.now) in
+    let left = lines_left c.lines.lines (g.R.Read.remaining c.lines.reader) in
+    let left' = lines_left c.advance.new.self (g.R.Read.remaining c.advance.new.reader) in
+    let met = c.in_ok-advance.ensures.end c.if-not-branch.true in
+    by_all all (λ a. (u : Database) (most : ℕ) → HasFollowed u most [] c.args.judge.now → IsJudged u most taken a.lines c.judged.result) (λ a e. λ u most is.
+    let s = c.lines.invariant u most is in
+    let read = read_to_end u most c.lines.judge c.lines.reading taken c.lines.lines.number all left left' a s e met.left met.none met.within in
+    subst (λ texts. IsJudged u most taken texts c.judged.result) (append-nil s.read ∙ sym read)
+    (is_judged u most taken c.lines.lines.number s.read [] (told_of c.lines.reading s.past) c.in_ok-verdict.verdict c.judged.result (read_all c.lines.reading s.past taken c.lines.lines.number s.read s.to) (λ _. refl)
+    (c.in_ok-verdict.ensures u most s.past s.followed)
+    (subst (λ n. IsTold c.lines.reading.numbers.items n c.in_ok-verdict.verdict c.judged.result) (c.number.ensures.number ∙ met.number) c.judged.ensures)))
+
+pub returns-in_err-verdict-2-clause-faults : goal.returns-in_err-verdict-2-clause-faults
+returns-in_err-verdict-2-clause-faults g c =
+    let p = err_from_is_err_and c.from_residual-in_err-verdict-2.result c.from_residual-in_err-verdict-2.ensures.1 in
+    let q = c.requires in
+    let taken = c.args.lines.now.number in
+    let f = c.in_err-verdict-2.field-0.0 in
+    let all = lines_left c.args.lines.now (g.R.Read.remaining c.args.reader.now) in
+    let left = lines_left c.lines.lines (g.R.Read.remaining c.lines.reader) in
+    let left' = lines_left c.advance.new.self (g.R.Read.remaining c.advance.new.reader) in
+    let advanced = c.in_ok-advance.ensures.line c.if-not-branch.false in
+    rw (p.1, p.2) (reading_refused q.0 q.1 c.lines.judge c.lines.reading taken c.lines.lines.number c.number-in-lines.result c.advance.new.self.line f all left left' (c.lines.invariant q.0 q.1 q.2)
+    (c.number-in-lines.ensures.number ∙ advanced.number) advanced.left
+    (subst (λ text. (past : List Line) (more : List (List ℕ)) → RefusesHistory (told_by c.lines.reading past c.number-in-lines.result (text ∷ more)) f) c.line.ensures c.in_err-verdict-2.ensures.faults))
+
+pub judged-requires-in-Some : goal.judged-requires-in-Some
+judged-requires-in-Some g c =
+    let q = c.requires in
+    let s = c.lines.invariant q.0 q.1 q.2 in
+    let verdict = c.in-Some.verdict in
+    let d = subst (λ found. IfSome found (λ v. (u : Database) (most : ℕ) (past : List Line) → HasFollowed u most past c.lines.judge → IsNumbered c.lines.reading past → Decides u most past c.number-in-lines.result c.line.result.now v c.lines.reading c.take.new.self))
+    c.in-Some.is c.in_ok-verdict-2.ensures.decided q.0 q.1 s.past s.followed s.numbered in
+    (q.0, q.1, s.past ++ d.line ∷ [], one_numbered c.lines.reading c.take.new.self s.past c.number-in-lines.result d.line d.numbers_are s.numbered, d.decided)
+
+pub returns-in-Some-clause-judged : goal.returns-in-Some-clause-judged
+returns-in-Some-clause-judged g c =
+    let taken = c.args.lines.now.number in
+    let all = lines_left c.args.lines.now (g.R.Read.remaining c.args.reader.now) in
+    let left = lines_left c.lines.lines (g.R.Read.remaining c.lines.reader) in
+    let left' = lines_left c.advance.new.self (g.R.Read.remaining c.advance.new.reader) in
+    let advanced = c.in_ok-advance.ensures.line c.if-not-branch.false in
+    let verdict = c.in-Some.verdict in
+    let number = c.number-in-lines.result in
+    let next = c.number-in-lines.ensures.number ∙ advanced.number in
+    let decides = subst (λ found. IfSome found (λ v. (u : Database) (most : ℕ) (past : List Line) → HasFollowed u most past c.lines.judge → IsNumbered c.lines.reading past → Decides u most past number c.line.result.now v c.lines.reading c.take.new.self))
+    c.in-Some.is c.in_ok-verdict-2.ensures.decided in
+    by_all all (λ a. (u : Database) (most : ℕ) → HasFollowed u most [] c.args.judge.now → IsJudged u most taken a.lines c.judged-in-Some.result) (λ a e. λ u most is.
+    let s = c.lines.invariant u most is in
+    let text = c.line.result.now in
+    let d = decides u most s.past s.followed s.numbered in
+    let stays = subst (λ t. Stays left (option_map (with_line t) left')) (sym c.line.ensures) advanced.left in
+    let one = read_one u most c.lines.judge c.lines.reading taken c.lines.lines.number text all left left' a s e stays in
+    subst (λ texts. IsJudged u most taken texts c.judged-in-Some.result) (sym one.1)
+    (is_judged u most taken number (s.read ++ text ∷ []) one.0 (record { numbers = c.take.new.self.numbers.items; lines = s.past ++ d.line ∷ [] }) verdict c.judged-in-Some.result
+    (read_decided u most verdict c.lines.reading c.take.new.self s.past taken c.lines.lines.number number s.read text s.to next d)
+    (λ legal. absurd (c.in_ok-verdict-2.ensures.never (ap Ok (c.in-Some.is ∙ ap Some legal)))) d.decided
+    (subst (λ n. IsTold c.take.new.self.numbers.items n verdict c.judged-in-Some.result) (c.number-in-Some.ensures.number ∙ sym c.number-in-lines.ensures.number) c.judged-in-Some.ensures)))
+
+none_is : (found : Option Verdict) → ((verdict : Verdict) → found ≡ Some verdict → ⊥) → found ≡ None
+none_is None h = refl
+none_is (Some verdict) h = absurd (h verdict refl)
+
+pub lines-preserved : goal.lines-preserved
+lines-preserved g c = λ u most is.
+    let taken = c.args.lines.now.number in
+    let all = lines_left c.args.lines.now (g.R.Read.remaining c.args.reader.now) in
+    let left = lines_left c.lines.lines (g.R.Read.remaining c.lines.reader) in
+    let left' = lines_left c.advance.new.self (g.R.Read.remaining c.advance.new.reader) in
+    let advanced = c.in_ok-advance.ensures.line c.if-not-branch.false in
+    let s = c.lines.invariant u most is in
+    let text = c.line.result.now in
+    let number = c.number-in-lines.result in
+    let on = c.in_ok-verdict-2.ensures.goes_on (ap Ok (none_is c.in_ok-verdict-2.field-0 c.in_default.not-Some)) u most s.past s.followed s.numbered in
+    let stays = subst (λ t. Stays left (option_map (with_line t) left')) (sym c.line.ensures) advanced.left in
+    subst (λ n. ReadSoFar u most c.take.new.judge c.take.new.self taken n all left') c.number-in-lines.ensures.number
+    (reading_goes_on u most c.lines.judge c.take.new.judge c.lines.reading c.take.new.self taken c.lines.lines.number number text all left left' s (c.number-in-lines.ensures.number ∙ advanced.number) stays on)

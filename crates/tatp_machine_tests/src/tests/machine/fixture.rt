@@ -1,4 +1,4 @@
-//! A population of two subscribers, calls of one procedure, and what is told of them.
+//! A population of two subscribers, calls of one procedure, and what is seen of them.
 ghost use Rattle.std.specs.Prelude.{◌≡◌, IfOk, IsSomeAnd, IsTrue, None, Some, false, slice_get};
 ghost use Rattle.tatp_encoding.specs.Modules.{Procedure};
 ghost use Rattle.tatp_tables.specs.Clean.{IsClean};
@@ -129,7 +129,7 @@ fn has_values(home: &Home, values: &[(u8, [u64; 3], Option<u64>)]) -> bool {
     true
 }
 
-/// Whether the module's procedure 1 takes so many arguments.
+/// Whether the module's procedure 1 takes `count` arguments.
 fn takes(loaded: &Loaded, count: usize) -> bool
     ensures { IsTrue result
         → IsSomeAnd (slice_get loaded.now.procedures 1) (λ (p : Procedure). p.arity ≡ count) }

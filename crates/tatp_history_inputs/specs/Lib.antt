@@ -1,2 +1,0 @@
-pub mod HistoryTexts
-pub mod Reading

@@ -1,7 +1,0 @@
-//! Tests of histories as inputs, through the public functions of `tatp_history_inputs`.
-//!
-//! They stand in a crate of their own, since a crate with tests is proved a second time with them.
-#![tactic(auto)]
-
-#[cfg(test)]
-mod tests;

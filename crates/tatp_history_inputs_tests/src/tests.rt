@@ -1,2 +1,0 @@
-//! What is tested.
-mod histories;

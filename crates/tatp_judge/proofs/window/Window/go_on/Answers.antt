@@ -1,0 +1,36 @@
+use Rattle.std.proofs.Common.{Ok, ap, refl, sym, subst, inl, ◌++◌}
+use Rattle.tatp_tables.specs.Database.{of_subscriber}
+use Rattle.tatp_history.specs.Histories.{IsStrictlySerializable}
+use Rattle.tatp_history.specs.Events.{asked_in, TimesRise, HaveEnds}
+use Rattle.tatp_linearization.specs.Reached.{AreReached}
+use Rattle.tatp_linearization.specs.Possible.{NeedMore}
+use Rattle.tatp_judge.proofs.ClosingLaws.{closed, many_now, rise_both, end_both, unsaid, same_window}
+use Rattle.tatp_judge.proofs.window.Window.go_on.Goals as goal
+
+pub returns-in-Explained : goal.returns-in-Explained
+returns-in-Explained c = λ u most s lines is now.
+    let w = c.args.self.now in
+    let reached = c.in_ok-follow.ensures.reached (ap Ok c.in-Explained.is) (of_subscriber u s) is.before is.reached in (
+      closed u most s lines w is (record { explanations = c.follow.new.self; from = c.args.number; events = c.new.result; waiting = w.waiting }) c.requires.none
+          (subst (λ es. AreReached (of_subscriber u s) (is.before ++ es) c.follow.new.self) c.as_slice.ensures.value reached) c.follow.ensures.most c.new.ensures.items now refl,
+      λ _. c.new.ensures.items,
+    )
+
+pub returns-in-Unexplained : goal.returns-in-Unexplained
+returns-in-Unexplained c = λ u most s lines is now.
+    let w = c.args.self.now in
+    let same = sym c.as_slice.ensures.value in (
+      λ explained. c.in_ok-follow.ensures.unexplained (ap Ok c.in-Unexplained.is) (of_subscriber u s) is.before is.reached
+          (subst (λ es. TimesRise (is.before ++ es)) same (rise_both u most s lines w is))
+          (subst (λ es. HaveEnds (is.before ++ es)) same (end_both u most s lines w is))
+          (subst (λ es. IsStrictlySerializable (of_subscriber u s) (asked_in (is.before ++ es))) same (unsaid u most s lines w is explained)),
+      inl (same_window u most s lines w (record { explanations = c.follow.new.self; from = w.from; events = w.events; waiting = w.waiting }) is
+          (c.in_ok-follow.ensures.same (λ e. let other = sym c.in-Unexplained.is in cc)) refl refl refl),
+    )
+
+pub returns-in-Undecided : goal.returns-in-Undecided
+returns-in-Undecided c = λ u most s lines is now.
+    let w = c.args.self.now in
+    many_now u most s lines w is
+    (subst (λ es. NeedMore most (of_subscriber u s) (is.before ++ es)) c.as_slice.ensures.value
+    (subst (λ m. NeedMore m (of_subscriber u s) (is.before ++ c.as_slice.result.now)) is.most_is (c.in_ok-follow.ensures.undecided (ap Ok c.in-Undecided.is) (of_subscriber u s) is.before is.reached)))

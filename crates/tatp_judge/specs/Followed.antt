@@ -1,0 +1,64 @@
+-- What the judge keeps of the lines that it has followed.
+use Rattle.std.specs.Prelude.{◌≡◌, ◌↔◌, ℕ, suc, ◌+◌, ◌-◌, ◌^◌, ◌<◌, ◌≤◌, ◌⊎◌, nat_eq, Bool, IsTrue, List, [], length, take, slice_get, Option, Some, None}
+use Rattle.indexmap.specs.IndexMap.{get}
+use Rattle.tatp_tables.specs.Database.{Database}
+use Rattle.tatp_procs.specs.Consistent.{IsConsistent}
+use Rattle.tatp_history.specs.declared.line.Line.{Line}
+use Rattle.tatp_history.specs.declared.observed.Outcome.{Outcome}
+use Rattle.tatp_history.specs.HistoryLines.{calls_of, AreAcceptedLines}
+use Rattle.tatp_history.specs.Locality.{FailsWithout, FailWithout}
+use Rattle.tatp_judge.specs.declared.asked.Asked.{Asked}
+use Rattle.tatp_judge.specs.declared.judge.Judge.{Judge}
+use Rattle.tatp_judge.specs.declared.window.Window.{Window}
+use Rattle.tatp_judge.specs.Asked.{asked_in_all}
+use Rattle.tatp_judge.specs.Population.{IsDirectoryOf}
+use Rattle.tatp_judge.specs.Verdicts.{IsLegal}
+use Rattle.tatp_judge.specs.Windows.{IsWindowAfter, IsSpent}
+
+-- so many lines, from the database on
+pub record HasRead (u : Database) (lines : List Line) (judge : Judge) : Type 0 where
+  pub consistent : IsConsistent u
+  pub directory_is : IsDirectoryOf u (length judge.windows.items) judge.directory
+  pub number_is : judge.number ≡ length lines
+  pub accepted : AreAcceptedLines lines
+  pub room : length lines + 1 < 2 ^ 64
+
+-- open calls and windows are those after the lines
+pub record HasNoted (u : Database) (most : ℕ) (lines : List Line) (judge : Judge) : Type 0 where
+  pub read : HasRead u lines judge
+  pub asked_are : (client : ℕ) → get nat_eq judge.asked client ≡ asked_in_all u lines client
+  pub windows_are : (place : ℕ) (w : Window) → slice_get judge.windows.items place ≡ Some w
+      → IsWindowAfter u most (suc place) lines w
+
+-- of each window in which no call is open the events are forgotten, but for that of one subscriber
+abbrev pub Forgets : Judge → Option ℕ → Type 0
+Forgets judge but = (place : ℕ) (w : Window) → slice_get judge.windows.items place ≡ Some w
+    → (but ≡ Some (suc place) → ⊥) → w.waiting ≡ 0 → w.events.items ≡ []
+
+-- it has followed the lines, which decided nothing: of the calls that name no subscriber each that
+-- was answered failed
+pub record HasFollowed (u : Database) (most : ℕ) (lines : List Line) (judge : Judge)
+    : Type 0 where
+  pub noted : HasNoted u most lines judge
+  pub forgets : Forgets judge None
+  pub none : FailWithout u (calls_of lines)
+
+-- the last of the lines ends an open call so: the calls before that name no subscriber failed, and
+-- all do where this one does
+pub record EndsAs (u : Database) (lines : List Line) (asked : Asked) (outcome : Outcome)
+    : Type 0 where
+  pub some : 1 ≤ length lines
+  pub before : FailWithout u (calls_of (take (length lines - 1) lines))
+  pub now : FailsWithout asked.s_id outcome ↔ FailWithout u (calls_of lines)
+
+-- what a search for the first illegal line begins with: where the lines are known to be illegal,
+-- the last of them may be the first, and a window may be spent
+pub record IsSearchable (u : Database) (most : ℕ) (lines : List Line) (illegal : Bool)
+    (judge : Judge) : Type 0 where
+  pub read : HasRead u lines judge
+  pub windows_are : (place : ℕ) (w : Window) → slice_get judge.windows.items place ≡ Some w
+      → IsWindowAfter u most (suc place) lines w
+      ⊎ (IsTrue illegal × IsSpent u (suc place) lines w)
+  pub none : (k : ℕ) → k ≤ length lines → (IsTrue illegal → k < length lines)
+      → FailWithout u (calls_of (take k lines))
+  pub known : IsTrue illegal → IsLegal u lines → ⊥

@@ -1,0 +1,97 @@
+-- What a line, and its window's end, make of the windows.
+use Rattle.std.specs.Prelude.{◌≡◌, ℕ, suc, ◌+◌, ◌-◌, ◌⊎◌, if◌then◌else◌, nat_eq, List, [], ◌∷◌, ◌++◌, length, slice_get, Option, Some, None}
+use Rattle.indexmap.specs.IndexMap.{get}
+use Rattle.tatp_tables.specs.Database.{Database}
+use Rattle.tatp_history.specs.declared.line.Line.{Line}
+use Rattle.tatp_history.specs.declared.event.Event.{Event}
+use Rattle.tatp_history.specs.declared.event.Event.TheVariants.{Asks}
+use Rattle.tatp_history.specs.declared.observed.Observed.{Observed}
+use Rattle.tatp_history.specs.declared.line.Line.TheVariants.{Ask, End, Abort, Lost}
+use Rattle.tatp_history.specs.Locality.{subscriber_of, is_this}
+use Rattle.tatp_linearization.specs.declared.explanations.Standing.{Standing}
+use Rattle.tatp_linearization.specs.declared.explanations.Standing.TheVariants.{Explained, Unexplained, Undecided}
+use Rattle.tatp_judge.specs.declared.window.Window.{Window}
+use Rattle.tatp_judge.specs.declared.asked.Asked.{Asked}
+use Rattle.tatp_judge.specs.declared.judge.Judge.{Judge}
+use Rattle.tatp_judge.specs.Asked.{AskedCalls, with_asked, asked_on}
+use Rattle.tatp_judge.specs.NextLine.{closed_by, asks_of}
+use Rattle.tatp_judge.specs.Verdicts.{NeedMoreBy}
+use Rattle.tatp_judge.specs.Windows.{IsWindowAfter, IsExplainedBy, IsSpent}
+
+-- each window of the second list stands for one of the first, at the same place
+pub record AreEach (Stands : ℕ → Window → Window → Type 0) (old new : List Window)
+    : Type 0 where
+  pub count : length new ≡ length old
+  pub each : (place : ℕ) (after : Window) → slice_get new place ≡ Some after
+      → (before : Window) × (slice_get old place ≡ Some before) × Stands place before after
+
+-- ---- a line
+-- one call fewer is open, if this one was
+abbrev pub fewer : Option ℕ → ℕ → ℕ
+fewer None n = n
+fewer (Some asked) n = n - 1
+
+-- the open call, if there is one, ended by the line of this number
+pub record IsEndedIn (one : Option ℕ) (number : ℕ) (line : Line) (w after : Window)
+    : Type 0 where
+  pub events_are : after.events.items ≡ closed_by one number line w.events.items
+  pub waiting_is : after.waiting ≡ fewer one w.waiting
+  pub from_is : after.from ≡ w.from
+  pub explanations_are : after.explanations ≡ w.explanations
+
+-- the call is asked, if it is on this subscriber
+abbrev pub asks_on : ℕ → Option ℕ → Observed → List Event
+asks_on s s_id x = if is_this s s_id then Asks x ∷ [] else []
+
+pub record IsAskedIn (asks : List Event) (w after : Window) : Type 0 where
+  pub events_are : after.events.items ≡ w.events.items ++ asks
+  pub waiting_is : after.waiting ≡ w.waiting + length asks
+  pub from_is : after.from ≡ w.from
+  pub explanations_are : after.explanations ≡ w.explanations
+
+-- both: the open call ended, and another was asked
+pub record IsNoted (one : Option ℕ) (asks : List Event) (number : ℕ) (line : Line)
+    (w after : Window) : Type 0 where
+  pub events_are : after.events.items ≡ closed_by one number line w.events.items ++ asks
+  pub waiting_is : after.waiting ≡ fewer one w.waiting + length asks
+  pub from_is : after.from ≡ w.from
+  pub explanations_are : after.explanations ≡ w.explanations
+
+-- the open calls, where the line of this number asks one more
+abbrev pub also_asked : Database → ℕ → AskedCalls → Line → AskedCalls
+also_asked u number asked (Ask client call) =
+    with_asked asked client (Some (record { s_id = subscriber_of u call; number = number }))
+also_asked u number asked (End client recorded) = asked
+also_asked u number asked (Abort client) = asked
+also_asked u number asked (Lost client) = asked
+
+-- what the line of this number, whose client had this call open, makes of what is kept
+pub record IsNotedBy (u : Database) (ended : Option Asked) (number : ℕ) (line : Line)
+    (old new : Judge) : Type 0 where
+  pub directory_is : new.directory ≡ old.directory
+  pub asked_are : (client : ℕ) → get nat_eq new.asked client
+      ≡ also_asked u number (λ other. get nat_eq old.asked other) line client
+  pub windows_are : AreEach (λ place w after.
+      IsNoted (asked_on (suc place) ended) (asks_of u (suc place) number line) number line w after)
+      old.windows.items new.windows.items
+
+-- ---- the end of a window
+abbrev pub IsClosedTo : Database → ℕ → ℕ → List Line → Standing → Window → Type 0
+IsClosedTo u most s lines Explained w =
+    IsWindowAfter u most s lines w × (w.waiting ≡ 0 → w.events.items ≡ [])
+IsClosedTo u most s lines Unexplained w =
+    (IsExplainedBy u s lines (length lines) → ⊥)
+    × (IsWindowAfter u most s lines w ⊎ IsSpent u s lines w)
+IsClosedTo u most s lines Undecided w = NeedMoreBy u most lines (length lines) s
+
+-- what is said of a window that may be closed after the line of this number
+abbrev pub Closes : ℕ → Standing → Window → Window → Type 0
+Closes number standing w after =
+    (u : Database) (most s : ℕ) (lines : List Line) → IsWindowAfter u most s lines w
+    → number ≡ length lines → IsClosedTo u most s lines standing after
+
+-- of the subscriber with this s_id; the others are as they were
+abbrev pub ClosesAt : ℕ → ℕ → Standing → ℕ → Window → Window → Type 0
+ClosesAt s_id number standing place w after =
+    ((suc place ≡ s_id) × Closes number standing w after)
+    ⊎ ((suc place ≡ s_id → ⊥) × (after ≡ w))

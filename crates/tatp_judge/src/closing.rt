@@ -1,0 +1,105 @@
+//! Whether a window's calls are explained, and up to which line.
+ghost use Rattle.std.specs.Prelude.{◌≡◌, ◌⊎◌, ℕ, ◌<◌, [], IfOk, IfSome, Ok, List, length};
+ghost use Rattle.tatp_tables.specs.Database.{Database};
+ghost use Rattle.tatp_procs.specs.Arguments.{arguments_accepted};
+ghost use Rattle.tatp_history.specs.declared.line.Line.{Line as ALine};
+ghost use Rattle.tatp_linearization.specs.Single.{IsSingle, events_alone};
+ghost use Rattle.tatp_judge.specs.Steps.{Closes};
+ghost use Rattle.tatp_judge.specs.Windows.{IsWindowAfter, IsFirstOf};
+
+use crate::window::Window;
+use std::alloc::{AllocError, Global};
+use tatp_history::{Event, Observed};
+use tatp_linearization::{First, Standing};
+use tatp_procs::Reply;
+
+/// The call of events that are its ask and, in the line of this number, its answer.
+fn alone(events: &[Event], number: u64) -> Option<Observed>
+    ensures { IfSome result (λ x. events.now ≡ events_alone x number) }
+{
+    if events.len() == 2 {
+        if let Event::Asks(x) = &events[0] {
+            if let Event::Ends { asked, at } = &events[1] {
+                if *asked == x.asked && *at == number {
+                    return Some(*x);
+                }
+            }
+        }
+    }
+    None
+}
+
+impl Window {
+    /// Goes on over a call that overlaps no other, and is answered in the line of this number, in
+    /// place.
+    fn go_on_alone(&mut self, alloc: Global, x: &Observed, number: u64) -> Standing
+        requires single { IsSingle self.old.explanations }
+        requires alone { self.old.events.items ≡ events_alone x.now number }
+        requires accepted { arguments_accepted x.now.call ≡ Ok tt }
+        requires none { self.old.waiting ≡ 0 }
+        ensures { Closes number result self.old self.new }
+    {
+        let mut reply = Reply::Refused;
+        let fits = self.explanations.follow_alone(x, &mut reply);
+        self.events = Vec::new(alloc);
+        if fits {
+            self.from = number;
+            Standing::Explained
+        } else {
+            Standing::Unexplained
+        }
+    }
+
+    /// Goes on over the events, if an order explains the calls up to now.
+    fn go_on(&mut self, alloc: Global, number: u64) -> Result<Standing, AllocError>
+        requires window { (u : Database) × (most : ℕ) × (s : ℕ) × (lines : List ALine)
+            × IsWindowAfter u most s lines self.old }
+        requires some { 0 < length self.old.events.items }
+        requires none { self.old.waiting ≡ 0 }
+        ensures { IfOk result (λ standing. Closes number standing self.old self.new) }
+    {
+        match self.explanations.follow(alloc, self.events.as_slice())? {
+            Standing::Explained => {
+                self.events = Vec::new(alloc);
+                self.from = number;
+                Ok(Standing::Explained)
+            }
+            Standing::Unexplained => Ok(Standing::Unexplained),
+            Standing::Undecided => Ok(Standing::Undecided),
+        }
+    }
+
+    /// After the line of this number the window ends, if no call is open.
+    pub(crate) fn close(&mut self, alloc: Global, number: u64) -> Result<Standing, AllocError>
+        requires { (u : Database) × (most : ℕ) × (s : ℕ) × (lines : List ALine)
+            × IsWindowAfter u most s lines self.old }
+        ensures { IfOk result (λ standing. Closes number standing self.old self.new) }
+    {
+        if self.waiting > 0 || self.events.is_empty() {
+            return Ok(Standing::Explained);
+        }
+        if self.explanations.is_single() {
+            if let Some(x) = alone(self.events.as_slice(), number) {
+                return Ok(self.go_on_alone(alloc, &x, number));
+            }
+        }
+        self.go_on(alloc, number)
+    }
+
+    /// The first line, up to that of this number, by which the calls are unexplained.
+    pub(crate) fn first_unexplained(&self, alloc: Global, number: u64) -> Result<First, AllocError>
+        requires { (self.now.events.items ≡ [])
+            ⊎ ((u : Database) × (most : ℕ) × (s : ℕ) × (lines : List ALine)
+            × IsWindowAfter u most s lines self.now × (number ≡ length lines)) }
+        ensures first { IfOk result (λ first. (u : Database) (most s : ℕ) (lines : List ALine)
+            → IsWindowAfter u most s lines self.now → number ≡ length lines
+            → IsFirstOf u most s lines first) }
+        ensures spent { self.now.events.items ≡ [] → result ≡ Ok First.Never }
+    {
+        if self.events.is_empty() {
+            return Ok(First::Never);
+        }
+        self.explanations
+            .first_unexplained(alloc, self.events.as_slice(), self.from, number)
+    }
+}

@@ -1,0 +1,114 @@
+//! The calls on one subscriber, from the last line on after which none of them was open.
+ghost use Rattle.std.specs.Prelude.{◌≡◌, ◌<◌, ◌+◌, ◌-◌, ◌^◌, [], ◌∷◌, ◌++◌, IfOk, OnOk};
+ghost use Rattle.tatp_history.specs.declared.event.Event.TheVariants.{Asks};
+ghost use Rattle.tatp_linearization.specs.Reached.{AreReached};
+ghost use Rattle.tatp_judge.specs.NextLine.{ends_of, with_outcome};
+ghost use Rattle.tatp_history.specs.HistoryLines.{end_at};
+
+use crate::outcome::{end_at, is_answer};
+use std::alloc::{AllocError, Global};
+use tatp_history::{Event, Line, Observed};
+use tatp_homes::Home;
+use tatp_linearization::Explanations;
+
+/// A subscriber's window: what happened to its calls since none of them was open.
+#[derive(Drop)]
+pub(crate) struct Window {
+    /// What explains the calls before.
+    pub(crate) explanations: Explanations,
+    /// The number of the last line before, or of one after that which says nothing of its calls.
+    pub(crate) from: u64,
+    pub(crate) events: Vec<Event>,
+    /// How many of its calls are open.
+    pub(crate) waiting: u64,
+}
+
+/// The event, where the call that was asked then ends by the line of this number.
+fn ended(event: &Event, asked: u64, number: u64, line: &Line) -> Event
+    ensures { result ∷ [] ≡ with_outcome asked (end_at number line.now) (event.now ∷ []) }
+{
+    match event {
+        Event::Asks(x) => Event::Asks(Observed {
+            asked: x.asked,
+            call: x.call,
+            outcome: if x.asked == asked {
+                end_at(number, line)
+            } else {
+                x.outcome
+            },
+        }),
+        Event::Ends { asked: other, at } => Event::Ends {
+            asked: *other,
+            at: *at,
+        },
+    }
+}
+
+/// Writes down how the call that was asked then ends by the line of this number.
+#[tactic(auto, using(crate::proofs::WritingLaws::none_written, crate::proofs::WritingLaws::all_written))]
+fn write_outcome(events: &mut Vec<Event>, asked: u64, number: u64, line: &Line)
+    ensures { events.new.items ≡ with_outcome asked (end_at number line.now) events.old.items }
+{
+    'events: for i in 0..events.len() {
+        events[i] = ended(&events[i], asked, number, line);
+    }
+}
+
+/// One event more.
+fn push(events: &mut Vec<Event>, event: &Event) -> Result<(), AllocError>
+    ensures { OnOk result (events.new.items ≡ events.old.items ++ event.now ∷ []) }
+{
+    events.extend_from_slice(&[*event])?;
+    Ok(())
+}
+
+impl Window {
+    /// That of a subscriber with this home, before any line.
+    pub(crate) fn new(alloc: Global, home: &Home, most: usize) -> Result<Window, AllocError>
+        ensures reached { IfOk result (λ w. AreReached home.now.tables [] w.explanations) }
+        ensures most { IfOk result (λ w. w.explanations.most ≡ most) }
+        ensures from { IfOk result (λ w. w.from ≡ 0) }
+        ensures events { IfOk result (λ w. w.events.items ≡ []) }
+        ensures waiting { IfOk result (λ w. w.waiting ≡ 0) }
+    {
+        Ok(Window {
+            explanations: Explanations::new(alloc, home, most)?,
+            from: 0,
+            events: Vec::new(alloc),
+            waiting: 0,
+        })
+    }
+
+    /// A call is asked.
+    pub(crate) fn ask(&mut self, x: &Observed) -> Result<(), AllocError>
+        requires { self.old.waiting + 1 < 2 ^ 64 }
+        ensures events { OnOk result
+            (self.new.events.items ≡ self.old.events.items ++ Asks x.now ∷ []) }
+        ensures waiting { OnOk result (self.new.waiting ≡ self.old.waiting + 1) }
+        ensures from { OnOk result (self.new.from ≡ self.old.from) }
+        ensures explanations { OnOk result (self.new.explanations ≡ self.old.explanations) }
+    {
+        push(&mut self.events, &Event::Asks(*x))?;
+        self.waiting += 1;
+        Ok(())
+    }
+
+    /// The open call that was asked then ends by the line of this number.
+    pub(crate) fn end(&mut self, asked: u64, number: u64, line: &Line) -> Result<(), AllocError>
+        requires { 0 < self.old.waiting }
+        ensures events { OnOk result (self.new.events.items
+            ≡ with_outcome asked (end_at number line.now) self.old.events.items
+            ++ ends_of asked number line.now) }
+        ensures waiting { OnOk result (self.new.waiting ≡ self.old.waiting - 1) }
+        ensures from { OnOk result (self.new.from ≡ self.old.from) }
+        ensures explanations { OnOk result (self.new.explanations ≡ self.old.explanations) }
+    {
+        write_outcome(&mut self.events, asked, number, line);
+        if is_answer(line) {
+            let event = Event::Ends { asked, at: number };
+            push(&mut self.events, &event)?;
+        }
+        self.waiting -= 1;
+        Ok(())
+    }
+}

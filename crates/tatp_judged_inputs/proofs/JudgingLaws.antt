@@ -1,0 +1,73 @@
+-- What is said of an input, by what its parts tell.
+use Rattle.std.proofs.Common.{◌≡◌, ℕ, ◌+◌, List, [], Option, Some, None, subst, arith, inr}
+use Rattle.std.proofs.lemmas.Option.{IfSome_then}
+use Rattle.std.specs.Option.{IfSome}
+use Rattle.tatp_lines.specs.Lines.{lines_of}
+use Rattle.tatp_tables.specs.Database.{Database, database_of}
+use Rattle.tatp_tables.specs.declared.row.Rows.{Rows}
+use Rattle.tatp_extents.specs.declared.open_error.OpenError.{OpenError}
+use Rattle.tatp_extents.specs.Opening.{RefusesRows}
+use Rattle.tatp_judge.specs.declared.judge.Judge.{Judge}
+use Rattle.tatp_judge.specs.Followed.{HasFollowed}
+use Rattle.tatp_streams.specs.declared.fault.StreamFault.TheVariants.{NoMemory, ReadFault, WriteFault}
+use Rattle.tatp_streams.specs.LineReading.{LineReaderState, nothing_taken, LinesLeft, lines_left, Relates}
+use Rattle.tatp_streams.proofs.LineReadingLaws.{of_input, relates_known}
+use Rattle.tatp_tasks.specs.declared.judging.JudgePlan.{JudgePlan}
+use Rattle.tatp_tasks.specs.declared.population.Population.{Population}
+use Rattle.tatp_inputs.specs.Work.{Work, lines_before, BringsWork}
+use Rattle.tatp_judged_inputs.specs.HistoryTexts.{history_from, none_open}
+use Rattle.tatp_judged_inputs.specs.Reading.{RefusesHistory}
+use Rattle.tatp_judged_inputs.specs.declared.history_fault.HistoryFault.{HistoryFault}
+use Rattle.tatp_judged_inputs.specs.declared.history_fault.HistoryFault.TheVariants as history
+use Rattle.tatp_judged_inputs.specs.Judged.{IsJudged}
+use Rattle.tatp_judged_inputs.specs.Judging.{OfWork, AreAdmitted, JudgesWork, JudgesInput, RefusesWork, BringsNoHistory, RefusesInput, history_fault}
+use Rattle.tatp_judged_inputs.specs.declared.fault.JudgeFault.TheVariants.{Unopened}
+use Rattle.tatp_judged_inputs.specs.declared.judging.Judged.{Judged}
+
+-- ---- the lines after the rows
+-- so many lines of the input come before them
+come_before : (population : Population) (rows : Rows) (n : ℕ) (all left : LinesLeft) → BringsWork population rows 0 n all left → n ≡ lines_before population all.lines
+come_before population rows n all left b = omega (arith, b.counted)
+
+-- what holds of the rows, of these lines and of how many come before is said of the input
+of_work : (population : Population) (start : LineReaderState) (limit : ℕ) (known : Option (List ℕ)) (left : Option LinesLeft) (rows : Rows) (n : ℕ) (P : Work → ℕ → Type 0)
+    → start ≡ nothing_taken limit → Relates (lines_left start known) left (BringsWork population rows start.number n) → IfSome left (λ l. P (record { rows = rows; lines = l.lines }) n)
+    → IfSome known (λ input. OfWork population (lines_of input) (λ work. P work (lines_before population (lines_of input))))
+of_work population start limit known left rows n P e b h =
+    of_input known limit (λ all. OfWork population all.lines (λ work. P work (lines_before population all.lines)))
+    (relates_known (lines_left (nothing_taken limit) known) left (BringsWork population rows 0 n) (λ l. P (record { rows = rows; lines = l.lines }) n)
+    (λ all. OfWork population all.lines (λ work. P work (lines_before population all.lines))) (rw e at b) h
+    (λ all l brings holds. (record { rows = rows; lines = l.lines }, brings.work, subst (P (record { rows = rows; lines = l.lines })) (come_before population rows n all l brings) holds)))
+
+pub input_judged : (plan : JudgePlan) (start : LineReaderState) (limit : ℕ) (known : Option (List ℕ)) (left : Option LinesLeft) (rows : Rows) (n : ℕ) (judge : Judge) (judged : Judged)
+    → start ≡ nothing_taken limit → Relates (lines_left start known) left (BringsWork plan.population rows start.number n) → AreAdmitted rows → HasFollowed (database_of rows) plan.most [] judge
+    → IfSome left (λ l. (u : Database) (most : ℕ) → HasFollowed u most [] judge → IsJudged u most n l.lines judged) → IfSome known (λ input. JudgesInput plan (lines_of input) judged)
+input_judged plan start limit known left rows n judge judged e b admitted from h =
+    of_work plan.population start limit known left rows n (λ work taken. JudgesWork plan.most work taken judged) e b
+    (IfSome_then left h (λ l says. record { admitted = admitted; is = says (database_of rows) plan.most from }))
+
+-- ---- what is refused
+holds_where : {A : Type 0} {P : A → Type 0} (known : Option A) → ((a : A) → P a) → IfSome known P
+holds_where None h = tt
+holds_where (Some a) h = h a
+
+pub rows_refused : (population : Population) (start : LineReaderState) (limit : ℕ) (known : Option (List ℕ)) (left : Option LinesLeft) (rows : Rows) (n : ℕ) (error : OpenError)
+    → start ≡ nothing_taken limit → Relates (lines_left start known) left (BringsWork population rows start.number n) → RefusesRows rows error
+    → IfSome known (λ input. RefusesInput population (lines_of input) (Unopened error))
+rows_refused population start limit known left rows n error e b h =
+    of_work population start limit known left rows n (λ work taken. RefusesRows work.rows error) e b (holds_where left (λ l. h))
+
+by_history : (population : Population) (lines : List (List ℕ)) (fault : HistoryFault) → BringsNoHistory population lines fault → RefusesInput population lines (history_fault fault)
+by_history population lines (history.BadLine n) h = inr h
+by_history population lines (history.BadArgument n bad) h = h
+by_history population lines (history.Stream NoMemory) h = tt
+by_history population lines (history.Stream ReadFault) h = tt
+by_history population lines (history.Stream WriteFault) h = absurd h.2.refused
+
+pub history_refused : (population : Population) (start : LineReaderState) (limit : ℕ) (known : Option (List ℕ)) (left : Option LinesLeft) (rows : Rows) (n : ℕ) (fault : HistoryFault)
+    → start ≡ nothing_taken limit → Relates (lines_left start known) left (BringsWork population rows start.number n) → AreAdmitted rows
+    → IfSome left (λ l. RefusesHistory (history_from none_open (n + 1) l.lines) fault) → IfSome known (λ input. RefusesInput population (lines_of input) (history_fault fault))
+history_refused population start limit known left rows n fault e b admitted h =
+    IfSome_then known
+    (of_work population start limit known left rows n (λ work taken. RefusesWork work taken fault) e b (IfSome_then left h (λ l refused. record { admitted = admitted; refused = refused })))
+    (λ input none. by_history population (lines_of input) fault none)

@@ -1,0 +1,68 @@
+-- There is one verdict on a history.
+use Rattle.std.proofs.Common.{◌≡◌, ℕ, zero, suc, ◌+◌, ◌-◌, ◌<◌, ◌≤◌, List, [], ◌∷◌, ◌++◌, length, take, Option, Some, None, Result, Ok, Err, refl, sym, ap, subst, ◌∙◌, arith, inl, inr}
+use Rattle.std.proofs.lemmas.Bool.{cases_lt}
+use Rattle.std.proofs.lemmas.List.{take-take}
+use Rattle.tatp_tables.specs.Database.{Database}
+use Rattle.tatp_history.specs.declared.line.Line.{Line}
+use Rattle.tatp_history.specs.Histories.{IsStrictlySerializable}
+use Rattle.tatp_history.specs.HistoryLines.{calls_of}
+use Rattle.tatp_history.proofs.LineLaws.{calls_of_first, calls_in_time}
+use Rattle.tatp_history.proofs.PrefixLaws.{prefixes}
+use Rattle.tatp_history_lines.specs.declared.fault.LineFault.{LineFault}
+use Rattle.tatp_history_lines.specs.Open.{CallsOpen, opened_by}
+use Rattle.tatp_judged_inputs.specs.HistoryTexts.{Told, BadText, said_in, onto, tell_on, history_from, none_open}
+use Rattle.tatp_judge.specs.Verdicts.{IsLegal}
+use Rattle.tatp_judged_inputs.specs.Judged.{TellLegal, TellIllegal, IsIllegalAt}
+
+-- ---- what the first texts tell begins what all of them do
+abbrev lines_told : Result Told BadText → List Line
+lines_told (Ok told) = told.lines
+lines_told (Err bad) = []
+
+abbrev Begins : Result Told BadText → Result Told BadText → Type 0
+Begins first all = (s t : Told) → first ≡ Ok s → all ≡ Ok t → (more : List Line) × (t.lines ≡ s.lines ++ more)
+
+-- a line before both
+begins_onto : (number : ℕ) (line : Line) (first all : Result Told BadText) → Begins first all → Begins (onto number line first) (onto number line all)
+begins_onto number line (Err bad) all so s t e h = absurd cc
+begins_onto number line (Ok first) (Err bad) so s t e h = absurd cc
+begins_onto number line (Ok first) (Ok all) so s t e h =
+    let own = so first all refl refl in
+    (own.0, sym (ap lines_told h) ∙ (ap (λ lines. line ∷ lines) own.1 ∙ ap (λ lines. lines ++ own.0) (ap lines_told e)))
+
+begins_on : (number : ℕ) (opened : CallsOpen) (said : Result (Option Line) LineFault) (first all : CallsOpen → Result Told BadText) → ((after : CallsOpen) → Begins (first after) (all after))
+    → Begins (tell_on number opened said first) (tell_on number opened said all)
+begins_on number opened (Err fault) first all so s t e h = absurd cc
+begins_on number opened (Ok None) first all so s t e h = so opened s t e h
+begins_on number opened (Ok (Some line)) first all so s t e h = begins_onto number line (first (opened_by opened line)) (all (opened_by opened line)) (so (opened_by opened line)) s t e h
+
+begins : (n : ℕ) (opened : CallsOpen) (number : ℕ) (texts : List (List ℕ)) → Begins (history_from opened number (take n texts)) (history_from opened number texts)
+begins zero opened number texts s t e h = (t.lines, ap (λ lines. lines ++ t.lines) (ap lines_told e))
+begins (suc n) opened number [] s t e h = ([], sym (ap lines_told h) ∙ ap (λ lines. lines ++ []) (ap lines_told e))
+begins (suc n) opened number (text ∷ more) s t e h =
+    begins_on number opened (said_in opened text) (λ after. history_from after (number + 1) (take n more)) (λ after. history_from after (number + 1) more) (λ after. begins n after (number + 1) more) s t e h
+
+-- ---- so they are legal where all are
+legal_first : (u : Database) (first second : List Line) → IsLegal u (first ++ second) → IsLegal u first
+legal_first u first second h =
+    subst (IsStrictlySerializable u) (calls_of_first first second 1 (length first) (omega arith)) (prefixes (length first) u (calls_of (first ++ second)) (calls_in_time 1 (first ++ second)) h)
+
+pub first_legal : (u : Database) (taken n : ℕ) (texts : List (List ℕ)) → TellLegal u taken texts → TellIllegal u taken (take n texts) → ⊥
+first_legal u taken n texts legal illegal =
+    let b = begins n none_open (taken + 1) texts illegal.0 legal.0 illegal.1 legal.1 in
+    illegal.2 (legal_first u illegal.0.lines b.0 (subst (IsLegal u) b.1 legal.2))
+
+-- ---- one verdict
+pub legal_nowhere_illegal : (u : Database) (taken : ℕ) (texts : List (List ℕ)) (number : ℕ) → TellLegal u taken texts → IsIllegalAt u taken texts number → ⊥
+legal_nowhere_illegal u taken texts number legal is = first_legal u taken (number - taken) texts legal is.illegal
+
+not_before : (u : Database) (taken : ℕ) (texts : List (List ℕ)) (n m : ℕ) → IsIllegalAt u taken texts n → IsIllegalAt u taken texts m → n < m → ⊥
+not_before u taken texts n m a b lt =
+    let within : n - taken ≤ m - taken - 1 = omega (arith, lt, a.later, b.later) in
+    first_legal u taken (n - taken) (take (m - taken - 1) texts) b.before (subst (TellIllegal u taken) (sym (take-take (n - taken) (m - taken - 1) texts within)) a.illegal)
+
+pub illegal_at_one : (u : Database) (taken : ℕ) (texts : List (List ℕ)) (n m : ℕ) → IsIllegalAt u taken texts n → IsIllegalAt u taken texts m → n ≡ m
+illegal_at_one u taken texts n m a b = elim (cases_lt n m) [
+  | inl lt ↦ absurd (not_before u taken texts n m a b lt)
+  | inr le ↦ elim (cases_lt m n) [ inl lt ↦ absurd (not_before u taken texts m n b a lt) | inr ge ↦ omega (arith, le, ge) ]
+]

@@ -1,0 +1,17 @@
+use Rattle.std.proofs.Common.{rules}
+use Rattle.std.proofs.lemmas.Option.{IfSome_then}
+use Rattle.std.proofs.lemmas.Result.{err_from_is_err_and}
+use Rattle.tatp_streams.proofs.WritingLaws.{cut_of_known}
+use Rattle.tatp_judged_inputs.specs.Judging.{TellsJudged}
+use Rattle.tatp_judged_inputs.proofs.command.run_judge.Goals as goal
+
+pub returns-in_err-write_last-clause-faults : goal.returns-in_err-write_last-clause-faults
+returns-in_err-write_last-clause-faults g c =
+    let p = err_from_is_err_and c.from_residual-in_err-write_last.result c.from_residual-in_err-write_last.ensures.1 in
+    let known = g.R.Read.remaining c.args.reader.now in
+    let left =
+    cut_of_known (TellsJudged c.args.plan.now) known c.as_bytes.result.now (g.W.Write.contents c.args.writer.now) (g.W.Write.contents c.write_last.new.writer) c.in_err-write_last.field-0.0
+    (IfSome_then known c.in_ok-judged.ensures.judged (λ input is. record { judged = c.in_ok-judged.judged; is = is; told = search rules }))
+    c.in_err-write_last.ensures.faults c.in_err-write_last.ensures.front
+    in
+    rw (p.1, p.2) left

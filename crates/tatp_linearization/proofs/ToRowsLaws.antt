@@ -1,0 +1,189 @@
+-- Rows that orders leave: open calls that write take effect last, one after another, or never.
+use Rattle.std.proofs.Common.{◌≡◌, ℕ, zero, suc, ◌≤◌, ◌⊎◌, ◌↔◌, true, false, List, [], ◌∷◌, ◌++◌, length, refl, sym, subst, arith, inl, inr}
+use Rattle.std.specs.List.{AllByRecursion}
+use Rattle.std.proofs.lemmas.List.{append-nil}
+use Rattle.tatp_tables.specs.Database.{Database}
+use Rattle.tatp_procs.specs.Transactions.{transaction}
+use Rattle.tatp_history.specs.declared.event.Event.{Event}
+use Rattle.tatp_history.specs.declared.observed.Observed.{Observed}
+use Rattle.tatp_history.specs.Histories.{IsIn, IsStrictlySerializableTo, rows_after}
+use Rattle.tatp_history.specs.Events.{asked_in, TimesRise, HaveEnds}
+use Rattle.tatp_history.specs.JustInTime.{AreOpen}
+use Rattle.tatp_history.specs.Configurations.{Configuration, starting}
+use Rattle.tatp_history.proofs.OrderLaws.{in_all}
+use Rattle.tatp_history.proofs.ChoiceLaws.{chooses_some, chooses_length}
+use Rattle.tatp_history.proofs.RemainingLaws.{IsOrderFrom, HasOrder, open_chosen, taken_off}
+use Rattle.tatp_history.proofs.JustInTimeLaws.{is_serial, serial_is, none_open}
+use Rattle.tatp_linearization.specs.declared.configuration.Configuration.{Configuration as Held}
+use Rattle.tatp_linearization.specs.AtOnce.{only_reads, FitsAtOnce, IsSettled, TakesOne, LeadAtOnce}
+use Rattle.tatp_linearization.specs.Possible.{AreMoreThan, IsPossible, NeedMore}
+use Rattle.tatp_linearization.specs.Held.{Has, AreReady, AreApart, HoldsOfOne, TakeMany, TakeSome}
+use Rattle.tatp_linearization.specs.Reached.{AreKept}
+use Rattle.tatp_linearization.proofs.SettlingLaws.{left_exists, left_shorter, left_order}
+use Rattle.tatp_linearization.proofs.AtOnceLaws.{one_open, one_settled, one_sound, lead_settled, lead_open, lead_sound, lead_complete}
+use Rattle.tatp_linearization.proofs.PossibleLaws.{more_than, tried_possible}
+use Rattle.tatp_linearization.proofs.TurnLaws.{many_one}
+use Rattle.tatp_linearization.proofs.HeldLaws.{has_get}
+use Rattle.tatp_linearization.proofs.PlaceLaws.{all_get}
+
+-- ---- orders of open calls
+module _ (Q : Database → Type 0) where
+  nothing_more : (c : Configuration) → AreOpen [] c.opened → Q c.rows → HasOrder Q c.rows [] c.opened
+  nothing_more c are q = (
+    [],
+    record {
+      made = tt;
+      once = tt;
+      all = λ z h answered. elim h [ inl k ↦ absurd (are.ends z k answered) | inr k ↦ absurd k ];
+      real_time = tt;
+      replies = tt;
+    },
+    q,
+  )
+
+  many_sound : (n : ℕ) (c d : Configuration) → TakeMany n c d → AreOpen [] c.opened → Q d.rows → HasOrder Q c.rows [] c.opened
+  many_sound zero c d h are q = nothing_more c are (subst (λ (b : Configuration). Q b.rows) h q)
+  many_sound (suc n) c d h are q = one_sound Q [] tt c h.0 h.1 are (many_sound n h.0 d h.2 (one_open [] c h.0 h.1 are) q)
+
+  some_complete : (n : ℕ) (order : List Observed) (c : Configuration) → length c.opened ≤ n → IsSettled c → AreOpen [] c.opened → IsOrderFrom c.rows [] c.opened order → Q (rows_after c.rows order) → (d : Configuration) × TakeSome c d × Q d.rows
+  some_complete n [] c few settled are ok q = (c, (0, refl), q)
+  some_complete zero (x ∷ order) c few settled are ok q =
+      let opens : IsIn x c.opened = elim ok.made.0 [ inl k ↦ k | inr k ↦ absurd k ] in
+      let some = chooses_some c.opened x opens in
+      let size : length c.opened ≡ suc (length some.0) = chooses_length c.opened x some.0 some.1 in
+      absurd (omega (arith, few, size))
+  some_complete (suc n) (x ∷ order) c few settled are ok q =
+      let opens : IsIn x c.opened = elim ok.made.0 [ inl k ↦ k | inr k ↦ absurd k ] in
+      let some = chooses_some c.opened x opens in
+      let size : length c.opened ≡ suc (length some.0) = chooses_length c.opened x some.0 some.1 in
+      let v : Database = (transaction x.call c.rows).database in
+      let writes : only_reads x.call ≡ false = elim (only_reads x.call) as (λ b. only_reads x.call ≡ b → b ≡ false) [
+        | true ↦ λ r. absurd (in_all (λ (w : Observed). FitsAtOnce c.rows w → ⊥) x c.opened settled opens (r, ok.replies.0))
+        | false ↦ λ r. refl
+      ] refl in
+      let left = left_exists v some.0 in
+      let less : length left.0 ≤ length some.0 = left_shorter v some.0 left.0 left.1 in
+      let d : Configuration = record { rows = v; opened = left.0 } in
+      let one : TakesOne c d = (x, some.0, record { chosen = some.1; writes = writes; may = ok.replies.0; rows = refl; settled = left.1 }) in
+      let rest : HasOrder Q v [] left.0 = left_order Q [] tt v [] some.0 left.0 left.1 (open_chosen [] c.opened x some.0 some.1 are) (order, taken_off c.rows [] c.opened x some.0 order are some.1 ok, q) in
+      let go = some_complete n rest.0 d (omega (arith, few, size, less)) (one_settled c d one) (one_open [] c d one are) rest.1 rest.2 in
+      (go.0, (suc go.1.0, (d, one, go.1.1)), go.2)
+
+-- ---- the law
+-- the events lead to a configuration, and open calls from there to the rows
+abbrev pub LeadsTo : Database → List Event → Database → Type 0
+LeadsTo u past after = (c : Configuration) × LeadAtOnce past (starting u) c × ((d : Configuration) × TakeSome c d × (d.rows ≡ after))
+
+pub to_exact : (u after : Database) (past : List Event) → TimesRise past → HaveEnds past → LeadsTo u past after ↔ IsStrictlySerializableTo u (asked_in past) after
+to_exact u after past rise have =
+    let Q : Database → Type 0 = λ v. v ≡ after in
+    let whole : past ≡ past ++ [] = sym (append-nil past) in
+    let rise' : TimesRise (past ++ []) = subst TimesRise whole rise in
+    let have' : HaveEnds (past ++ []) = subst HaveEnds whole have in (
+      λ h.
+          let are = lead_open past [] rise' have' (starting u) h.0 (none_open (past ++ [])) h.1 in
+          let order = lead_sound Q past [] rise' have' (starting u) h.0 (none_open (past ++ [])) h.1 (many_sound Q h.2.1.0 h.0 h.2.0 h.2.1.1 are h.2.2) in
+          let order' : HasOrder Q u past [] = subst (λ es. HasOrder Q u es []) (append-nil past) order in
+          (order'.0, is_serial u past [] order'.0 order'.1, order'.2),
+      λ s.
+          let order : HasOrder Q u (past ++ []) [] = subst (λ es. HasOrder Q u es []) whole (s.0, serial_is u past [] s.0 s.1, s.2) in
+          let led = lead_complete Q past [] rise' have' (starting u) tt (none_open (past ++ [])) order in
+          let are = lead_open past [] rise' have' (starting u) led.0 (none_open (past ++ [])) led.1 in
+          (led.0, led.1, some_complete Q (length led.0.opened) led.2.0 led.0 (omega arith) (lead_settled past (starting u) led.0 tt led.1) are led.2.1 led.2.2),
+    )
+
+-- ---- turns
+one_shorter : (c d : Configuration) → TakesOne c d → suc (length d.opened) ≤ length c.opened
+one_shorter c d h =
+    let size : length c.opened ≡ suc (length h.1) = chooses_length c.opened h.0 h.1 h.2.chosen in
+    let less : length d.opened ≤ length h.1 = left_shorter (transaction h.0.call c.rows).database h.1 d.opened h.2.settled in
+    omega (arith, size, less)
+
+many_shorter : (n : ℕ) (c d : Configuration) → TakeMany n c d → n ≤ length c.opened
+many_shorter zero c d h = omega arith
+many_shorter (suc n) c d h = let less = many_shorter n h.0 d h.2 in let one = one_shorter c h.0 h.1 in omega (arith, less, one)
+
+-- the last of so many
+many_last : (n : ℕ) (c d : Configuration) → TakeMany (suc n) c d → (e : Configuration) × TakeMany n c e × TakesOne e d
+many_last zero c d h = (c, refl, subst (TakesOne c) (sym h.2) h.1)
+many_last (suc n) c d h = let rest = many_last n h.0 d h.2 in (rest.0, (h.0, h.1, rest.1), rest.2)
+
+abbrev pub HaveNone : List Held → Database → ℕ → Type 0
+HaveNone set after n = (d : Configuration) → HoldsOfOne (TakeMany n) set d → d.rows ≡ after → ⊥
+
+-- so many calls took effect, and fewer never leave the rows
+pub record Tried (s : ℕ) (set : List Held) (after : Database) (n : ℕ) (going : List Held) : Type 0 where
+  pub exact : (d : Configuration) → Has going d ↔ HoldsOfOne (TakeMany n) set d
+  pub none : (m : ℕ) → suc m ≤ n → HaveNone set after m
+  pub ready : AreReady going
+  pub apart : AreApart s going
+
+pub tried_first : (s : ℕ) (set : List Held) (after : Database) (going : List Held) → ((d : Configuration) → Has set d → d.rows ≡ after → ⊥) → ((d : Configuration) → Has going d ↔ HoldsOfOne TakesOne set d) → AreReady going → AreApart s going → Tried s set after 1 going
+tried_first s set after going none exact ready apart = record {
+  exact = λ d. (
+    λ h. let k = (exact d).0 h in (k.0, k.1, (d, k.2, refl)),
+    λ h. (exact d).1 (h.0, h.1, subst (TakesOne h.0) (sym h.2.2) h.2.1),
+  );
+  none = λ m le. elim m as (λ k. suc k ≤ 1 → HaveNone set after k) [
+    | zero ↦ λ _ d h e. none d (subst (Has set) (sym h.2) h.1) e
+    | suc k ↦ λ more. absurd (omega (arith, more))
+  ] le;
+  ready = ready;
+  apart = apart;
+}
+
+pub tried_more : (s : ℕ) (set : List Held) (after : Database) (n : ℕ) (going next : List Held) → Tried s set after n going → ((d : Configuration) → Has going d → d.rows ≡ after → ⊥)
+    → ((d : Configuration) → Has next d ↔ HoldsOfOne TakesOne going d) → AreReady next → (AreApart s going → AreApart s next) → Tried s set after (suc n) next
+tried_more s set after n going next p none exact ready apart = record {
+  exact = λ d. (
+    λ h.
+        let k = (exact d).0 h in
+        let q = (p.exact k.0).0 k.1 in
+        (q.0, q.1, many_one n q.0 k.0 d q.2 k.2),
+    λ h.
+        let last = many_last n h.0 d h.2 in
+        (exact d).1 (last.0, (p.exact last.0).1 (h.0, h.1, last.1), last.2),
+  );
+  none = λ m le d h e. elim (below m n le) [
+    | inl less ↦ p.none m less d h e
+    | inr is ↦ none d ((p.exact d).1 (subst (λ k. HoldsOfOne (TakeMany k) set d) is h)) e
+  ];
+  ready = ready;
+  apart = apart p.apart;
+}
+  where
+    below : (m k : ℕ) → suc m ≤ suc k → (suc m ≤ k) ⊎ (m ≡ k)
+    below zero zero le = inr refl
+    below zero (suc k) le = inl (omega arith)
+    below (suc m) zero le = absurd (omega (arith, le))
+    below (suc m) (suc k) le = elim (below m k (omega (arith, le))) [ inl less ↦ inl (omega (arith, less)) | inr e ↦ inr (λ i. suc (e i)) ]
+
+-- after so many turns as calls are open none is left to take effect
+pub tried_all : (s : ℕ) (set : List Held) (after : Database) (n most : ℕ) (going : List Held) → Tried s set after (suc n) going → AllByRecursion (λ (c : Held). length c.opened.items ≤ most) set → most ≤ n
+    → (d : Configuration) → HoldsOfOne TakeSome set d → d.rows ≡ after → ⊥
+tried_all s set after n most going p opened enough d h e =
+    let there = has_get set h.0 h.1 in
+    let few : length there.2.opened.items ≤ most = all_get (λ (c : Held). length c.opened.items ≤ most) set there.0 there.2 opened there.3 in
+    let less : h.2.0 ≤ length h.0.opened = many_shorter h.2.0 h.0 d h.2.1 in
+    let same : length h.0.opened ≡ length there.2.opened.items = λ i. length (there.4 i).opened in
+    p.none h.2.0 (omega (arith, few, less, same, enough)) d (h.0, h.1, h.2.1) e
+
+pub tried_many : (s : ℕ) (set : List Held) (after : Database) (n most : ℕ) (going : List Held) → Tried s set after n going → AreMoreThan most (HoldsOfOne TakesOne going) → AreMoreThan most (HoldsOfOne TakeSome set)
+tried_many s set after n most going p many = more_than most (HoldsOfOne TakesOne going) (HoldsOfOne TakeSome set) (λ d h.
+    let q = (p.exact h.0).0 h.1 in
+    (q.0, q.1, (suc n, many_one n q.0 h.0 d q.2 h.2))) many
+
+pub one_some : (set : List Held) (most : ℕ) → AreMoreThan most (HoldsOfOne TakesOne set) → AreMoreThan most (HoldsOfOne TakeSome set)
+one_some set most many = more_than most (HoldsOfOne TakesOne set) (HoldsOfOne TakeSome set) (λ d h. (h.0, h.1, (1, (d, h.2, refl)))) many
+
+-- ---- explanations
+module _ (u : Database) (past : List Event) (cs : List Held) (kept : AreKept u past cs) where
+  pub kept_to : (after : Database) → TimesRise past → HaveEnds past → ((d : Configuration) × HoldsOfOne TakeSome cs d × (d.rows ≡ after)) ↔ IsStrictlySerializableTo u (asked_in past) after
+  kept_to after rise have =
+      let law = to_exact u after past rise have in (
+        λ h. law.0 (h.1.0, (kept.exact h.1.0).0 h.1.1, (h.0, h.1.2, h.2)),
+        λ s. let led = law.1 s in (led.2.0, (led.0, (kept.exact led.0).1 led.1, led.2.1), led.2.2),
+      )
+
+  pub kept_many : (most : ℕ) → AreMoreThan most (HoldsOfOne TakeSome cs) → NeedMore most u past
+  kept_many most many = (past, [], sym (append-nil past), more_than most (HoldsOfOne TakeSome cs) (IsPossible u past) (tried_possible u past cs kept) many)

@@ -1,0 +1,3 @@
+pub mod PartLaws
+pub mod MergeLaws
+pub mod WritingLaws

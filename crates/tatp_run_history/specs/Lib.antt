@@ -1,0 +1,4 @@
+pub mod ClientLines
+pub mod Interleaving
+pub mod Telling
+pub mod Parts

@@ -1,0 +1,14 @@
+//! What history is to be judged.
+use crate::Population;
+
+/// The most configurations of one subscriber that can be asked to be kept.
+pub const MAX_CONFIGURATIONS: usize = 1_000_000;
+
+/// A history to be judged.
+#[derive(Clone, Copy, Debug, PartialEq, Eq)]
+pub struct JudgePlan {
+    /// Where the rows come from with which it begins.
+    pub population: Population,
+    /// How many configurations of one subscriber are kept at most, 1 to [`MAX_CONFIGURATIONS`].
+    pub most: usize,
+}

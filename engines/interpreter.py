@@ -1,0 +1,38 @@
+"""A python3 that has what an engine needs. Debian's packages are seen by Debian's python3 alone, which needn't be the
+first of this name."""
+import glob
+import importlib.util
+import os
+import subprocess
+import sys
+
+from clients import NotRun
+
+
+def other_pythons():
+    """The python3 of each folder of PATH, and Debian's."""
+    folders = os.environ.get("PATH", "").split(":") + ["/usr/bin"]
+    return list(dict.fromkeys(path for folder in folders for path in glob.glob(os.path.join(folder, "python3"))))
+
+
+def python_with(module):
+    """A python3 that has the module: this one if it has it, else another, else None."""
+    if importlib.util.find_spec(module):
+        return sys.executable
+    for python in other_pythons():
+        try:
+            done = subprocess.run([python, "-c", "import " + module], stdin=subprocess.DEVNULL, capture_output=True)
+        except OSError:
+            continue
+        if done.returncode == 0:
+            return python
+    return None
+
+
+def go_on_with(module, package):
+    """Goes on where this python3 has the module; else the script is started again by one that has it."""
+    python = python_with(module)
+    if python is None:
+        raise NotRun("no python3 here has the module %s (Debian's package %s)" % (module, package))
+    if python != sys.executable:
+        os.execv(python, [python, "-B", *sys.argv])

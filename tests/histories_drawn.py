@@ -42,7 +42,7 @@ class Drawn:
         self.surroundings = dict(os.environ, TATP=program)
 
     def made(self, words, data):
-        return runs.run("./timeline", ["--history", *words], data, surroundings=self.surroundings)
+        return runs.run("./timeline", ["--history", *words], data, env=self.surroundings)
 
     def judged(self, words, data):
         return runs.run(self.program, ["judge", *words], data)

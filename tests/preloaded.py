@@ -4,6 +4,7 @@ import os
 import shutil
 import subprocess
 import sys
+import tempfile
 
 import runs
 
@@ -21,11 +22,15 @@ class Preloaded:
         subprocess.run([compiler, "-O1", "-shared", "-fPIC", "-o", self.library, source, "-ldl"], check=True)
 
     def run(self, words, data=b"", **variables):
-        """A run in which the library does what the variables say. What it told at its end are numbers."""
+        """A run in which the library does what the variables say. What it told at its end are numbers. The input is a
+        file: how many bytes a read takes of a pipe is chance, and with it the number of reads and growths."""
         told = os.path.join(self.room, "told.%d" % next(self.numbers))
         surroundings = dict(os.environ, LD_PRELOAD=self.library, TOLD=told)
         surroundings.update((name, str(number)) for name, number in variables.items())
-        done = runs.run(self.program, words, data, surroundings=surroundings)
+        with tempfile.TemporaryFile(dir=self.room) as file:
+            file.write(data)
+            file.seek(0)
+            done = runs.run(self.program, words, stdin=file, env=surroundings)
         done.told = None
         if os.path.exists(told):
             with open(told, encoding="ascii") as file:

@@ -71,10 +71,11 @@ class Done:
         self.status, self.output, self.error = status, output, error
 
 
-def run(program, words, data=b"", seconds=60, surroundings=None):
-    """Runs the program with these words on the input, in these surroundings where they are given."""
+def run(program, words, data=b"", seconds=60, **given):
+    """Runs the program with these words on the input, which comes by a pipe where no other `stdin` is given."""
+    given = given if "stdin" in given else dict(given, input=data)
     try:
-        done = subprocess.run([program, *words], input=data, capture_output=True, timeout=seconds, env=surroundings)
+        done = subprocess.run([program, *words], capture_output=True, timeout=seconds, **given)
     except subprocess.TimeoutExpired:
         return Done(None, b"", b"it took over %d seconds" % seconds)
     return Done(done.returncode, done.stdout, done.stderr)

@@ -14,7 +14,7 @@ from session import Aborted, Lost
 # (a process has the streams and the engine of the one that it comes from, without a copy by hand)
 processes = multiprocessing.get_context("fork")
 # The longest that a client waits for the others before all begin.
-SECONDS = 120
+SECONDS = 600
 # What ends a script before its end.
 SIGNALS = (signal.SIGHUP, signal.SIGINT, signal.SIGTERM)
 

@@ -14,7 +14,7 @@ from clients import NotRun
 # The system's longest path of a socket is 107 bytes.
 LONGEST = 107
 # The longest that a server may take to start or to end.
-SECONDS = 120
+SECONDS = 600
 # How far behind the standby is.
 LAG = "50ms"
 
@@ -30,15 +30,15 @@ def folder_of_programs():
     return None
 
 
-def user():
-    """Who runs the server: whoever runs this, but for root the user postgres, or else nobody."""
+def user(*names):
+    """Who runs a server: whoever runs this, but for root the first of these users that is here."""
     if os.geteuid() != 0:
         return {}
-    for name in ("postgres", "nobody"):
+    for name in names:
         with contextlib.suppress(KeyError):
             entry = pwd.getpwnam(name)
             return {"user": entry.pw_uid, "group": entry.pw_gid, "extra_groups": []}
-    raise NotRun("PostgreSQL doesn't run as root, and there is neither a user postgres nor nobody")
+    raise NotRun("a database's server doesn't run as root, and here is none of the users " + ", ".join(names))
 
 
 class Cluster:
@@ -52,7 +52,7 @@ class Cluster:
             raise NotRun("no PostgreSQL server is installed here (Debian's package postgresql)")
         if len(os.path.join(folder, ".s.PGSQL.5432")) > LONGEST:
             raise NotRun("%s is too long a path for a socket; TMPDIR names another folder" % folder)
-        self.user = user()
+        self.user = user("postgres", "nobody")
         os.mkdir(folder, 0o755)
         if self.user:
             os.chown(folder, self.user["user"], self.user["group"])

@@ -15,13 +15,14 @@ def other_pythons():
     return list(dict.fromkeys(path for folder in folders for path in glob.glob(os.path.join(folder, "python3"))))
 
 
-def python_with(module):
-    """A python3 that has the module: this one if it has it, else another, else None."""
-    if importlib.util.find_spec(module):
+def python_with(*modules):
+    """A python3 that has the modules: this one if it has them, else another, else None."""
+    if all(map(importlib.util.find_spec, modules)):
         return sys.executable
     for python in other_pythons():
         try:
-            done = subprocess.run([python, "-c", "import " + module], stdin=subprocess.DEVNULL, capture_output=True)
+            done = subprocess.run([python, "-c", "import " + ", ".join(modules)], stdin=subprocess.DEVNULL,
+                                  capture_output=True)
         except OSError:
             continue
         if done.returncode == 0:
@@ -29,10 +30,12 @@ def python_with(module):
     return None
 
 
-def go_on_with(module, package):
-    """Goes on where this python3 has the module; else the script is started again by one that has it."""
-    python = python_with(module)
+def go_on_with(*needed):
+    """Goes on where this python3 has all modules, each of which is named with Debian's package that has it; else the
+    script is started again by one that has them."""
+    python = python_with(*(module for module, _ in needed))
     if python is None:
-        raise NotRun("no python3 here has the module %s (Debian's package %s)" % (module, package))
+        raise NotRun("no python3 here has " + " and ".join("the module %s (Debian's package %s)" % one
+                                                           for one in needed))
     if python != sys.executable:
         os.execv(python, [python, "-B", *sys.argv])

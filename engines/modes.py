@@ -3,7 +3,7 @@ A wrong mode makes one transaction in its own way, out of the statements of exam
 import collections
 import time
 
-from session import Failed
+from session import Failed, reply_of
 from tatp_sqlite import text_of, transactions_of
 
 TRANSACTIONS = transactions_of(text_of("transactions.sql"))
@@ -90,6 +90,24 @@ def from_replica(session, line):
     return session.replica.answer(line)
 
 
+def left_open(session, line):
+    """A read without a COMMIT: the transaction that its client's first read begins goes on."""
+    if not session.is_left_open:
+        session.execute("BEGIN", {})
+        session.is_left_open = True
+    found, _ = session.execute(statements_of(line)[0], values_of(line))
+    if not found:
+        raise Failed(1)
+    return reply_of(found)
+
+
+def after_reads(session, line):
+    """A call that writes, in a transaction of its own: the one that reads have left open is ended first."""
+    session.is_left_open = False
+    session.undo()
+    return session.answer(line)
+
+
 def in_transaction(made):
     """The same, with BEGIN before it and COMMIT after it."""
     def answer(session, line):
@@ -114,6 +132,9 @@ MODES = {
                         ("UPDATE_SUBSCRIBER_DATA",) + ("GET_SUBSCRIBER_DATA",) * 7),
     "replica": Mode("reads go to a copy that lags: they answer what was so some time ago",
                     dict.fromkeys(READS, from_replica), ("UPDATE_LOCATION", "GET_SUBSCRIBER_DATA"), has_replica=True),
+    "left-open": Mode("reads are made in a transaction that is left open until their client writes: it depends on the "
+                      "isolation level", {name: left_open if name in READS else after_reads for name in TRANSACTIONS},
+                      ("UPDATE_LOCATION",) + ("GET_SUBSCRIBER_DATA",) * 7, None),
     "retry": Mode("INSERT_CALL_FORWARDING is sent twice, and the second reply is given: the row that it inserted is "
                   "there already", {"INSERT_CALL_FORWARDING": sent_twice}, FORWARDINGS),
 }

@@ -9,8 +9,13 @@ ROOT = os.path.join(os.path.dirname(os.path.abspath(__file__)), "..")
 PROGRAM = os.path.join("crates", "tatp", "out", "tatp")
 # By the name of an engine its module, what that needs of python, and Debian's package with this.
 ENGINES = {"sqlite": ("sqlite_engine", "sqlite3", "libpython3-stdlib"),
-           "postgres": ("postgres_engine", "psycopg", "python3-psycopg")}
-ISOLATIONS = {"sqlite": ("serializable",), "postgres": ("read-committed", "repeatable-read", "serializable")}
+           "postgres": ("postgres_engine", "psycopg", "python3-psycopg"),
+           "mariadb": ("mariadb_engine", "pymysql", "python3-pymysql")}
+# The first is the database's own.
+ISOLATIONS = {"sqlite": ("serializable",), "postgres": ("read-committed", "repeatable-read", "serializable"),
+              "mariadb": ("repeatable-read", "read-uncommitted", "read-committed", "serializable")}
+# Those that can have a copy that lags.
+WITH_REPLICA = ("sqlite", "postgres")
 # Subscribers, clients, calls of each client and the seed where none are named: of right calls, and of wrong ones. These
 # are seen where clients meet on one subscriber, who by that seed has three facilities, each active.
 RIGHT = (1000, 4, 5000, 1)
@@ -68,7 +73,8 @@ def words_of(doc):
     words.add_argument("engine", choices=ENGINES)
     words.add_argument("--mode", choices=MODES, default="right", metavar="M", help="how calls are made (right)")
     words.add_argument("--isolation", metavar="I",
-                       help="postgres: read-committed (where none is named), repeatable-read, serializable")
+                       help="; ".join("%s: %s" % (name, ", ".join(levels)) for name, levels in ISOLATIONS.items()
+                                      if levels[1:]) + " (the first of these)")
     words.add_argument("--subscribers", type=number(1, 1000000), metavar="N", help="(%d; of wrong modes %d)"
                        % (RIGHT[0], WRONG[0]))
     words.add_argument("--clients", type=number(1, 64), metavar="C", help="(%d; of wrong modes %d)"
@@ -95,6 +101,8 @@ def plan_from(doc, words):
     given = parser.parse_args(words)
     if given.isolation not in (None, *ISOLATIONS[given.engine]):
         parser.error("the isolation levels of %s are %s" % (given.engine, ", ".join(ISOLATIONS[given.engine])))
+    if MODES[given.mode].has_replica and given.engine not in WITH_REPLICA:
+        parser.error("a copy of %s is not made here, so it has no mode %s" % (given.engine, given.mode))
     return plan_of(given.engine, given.mode, given.isolation, given.subscribers, given.clients, given.calls,
                    given.seed, given.only, is_uniform=given.uniform, is_durable=given.durable, most=given.most,
                    program=os.path.abspath(given.program), kept=given.keep and os.path.abspath(given.keep))

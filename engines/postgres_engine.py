@@ -49,6 +49,10 @@ class PostgresSession(Session):
     def transaction(self):
         return self.connection.transaction()
 
+    def undo(self):
+        if not self.connection.closed:
+            self.connection.rollback()
+
     def outcome_of(self, error):
         return outcome_of(error)
 
@@ -59,8 +63,6 @@ def connected(folder, options=""):
 
 class Engine:
     """A fresh database in a cluster of its own, and where the mode asks for one, a standby."""
-
-    isolations = ("read-committed", "repeatable-read", "serializable")
 
     def __init__(self, plan, room):
         self.plan = plan

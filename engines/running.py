@@ -74,13 +74,18 @@ def stop(number, _):
 def room():
     """A folder for a run, which goes at its end, also where a signal ends the script."""
     before = {number: signal.signal(number, stop) for number in SIGNALS}
+    # (a signal waits while the folder is made and taken away: otherwise it could leave one that no one knows)
+    signal.pthread_sigmask(signal.SIG_BLOCK, SIGNALS)
     folder = tempfile.mkdtemp(prefix="tatp.")
     # (another user may run the server)
     os.chmod(folder, 0o711)
     try:
+        signal.pthread_sigmask(signal.SIG_UNBLOCK, SIGNALS)
         yield folder
     finally:
+        signal.pthread_sigmask(signal.SIG_BLOCK, SIGNALS)
         shutil.rmtree(folder, ignore_errors=True)
+        signal.pthread_sigmask(signal.SIG_UNBLOCK, SIGNALS)
         for number, handler in before.items():
             signal.signal(number, handler)
 
@@ -103,9 +108,8 @@ def recorded(plan, folder):
 
 def made(plan):
     """Makes the run, and has it judged."""
-    _, needed, package = ENGINES[plan.engine]
     # (before there is anything to leave behind: the script may be started again, by another python3)
-    go_on_with(needed, package)
+    go_on_with(ENGINES[plan.engine][1:])
     with room() as folder:
         run = recorded(plan, folder)
         if plan.kept:

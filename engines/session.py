@@ -16,12 +16,18 @@ class Lost(Exception):
     """There is no answer, and it isn't known whether the call was made."""
 
 
+def reply_of(rows):
+    """The reply OK, with the values of these rows, row after row."""
+    return " ".join(["OK"] + [str(value) for row in rows for value in row])
+
+
 class Session:
     """What an engine's session has. `error` is the class of the engine's errors; `replica` is a session of a copy that
-    lags, where the mode asks for one."""
+    lags, where the mode asks for one; `is_left_open` is whether a mode has begun a transaction and not ended it."""
 
     error = ()
     replica = None
+    is_left_open = False
 
     def __init__(self, mode):
         self.mode = mode
@@ -35,6 +41,7 @@ class Session:
         except self.error as error:
             outcome = self.outcome_of(error)
             self.undo()
+            self.is_left_open = False
         except Failed as failed:
             outcome = failed
         if isinstance(outcome, Failed):
@@ -55,7 +62,7 @@ class Session:
         raise NotImplementedError
 
     def undo(self):
-        """Takes back what a call that ended by an error left open."""
+        """Ends the transaction that is open, if one is, and takes back what was done in it."""
 
     def outcome_of(self, error):
         """What an error of the engine says of the call: Failed with a number, Aborted, Lost; or the error itself."""

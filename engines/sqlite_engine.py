@@ -59,8 +59,6 @@ class SqliteSession(Session):
 class Engine:
     """A fresh database in a folder."""
 
-    isolations = ("serializable",)
-
     def __init__(self, plan, room):
         self.plan = plan
         self.path = os.path.join(room, "tatp.db")

@@ -42,7 +42,8 @@ def of_calls():
 
 def of_histories(program):
     """`judge` on rows and a history, and on a history alone: the calls on drawn rows with their replies, as two clients
-    could have made them, where a call that is refused is a comment; and calls none of which is answered."""
+    could have made them, where a call that is refused is a comment; the same with the rows that they leave; and calls
+    none of which is answered."""
     history = read("examples/history.txt")
     yield Fed("judge on rows", ["judge"], history, b"")
     drawn = ["--gen", "130", "--seed", "1"]
@@ -54,6 +55,8 @@ def of_histories(program):
         is_refused = reply.startswith(b"REFUSED")
         lines.append(b"# %s\n" % call if is_refused else b"ask %d %s\nend %d %s\n" % (client, call, client, reply))
     yield Fed("judge on drawn rows", ["judge", *drawn], b"".join(lines), b"")
+    left = runs.run(program, ["call", "--rows", *drawn], calls).output.partition(b"\n" + DOT)[2]
+    yield Fed("judge with the rows at the end", ["judge", "--final", *drawn], b"".join(lines) + DOT + left, b"")
     unanswered = [line for line in history.partition(b"\n" + DOT)[2].splitlines(True) if not line.startswith(b"end ")]
     yield Fed("judge of calls that aren't answered", ["judge", *drawn], b"".join(unanswered), b"")
 

@@ -71,7 +71,7 @@ class Done:
         self.status, self.output, self.error = status, output, error
 
 
-def run(program, words, data=b"", seconds=60, **given):
+def run(program, words, data=b"", seconds=600, **given):
     """Runs the program with these words on the input, which comes by a pipe where no other `stdin` is given."""
     given = given if "stdin" in given else dict(given, input=data)
     try:

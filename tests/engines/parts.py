@@ -84,14 +84,15 @@ def of_errors(tally):
                           (sqlite3.OperationalError("no such table: Subscriber"), sqlite3.OperationalError),
                           (sqlite3.DatabaseError("database disk image is malformed"), sqlite3.DatabaseError)):
         tally.count("errors of SQLite: %s" % error, told(wanted, type(sqlite_engine.outcome_of(error))))
-    python = interpreter.python_with("psycopg")
-    if python is None:
-        print("skipped: no python3 has psycopg here")
-        tally.skipped += 1
-    elif python == sys.executable:
-        of_postgres_errors(tally)
-    else:
-        of_postgres_errors_by(python, tally)
+    for name, (module, cases) in ERRORS.items():
+        python = interpreter.python_with(module)
+        if python is None:
+            print("skipped: no python3 has %s here" % module)
+            tally.skipped += 1
+        elif python == sys.executable:
+            cases(tally)
+        else:
+            errors_by(python, name, cases, tally)
 
 
 # SQLSTATE, or None where there is no answer; and what it means.
@@ -113,12 +114,32 @@ def of_postgres_errors(tally):
     tally.count("errors of PostgreSQL: no answer", told(Lost, type(outcome)))
 
 
-def of_postgres_errors_by(python, tally):
-    """The same by a python3 that has psycopg."""
+# MariaDB's numbers of errors, and what each means.
+NUMBERS = {1062: Failed, 1452: Failed, 1213: Aborted, 1205: Aborted, 1020: Aborted, 1053: Lost, 1927: Lost, 2006: Lost,
+           2013: Lost, 0: Lost, 1146: None, 4025: None}
+
+
+def of_mariadb_errors(tally):
+    import pymysql
+
+    import mariadb_engine
+    for number, wanted in NUMBERS.items():
+        error = pymysql.err.InterfaceError(0, "") if number == 0 else pymysql.err.OperationalError(number, "told")
+        outcome = mariadb_engine.outcome_of(error)
+        tally.count("errors of MariaDB: %d" % number, told(wanted or type(error), type(outcome)))
+        if wanted is Failed:
+            tally.count("failure of %d" % number, told({1062: "2", 1452: "3"}[number], str(outcome)))
+
+
+ERRORS = {"PostgreSQL": ("psycopg", of_postgres_errors), "MariaDB": ("pymysql", of_mariadb_errors)}
+
+
+def errors_by(python, name, cases, tally):
+    """The same by a python3 that has the module."""
     code = "import sys; sys.path.insert(0, %r); import parts, runs; tally = runs.Tally(); " % HERE
-    done = subprocess.run([python, "-B", "-c", code + "parts.of_postgres_errors(tally); tally.end()"],
+    done = subprocess.run([python, "-B", "-c", code + "parts.%s(tally); tally.end()" % cases.__name__],
                           capture_output=True, text=True)
-    tally.count("errors of PostgreSQL", None if done.returncode == 0 else done.stdout + done.stderr[-600:])
+    tally.count("errors of " + name, None if done.returncode == 0 else done.stdout + done.stderr[-600:])
 
 
 # ---- a session
@@ -218,7 +239,8 @@ def of_calls(tally):
     tally.count("calls: more are drawn where they don't suffice", told([160, 320], asked))
     with contextlib.redirect_stderr(io.StringIO()):
         for words in (["sqlite", "--isolation", "read-committed"], ["sqlite", "--clients", "65"], ["sqlite", "--mode"],
-                      ["oracle"], [], ["sqlite", "--only", "NONE"]):
+                      ["oracle"], [], ["sqlite", "--only", "NONE"], ["mariadb", "--mode", "replica"],
+                      ["mariadb", "--isolation", "snapshot"]):
             try:
                 plan.plan_from("Runs.", words)
                 tally.count("words: " + " ".join(words), "they aren't refused")

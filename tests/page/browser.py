@@ -54,11 +54,12 @@ class Browser:
         self._session = self.ask("Target.attachToTarget", targetId=target, flatten=True)["sessionId"]
         for domain in ("Page", "Runtime"):
             self.ask(domain + ".enable")
+        self.ask("Page.setLifecycleEventsEnabled", enabled=True)
 
     def _read(self):
-        """The next message of the browser, which is to come in two minutes."""
+        """The next message of the browser, which is to come in ten minutes."""
         while b"\0" not in self._rest:
-            if not select.select([self._answers], [], [], 120)[0]:
+            if not select.select([self._answers], [], [], 600)[0]:
                 raise EOFError("the browser says nothing any more")
             more = os.read(self._answers, 1 << 20)
             if not more:
@@ -85,18 +86,21 @@ class Browser:
     def open(self, path):
         """Opens a file, and gives the seconds until it was loaded."""
         self.events.clear()
+        self._load("about:blank")
         began = time.monotonic()
-        self.ask("Page.navigate", url="about:blank")
-        self._wait("Page.loadEventFired")
-        began = time.monotonic()
-        self.ask("Page.navigate", url=f"file://{path}")
-        self._wait("Page.loadEventFired")
+        self._load(f"file://{path}")
         return time.monotonic() - began
 
-    def _wait(self, event):
-        while not any(kept.get("method") == event for kept in self.events):
+    def _load(self, url):
+        """Opens an address, and waits until this one is loaded: what is told of another may come late."""
+        loader = self.ask("Page.navigate", url=url)["loaderId"]
+
+        def is_loaded(event):
+            told = event.get("params", {})
+            return event.get("method") == "Page.lifecycleEvent" and (told["loaderId"], told["name"]) == (loader, "load")
+
+        while not any(map(is_loaded, self.events)):
             self.events.append(self._read())
-        self.events = [kept for kept in self.events if kept.get("method") != event]
 
     def value(self, expression):
         """What an expression is in the page."""

@@ -5,17 +5,16 @@
 ghost use Rattle.std.specs.Prelude.{IfOk};
 ghost use Rattle.tatp_tasks.specs.Plans.{IsPlan};
 ghost use Rattle.tatp_tasks.specs.Tasks.{IsTask};
+ghost use Rattle.tatp_command_line.specs.Asked.{IfDo};
 
-use clap::Error;
-use clap::error::ErrorKind;
-use std::alloc::Global;
+use std::alloc::{AllocError, Global};
 use std::process::ExitCode;
 use std::sync::Wait;
 use std::thread::Threads;
 use std::{env, fmt, io};
 use tatp_assembly::{run_asm, run_check, run_dis};
 use tatp_bench::{BenchPlan, NoGate, Progress, Reporter, report_bench, report_history};
-use tatp_command_line::{not_explained, not_text, task_of};
+use tatp_command_line::{Asked, not_explained, not_text, task_of};
 use tatp_console::{run_call, run_trace};
 use tatp_explanations::{run_explain, run_explain_all};
 use tatp_inputs::run_audit;
@@ -43,10 +42,7 @@ fn main(rt: HostRuntime) -> ExitCode {
         Err(error) if error.kind() == io::ErrorKind::OutOfMemory => {
             tell(&rt, &StreamFault::NoMemory)
         }
-        Err(_) => match not_text(alloc) {
-            Ok(error) => refuse(&rt, &error),
-            Err(_) => tell(&rt, &StreamFault::NoMemory),
-        },
+        Err(_) => refuse(&rt, not_text(alloc)),
     }
 }
 
@@ -54,28 +50,35 @@ fn main(rt: HostRuntime) -> ExitCode {
 fn answer<R: Input + Print + Eprint + Threads + Wait + Sync>(
     rt: &R,
     alloc: Global,
-    asked: Result<Task<'_>, Error>,
+    asked: Result<Asked<'_>, AllocError>,
 ) -> ExitCode
-    requires { IfOk asked IsTask }
+    requires { IfOk asked (IfDo IsTask) }
 {
     match asked {
-        Ok(task) => run(rt, alloc, task),
-        Err(error) => refuse(rt, &error),
+        Ok(Asked::Do(task)) => run(rt, alloc, task),
+        Ok(Asked::Show(text)) => show(rt, &text),
+        Ok(Asked::Refuse(text)) => refuse(rt, Ok(text)),
+        Err(_) => tell(rt, &StreamFault::NoMemory),
     }
 }
 
-/// Prints the text of words that were refused, or that ask for a text.
-fn refuse(rt: &(impl Print + Eprint), error: &Error) -> ExitCode {
-    if error.kind() == ErrorKind::OutOfMemory {
-        return tell(rt, &StreamFault::NoMemory);
+/// Prints a text that was asked for.
+fn show(rt: &(impl Print + Eprint), text: &String) -> ExitCode {
+    match print!(rt; "{text}") {
+        Ok(()) => ExitCode::SUCCESS,
+        Err(_) => tell(rt, &StreamFault::WriteFault),
     }
-    let printed = error.print(rt);
-    if error.use_stderr() {
-        ExitCode::from(REFUSED)
-    } else if printed.is_err() {
-        tell(rt, &StreamFault::WriteFault)
-    } else {
-        ExitCode::SUCCESS
+}
+
+/// Prints why words are refused.
+fn refuse(rt: &impl Eprint, text: Result<String, AllocError>) -> ExitCode {
+    match text {
+        Ok(text) => {
+            // Where this can't be written, the status alone has to tell.
+            let _printed = eprint!(rt; "{text}");
+            ExitCode::from(REFUSED)
+        }
+        Err(_) => tell(rt, &StreamFault::NoMemory),
     }
 }
 
@@ -98,10 +101,7 @@ fn status<F: fmt::Display + Drop>(rt: &impl Eprint, ended: Result<(), F>) -> Exi
 fn explain<R: Print + Eprint>(rt: &R, alloc: Global, word: &str) -> ExitCode {
     match run_explain(alloc, &mut io::writer(rt), word) {
         Ok(true) => ExitCode::SUCCESS,
-        Ok(false) => match not_explained(alloc, word) {
-            Ok(error) => refuse(rt, &error),
-            Err(_) => tell(rt, &StreamFault::NoMemory),
-        },
+        Ok(false) => refuse(rt, not_explained(alloc, word)),
         Err(fault) => tell(rt, &fault),
     }
 }
@@ -163,7 +163,8 @@ fn run<R: Input + Print + Eprint + Threads + Wait + Sync>(
         },
         Task::Judge(plan) => match run_judge(alloc, reader, writer, &plan) {
             Ok(Judged::Legal) => ExitCode::SUCCESS,
-            Ok(Judged::Illegal(_)) => ExitCode::from(STOPPED),
+            Ok(Judged::Illegal { .. }) => ExitCode::from(STOPPED),
+            Ok(Judged::Unreached { .. }) => ExitCode::from(STOPPED),
             Ok(Judged::Undecided { .. }) => ExitCode::from(UNDECIDED),
             Err(fault) => tell(rt, &fault),
         },

@@ -20,7 +20,7 @@ settled_text settled =
     ++ (codes "\nMIX" ++ (flat_map field settled.kinds
     ++ (codes "\n" ++ (verdict_text settled.verdict ++ codes "\n")))))))
 
--- the text tells what a settled run of the plan counts: all calls of its clients, and of each kind
+-- the text says what a settled run of the plan counts: all calls of its clients, and of each kind
 -- as many as are drawn
 pub record TellsSettled (plan : BenchPlan) (text : List ℕ) : Type 0 where
   pub settled : Settled
@@ -29,7 +29,7 @@ pub record TellsSettled (plan : BenchPlan) (text : List ℕ) : Type 0 where
   pub mix : settled.kinds ≡ kinds_drawn plan
   pub told : text ≡ settled_text settled
 
--- what each fault tells of the plan, and leaves: nothing is read
+-- what each fault says of the plan, and leaves: nothing is read
 abbrev pub LeavesSettled : BenchPlan → Option (List ℕ) → Option (List ℕ) → ReportFault → Type 0
 LeavesSettled plan old new (Bench fault) = RefusesBench plan fault × Appends old new []
 LeavesSettled plan old new (Stream ReadFault) = ⊥

@@ -15,7 +15,7 @@ use Rattle.tatp_bench.specs.declared.report_fault.ReportFault.TheVariants.{Bench
 use Rattle.tatp_bench.specs.Reports.{settled_text}
 use Rattle.tatp_bench.specs.SettledRuns.{SettlesRun}
 
--- the text tells what a settled run of the plan counts, and then what its clients asked and
+-- the text says what a settled run of the plan counts, and then what its clients asked and
 -- received: the lines of all clients, merged so that each client's keep their order
 pub record TellsHistory (plan : BenchPlan) (text : List ℕ) : Type 0 where
   pub settled : Settled
@@ -26,7 +26,7 @@ pub record TellsHistory (plan : BenchPlan) (text : List ℕ) : Type 0 where
   pub mix : settled.kinds ≡ kinds_drawn plan
   pub told : TellsMerged (settled_text settled) (all_lines 0 run.calls run.receipts) text
 
--- what each fault tells of the plan, and leaves: nothing is read; where memory is refused before
+-- what each fault says of the plan, and leaves: nothing is read; where memory is refused before
 -- the first line is made, nothing is written
 abbrev pub LeavesHistory : BenchPlan → Option (List ℕ) → Option (List ℕ) → ReportFault → Type 0
 LeavesHistory plan old new (Bench fault) = RefusesBench plan fault × Appends old new []

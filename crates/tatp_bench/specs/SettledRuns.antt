@@ -39,8 +39,7 @@ pub record SettlesRun (run : Run) (settled : Settled) : Type 0 where
   pub any_order : IsOneHistoryInAnyOrder run
 
 -- ---- why it isn't settled
--- of the extents that a site has a place for, this is the least that stands at no site and in no
--- parcel
+-- of the extents that a site has a place for, this is the least that is at no site and in no parcel
 pub record LacksExtent (run : Run) (e : ℕ) : Type 0 where
   pub sites : All IsClosedSite run.closed.sites
   pub missing : IsLeastMissing run.closed e
@@ -57,7 +56,7 @@ RefusesToSettleRun run (Unsettled cause) = HasFirstCause run cause
 RefusesToSettleRun run NoMemory = Unit {0}
 RefusesToSettleRun run NoThread = ⊥
 
--- ---- each refusal of `gather` and of `settle` is told as the fault of its own name
+-- ---- each refusal of `gather` and of `settle` is the fault of its own name
 abbrev pub gathering_fault : GatherError → BenchFault
 gathering_fault (NotGathered e) = ExtentMissing e
 gathering_fault NoMemoryToGather = NoMemory

@@ -11,8 +11,8 @@ use Rattle.tatp_bench.specs.declared.work.Work.{Work}
 pub record IsWorkOf (plan : BenchPlan) (work : Work) : Type 0 where
   pub standard : work.loaded.now ≡ standard_module
   pub rows : work.rows ≡ rows_drawn plan
-  pub partitions : work.partitions ≡ plan.partitions
-  pub calls : lists_of work.lists.now ≡ calls_drawn plan
-  pub moves : work.moves.now.moves.items ≡ moves_drawn plan
-  pub stops : work.moves.now.stops.items ≡ stops_drawn plan
-  pub chapter : work.chapter ≡ plan.chapter
+  pub partitions : work.run.partitions ≡ plan.partitions
+  pub calls : lists_of work.run.lists.now ≡ calls_drawn plan
+  pub moves : work.run.moves.now ≡ moves_drawn plan
+  pub stops : work.run.stops.now ≡ stops_drawn plan
+  pub chapter : work.run.chapter ≡ plan.chapter

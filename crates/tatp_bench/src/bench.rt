@@ -18,6 +18,7 @@ use tatp_logs::Receipts;
 use tatp_procs::{Ask, standard};
 use tatp_settle::Settled;
 use tatp_tables::Rows;
+use tatp_threads::RunPlan;
 
 /// Runs the work of a plan, and settles beside its population what the run left.
 fn run_and_settle<R: Threads + Wait + Sync, P: Progress + Sync>(
@@ -39,7 +40,7 @@ fn run_and_settle<R: Threads + Wait + Sync, P: Progress + Sync>(
         ≡ plan.now.clients * plan.now.calls) }
     ensures refusal { IfErr result (RefusesBench plan.now) }
 {
-    let lists = work.lists;
+    let lists = work.run.lists;
     match run_work(rt, alloc, plan, work, progress) {
         Err(fault) => Err(fault),
         Ok(ran) => {
@@ -95,14 +96,23 @@ pub fn run_drawn<R: Threads + Wait + Sync, P: Progress + Sync>(
     ensures refusal { IfErr result (RefusesBench plan.now) }
 {
     let loaded = standard(alloc)?;
-    let (population, rows, lists, moves) = drawn.parts();
+    let Drawn {
+        population,
+        rows,
+        lists,
+        moves,
+        stops,
+    } = drawn;
     let work = Work {
         loaded: &loaded,
         rows,
-        partitions: plan.partitions,
-        lists: lists.as_slice(),
-        moves: &moves,
-        chapter: plan.chapter,
+        run: RunPlan {
+            partitions: plan.partitions,
+            lists: lists.as_slice(),
+            moves: moves.as_slice(),
+            stops: stops.as_slice(),
+            chapter: plan.chapter,
+        },
     };
     match run_and_settle(rt, alloc, plan, &population, work, progress) {
         Err(fault) => {

@@ -1,5 +1,5 @@
 //! What a run left is gathered and settled.
-ghost use Rattle.std.specs.Prelude.{◌≡◌, ◌<◌, ◌^◌, IfOk, IfErr, length, vec_len};
+ghost use Rattle.std.specs.Prelude.{◌≡◌, ◌<◌, ◌^◌, IfOk, IfErr, length};
 ghost use Rattle.tatp_tables.specs.Clean.{IsClean};
 ghost use Rattle.tatp_settle.specs.Runs.{joined, lists_of};
 ghost use Rattle.tatp_bench.specs.SettledRuns.{run_left, SettlesRun, RefusesToSettleRun};
@@ -36,7 +36,6 @@ pub fn settle_run<R: Threads + Sync>(
 ) -> Result<SettledRun, BenchFault>
     requires clean { IsClean population.now }
     requires few { length (joined (lists_of lists.now)) < 2 ^ 64 }
-    requires landings { vec_len parts.landings ≡ 0 }
     ensures settled { IfOk result
         (λ run. SettlesRun (run_left population.now parts.entry lists.now) run.settled) }
     ensures receipts { IfOk result (λ run. run.receipts.items ≡ parts.entry.receipts.items) }
@@ -46,11 +45,9 @@ pub fn settle_run<R: Threads + Sync>(
     let RanParts {
         sites,
         parcels,
-        landings,
         chapters,
         receipts,
     } = parts;
-    landings.destroy_empty();
     let chapters = match join_chapters(alloc, chapters) {
         Ok(chapters) => chapters,
         Err(error) => {

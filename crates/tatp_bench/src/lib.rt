@@ -15,7 +15,6 @@ mod work;
 pub use bench::{BenchRun, run_bench, run_drawn};
 pub use closing::{SettledRun, settle_run};
 pub use fault::BenchFault;
-pub use recorder::Recorder;
 pub use report::{report_bench, report_history};
 pub use report_fault::ReportFault;
 pub use reporter::{Progress, Reporter};

@@ -8,16 +8,16 @@ use tatp_partition::SiteRefusal;
 use tatp_run_history::Numbers;
 use tatp_threads::{Gate, RanParts};
 
-/// Numbers what clients ask and are answered, and tells all else to another gate.
+/// Numbers what clients ask and are answered, and passes all else on to another gate.
 #[derive(Drop)]
-pub struct Recorder<'p, P> {
+pub(crate) struct Recorder<'p, P> {
     progress: &'p P,
     numbers: Numbers,
 }
 
 impl<'p, P: Progress> Recorder<'p, P> {
-    /// Of a run of this plan, with room for the numbers of all calls.
-    pub fn new(
+    /// Makes the recorder of a run of this plan, with capacity for the numbers of all calls.
+    pub(crate) fn new(
         alloc: Global,
         plan: &BenchPlan,
         progress: &'p P,
@@ -29,7 +29,7 @@ impl<'p, P: Progress> Recorder<'p, P> {
     }
 
     /// The numbers of what clients asked and were answered.
-    pub fn numbers(&self) -> &Numbers {
+    pub(crate) fn numbers(&self) -> &Numbers {
         &self.numbers
     }
 }

@@ -8,7 +8,8 @@ ghost use Rattle.tatp_tasks.specs.Plans.{IsPlan};
 ghost use Rattle.tatp_bench.specs.Reports.{settled_text, TellsSettled, LeavesSettled};
 ghost use Rattle.tatp_bench.specs.RunHistories.{TellsHistory, LeavesHistory};
 
-use crate::{Progress, Recorder, ReportFault, draw, run_drawn};
+use crate::recorder::Recorder;
+use crate::{Progress, ReportFault, draw, run_drawn};
 use std::alloc::{AllocError, Global};
 use std::fmt;
 use std::io::Write;
@@ -48,7 +49,7 @@ fn lines_of(alloc: Global, settled: &Settled) -> Result<String, AllocError>
 
 /// Runs the calls of a plan's clients, settles what they leave, and writes what the settled run
 /// counts: how many calls were completed and how many were refused memory, how many there were of
-/// each kind, and the verdict on the rows. How the run goes on is told to `progress`.
+/// each kind, and the verdict on the rows. It reports to `progress` how the run goes on.
 ///
 /// A run that isn't settled is a fault, and nothing of it is written.
 pub fn report_bench<R: Threads + Wait + Sync, P: Progress + Sync, W: Write>(

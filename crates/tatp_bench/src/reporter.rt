@@ -1,4 +1,4 @@
-//! The gates that are told how a run of the benchmark goes on.
+//! The gates that report how a run of the benchmark goes on.
 ghost use Rattle.tatp_tasks.specs.Plans.{IsPlan};
 
 use std::sync::atomic::{AtomicU64, Ordering};
@@ -8,12 +8,12 @@ use tatp_partition::{Site, SiteRefusal};
 use tatp_tasks::BenchPlan;
 use tatp_threads::{Gate, NoGate, RanParts};
 
-/// A gate that is also told what is done before and after the calls.
+/// A gate that also gets what is done before and after the calls.
 pub trait Progress: Gate {
-    /// This is done.
+    /// Gets a line about what was done.
     fn tell(&self, line: &str);
 
-    /// The threads of the run have ended, and left this.
+    /// Gets what the threads of the run left, once they have ended.
     fn after_run(&self, parts: &RanParts<'_>);
 }
 
@@ -23,10 +23,10 @@ impl Progress for NoGate {
     fn after_run(&self, _parts: &RanParts<'_>) {}
 }
 
-/// In how many parts the calls are told.
+/// In how many parts the ends of calls are reported.
 const PARTS: u64 = 20;
 
-/// Tells on standard error how a run goes on, a line each: that the rows were drawn and opened,
+/// Reports on standard error how a run goes on, a line each: that the rows were drawn and opened,
 /// each twentieth of the calls as it ends, how much was done beside them, and that the run is
 /// settled.
 #[derive(Drop)]
@@ -34,14 +34,14 @@ pub struct Reporter<'a, R> {
     rt: &'a R,
     /// How many calls there are.
     calls: u64,
-    /// 0 until the first step.
+    /// It is 0 until the first step, and more from then on.
     opened: AtomicU64,
     /// How many calls have ended.
     ended: AtomicU64,
 }
 
 impl<'a, R> Reporter<'a, R> {
-    /// Of a run of this plan, none of whose calls has begun.
+    /// Makes the reporter of a run of this plan, before its first call begins.
     pub fn new(rt: &'a R, plan: &BenchPlan) -> Reporter<'a, R>
         requires { IsPlan plan.now }
     {
@@ -59,7 +59,7 @@ fn say<R: Eprint>(rt: &R, line: &str) {
     let _printed = eprintln!(rt; "{line}");
 }
 
-/// How many whole parts of the calls so many are.
+/// How many whole parts of `calls` calls have ended when `ended` of them have.
 fn parts(ended: u64, calls: u64) -> u64 {
     if calls == 0 {
         0

@@ -10,10 +10,8 @@ use std::alloc::Global;
 use std::sync::Wait;
 use std::thread::Threads;
 use tatp_loader::Loaded;
-use tatp_procs::Ask;
 use tatp_tables::Rows;
-use tatp_threads::{Gate, Ran, RunRefusal, run_clean_calls};
-use tatp_workers::Moves;
+use tatp_threads::{Gate, Ran, RunPlan, RunRefusal, run_clean_calls};
 
 /// What the threads of a run are handed.
 pub struct Work<'m, 'w> {
@@ -21,14 +19,8 @@ pub struct Work<'m, 'w> {
     pub loaded: &'m Loaded,
     /// The rows that are opened.
     pub rows: Rows,
-    /// Over how many partitions they are dealt.
-    pub partitions: u8,
-    /// What each client asks.
-    pub lists: &'w [Vec<Ask>],
-    /// What the mover and the debugger do.
-    pub moves: &'w Moves,
-    /// How many entries a log has when a chapter of it is handed out.
-    pub chapter: u64,
+    /// What the threads are to do.
+    pub run: RunPlan<'w>,
 }
 
 /// Why a plan's calls aren't run: drawn rows and calls are never refused.
@@ -60,21 +52,11 @@ pub fn run_work<'m, R: Threads + Wait + Sync, G: Gate + Sync>(
     requires clean { IsClean (rows_drawn plan.now) }
     ensures sites { IfOk result (λ ran. vec_len ran.parts.sites ≡ plan.now.partitions) }
     ensures receipts { IfOk result (λ ran. vec_len ran.parts.receipts ≡ plan.now.clients) }
-    ensures landings { IfOk result (λ ran. vec_len ran.parts.landings ≡ 0) }
     ensures refusal { IfErr result
         (λ fault. (fault ≡ BenchFault.NoMemory) ⊎ (fault ≡ BenchFault.NoThread)) }
 {
-    let Work {
-        loaded,
-        rows,
-        partitions,
-        lists,
-        moves,
-        chapter,
-    } = work;
-    match run_clean_calls(
-        rt, alloc, loaded, rows, partitions, lists, moves, gate, chapter,
-    ) {
+    let Work { loaded, rows, run } = work;
+    match run_clean_calls(rt, alloc, loaded, rows, run, gate) {
         Err(refusal) => Err(fault_of(refusal)),
         Ok(ran) => Ok(ran),
     }

@@ -1,5 +1,5 @@
 -- The command line: its commands, and the options of each.
-use Rattle.std.specs.Prelude.{◌≡◌, Bool, true, false, List, [], ◌∷◌, ◌++◌, Some, None, codes}
+use Rattle.std.specs.Prelude.{◌≡◌, true, false, List, [], ◌∷◌, ◌++◌, Some, codes}
 use Rattle.std.specs.Option.{option_map_or}
 use Rattle.clap.specs.Walk.{Rule, Text}
 use Rattle.clap.specs.Simple.{App, Shape, app_of, new_rule, new_shape}
@@ -9,7 +9,7 @@ use Rattle.clap.specs.declared.builder.command.Command.TheViews.{out-Command}
 use Rattle.tatp_command_line.specs.Numbers.{Ranged}
 use Rattle.tatp_command_line.specs.Options.{gen, subscribers, seed, partitions, clients, calls, moves, stops, chapter, input_limit, rows_gen, drawn_calls, client, most}
 
--- ---- what the parse of the words goes by
+-- ---- the rules by which words are parsed
 -- an option that takes a number: any text, which is read afterwards
 abbrev pub number_rule : Ranged → Rule
 number_rule option = record (new_rule option.name) {
@@ -30,7 +30,7 @@ abbrev pub command_with : List Rule → Text → Shape
 command_with rules name = record (new_shape name) { rules = rules }
 
 -- ---- the commands
--- over rows that the input brings, or that are drawn
+-- over rows that the input has, or that are drawn
 abbrev pub rows_rules : List Rule
 rows_rules = number_rule gen ∷ number_rule seed ∷ number_rule partitions ∷ []
 
@@ -45,7 +45,8 @@ abbrev pub audit_rules : List Rule
 audit_rules = number_rule input_limit ∷ []
 
 abbrev pub judge_rules : List Rule
-judge_rules = number_rule gen ∷ number_rule seed ∷ number_rule most ∷ []
+judge_rules = number_rule gen ∷ number_rule seed ∷ number_rule most
+    ∷ switch_rule (codes "final") ∷ []
 
 abbrev pub bench_rules : List Rule
 bench_rules = number_rule subscribers ∷ number_rule partitions ∷ number_rule clients
@@ -92,7 +93,7 @@ abbrev pub command_line : App
 command_line = record { top = program; subs = commands }
 
 -- ---- commands as they are built
--- the command parses words so, and no argument of it is one of its subcommands' too
+-- the command parses words as `app` does, and no argument of it is one of its subcommands' too
 abbrev pub IsApp : App → Command → Type 0
 IsApp app command = (app_of command ≡ app) × ((out-Command command).has_globals ≡ false)
 

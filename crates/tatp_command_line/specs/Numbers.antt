@@ -11,7 +11,7 @@ abbrev pub IsNumberIn : ℕ → ℕ → List ℕ → Type 0
 IsNumberIn least most text =
     IsNumeral 10 text × (least ≤ digits_value 10 text) × (digits_value 10 text ≤ most)
 
--- the same, where there has to be a text
+-- the same, where there is a text, and there has to be one
 abbrev pub IsGivenIn : ℕ → ℕ → Option (List ℕ) → Type 0
 IsGivenIn least most None = ⊥
 IsGivenIn least most (Some text) = IsNumberIn least most text
@@ -42,7 +42,7 @@ asked_by option = record {
 abbrev pub text_asked : Ranged → List Row → Option (List ℕ)
 text_asked option given = option_or (first_of option.name given) option.default
 
--- it has a number of its range
+-- the option has a number in its range
 abbrev pub HasNumber : Ranged → List Row → Type 0
 HasNumber option given = IsGivenIn option.least option.most (text_asked option given)
 

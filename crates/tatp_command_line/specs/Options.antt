@@ -20,7 +20,7 @@ use Rattle.tatp_tasks.specs.declared.setup.Setup.{Setup}
 use Rattle.tatp_command_line.specs.Numbers.{Ranged, HasNumber, number_asked, HasNumberIfGiven, number_if_given}
 
 -- ---- the options that take a number
--- one that has to be given
+-- an option that has to be given
 abbrev required_from : ℕ → ℕ → List ℕ → Ranged
 required_from least most name = record {
   name = name;
@@ -30,7 +30,7 @@ required_from least most name = record {
   required = true;
 }
 
--- one that need not
+-- an option that needn't be given
 abbrev optional_from : ℕ → ℕ → Option (List ℕ) → List ℕ → Ranged
 optional_from least most default name = record {
   name = name;
@@ -67,22 +67,22 @@ stops = optional_from 0 MAX_BENCH_STOPS (Some (codes "0")) (codes "stops")
 abbrev pub chapter : Ranged
 chapter = optional_from 1 MAX_BENCH_CHAPTER (Some (codes "1000")) (codes "chapter")
 
--- of `rows`, which has to be told how many subscribers
+-- the option of `rows`, where it has to be given
 abbrev pub rows_gen : Ranged
 rows_gen = required_from 1 MAX_SUBSCRIBERS (codes "gen")
 
--- of `calls`
+-- the option of `calls`
 abbrev pub drawn_calls : Ranged
 drawn_calls = required_from 1 MAX_DRAWN_CALLS (codes "calls")
 
 abbrev pub client : Ranged
 client = optional_from 0 (MAX_CLIENTS - 1) (Some (codes "0")) (codes "client")
 
--- how many bytes of the input are read at most
+-- the most bytes of the input that are read
 abbrev pub input_limit : Ranged
 input_limit = optional_from 1 MAX_INPUT_LIMIT (Some (codes "134217728")) (codes "input-limit")
 
--- of `judge`: how many configurations of one subscriber are kept at most
+-- the option of `judge`: the most configurations of one subscriber that are kept
 abbrev pub most : Ranged
 most = optional_from 1 MAX_CONFIGURATIONS (Some (codes "65536")) (codes "most")
 
@@ -166,6 +166,7 @@ abbrev pub judge_plan_asked : List Row → JudgePlan
 judge_plan_asked given = record {
   population = population_asked given;
   most = number_asked most given;
+  final_rows = is_given (codes "final") given;
 }
 
 -- ---- rows that are drawn and written

@@ -14,7 +14,7 @@ use crate::options::{
 use clap::{Arg, ArgAction, Command};
 use std::alloc::{AllocError, Global};
 
-/// A switch: it is given, or it isn't.
+/// A switch, which is given or isn't.
 fn switch<'a>(alloc: Global, name: &'a str, help: &'a str) -> Arg<'a>
     ensures rule { rule_of result ≡ switch_rule name.entry.now }
     ensures own { result.global ≡ false }
@@ -25,7 +25,7 @@ fn switch<'a>(alloc: Global, name: &'a str, help: &'a str) -> Arg<'a>
         .help(help)
 }
 
-/// A word with no option before it.
+/// A word of the command line with no option before it.
 fn word<'a>(alloc: Global, name: &'a str, value: &'a str, help: &'a str) -> Arg<'a>
     ensures rule { rule_of result ≡ word_rule name.entry.now }
     ensures own { result.global ≡ false }
@@ -33,7 +33,7 @@ fn word<'a>(alloc: Global, name: &'a str, value: &'a str, help: &'a str) -> Arg<
     Arg::new(alloc, name).value_name(value).help(help)
 }
 
-/// A command over rows that the input brings, or that are drawn.
+/// A command over rows that the input has, or that are drawn.
 fn over_rows<'a>(alloc: Global, name: &'a str, about: &'a str) -> Result<Command<'a>, AllocError>
     ensures { IfOk result (IsLeaf (command_with rows_rules name.entry.now)) }
 {
@@ -103,10 +103,15 @@ fn judge<'a>(alloc: Global) -> Result<Command<'a>, AllocError>
         .after_help(JUDGE)
         .arg(GEN.arg(alloc))?
         .arg(SEED.arg(alloc))?
-        .arg(MOST.arg(alloc))
+        .arg(MOST.arg(alloc))?
+        .arg(switch(
+            alloc,
+            "final",
+            "After the history read a line with a dot and the rows at its end",
+        ))
 }
 
-/// The options of a run of the benchmark that tell of its database and its clients.
+/// The command `bench`, with the options for its database and its clients.
 fn bench<'a>(alloc: Global) -> Result<Command<'a>, AllocError>
     ensures { IfOk result (IsLeaf (command_with bench_rules (codes "bench"))) }
 {
@@ -120,7 +125,7 @@ fn bench<'a>(alloc: Global) -> Result<Command<'a>, AllocError>
         .arg(SEED.arg(alloc))
 }
 
-/// The same, with the options that tell what happens beside the calls.
+/// The same command, with the options for what happens beside the calls.
 fn bench_with_moves<'a>(alloc: Global) -> Result<Command<'a>, AllocError>
     ensures { IfOk result
         (IsLeaf (command_with (bench_rules ++ meanwhile_rules) (codes "bench"))) }
@@ -232,7 +237,8 @@ pub(crate) fn command<'a>(alloc: Global) -> Result<Command<'a>, AllocError>
         .subcommand(explain(alloc)?)
 }
 
-/// A command whose options take values, by its name: what usage it shows where a value is refused.
+/// The command of this name, if its options take values: where a value is refused, its usage is
+/// shown. For any other name it is the whole program.
 pub(crate) fn command_named<'a>(alloc: Global, name: &str) -> Result<Command<'a>, AllocError> {
     let command = match name {
         "call" => call(alloc)?,

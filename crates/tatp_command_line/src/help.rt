@@ -1,4 +1,5 @@
-//! What the help of the program and of each command tells below its options.
+//! The texts that help shows: above the options what the program is, and below them more on it and
+//! on each command.
 
 /// What the program is.
 pub(crate) const ABOUT: &str = "\
@@ -10,14 +11,14 @@ pub(crate) const USAGE: &str = "\
 tatp <COMMAND>
        tatp explain [NUMBER|NAME]   (what a refusal or a fault means)";
 
-/// Of the program.
+/// Below the options of the program.
 pub(crate) const PROGRAM: &str = "\
 Each command reads standard input and writes standard output. It ends with status 0; with 1 where
 it stops, telling why on standard error; with 2 where it can't make out these words.
 
 Example: tatp call < examples/first-run.txt";
 
-/// Of `call`.
+/// Below the options of `call`.
 pub(crate) const CALL: &str = "\
 The input is the rows of a population, a line with a dot, and the calls; a row or a call a line.
 The reply to a call is OK and the values, FAILED and why, or REFUSED and why. In how many partitions
@@ -35,7 +36,7 @@ Examples:
   tatp call --gen 1000 --rows < calls.txt
   tatp call --gen 1000";
 
-/// Of `trace`.
+/// Below the options of `trace`.
 pub(crate) const TRACE: &str = "\
 The input is the rows of a population, a line with a dot, and events; a row or an event a line. An
 event is answered when its line has come, at a terminal too, where ctrl-D ends the input.
@@ -86,25 +87,25 @@ Subscriber 129 moves while a call waits for it (tatp trace --gen 130 < examples/
 A procedure of one's own:
   tatp trace --procedures --gen 130 --seed 7 < examples/own-procedure.txt";
 
-/// Of `asm`.
+/// Below the usage of `asm`.
 pub(crate) const ASM: &str = "\
 The module is tested as by check before it is written.
 
 Example: tatp asm < examples/procedures.txt > module.bin";
 
-/// Of `dis`.
+/// Below the usage of `dis`.
 pub(crate) const DIS: &str = "\
 The text is one that asm turns into the same module.
 
 Example: tatp dis < module.bin";
 
-/// Of `check`.
+/// Below the usage of `check`.
 pub(crate) const CHECK: &str = "\
 Prints OK, how many procedures the module has, and how many instructions.
 
 Example: tatp check < module.bin";
 
-/// Of `audit`.
+/// Below the options of `audit`.
 pub(crate) const AUDIT: &str = "\
 The input is rows, one a line. Prints CLEAN and how many rows each table has, or the first audit
 that fails and its key; then the status is 1.
@@ -113,7 +114,7 @@ Examples:
   tatp audit < rows.txt
   tatp audit --input-limit 1000000000 < rows.txt";
 
-/// Of `judge`.
+/// Below the options of `judge`.
 pub(crate) const JUDGE: &str = "\
 The input is the rows with which the history begins, a line with a dot, and the history: a row or a
 line of it on each line. Its lines are in the order of time:
@@ -129,15 +130,22 @@ before the call is sent, and the end when its reply has come.
 
 Prints LEGAL where the calls have an order that keeps the order of time and gives every answer.
 Otherwise prints ILLEGAL L: up to line L of the input they have none, and up to the line before they
-have one; then the status is 1. Prints UNDECIDED L and a line SUBSCRIBER S where it doesn't know:
-by line L more than M configurations of subscriber S are possible, each of them rows that it may
-have and open calls that may still take effect. Then the status is 3, and a larger --most may help.
+have one; then the status is 1. A line SUBSCRIBER S names the subscriber whose calls have none, and
+lines LINE N are those of these calls since none of them was open. Prints UNDECIDED L and a line
+SUBSCRIBER S where it doesn't know: by line L more than M configurations of subscriber S are
+possible, each of them rows that it may have and open calls that may still take effect. Then the
+status is 3, and a larger --most may help.
+
+With --final a line with a dot and the rows at the end follow the history, and the order has to lead
+to these rows. Where the calls have an order and none leads to the rows, prints ILLEGAL L, of which
+L is that line, and SUBSCRIBER S: the first subscriber whose rows no order of its calls leaves.
 
 Examples:
   tatp judge < examples/history.txt
-  tatp judge --gen 1000 --seed 7 < history.txt";
+  tatp judge --gen 1000 --seed 7 < history.txt
+  tatp judge --final --gen 1 < examples/judge/final/unread-write.txt";
 
-/// Of `bench`.
+/// Below the options of `bench`.
 pub(crate) const BENCH: &str = "\
 Nothing is read. Each partition has an executor, each client is a thread of its own, and two more
 threads move ranges of subscribers and stop machines. When all have ended, the logs, the replies
@@ -162,7 +170,7 @@ With moves and stops, in 2 partitions and in 8; and the history of such a run al
   tatp bench --subscribers 1000 --calls 5000 --moves 100 --stops 100 --partitions 8 --progress
   tatp bench --subscribers 1000 --calls 5000 --moves 100 --stops 100 --history | tail -n +4";
 
-/// Of `rows`.
+/// Below the options of `rows`.
 pub(crate) const ROWS: &str = "\
 Nothing is read. The rows are those that call, trace and bench draw of N and S: one a line, in the
 order drawn, subscriber by subscriber. They are what call and trace read before the line with a dot.
@@ -172,7 +180,7 @@ Examples:
   tatp rows --gen 1000 --seed 7 > rows.txt
   tatp rows --gen 1000 | tatp audit";
 
-/// Of `calls`.
+/// Below the options of `calls`.
 pub(crate) const CALLS_HELP: &str = "\
 Nothing is read. The calls are those that client C of bench draws of N, S and --uniform: one a line,
 as call reads them. A client's calls begin the same whatever K is. A million of them have 30 MB; the
@@ -182,7 +190,7 @@ Examples:
   tatp calls --subscribers 1000 --calls 5000 --seed 7 > calls.txt
   tatp calls --subscribers 1000 --calls 5000 | tatp call --gen 1000";
 
-/// Of `explain`.
+/// Below the options of `explain`.
 pub(crate) const EXPLAIN: &str = "\
 Nothing is read. Of a number, or of a name, prints what it means, an example and what to do; without
 one prints all numbers, a line each.

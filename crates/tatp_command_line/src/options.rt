@@ -15,20 +15,22 @@ use std::fmt;
 /// An option that takes a number.
 #[derive(Clone, Copy, Debug, PartialEq, Eq)]
 pub(crate) struct NumberOption {
-    /// Its name, which stands after two hyphens.
+    /// The option's name, which is typed after two hyphens.
     pub(crate) name: &'static str,
-    /// What stands for the number in texts.
+    /// The word for its number in help and usage.
     value: &'static str,
+    /// The least number that it takes.
     least: u64,
+    /// The greatest number that it takes.
     most: u64,
-    /// What counts where it isn't given.
+    /// The text that counts where the option isn't given.
     default: Option<&'static str>,
-    /// Whether it has to be given.
+    /// Whether the option has to be given.
     required: bool,
     help: &'static str,
 }
 
-/// A row of the table below: an option with its numbers, of which its help tells.
+/// A row of the table below: an option with its range, which its help shows.
 macro_rules! number_option {
     (
         $name:literal $value:literal in $least:literal to $most:literal,
@@ -91,13 +93,13 @@ pub(crate) const CHAPTER: NumberOption = number_option!(
     "Checkpoint an extent when a call on it has ended and its log has K calls or more"
 );
 
-/// Of `rows`, which has to be told how many subscribers.
+/// The option of `rows`, where it has to be given.
 pub(crate) const ROWS_GEN: NumberOption = number_option!(
     "gen" "N" in 1 to 1000000, None, true,
     "Draw the rows of N subscribers"
 );
 
-/// Of `calls`.
+/// The option of `calls`.
 pub(crate) const DRAWN_CALLS: NumberOption = number_option!(
     "calls" "K" in 1 to 1000000000, None, true,
     "Draw K calls"
@@ -113,13 +115,13 @@ pub(crate) const INPUT_LIMIT: NumberOption = number_option!(
     "Read at most B bytes of the input"
 );
 
-/// Of `judge`.
+/// The option of `judge`.
 pub(crate) const MOST: NumberOption = number_option!(
     "most" "M" in 1 to 1000000, Some("65536"), false,
     "Keep at most M configurations of one subscriber"
 );
 
-/// What is wrong with an option: its text is no number of its range.
+/// What is wrong with an option: its text is no number in its range.
 #[derive(Clone, Copy, Debug, PartialEq, Eq)]
 pub(crate) struct BadNumber<'a> {
     option: NumberOption,
@@ -160,7 +162,7 @@ fn has_sign(text: &str) -> bool
     }
 }
 
-/// The number that a text is, where it is digits alone and in the range.
+/// The number that a text is. `None` means that it isn't digits alone, or isn't in the range.
 fn number_in(text: &str, least: u64, most: u64) -> Option<u64>
     ensures { SomeIff result (IsNumberIn least most text.now) (digits_value 10 text.now) }
 {
@@ -209,7 +211,7 @@ impl NumberOption {
         }
     }
 
-    /// The number that a text of the option is.
+    /// The number that a text is. `Err` means that it is no number in the option's range.
     pub(crate) fn read<'a>(&self, text: &'a str) -> Result<u64, BadNumber<'a>>
         ensures { OkIff result (IsNumberIn self.now.least self.now.most text.now)
             (digits_value 10 text.now) }
@@ -223,7 +225,7 @@ impl NumberOption {
         }
     }
 
-    /// The text that it is given, or what counts where it isn't given.
+    /// The text that the option is given, or else its default.
     fn text<'a>(&self, options: &ArgMatches<'a>) -> Option<&'a str>
         ensures { option_map (λ text. text.now) result
             ≡ text_asked (asked_by self.now) (rows_of (found_of options.now)) }
@@ -234,7 +236,8 @@ impl NumberOption {
         }
     }
 
-    /// The number that is asked for, of an option that is required or has a default.
+    /// The number that is asked for, of an option that is required or has a default. `Err` means
+    /// that the text is no number in the option's range.
     pub(crate) fn number<'a>(&self, options: &ArgMatches<'a>) -> Result<u64, BadNumber<'a>>
         ensures asked { let given = rows_of (found_of options.now) in
             OkIff result (HasNumber (asked_by self.now) given)
@@ -252,7 +255,8 @@ impl NumberOption {
         }
     }
 
-    /// The number that is asked for, where one is given.
+    /// The number that is asked for, if one is given. `Err` means that the text is no number in the
+    /// option's range.
     pub(crate) fn number_if_given<'a>(
         &self,
         options: &ArgMatches<'a>,

@@ -1,25 +1,27 @@
-//! The task that the words of the command line name.
+//! The task that the words of the command line ask for, and the texts that refuse words.
 ghost use Rattle.std.specs.Prelude.{◌≡◌, ◌≤◌, Ok, None, Some, map, IfOk, IfSome, IfErr, IsSomeAnd, OkIff};
 ghost use Rattle.std.specs.String.{string_bytes};
 ghost use Rattle.clap.specs.Matches.{found_of};
 ghost use Rattle.clap.specs.Simple.{subcommand_rows_of};
+ghost use Rattle.clap.specs.Values.{kind_of};
 ghost use Rattle.clap.specs.Walk.{rows_of};
 ghost use Rattle.tatp_tasks.specs.Loads.{IsRowsPlan, IsCallsPlan};
 ghost use Rattle.tatp_tasks.specs.Judging.{IsJudgePlan};
 ghost use Rattle.tatp_tasks.specs.Plans.{IsPlan};
 ghost use Rattle.tatp_tasks.specs.Populations.{IsPopulation, IsSetup, IsInputLimit};
 ghost use Rattle.tatp_tasks.specs.Tasks.{IsTask};
-ghost use Rattle.tatp_command_line.specs.Asked.{IsNamedBy, AskFor};
+ghost use Rattle.tatp_command_line.specs.Asked.{IfDo, IfShown, IsNamedBy, IsToldOf, AskFor, AskForText};
 ghost use Rattle.tatp_command_line.specs.Numbers.{HasNumber, number_asked};
 ghost use Rattle.tatp_command_line.specs.Options.{partitions, clients, input_limit, HasPopulation, population_asked, HasSetup, setup_asked, HasPlan, plan_asked, distribution_asked, procedures_asked, HasRowsPlan, rows_plan_asked, HasJudgePlan, judge_plan_asked, HasCallsPlan, calls_plan_asked};
 
+use crate::Asked;
 use crate::commands::{command, command_named};
 use crate::options::{
     BadNumber, CALLS, CHAPTER, CLIENT, CLIENTS, DRAWN_CALLS, GEN, INPUT_LIMIT, MOST, MOVES,
     PARTITIONS, ROWS_GEN, SEED, STOPS, SUBSCRIBERS, given, is_given,
 };
 use clap::error::ErrorKind;
-use clap::{ArgMatches, Error};
+use clap::{ArgMatches, Command, Error};
 use std::alloc::{AllocError, Global};
 use tatp_driver::Distribution;
 use tatp_limits::{MAX_CLIENTS, MAX_PARTITIONS};
@@ -49,7 +51,7 @@ fn population_of<'a>(options: &ArgMatches<'a>) -> Result<Population, BadNumber<'
     }
 }
 
-/// In how many partitions the rows are opened.
+/// The number of partitions in which the rows are opened.
 fn partitions_of<'a>(options: &ArgMatches<'a>) -> Result<u8, BadNumber<'a>>
     ensures asked { OkIff result (HasNumber partitions (rows_of (found_of options.now)))
         (number_asked partitions (rows_of (found_of options.now))) }
@@ -59,7 +61,7 @@ fn partitions_of<'a>(options: &ArgMatches<'a>) -> Result<u8, BadNumber<'a>>
     Ok(PARTITIONS.number(options)? as u8)
 }
 
-/// How many clients there are.
+/// The number of clients.
 fn clients_of<'a>(options: &ArgMatches<'a>) -> Result<u16, BadNumber<'a>>
     ensures asked { OkIff result (HasNumber clients (rows_of (found_of options.now)))
         (number_asked clients (rows_of (found_of options.now))) }
@@ -69,7 +71,7 @@ fn clients_of<'a>(options: &ArgMatches<'a>) -> Result<u16, BadNumber<'a>>
     Ok(CLIENTS.number(options)? as u16)
 }
 
-/// How many bytes of the input are read at most.
+/// The most bytes of the input that are read.
 fn input_limit_of<'a>(options: &ArgMatches<'a>) -> Result<usize, BadNumber<'a>>
     ensures asked { OkIff result (HasNumber input_limit (rows_of (found_of options.now)))
         (number_asked input_limit (rows_of (found_of options.now))) }
@@ -132,6 +134,7 @@ fn judge_plan_of<'a>(options: &ArgMatches<'a>) -> Result<JudgePlan, BadNumber<'a
     Ok(JudgePlan {
         population: population_of(options)?,
         most: MOST.number(options)? as usize,
+        final_rows: is_given(options, "final"),
     })
 }
 
@@ -162,7 +165,8 @@ fn calls_plan_of<'a>(options: &ArgMatches<'a>) -> Result<CallsPlan, BadNumber<'a
     })
 }
 
-/// The task that the words were found to name; none where they name no command.
+/// The task that the words were found to ask for. `None` means that they name no command, and `Err`
+/// that an option of the command has no number in its range.
 fn task_in<'a>(matches: &ArgMatches<'a>) -> Result<Option<Task<'a>>, BadNumber<'a>>
     ensures asked { IfOk result (λ found. IfSome found (λ task.
         IsSomeAnd (subcommand_rows_of matches.now) (λ command. IsNamedBy command task))) }
@@ -201,35 +205,74 @@ fn task_in<'a>(matches: &ArgMatches<'a>) -> Result<Option<Task<'a>>, BadNumber<'
     }
 }
 
-/// What the words ask for; an error holds the text that they are answered with.
-pub fn task_of<'a>(alloc: Global, words: &'a [String]) -> Result<Task<'a>, Error>
-    ensures asked { IfOk result (AskFor (map string_bytes words.now)) }
-    ensures possible { IfOk result IsTask }
+/// What an error of the parse is answered with. `Err` means that memory ran out, in the parse too.
+fn answered<'a>(alloc: Global, error: &Error) -> Result<Asked<'a>, AllocError>
+    ensures { IfOk result (IsToldOf (kind_of error.now)) }
 {
-    let matches = command(alloc)?.try_get_matches_from(words)?;
+    if error.kind() == ErrorKind::OutOfMemory {
+        return Err(AllocError);
+    }
+    let text = format!(in alloc; "{error}")?;
+    if error.use_stderr() {
+        Ok(Asked::Refuse(text))
+    } else {
+        Ok(Asked::Show(text))
+    }
+}
+
+/// The text that says why a command refuses its words, with the usage of that command.
+fn refusal(
+    alloc: Global,
+    mut command: Command<'_>,
+    kind: ErrorKind,
+    why: &str,
+) -> Result<String, AllocError> {
+    let error = command.error(kind, why)?;
+    format!(in alloc; "{error}")
+}
+
+/// What the words ask for, or the text that they are answered with. `Err` means that memory ran
+/// out.
+pub fn task_of<'a>(alloc: Global, words: &'a [String]) -> Result<Asked<'a>, AllocError>
+    ensures asked { IfOk result (IfDo (AskFor (map string_bytes words.now))) }
+    ensures possible { IfOk result (IfDo IsTask) }
+    ensures shown { IfOk result (IfShown (AskForText (map string_bytes words.now))) }
+{
+    let matches = match command(alloc)?.try_get_matches_from(words) {
+        Ok(matches) => matches,
+        Err(error) => return answered(alloc, &error),
+    };
     match task_in(&matches) {
-        Ok(Some(task)) => Ok(task),
+        Ok(Some(task)) => Ok(Asked::Do(task)),
         // The parse has tested that there is one.
         Ok(None) => {
-            Err(command(alloc)?.error(ErrorKind::MissingSubcommand, "a command is missing")?)
+            let kind = ErrorKind::MissingSubcommand;
+            Ok(Asked::Refuse(refusal(alloc, command(alloc)?, kind, "a command is missing")?))
         }
         Err(bad) => {
-            let text = format!(in alloc; "{bad}")?;
-            let mut command = command_named(alloc, matches.subcommand_name().unwrap_or(""))?;
-            Err(command.error(ErrorKind::ValueValidation, text.as_str())?)
+            let why = format!(in alloc; "{bad}")?;
+            let command = command_named(alloc, matches.subcommand_name().unwrap_or(""))?;
+            let kind = ErrorKind::ValueValidation;
+            Ok(Asked::Refuse(refusal(alloc, command, kind, why.as_str())?))
         }
     }
 }
 
-/// The answer to words that are no text.
-pub fn not_text(alloc: Global) -> Result<Error, AllocError> {
-    command(alloc)?.error(ErrorKind::InvalidValue, "a word isn't UTF-8")
+/// The text that refuses words of which one is not UTF-8.
+pub fn not_text(alloc: Global) -> Result<String, AllocError> {
+    refusal(
+        alloc,
+        command(alloc)?,
+        ErrorKind::InvalidValue,
+        "a word isn't UTF-8",
+    )
 }
 
-/// The answer to a word that is the number of no refusal and no fault, and no name of one.
-pub fn not_explained(alloc: Global, word: &str) -> Result<Error, AllocError> {
-    let text = format!(in alloc;
+/// The text that refuses a word which is the number of no refusal and no fault, and no name of one.
+pub fn not_explained(alloc: Global, word: &str) -> Result<String, AllocError> {
+    let why = format!(in alloc;
         "invalid value '{word}' for '[NUMBER|NAME]': no refusal or fault has this number or name"
     )?;
-    command_named(alloc, "explain")?.error(ErrorKind::ValueValidation, text.as_str())
+    let command = command_named(alloc, "explain")?;
+    refusal(alloc, command, ErrorKind::ValueValidation, why.as_str())
 }

@@ -1,5 +1,5 @@
 -- What answering lines one after another keeps.
-use Rattle.std.proofs.Common.{◌≡◌, ℕ, ◌∙◌, sym, ap, subst, List, [], ◌∷◌, ◌++◌, take, drop, refl, ◌≤◌, Option, Some, None, append_assoc, take-append-drop, inl, inr, ◌⊎◌}
+use Rattle.std.proofs.Common.{◌≡◌, ℕ, ◌∙◌, sym, ap, subst, List, [], ◌∷◌, ◌++◌, take, drop, refl, Option, Some, None, append_assoc, take-append-drop, inl, inr, ◌⊎◌}
 use Rattle.std.specs.Option.{option_map, IfSome}
 use Rattle.std.specs.Io.KnownBytes.{Appends}
 use Rattle.std.proofs.lemmas.List.{append-nil}

@@ -1,16 +1,24 @@
 -- What is answered to the lines of `call`.
-use Rattle.std.proofs.Common.{◌≡◌, ℕ, ◌∙◌, sym, ap, subst, Bool, List, [], ◌∷◌, ◌++◌, length, refl, append_assoc, inl, inr}
+use Rattle.std.proofs.Common.{◌≡◌, ℕ, ◌∙◌, sym, ap, subst, Bool, List, [], ◌∷◌, ◌++◌, length, Option, Some, None, Result, Ok, Err, refl, append_assoc, inl, inr}
 use Rattle.std.proofs.lemmas.List.{append-nil}
 use Rattle.tatp_encoding.specs.Modules.{ModuleState}
 use Rattle.tatp_tables.specs.Database.{Database}
+use Rattle.tatp_procs.specs.declared.ask.Ask.TheVariants.{Txn}
+use Rattle.tatp_procs.specs.declared.call.Call.{Call}
+use Rattle.tatp_procs.specs.declared.reply.Reply.{Reply}
+use Rattle.tatp_procs.specs.Arguments.{arguments_accepted}
+use Rattle.tatp_procs.specs.ReplyText.{reply_text}
+use Rattle.tatp_procs.specs.Standard.{standard_module}
+use Rattle.tatp_events.specs.declared.refusal.Refusal.{Refusal}
+use Rattle.tatp_dispatch.specs.Calling.{MakesCall}
 use Rattle.tatp_dispatch.specs.Shown.{set_back}
 use Rattle.tatp_dispatch.specs.Worlds.{WorldState}
 use Rattle.tatp_tasks.specs.declared.setup.Setup.{Setup}
 use Rattle.tatp_inputs.specs.Work.{Work}
 use Rattle.tatp_console.specs.Answers.{AppendsAnswer, AnswersLines, AnswersWork, AnswersSome, AnswersFront}
 use Rattle.tatp_console.specs.RowsWritten.{rows_if_asked}
-use Rattle.tatp_console.specs.Replying.{AnswersLine, RepliesTo, answers_call, rows_after}
-use Rattle.tatp_console.specs.Served.{call_in, line_answer, replies, database_after, rows_left, Served, ServedFront}
+use Rattle.tatp_console.specs.Replying.{AnswersCall, AnswersLine, RepliesTo, answers_call, outcome_text, rows_after}
+use Rattle.tatp_console.specs.Served.{call_in, call_answer, line_answer, replies, database_after, rows_left, Served, ServedFront}
 
 -- ---- a line
 reply_appended : (w w' : WorldState) (line old told new : List ℕ) → AnswersLine line (set_back w) old told (set_back w') → new ≡ told ++ 10 ∷ [] → AppendsAnswer answers_call w line old new w'
@@ -22,17 +30,38 @@ reply_appended w w' line old told new a e =
       appended = e ∙ (ap (λ ts. ts ++ 10 ∷ []) a.told ∙ append_assoc old text (10 ∷ []));
     }
 
+-- a call with arguments in their domains is answered as its line is
+pub call_answered : (line : List ℕ) (call : Call) (w w' : WorldState) (old new : List ℕ) → call_in line ≡ Some call → Ok tt ≡ arguments_accepted call → w.modul ≡ standard_module → AnswersCall w call old new w' → AnswersLine line (set_back w) old new (set_back w')
+call_answered line call w w' old new is fits standard a = by_outcome a.outcome a.made a.told
+  where
+    answer_is : (refused : Option Refusal) → line_answer refused (call_in line) (set_back w) ≡ call_answer refused call (Ok tt) (set_back w)
+    answer_is refused = ap (λ c. line_answer refused c (set_back w)) is ∙ ap (λ f. call_answer refused call f (set_back w)) (sym fits)
+
+    by_outcome : (outcome : Result Reply Refusal) → MakesCall w 0 (Txn call) outcome w' → new ≡ old ++ outcome_text call outcome → AnswersLine line (set_back w) old new (set_back w')
+    by_outcome (Ok reply) made told =
+        let replied = made.transaction call standard refl in
+        record {
+          refused = None;
+          told = told ∙ ap (λ r. old ++ reply_text (Txn call) r) (sym (ap (λ t. t.reply) replied)) ∙ ap (λ t. old ++ t.text) (sym (answer_is None));
+          database = sym (ap (λ t. t.database) replied) ∙ ap (λ t. t.database) (sym (answer_is None));
+        }
+    by_outcome (Err refusal) made told = record {
+      refused = Some refusal;
+      told = told ∙ ap (λ t. old ++ t.text) (sym (answer_is (Some refusal)));
+      database = made.call.back ∙ ap (λ t. t.database) (sym (answer_is (Some refusal)));
+    }
+
 -- what is kept of calls is let go after it
 pub line_replied : (w b w' : WorldState) (line old told new : List ℕ) → AnswersLine line (set_back w) old told (set_back b) → new ≡ told ++ 10 ∷ [] → set_back w' ≡ set_back b
     → AppendsAnswer answers_call w line old new w'
 line_replied w b w' line old told new a e back = reply_appended w w' line old told new (subst (λ (u : Database). AnswersLine line (set_back w) old told u) (sym back) a) e
 
--- ---- lines, whichever marks and lines come after them
--- some marks are those of the lines: with others after them the replies to the lines and to others are the text, and after it the replies to the others
+-- ---- lines, whichever refusals and lines come after them
+-- some refusals are those of the lines: with others after them the replies to the lines and to others are the text, and after it the replies to the others
 abbrev HasReplies : WorldState → List (List ℕ) → List ℕ → WorldState → Type 0
 HasReplies w lines text w' =
-    (marks : List Bool) × ((later : List Bool) (more : List (List ℕ)) → replies (marks ++ later) (lines ++ more) (set_back w) ≡ text ++ replies later more (set_back w'))
-    × ((later : List Bool) (more : List (List ℕ)) → database_after (marks ++ later) (lines ++ more) (set_back w) ≡ database_after later more (set_back w'))
+    (refusals : List (Option Refusal)) × ((later : List (Option Refusal)) (more : List (List ℕ)) → replies (refusals ++ later) (lines ++ more) (set_back w) ≡ text ++ replies later more (set_back w'))
+    × ((later : List (Option Refusal)) (more : List (List ℕ)) → database_after (refusals ++ later) (lines ++ more) (set_back w) ≡ database_after later more (set_back w'))
 
 no_line : (w w' : WorldState) (text : List ℕ) → text ≡ [] → w' ≡ w → HasReplies w [] text w'
 no_line w w' text e same = ([], λ later more. rw (e, same) refl, λ later more. rw same refl)

@@ -8,9 +8,6 @@ use Rattle.tatp_events.specs.declared.refusal.Refusal.{Refusal}
 use Rattle.tatp_dispatch.specs.Worlds.{WorldState}
 use Rattle.tatp_dispatch.specs.Events.{Happens}
 use Rattle.tatp_dispatch.specs.Serving.{Tells}
-use Rattle.tatp_procs.specs.declared.ask.Ask.{Ask}
-use Rattle.tatp_procs.specs.declared.entry.Entry.{Entry}
-use Rattle.tatp_logs.specs.Completions.{last_ask}
 use Rattle.tatp_trace_lines.specs.declared.line.TraceLine.{TraceLine}
 use Rattle.tatp_trace_lines.specs.declared.line.TraceLine.TheVariants.{Event, Steps, Look, Home, Audit}
 use Rattle.tatp_trace_lines.specs.AnswerText.{answered_text}
@@ -28,16 +25,14 @@ events_more w b c (v ∷ events) (a ∷ answers) told event answered first t e =
     (t.0, t.1, t.2 ++ first, t.3, ap (λ front. front ++ first) t.4 ∙ append_assoc t.1 t.2 first, events_more t.0 b c events answers t.2 event answered first t.5 e)
 
 -- ---- texts that were appended to
-pub event_appended : (w w' : WorldState) (event : AnEvent) (answered : Result Answer Refusal) (entries : List Entry) (last : Option Ask) (old between new : List ℕ) → Happens w event answered w' → Tells w answered w' → entries ≡ w'.completions → last ≡ last_ask entries
-    → between ≡ old ++ answered_text last answered → new ≡ between ++ 10 ∷ [] → AppendsEvent w event old new w'
-event_appended w w' event answered entries last old between new h t k l b n =
-    let asked : last ≡ last_ask w'.completions = l ∙ ap last_ask k in
-    record {
-      answered = answered;
-      told = told_line (answered_text (last_ask w'.completions) answered);
-      tells = record { happens = h; tells = t; line = refl };
-      appended = n ∙ (ap (λ front. front ++ 10 ∷ []) (b ∙ ap (λ x. old ++ answered_text x answered) asked) ∙ append_assoc old (answered_text (last_ask w'.completions) answered) (10 ∷ []));
-    }
+pub event_appended : (w w' : WorldState) (event : AnEvent) (answered : Result Answer Refusal) (old between new : List ℕ) → Happens w event answered w' → Tells w answered w'
+    → between ≡ old ++ answered_text answered → new ≡ between ++ 10 ∷ [] → AppendsEvent w event old new w'
+event_appended w w' event answered old between new h t b n = record {
+  answered = answered;
+  told = told_line (answered_text answered);
+  tells = record { happens = h; tells = t; line = refl };
+  appended = n ∙ (ap (λ front. front ++ 10 ∷ []) b ∙ append_assoc old (answered_text answered) (10 ∷ []));
+}
 
 pub no_step : (w : WorldState) (p : ℕ) (text : List ℕ) → AppendsSteps w p 0 text text w
 no_step w p text = record { answers = []; told = []; tells = (refl, refl); appended = sym (append-nil text) }

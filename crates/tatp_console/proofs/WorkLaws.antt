@@ -1,5 +1,5 @@
 -- What a run over lines writes and leaves.
-use Rattle.std.proofs.Common.{◌≡◌, ℕ, List, ◌≤◌, length, Option, Result, Ok, Err, OnOk, IfErr, inl, inr, subst, Some, None, [], ◌++◌, ◌⊎◌, ◌∙◌, ap}
+use Rattle.std.proofs.Common.{◌≡◌, ℕ, List, ◌≤◌, length, Option, Result, Ok, Err, OnOk, IfErr, inl, inr, subst, Some, None, ◌++◌, ◌⊎◌, ◌∙◌, ap}
 use Rattle.std.specs.Option.{IfSome}
 use Rattle.std.specs.Io.KnownBytes.{Appends}
 use Rattle.std.proofs.lemmas.Option.{IfSome_then}
@@ -25,7 +25,7 @@ use Rattle.tatp_inputs.specs.declared.fault.InputFault.TheVariants.{BadLine, Str
 use Rattle.tatp_inputs.specs.Work.{Work}
 use Rattle.tatp_console.specs.declared.fault.ConsoleFault.{ConsoleFault}
 use Rattle.tatp_console.specs.declared.fault.ConsoleFault.TheVariants.{Input, Text, Module, Unopened}
-use Rattle.tatp_console.specs.Answers.{Answering, Ending, AnswersLines, AnswersUpTo, AnswersToEnd, AnswersInEnding, AnswersLinesOf, AnswersWork, AnswersSome, AnswersMost, AnswersFront}
+use Rattle.tatp_console.specs.Answers.{Answering, Ending, AnswersLines, AnswersUpTo, AnswersToEnd, AnswersInEnding, AnswersLinesOf, AnswersWork, AnswersFront}
 use Rattle.tatp_console.specs.Brought.{OfInput, RefusesInput, Brings}
 use Rattle.tatp_console.specs.Works.{WritesOfWork, WritesFrontOfWork, Leaves}
 

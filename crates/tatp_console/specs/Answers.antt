@@ -12,11 +12,13 @@ use Rattle.tatp_tasks.specs.declared.setup.Setup.{Setup}
 use Rattle.tatp_inputs.specs.Work.{Work}
 use Rattle.tatp_console.specs.Brought.{IsModuleFor}
 
--- what is answered to a line: from the whole before, by the line and the text, to the whole after
+-- what is answered to a line: it relates the system before, the line, the text that is answered,
+-- and the system after
 abbrev pub Answering : Type 1
 Answering = WorldState → List ℕ → List ℕ → WorldState → Type 0
 
--- what is written after the answers to all lines: by the number of subscribers and the whole then
+-- what is written after the answers to all lines, by the number of subscribers and the system as it
+-- is then
 abbrev pub Ending : Type 0
 Ending = ℕ → WorldState → List ℕ
 
@@ -39,7 +41,7 @@ AnswersLines answers w (line ∷ lines) text w' =
     × (text ≡ first ++ rest) × AnswersLines answers between lines rest w'
 
 -- ---- bytes that a writer holds
--- new has besides what is answered to all lines, from the whole w to that after
+-- new has besides what is answered to all lines, from the system w to that after
 pub record AnswersAll (answers : Answering) (w : WorldState) (lines : List (List ℕ))
     (old new : Option (List ℕ)) (after : WorldState) : Type 0 where
   pub text : List ℕ
@@ -78,7 +80,7 @@ pub record AnswersUpTo (answers : Answering) (w : WorldState) (lines : List (Lis
   pub written : Appends old new front
 
 -- ---- the lines of an input
--- the text is what is answered to all lines of the work, from a whole that was just opened with its
+-- the text is what is answered to all lines of the work, from a system just opened with its
 -- rows under the module m; they may be opened
 pub record AnswersLinesOf (answers : Answering) (setup : Setup) (m : ModuleState) (work : Work)
     (text : List ℕ) (after : WorldState) : Type 0 where
@@ -89,7 +91,7 @@ pub record AnswersLinesOf (answers : Answering) (setup : Setup) (m : ModuleState
   pub world : IsWorld opened
   pub answered : AnswersLines answers opened work.lines text after
 
--- and after it stands the ending
+-- and after it the ending
 pub record AnswersWork (answers : Answering) (ending : Ending) (setup : Setup) (m : ModuleState)
     (work : Work) (text : List ℕ) : Type 0 where
   pub after : WorldState

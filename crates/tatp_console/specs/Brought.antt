@@ -22,7 +22,7 @@ use Rattle.tatp_console.specs.declared.fault.ConsoleFault.{ConsoleFault}
 use Rattle.tatp_console.specs.declared.fault.ConsoleFault.TheVariants.{Input, Text, Module, Unopened}
 
 -- ---- the module
--- it is the standard module; or what stands before the first line `.` is a text of it, and it keeps
+-- it is the standard module; or what comes before the first line `.` is a text of it, and it keeps
 -- the loader's rules
 abbrev pub IsModuleAsked : Procedures → List (List ℕ) → ModuleState → Type 0
 IsModuleAsked Standard lines m = m ≡ standard_module

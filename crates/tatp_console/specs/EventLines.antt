@@ -1,4 +1,4 @@
--- What is answered to a line of `trace`, and what it makes of the whole.
+-- What is answered to a line of `trace`, and what the line does to the system.
 use Rattle.std.specs.Prelude.{◌≡◌, ℕ, Bool, true, false, List, [], ◌∷◌, ◌++◌, ◌&&◌, ◌==◌, replicate, slice_index_or, codes, Option, Some, None, if◌then◌else◌}
 use Rattle.std.specs.List.{flat_map}
 use Rattle.std.specs.Str.{is_utf8}
@@ -9,7 +9,6 @@ use Rattle.tatp_audits.specs.Printing.{verdict_text}
 use Rattle.tatp_events.specs.declared.event.Event.{Event as AnEvent}
 use Rattle.tatp_events.specs.declared.event.Event.TheVariants.{Step}
 use Rattle.tatp_events.specs.Answers.{Answered}
-use Rattle.tatp_logs.specs.Completions.{last_ask}
 use Rattle.tatp_dispatch.specs.Events.{Happens}
 use Rattle.tatp_dispatch.specs.Gathered.{gathered_rows}
 use Rattle.tatp_dispatch.specs.Serving.{Tells}
@@ -25,12 +24,12 @@ unfoldable pub line_in : List ℕ → Option TraceLine
 line_in bytes = if is_utf8 bytes then line_of bytes else None
 
 -- ---- events
--- the event happens and is answered so, and the line of that answer is told
+-- the event happens and is answered so, and the text is the line of that answer
 pub record TellsEvent (w : WorldState) (event : AnEvent) (answered : Answered) (told : List ℕ)
     (w' : WorldState) : Type 0 where
   pub happens : Happens w event answered w'
   pub tells : Tells w answered w'
-  pub line : told ≡ told_line (answered_text (last_ask w'.completions) answered)
+  pub line : told ≡ told_line (answered_text answered)
 
 -- events, one after another: a line for each
 abbrev pub TellsEvents : WorldState → List AnEvent → List Answered → List ℕ → WorldState → Type 0
@@ -46,7 +45,7 @@ TellsEvents w [] (answered ∷ answers) told w' = ⊥
 TellsEvents w (event ∷ events) [] told w' = ⊥
 
 -- ---- lines
--- the events of a line; of one that shows something, and of what is no line, none
+-- the events of a line; a line that shows something has none, nor has what is no line
 abbrev pub events_of : Option TraceLine → List AnEvent
 events_of (Some (Event event)) = event ∷ []
 events_of (Some (Steps p count)) = replicate count (Step p)
@@ -70,7 +69,7 @@ TellsLine w (Some Audit) answers told w' = TellsVerdict w told × (answers ≡ [
 TellsLine w None answers told w' = (told ≡ told_line bad_line_text) × (answers ≡ []) × (w' ≡ w)
 
 -- ---- lines that are echoed
--- the line itself, after `> `; where it is no UTF-8, U+FFFD stands for what is none
+-- the line itself, after `> `; where it isn't UTF-8, U+FFFD replaces what isn't
 abbrev pub echo_of : List ℕ → List ℕ
 echo_of line = codes "> " ++ (utf8_lossy line ++ 10 ∷ [])
 
@@ -84,7 +83,7 @@ abbrev pub TellsUnlessComment : Bool → WorldState → List ℕ → List Answer
 TellsUnlessComment true w line answers told w' = (told ≡ []) × (answers ≡ []) × (w' ≡ w)
 TellsUnlessComment false w line answers told w' = TellsLine w (line_in line) answers told w'
 
--- what is told of a line: what is answered to it, and where lines are echoed, the line before that
+-- what is written for a line: what is answered to it, and where lines are echoed, the line first
 abbrev pub TellsOf : Bool → WorldState → List ℕ → List Answered → List ℕ → WorldState → Type 0
 TellsOf false w line answers told w' = TellsLine w (line_in line) answers told w'
 TellsOf true w line answers told w' =
@@ -116,7 +115,7 @@ abbrev pub events_in : Bool → List (List ℕ) → List AnEvent
 events_in echoed lines = flat_map (events_told echoed) lines
 
 -- ---- texts that were appended to
--- old and new are such a text: new has besides what is told of the event
+-- old and new are such a text: new has besides what is answered to the event
 pub record AppendsEvent (w : WorldState) (event : AnEvent) (old new : List ℕ) (w' : WorldState)
     : Type 0 where
   pub answered : Answered
@@ -124,7 +123,7 @@ pub record AppendsEvent (w : WorldState) (event : AnEvent) (old new : List ℕ) 
   pub tells : TellsEvent w event answered told w'
   pub appended : new ≡ old ++ told
 
--- of so many steps of the site of partition p
+-- to this many steps of the site of partition p
 pub record AppendsSteps (w : WorldState) (p count : ℕ) (old new : List ℕ) (w' : WorldState)
     : Type 0 where
   pub answers : List Answered
@@ -132,7 +131,7 @@ pub record AppendsSteps (w : WorldState) (p count : ℕ) (old new : List ℕ) (w
   pub tells : TellsEvents w (replicate count (Step p)) answers told w'
   pub appended : new ≡ old ++ told
 
--- of a line
+-- to a line
 pub record AppendsLine (w : WorldState) (line : Option TraceLine) (old new : List ℕ)
     (w' : WorldState) : Type 0 where
   pub answers : List Answered

@@ -1,4 +1,4 @@
--- What is told of a site: docs/FORMATS.md. Each line is ended by a line feed.
+-- What can be seen of a site: docs/FORMATS.md. Each line ends with a line feed.
 use Rattle.std.specs.Prelude.{◌≡◌, ℕ, List, [], ◌∷◌, ◌++◌, Option, Some, None, Result, Ok, Err, MatchOption, slice_get}
 use Rattle.std.specs.Option.{option_map_or}
 use Rattle.tatp_homes.specs.Home.{SubscriberRows}

@@ -4,8 +4,8 @@ use Rattle.std.specs.List.{flat_map, range_with_len}
 use Rattle.tatp_tables.specs.Database.{Database, of_subscriber}
 use Rattle.tatp_trace_lines.specs.HomeText.{home_text}
 
--- the rows of one subscriber after another, from the first of them to so many: those of each table
--- by table, each by key
+-- the rows of `count` subscribers from `first` on, one after another: those of each table by table,
+-- each by key
 abbrev pub rows_text : Database → ℕ → ℕ → List ℕ
 rows_text u first count =
     flat_map (λ s. home_text (of_subscriber u s)) (range_with_len first count)

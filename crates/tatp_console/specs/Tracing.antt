@@ -16,7 +16,7 @@ use Rattle.tatp_tasks.specs.declared.setup.Setup.{Setup}
 use Rattle.tatp_inputs.specs.Work.{Work}
 use Rattle.tatp_console.specs.Answers.{Answering, Ending}
 
--- the text is told of the line, where lines are echoed or not
+-- the text is what is written for the line, where lines are echoed or not
 abbrev pub answers_events : Bool → Answering
 answers_events echoed w line text w' =
     (answers : List (Result Answer Refusal)) × TellsOf echoed w line answers text w'
@@ -25,7 +25,7 @@ answers_events echoed w line text w' =
 abbrev pub no_ending : Ending
 no_ending n w = []
 
--- told is what is told of the lines, from a whole that was just opened with the rows under the
+-- told is what is written for the lines, from a system just opened with the rows under the
 -- module m; the answers are those of the lines' events, one after another, and are the benchmark's
 pub record TellsFrom (m : ModuleState) (rows : Rows) (setup : Setup) (echoed : Bool)
     (lines : List (List ℕ)) (told : List ℕ) : Type 0 where
@@ -37,14 +37,14 @@ pub record TellsFrom (m : ModuleState) (rows : Rows) (setup : Setup) (echoed : B
   pub runs : Runs opened (events_in echoed lines) answers after
   pub benchmark : IsTheBenchmark m rows answers after
 
--- told is what is told of all lines of the work, whose rows may be opened
+-- told is what is written for all lines of the work, whose rows may be opened
 pub record TellsWork (setup : Setup) (echoed : Bool) (m : ModuleState) (work : Work)
     (told : List ℕ) : Type 0 where
   pub few : length work.rows.subscribers ≤ MAX_SUBSCRIBERS
   pub clean : IsClean work.rows
   pub tells : TellsFrom m work.rows setup echoed work.lines told
 
--- a front of what is told of the lines up to some line
+-- a front of what is written for the lines up to some line
 pub record TellsFront (setup : Setup) (echoed : Bool) (m : ModuleState) (work : Work)
     (front : List ℕ) : Type 0 where
   pub lines : List (List ℕ)

@@ -26,7 +26,7 @@ abbrev pub WritesFrontOfWork : (ModuleState → Work → List ℕ → Type 0)
 WritesFrontOfWork IsFront procedures population input old new =
     Appends old new [] ⊎ WritesOfWork IsFront procedures population input old new
 
--- what each fault tells of the input, and leaves, by what a front of what would be written is
+-- what each fault says of the input, and leaves, by what a front of what would be written is
 abbrev pub Leaves : (ModuleState → Work → List ℕ → Type 0) → Procedures → Population → List ℕ
     → Option (List ℕ) → Option (List ℕ) → ConsoleFault → Type 0
 Leaves IsFront procedures population input old new (Input (Stream fault)) =

@@ -7,7 +7,7 @@ ghost use Rattle.tatp_tasks.specs.Populations.{IsPopulation, IsInputLimit};
 ghost use Rattle.tatp_tasks.specs.declared.procedures.Procedures.TheVariants.{Standard};
 ghost use Rattle.tatp_console.specs.Answers.{AppendsAnswer};
 ghost use Rattle.tatp_console.specs.Served.{call_in, Served, ServedFront};
-ghost use Rattle.tatp_console.specs.Replying.{AnswersLine, answers_call, rows_after};
+ghost use Rattle.tatp_console.specs.Replying.{AnswersCall, AnswersLine, answers_call, rows_after};
 ghost use Rattle.tatp_console.specs.Works.{WritesOfWork, Leaves};
 
 use crate::ConsoleFault;
@@ -18,7 +18,7 @@ use std::alloc::{AllocError, Global};
 use std::io::{Read, Write};
 use tatp_dispatch::World;
 use tatp_limits::MAX_PARTITIONS;
-use tatp_procs::{Ask, Call, ReplyRef, args_ok, push_reply, read_call};
+use tatp_procs::{Ask, Call, args_ok, push_reply, read_call};
 use tatp_streams::{StreamFault, text_of};
 use tatp_tasks::{Population, Procedures, Setup};
 
@@ -39,8 +39,22 @@ fn call_in(line: &[u8]) -> Option<Call>
     }
 }
 
-/// Appends the reply to a line, without a line feed. A call runs alone, as client 0's; whatever
-/// stands against it is told as want of memory.
+/// A call is made alone, as client 0's, and its reply is appended, or why it is refused. After an
+/// error the text is of no use.
+fn answer_call(world: &mut World<'_>, call: Call, pending: &mut String) -> Result<(), AllocError>
+    ensures answered { OnOk result (AnswersCall world.old call
+        (string_bytes pending.old) (string_bytes pending.new) world.new) }
+    ensures modul { world.new.modul ≡ world.old.modul }
+{
+    let ask = Ask::Txn(call);
+    match world.call(0, ask) {
+        Ok(reply) => push_reply(pending, &ask, reply),
+        Err(refusal) => write!(pending, "REFUSED {refusal}"),
+    }
+}
+
+/// Appends the reply to a line, without a line feed.
+#[tactic(auto, using(crate::proofs::CallLaws::call_answered))]
 fn answer_line(world: &mut World<'_>, line: &[u8], pending: &mut String) -> Result<(), AllocError>
     requires standard { world.old.modul ≡ standard_module }
     ensures answered { OnOk result (AnswersLine line.now (set_back world.old)
@@ -55,12 +69,7 @@ fn answer_line(world: &mut World<'_>, line: &[u8], pending: &mut String) -> Resu
         write!(pending, "REFUSED 26 BadArgument {}", bad.0)?;
         return Ok(());
     }
-    let ask = Ask::Txn(call);
-    match world.call(0, ask) {
-        Some(reply) => push_reply(pending, &ask, reply)?,
-        None => push_reply(pending, &ask, ReplyRef::Refused)?,
-    }
-    Ok(())
+    answer_call(world, call, pending)
 }
 
 /// Appends the reply to a line, and a line feed.
@@ -137,9 +146,9 @@ impl LineCommand for CallsAndRows {
 /// Reads rows and calls, or calls alone, and writes a reply to each line of calls; then, where rows
 /// are asked for, a line `.` and the rows as all calls left them.
 ///
-/// The rows are opened before the first reply is written; then all replies to the lines that have
-/// come, before it waits for more. No more than so many bytes are read. Each call is run to its end
-/// before the next, over so many partitions, which changes nothing of what is written.
+/// The rows are opened before the first reply is written. All replies to the lines that have come
+/// are written before the program waits for more lines. At most `input_limit` bytes are read. Each
+/// call is run to its end before the next. The number of partitions changes no written byte.
 pub fn run_call<R: Read, W: Write>(
     alloc: Global,
     reader: &mut R,

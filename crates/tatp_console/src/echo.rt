@@ -27,8 +27,8 @@ fn is_comment(line: &[u8]) -> bool
     line.first() == Some(&b'#')
 }
 
-/// Appends the line itself and what is answered to it; to a comment nothing is. After an error the
-/// text is of no use, and the event of the line may have happened.
+/// Appends the line itself and what is answered to it; nothing is answered to a comment. After an
+/// error the text must not be used, and the event of the line may have happened.
 #[tactic(auto, using(crate::proofs::EchoLaws::comment_told))]
 pub fn answer_echoed(
     alloc: Global,

@@ -1,4 +1,4 @@
-//! What is answered to a line, and what it makes of the whole.
+//! What is answered to a line of `trace`, and what the line does to the system.
 ghost use Rattle.std.specs.Prelude.{◌≡◌, ◌++◌, Some, IfOk, OnOk};
 ghost use Rattle.std.specs.String.{string_bytes};
 ghost use Rattle.tatp_console.specs.EventLines.{line_in, AppendsEvent, AppendsLine, AppendsSteps, TellsVerdict};
@@ -28,7 +28,7 @@ fn answer_event(world: &mut World<'_>, event: Event, pending: &mut String) -> Re
         (string_bytes pending.old) (string_bytes pending.new) world.new) }
 {
     let answered = world.apply(event);
-    push_answer(pending, world.completions().last_ask(), &answered)?;
+    push_answer(pending, &answered)?;
     pending.push_str("\n")?;
     Ok(())
 }
@@ -59,7 +59,7 @@ fn verdict_line(alloc: Global, world: &World<'_>) -> Result<String, AllocError>
     format!(in alloc; "{verdict}\n")
 }
 
-/// What is told of a line is appended.
+/// Appends what is answered to a line.
 #[tactic(auto, using(crate::proofs::EventLineLaws::look_appended, crate::proofs::EventLineLaws::home_appended, crate::proofs::EventLineLaws::verdict_appended))]
 fn answer(
     alloc: Global,
@@ -91,8 +91,8 @@ fn answer(
     }
 }
 
-/// Appends what is answered to a line. After an error the text is of no use, and the event of the
-/// line may have happened.
+/// Appends what is answered to the line that bytes are, or that they are no line. After an error
+/// the text must not be used, and the event of the line may have happened.
 #[tactic(auto, using(crate::proofs::EventLineLaws::bad_appended))]
 pub fn answer_line(
     alloc: Global,

@@ -1,4 +1,4 @@
-//! Why lines aren't answered to the last.
+//! Why a run ends before all lines are answered.
 ghost use Rattle.std.specs.Prelude.{◌≡◌};
 ghost use Rattle.tatp_streams.specs.declared.fault.StreamFault.TheVariants.{NoMemory};
 ghost use Rattle.tatp_inputs.specs.declared.fault.InputFault.TheVariants.{Stream};
@@ -14,19 +14,19 @@ use tatp_loader::LoadFault;
 use tatp_streams::StreamFault;
 use thiserror::Error;
 
-/// Why lines aren't answered to the last. Its text is a number, a name and details.
+/// Why a run ends before all lines are answered. Its text is a number, a name and details.
 #[derive(Clone, Copy, Debug, PartialEq, Eq, Error)]
 pub enum ConsoleFault {
-    /// The text of procedures is no module's.
+    /// The text of the procedures isn't that of a module.
     #[error("{0}")]
     Text(AsmFault),
-    /// Its module breaks a rule.
+    /// The module of that text breaks a rule.
     #[error("{0}")]
     Module(LoadFault),
-    /// The input isn't taken, or an answer isn't made or written.
+    /// The input can't be taken, or an answer can't be made or written.
     #[error("{0}")]
     Input(InputFault),
-    /// The rows aren't opened.
+    /// The rows can't be opened.
     #[error("{0}")]
     Unopened(OpenError),
 }

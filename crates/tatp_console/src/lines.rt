@@ -18,21 +18,21 @@ use tatp_dispatch::World;
 use tatp_streams::{LineReader, StreamFault, write_if_full, write_last};
 use tatp_tasks::Setup;
 
-/// A command that answers lines, each by what it makes of the whole.
+/// A command that answers lines, each by what it does to the system.
 pub(crate) trait LineCommand {
-    /// What is answered to a line: from the whole before, by the line and the text, to the whole
-    /// after.
+    /// What is answered to a line: it relates the system before, the line, the text that is
+    /// answered, and the system after.
     ghost answers: { WorldState → List ℕ → List ℕ → WorldState → Type 0 };
 
-    /// What has to hold of the whole before a line.
+    /// What has to hold of the system before a line.
     ghost ready: { WorldState → Type 0 } = { λ _. ⊤ };
 
-    /// What is written after the answers to all lines, by the number of subscribers and the whole
-    /// then.
+    /// What is written after the answers to all lines, by the number of subscribers and the system
+    /// as it is then.
     ghost ending: { ℕ → WorldState → List ℕ };
 
-    /// Appends what is answered to a line. After an error the text is of no use, and the whole may
-    /// have changed.
+    /// Appends what is answered to a line. After an error the text must not be used, and the system
+    /// may have changed.
     fn answer(
         alloc: Global,
         world: &mut World<'_>,
@@ -44,7 +44,7 @@ pub(crate) trait LineCommand {
             (string_bytes pending.old) (string_bytes pending.new) world.new) }
         ensures ready { ready world.new };
 
-    /// Writes what follows the answers to all lines, where there are so many subscribers.
+    /// Writes what follows the answers to all lines. `subscribers` is their number.
     fn end<W: Write>(
         alloc: Global,
         world: &World<'_>,
@@ -84,7 +84,7 @@ fn next_line<R: Read, W: Write>(
     lines.advance(reader)
 }
 
-/// Answers each line, when it has come.
+/// Answers each line as soon as it has come.
 fn answer_lines<C: LineCommand, R: Read, W: Write>(
     alloc: Global,
     world: &mut World<'_>,
@@ -112,7 +112,7 @@ fn answer_lines<C: LineCommand, R: Read, W: Write>(
     }
 }
 
-/// Answers each line, when it has come, and then writes what follows.
+/// Answers each line as soon as it has come, and then writes what follows.
 fn answer_to_the_end<C: LineCommand, R: Read, W: Write>(
     alloc: Global,
     world: &mut World<'_>,
@@ -137,8 +137,9 @@ fn answer_to_the_end<C: LineCommand, R: Read, W: Write>(
     C::end(alloc, world, subscribers, writer)
 }
 
-/// Reads what an input brings, and writes what is answered to each of its lines: all that is
-/// answered, before it waits for a further line. The rows are opened before the first.
+/// Reads a module and rows from an input, and writes what is answered to each of its other lines.
+/// The rows are opened before the first answer is written. All answers to the lines that have come
+/// are written before the program waits for more lines.
 pub(crate) fn answer_all<C: LineCommand, R: Read, W: Write>(
     alloc: Global,
     reader: &mut R,

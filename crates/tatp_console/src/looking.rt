@@ -1,4 +1,4 @@
-//! What is told of a site.
+//! What can be seen of a site.
 ghost use Rattle.std.specs.Prelude.{◌≡◌, IfOk};
 ghost use Rattle.std.specs.String.{string_bytes};
 ghost use Rattle.tatp_console.specs.Looking.{TellsLook, TellsSeen, found_text, home_told, told_line};

@@ -1,4 +1,4 @@
-//! Logs of calls, let go in a run of many.
+//! What is kept of completed calls, let go in a run of many calls.
 ghost use Rattle.std.specs.Prelude.{◌≡◌, ◌≤◌, IfSome};
 ghost use Rattle.tatp_procs.specs.Standard.{standard_module};
 ghost use Rattle.tatp_dispatch.specs.Gathered.{gathered};
@@ -10,11 +10,11 @@ use std::mem;
 use tatp_dispatch::World;
 use tatp_limits::MAX_PARTITIONS;
 
-/// After how many completed calls what is kept of them is let go. A call takes some 460 bytes, in
+/// After this many completed calls, what is kept of them is let go. A call takes some 460 bytes, in
 /// the log of its extent and among the completions; to open the rows anew takes a copy of them.
 const KEPT_CALLS: usize = 1_000_000;
 
-/// In how many partitions the rows are, one at least.
+/// How many partitions there are, one at least.
 fn partitions_of(world: &World<'_>) -> u8
     ensures some { 1 ≤ result }
     ensures few { result ≤ MAX_PARTITIONS }
@@ -27,7 +27,7 @@ fn partitions_of(world: &World<'_>) -> u8
     MAX_PARTITIONS as u8
 }
 
-/// The whole with the same rows, opened anew, where no call runs and memory for it is there.
+/// The system with the same rows, opened anew, where no call runs; none where memory is refused.
 #[tactic(auto, using(crate::proofs::RenewalLaws::rows_clean, crate::proofs::RenewalLaws::rows_few, crate::proofs::RenewalLaws::opened_standard, crate::proofs::RenewalLaws::opened_back))]
 fn opened_anew<'m>(alloc: Global, world: &World<'m>) -> Option<World<'m>>
     requires standard { world.now.modul ≡ standard_module }
@@ -45,7 +45,7 @@ fn opened_anew<'m>(alloc: Global, world: &World<'m>) -> Option<World<'m>>
     }
 }
 
-/// The same; where a call runs, none.
+/// The same, but none where a call runs.
 fn opened_anew_at_rest<'m>(alloc: Global, world: &World<'m>) -> Option<World<'m>>
     requires standard { world.now.modul ≡ standard_module }
     ensures standard { IfSome result (λ fresh. fresh.modul ≡ standard_module) }
@@ -58,8 +58,9 @@ fn opened_anew_at_rest<'m>(alloc: Global, world: &World<'m>) -> Option<World<'m>
     }
 }
 
-/// Lets go what is kept of the completed calls, where one was completed since there were so many,
-/// and they are many now: the rows are opened anew. Neither replies nor rows depend on it.
+/// Lets go what is kept of the completed calls, by opening the rows anew, each time that as many as
+/// [`KEPT_CALLS`] are completed; `before` of them were so before the last line. Neither replies nor
+/// rows depend on it.
 pub(crate) fn let_calls_go<'m>(alloc: Global, world: &mut World<'m>, before: usize)
     requires standard { world.old.modul ≡ standard_module }
     ensures standard { world.new.modul ≡ standard_module }

@@ -1,4 +1,4 @@
-//! The rows of the whole, written as lines.
+//! The rows of the system, written as lines.
 ghost use Rattle.std.specs.Prelude.{◌≡◌, ◌++◌, true, IfSome, OnOk, OnErr};
 ghost use Rattle.std.specs.Io.KnownBytes.{Appends};
 ghost use Rattle.std.specs.String.{string_bytes};
@@ -94,8 +94,8 @@ fn write_homes<W: Write>(
 }
 
 /// Writes a line `.` and the rows of all subscribers, where no call runs: subscriber by subscriber,
-/// and those of each table by table and by key. In a run of calls no extent leaves its site, and
-/// each call ends before the next line; what stands against it is told as want of memory.
+/// and those of each table by table and by key. In a run of calls each call ends before the next
+/// line, so none runs here; if one did, the fault would be [`StreamFault::NoMemory`].
 #[tactic(auto, using(crate::proofs::RowsLaws::written_at_rest, crate::proofs::RowsLaws::cut_at_rest, crate::proofs::RowsLaws::nothing_written))]
 pub(crate) fn write_rows<W: Write>(
     alloc: Global,

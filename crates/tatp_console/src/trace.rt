@@ -68,13 +68,13 @@ impl LineCommand for EchoedEvents {
     }
 }
 
-/// Reads rows and lines of events, or such lines alone, and writes what is answered to each. Before
-/// them may stand the text of the procedures that calls run. With `echo` the line itself stands
-/// before what is answered to it, after `> `, and one that begins with `#` is a comment, which is
-/// not answered.
+/// Reads rows and lines of events, or such lines alone, and writes what is answered to each. The
+/// text of the procedures that calls run may come before them. With `echo` each line is written
+/// after `> `, before what is answered to it; and a line that begins with `#` is a comment, which
+/// isn't answered.
 ///
-/// The rows are opened before the first answer is written; then all answers to the lines that have
-/// come, before it waits for more. No more bytes are read than the setup says.
+/// The rows are opened before the first answer is written. All answers to the lines that have come
+/// are written before the program waits for more lines. At most `setup.input_limit` bytes are read.
 pub fn run_trace<R: Read, W: Write>(
     alloc: Global,
     reader: &mut R,

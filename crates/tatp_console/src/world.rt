@@ -1,4 +1,4 @@
-//! The whole over which lines are answered.
+//! The system over which lines are answered.
 ghost use Rattle.std.specs.Prelude.{◌≤◌, IfOk, IfErr, OnOk, length};
 ghost use Rattle.tatp_tables.specs.Clean.{IsClean};
 ghost use Rattle.tatp_extents.specs.Opening.{RefusesRows};
@@ -15,7 +15,7 @@ use tatp_loader::Loaded;
 use tatp_tables::Rows;
 use tatp_tasks::{Population, Setup};
 
-/// The whole with the rows of a run. Drawn rows are known to be clean, so they aren't audited.
+/// The system with the rows of a run. Drawn rows are known to be clean, so they aren't audited.
 pub(crate) fn open_world<'m>(
     alloc: Global,
     loaded: &'m Loaded,

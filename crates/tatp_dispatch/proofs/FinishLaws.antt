@@ -1,5 +1,5 @@
 -- The steps of a running call up to its end, each as a step of the whole.
-use Rattle.std.proofs.Common.{◌≡◌, ℕ, zero, suc, ◌+◌, ◌<◌, ◌≤◌, Bool, true, false, is_some, List, [], ◌∷◌, ◌++◌, length, Option, Some, None, Ok, Err, Vec, Global, slice_get, refl, sym, ◌∙◌, ap, subst}
+use Rattle.std.proofs.Common.{◌≡◌, ℕ, zero, suc, ◌+◌, ◌<◌, ◌≤◌, true, false, is_some, List, [], ◌∷◌, ◌++◌, length, Option, Some, None, Result, Ok, Err, Vec, Global, slice_get, refl, sym, ◌∙◌, ap, subst}
 use Rattle.std.specs.Vec.{with_item}
 use Rattle.std.proofs.Math.ListN.{set}
 use Rattle.std.proofs.lemmas.Bool.{false≢true}
@@ -13,10 +13,11 @@ use Rattle.tatp_partition.specs.Running.{GoesOnFor, AdvancesUnless, StepsUpTo as
 use Rattle.tatp_partition.specs.Sites.{SiteState, RunningCall}
 use Rattle.tatp_partition.specs.Sound.{IsSite}
 use Rattle.tatp_partition.proofs.StepLaws.{goes_on}
+use Rattle.tatp_events.specs.declared.refusal.Refusal.{Refusal}
 use Rattle.tatp_events.specs.declared.refusal.Refusal.TheVariants.{NoPartition, Site}
 use Rattle.tatp_dispatch.specs.declared.client.Client.{Client}
 use Rattle.tatp_dispatch.specs.declared.world.World.TheInside.{Inside}
-use Rattle.tatp_dispatch.specs.Calling.{CompletesNone, CallsBriefly, GoesBriefly, StepsUpTo}
+use Rattle.tatp_dispatch.specs.Calling.{CompletesNone, CallsOnce, IsOutcome, StepsUpTo, last_reply, outcome_in}
 use Rattle.tatp_dispatch.specs.Events.{EndsAt}
 use Rattle.tatp_dispatch.specs.Fields.{world_of, IsSound}
 use Rattle.tatp_dispatch.specs.Placed.{RunsAt}
@@ -24,14 +25,14 @@ use Rattle.tatp_dispatch.specs.Worlds.{WorldState}
 use Rattle.tatp_dispatch.proofs.CountLaws.{get_set_same, set_set}
 use Rattle.tatp_dispatch.proofs.EventLaws.{StepsAt, no_site, set_as_it_is, told_same, with_sites, sound_refused, refused_at, line_at, end_at, line_told, ending_client, room_to_end, after_end, EndedFields, end_told, end_happens}
 use Rattle.tatp_dispatch.proofs.CallingLaws.{StillRuns, none_by, none_itself, none_more, then_called, still_runs, ends_call}
-use Rattle.tatp_dispatch.proofs.CallEventsLaws.{MovesFor, steps_up_to, ends_briefly}
+use Rattle.tatp_dispatch.proofs.CallEventsLaws.{MovesFor, steps_up_to, reply_left, ends_by_steps}
 
 -- ---- steps that went on
 -- the fields with this site in the place of partition p
 abbrev pub at_place : Inside → ℕ → SiteState → Inside
 at_place a p s = with_sites a (with_item a.sites p s)
 
--- so many steps at partition p went on, and left this site there
+-- this many steps at partition p went on, and left this site there
 pub record WentOnFor (a : Inside) (p steps : ℕ) (s : SiteState) : Type 0 where
   pub sound : IsSound (at_place a p s)
   pub here : slice_get (at_place a p s).sites.items p ≡ Some s
@@ -78,24 +79,24 @@ went_on_for : (a : Inside) (p : ℕ) (s : SiteState) (steps : ℕ) (s' : SiteSta
 went_on_for a p s zero s' h here same = none_went_on a p s s' h here same
 went_on_for a p s (suc steps) s' h here (mid, before, one) = one_more a p steps s mid s' here (went_on_for a p s steps mid h here before) one
 
--- ---- what a call that was run to its end, or up to a refused step, is told as
-pub record Finishes (a : Inside) (p : ℕ) (done : Bool) (a' : Inside) : Type 0 where
+-- ---- what became of a call that was run to its end, or up to a refused step
+pub record Finishes (a : Inside) (p : ℕ) (result : Result (Unit {0}) Refusal) (a' : Inside) : Type 0 where
   pub sound : IsSound a'
-  pub steps : (r : RunningCall) → RunsAt a.sites.items p r → GoesBriefly (StepsUpTo (world_of a) p) r.client done (world_of a')
-  pub call : (r : RunningCall) → RunsAt a.sites.items p r → CallsBriefly (world_of a) r.client r.ask done (world_of a')
+  pub steps : (r : RunningCall) → RunsAt a.sites.items p r → IsOutcome (λ last. StepsUpTo (world_of a) p last (world_of a')) r.client r.ask (outcome_in (world_of a') result)
+  pub call : (r : RunningCall) → RunsAt a.sites.items p r → CallsOnce (world_of a) r.client r.ask (outcome_in (world_of a') result) (world_of a')
 
 -- there is no such partition
-pub finishes_nowhere : (a : Inside) (p : ℕ) → IsSound a → length a.sites.items ≤ p → Finishes a p false a
+pub finishes_nowhere : (a : Inside) (p : ℕ) → IsSound a → length a.sites.items ≤ p → Finishes a p (Err NoPartition) a
 finishes_nowhere a p h past =
     let w : WorldState = world_of a in
     record {
       sound = h;
-      steps = λ r at. (Err NoPartition, tt, steps_up_to w w w p zero (Err NoPartition) refl (no_site w p step_obstacle past, refl) h.world);
+      steps = λ r at. (Err NoPartition, refl, steps_up_to w w w p zero (Err NoPartition) refl (no_site w p step_obstacle past, refl) h.world);
       call = λ r at. none_itself w;
     }
 
 -- ---- a step is refused
-pub finishes_refused : (a : Inside) (p : ℕ) (s s' : SiteState) (refusal : SiteRefusal) → IsSound a → slice_get a.sites.items p ≡ Some s → SiteStepsUpTo s (Err refusal) s' → IsSite s' → Finishes a p false (at_place a p s')
+pub finishes_refused : (a : Inside) (p : ℕ) (s s' : SiteState) (refusal : SiteRefusal) → IsSound a → slice_get a.sites.items p ≡ Some s → SiteStepsUpTo s (Err refusal) s' → IsSite s' → Finishes a p (Err (Site refusal)) (at_place a p s')
 finishes_refused a p s s' refusal h here u whole =
     let mid : SiteState = u.mid in
     let b : Inside = at_place a p mid in
@@ -105,7 +106,7 @@ finishes_refused a p s s' refusal h here u whole =
     let told = told_same (world_of b) (world_of after) (Site refusal) t.sound.world r.1 in
     record {
       sound = sound_refused b after.sites t.sound r.1;
-      steps = λ k at. (Err (Site refusal), tt, steps_up_to (world_of a) (world_of b) (world_of after) p u.steps (Err (Site refusal)) t.moves r told.world);
+      steps = λ k at. (Err (Site refusal), refl, steps_up_to (world_of a) (world_of b) (world_of after) p u.steps (Err (Site refusal)) t.moves r told.world);
       call = λ k at. subst (CompletesNone (world_of a)) (sym r.1) t.none;
     }
 
@@ -154,7 +155,7 @@ pub record IsCompleted (a : Inside) (completed : CompletionsState) (clients : Ve
   pub freed : (c : Client) → slice_get a.clients.items completion.entry.client ≡ Some c → clients.items ≡ set a.clients.items completion.entry.client (record c { busy = false; seen = completion.entry.stamp })
 
 pub finishes_ended : (a : Inside) (p : ℕ) (s' : SiteState) (completed : CompletionsState) (clients : Vec Client Global) (completion : Completion) → IsLastStep a p s' completion → IsCompleted a completed clients completion
-    → Finishes a p true (after_end a (with_item a.sites p s') completed clients)
+    → Finishes a p (Ok tt) (after_end a (with_item a.sites p s') completed clients)
 finishes_ended a p s' completed clients completion l c =
     let t = l.before in
     let x = l.step in
@@ -167,10 +168,8 @@ finishes_ended a p s' completed clients completion l c =
     let ends : EndsAt (world_of b) p completion after = end_happens b sites completed clients p x.before x.after_it completion t.sound fields x.site x.steps.1 in
     record {
       sound = told.0;
-      steps = λ r at. ends_briefly w (world_of b) after p l.steps r.client r.ask completion t.moves (t.still r at) (end_at (world_of b) p step_obstacle completion sites.items x) ends told.1.world;
-      call = λ r at. (
-        completion.entry.reply,
-        then_called w (world_of b) after r.client r.ask (Some completion.entry.reply) refl t.none
-            (ends_call (world_of b) after p r.client r.ask completion completion.entry.reply told.1.serves ends refl (t.still r at)),
-      );
+      steps = λ r at. ends_by_steps w (world_of b) after p l.steps r.client r.ask completion t.moves (t.still r at) (end_at (world_of b) p step_obstacle completion sites.items x) ends told.1.world;
+      call = λ r at.
+          then_called w (world_of b) after r.client r.ask (Ok (last_reply after.completions)) refl t.none
+          (ends_call (world_of b) after p r.client r.ask completion (last_reply after.completions) told.1.serves ends (reply_left (world_of b) after p completion ends) (t.still r at));
     }

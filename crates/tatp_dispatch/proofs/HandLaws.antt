@@ -57,7 +57,7 @@ deny_leaves w w' p (Ok other) h = absurd h
 
 advance_leaves : (obstacle : Option Refusal) (w w' : WorldState) (p : ℕ) (answered : Result Answer Refusal) → AdvancesAt obstacle w p answered w' → hand_of w' ≡ hand_of w
 advance_leaves obstacle w w' p (Ok Moved) h = ap hand_of h.1.after
-advance_leaves obstacle w w' p (Ok (Ended client reply)) h = ap hand_of h.1.3.after
+advance_leaves obstacle w w' p (Ok (Ended client ask reply)) h = ap hand_of h.1.4.after
 advance_leaves obstacle w w' p (Err refusal) h = ap hand_of h.1
 advance_leaves obstacle w w' p (Ok other) h = absurd h
 

@@ -47,8 +47,7 @@ use Rattle.tatp_dispatch.proofs.IdleLaws.{NoneRuns, none_shown, none_set_back}
 use Rattle.tatp_dispatch.proofs.GatherLaws.{gathered_is, any_at}
 use Rattle.tatp_partition.proofs.NumberLaws.{length-opened_extents}
 use Rattle.tatp_dispatch.proofs.OpenLaws.{its_extent, IsNumberOf, numbers_of, whole_extent, site_place, site_places, stands_dealt}
-use Rattle.tatp_dispatch.proofs.PlaceLaws.{extent_found, extent_at_site, home_in, home_at_place, slot_has}
-use Rattle.tatp_dispatch.proofs.RowsLaws.{home_at_index}
+use Rattle.tatp_dispatch.proofs.PlaceLaws.{extent_found, extent_at_site, home_in, home_at_place, home_at_index, slot_has}
 use Rattle.tatp_dispatch.proofs.SlotLaws.{stands_here}
 
 -- ---- what holds of what is opened

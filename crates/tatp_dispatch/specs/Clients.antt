@@ -6,11 +6,11 @@ use Rattle.tatp_dispatch.specs.declared.client.Client.{Client}
 abbrev pub with_call_accepted : Client → Client
 with_call_accepted c = record c { accepted = c.accepted + 1; busy = true }
 
--- whose call was refused for want of memory
+-- a client to whose call memory was refused
 abbrev pub with_call_refused : Client → Client
 with_call_refused c = record c { refused = c.refused + 1; busy = false }
 
--- whose call has ended with this stamp
+-- a client whose call has ended with this stamp
 abbrev pub with_call_ended : ℕ → Client → Client
 with_call_ended stamp c = record c { busy = false; seen = stamp }
 

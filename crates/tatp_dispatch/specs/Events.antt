@@ -147,10 +147,11 @@ pub record EndsAt (w : WorldState) (p : ℕ) (completion : Completion) (w' : Wor
 -- one instruction more, unless it is refused for this
 abbrev pub AdvancesAt : Option Refusal → WorldState → ℕ → Answered → WorldState → Type 0
 AdvancesAt obstacle w p (Ok Moved) w' = (obstacle ≡ None) × MovesAt w p w'
-AdvancesAt obstacle w p (Ok (Ended client reply)) w' =
+AdvancesAt obstacle w p (Ok (Ended client ask reply)) w' =
     (obstacle ≡ None)
     × ((completion : Completion)
     × (client ≡ completion.entry.client)
+    × (ask ≡ completion.entry.ask)
     × (reply ≡ completion.entry.reply)
     × EndsAt w p completion w')
 AdvancesAt obstacle w p (Ok other) w' = ⊥

@@ -31,8 +31,8 @@ running_count sites = total (λ (s : SiteState). one s.running) sites
 abbrev pub parcel_count : List (Option ExtentState) → ℕ
 parcel_count parcels = total (λ x. one x) parcels
 
--- there is room for the completion of each running call, for the landing of each parcel in hand,
--- and in each queue for a call of each client
+-- memory is reserved for the completion of each running call, for the landing of each parcel in
+-- hand, and in each queue for a call of each client
 pub record HasRoom (a : Inside) : Type 0 where
   pub completions : running_count a.sites.items ≤ a.completions.room
   pub landings : vec_len a.landings + parcel_count a.parcels ≤ vec_capacity a.landings

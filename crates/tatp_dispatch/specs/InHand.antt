@@ -23,7 +23,7 @@ abbrev pub HasLanded : Event → Answered → ℕ → ExtentState → Type 0
 HasLanded event answered e parcel =
     (p : ℕ) × (event ≡ Give p e) × (answered ≡ Ok (Landed e parcel.moves))
 
--- the landing was told to the routes, which it has set or not
+-- the landing was handed to the routes, and a route was set by it or not
 abbrev pub WasTold : Event → Answered → LandedState → Type 0
 WasTold event answered landed =
     (event ≡ Tell landed.number landed.moves)

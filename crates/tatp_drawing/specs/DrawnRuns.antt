@@ -12,5 +12,5 @@ pub record IsDrawn (plan : BenchPlan) (drawn : Drawn) : Type 0 where
   pub rows : drawn.rows ≡ rows_drawn plan
   pub clean : IsClean (rows_drawn plan)
   pub calls : lists_of drawn.lists.items ≡ calls_drawn plan
-  pub moves : drawn.moves.moves.items ≡ moves_drawn plan
-  pub stops : drawn.moves.stops.items ≡ stops_drawn plan
+  pub moves : drawn.moves.items ≡ moves_drawn plan
+  pub stops : drawn.stops.items ≡ stops_drawn plan

@@ -17,19 +17,20 @@ use tatp_population::generate;
 use tatp_procs::Ask;
 use tatp_tables::Rows;
 use tatp_tasks::BenchPlan;
-use tatp_workers::Moves;
 
 /// What is drawn for a run: all that depends on its seed. [`draw`] makes it.
 #[derive(Drop)]
 pub struct Drawn {
     /// The population, beside which the run is settled.
-    population: Rows,
+    pub population: Rows,
     /// The population again, which the run consumes.
-    rows: Rows,
-    /// What each client asks.
-    lists: Vec<Vec<Ask>>,
-    /// What the mover and the debugger do.
-    moves: Moves,
+    pub rows: Rows,
+    /// What each client asks, client 0 first.
+    pub lists: Vec<Vec<Ask>>,
+    /// What the mover does: extents, and the partitions to which they are to be moved.
+    pub moves: Vec<(u32, u8)>,
+    /// What the debugger does: the partitions that are to be stopped.
+    pub stops: Vec<u8>,
 }
 
 /// The population of a plan.
@@ -45,19 +46,18 @@ fn draw_rows(alloc: Global, plan: &BenchPlan) -> Result<Rows, AllocError>
     )
 }
 
-/// What the mover and the debugger do.
-fn draw_work(alloc: Global, plan: &BenchPlan) -> Result<Moves, AllocError>
+/// What the mover does, and what the debugger does.
+fn draw_work(alloc: Global, plan: &BenchPlan) -> Result<(Vec<(u32, u8)>, Vec<u8>), AllocError>
     requires { IsPlan plan.now }
-    ensures moves { IfOk result (λ work. work.moves.items ≡ moves_drawn plan.now) }
-    ensures stops { IfOk result (λ work. work.stops.items ≡ stops_drawn plan.now) }
+    ensures moves { IfOk result (λ work. work.0.items ≡ moves_drawn plan.now) }
+    ensures stops { IfOk result (λ work. work.1.items ≡ stops_drawn plan.now) }
 {
     let extents = extent_count(plan.subscribers) as u32;
     let mut mover = Pcg64::new(plan.seed as u128, plan.clients as u128 + 1);
     let mut debugger = Pcg64::new(plan.seed as u128, plan.clients as u128 + 2);
-    Ok(Moves {
-        moves: draw_moves(alloc, plan.moves, extents, plan.partitions, &mut mover)?,
-        stops: draw_stops(alloc, plan.stops, plan.partitions, &mut debugger)?,
-    })
+    let moves = draw_moves(alloc, plan.moves, extents, plan.partitions, &mut mover)?;
+    let stops = draw_stops(alloc, plan.stops, plan.partitions, &mut debugger)?;
+    Ok((moves, stops))
 }
 
 /// The population, and what each client asks: each by a thread of its own, where one can be made.
@@ -100,26 +100,15 @@ pub fn draw<R: Threads + Sync>(rt: &R, alloc: Global, plan: &BenchPlan) -> Resul
             (λ lists. lists_of lists.items ≡ calls_drawn plan.entry.now) }
     { draw_rows_beside_calls(rt, alloc, plan) };
     let (population, (rows, lists)) = join(rt, population, others);
+    let population = population?;
+    let rows = rows?;
+    let lists = lists?;
+    let (moves, stops) = draw_work(alloc, plan)?;
     Ok(Drawn {
-        population: population?,
-        rows: rows?,
-        lists: lists?,
-        moves: draw_work(alloc, plan)?,
+        population,
+        rows,
+        lists,
+        moves,
+        stops,
     })
-}
-
-impl Drawn {
-    /// Its parts: the population, the rows of the run, what the clients ask, and what the mover and
-    /// the debugger do.
-    pub fn parts(self) -> (Rows, Rows, Vec<Vec<Ask>>, Moves)
-        ensures { result ≡ (self.population, self.rows, self.lists, self.moves) }
-    {
-        let Drawn {
-            population,
-            rows,
-            lists,
-            moves,
-        } = self;
-        (population, rows, lists, moves)
-    }
 }

@@ -9,7 +9,7 @@ use Rattle.tatp_procs.specs.declared.call.Call.TheVariants.{GetSubscriberData, G
 use Rattle.tatp_driver.specs.declared.distribution.Distribution.{Distribution}
 use Rattle.tatp_driver.specs.declared.distribution.Distribution.TheVariants.{Skewed, Uniform}
 
--- the place of the call among 100 calls of the mix
+-- the place of the call among 100 calls of the mix, 0 to 99
 abbrev pub place_in_mix : List ℕ → ℕ
 place_in_mix words = slice_index words 0 % 100
 
@@ -19,7 +19,7 @@ drawn_subscriber Skewed n words =
     1 + bit_or (slice_index words 1 % 65536) (1 + slice_index words 2 % n) % n
 drawn_subscriber Uniform n words = 1 + slice_index words 1 % n
 
--- of an Access_Info or a Special_Facility row
+-- the type of an Access_Info or a Special_Facility row, 1 to 4
 abbrev pub drawn_row_type : List ℕ → ℕ
 drawn_row_type words = 1 + slice_index words 3 % 4
 

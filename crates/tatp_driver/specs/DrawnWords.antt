@@ -1,4 +1,4 @@
--- The words that a client draws its calls from.
+-- The words from which a client draws its calls.
 use Rattle.std.specs.Prelude.{ℕ, zero, suc, ◌+◌, List, [], ◌∷◌, ◌++◌}
 use Rattle.rand_core.specs.Stream.{Stream, next_u64}
 use Rattle.rand_core.specs.Steps.{stream_of, steps_u64_low}
@@ -22,7 +22,7 @@ words_of generator = stream_of (steps_u64_low pcg64) generator
 abbrev pub client_generator : ℕ → ℕ → Lcg
 client_generator seed client = started 128 multiplier_128 seed (increment_of 128 (client + 1))
 
--- what a driver draws from, and the calls that it draws
+-- the generator from which a driver draws, and on which subscribers its calls are
 pub record DriverState : Type 0 where
   pub generator : Lcg
   pub subscribers : ℕ

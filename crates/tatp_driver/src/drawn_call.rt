@@ -8,7 +8,8 @@ use crate::Distribution;
 use tatp_limits::MAX_SUBSCRIBERS;
 use tatp_procs::Call;
 
-/// The call that seven words make, by the benchmark's mix.
+/// The call that seven words make, by the benchmark's mix, on one of the subscribers 1 to
+/// `subscribers`.
 pub fn call_of(words: &[u64; 7], subscribers: u64, distribution: Distribution) -> Call
     requires some { 1 ≤ subscribers }
     requires few { subscribers ≤ MAX_SUBSCRIBERS }
@@ -19,7 +20,7 @@ pub fn call_of(words: &[u64; 7], subscribers: u64, distribution: Distribution) -
     call_on(words, choose_subscriber(words, subscribers, distribution))
 }
 
-/// The subscriber, whose s_id is its number.
+/// The s_id of the subscriber that is called, which its number is made of too.
 fn choose_subscriber(words: &[u64; 7], subscribers: u64, distribution: Distribution) -> u64
     requires some { 1 ≤ subscribers }
     requires few { subscribers ≤ MAX_SUBSCRIBERS }
@@ -35,7 +36,7 @@ fn choose_subscriber(words: &[u64; 7], subscribers: u64, distribution: Distribut
     }
 }
 
-/// The call on this subscriber, by its place among 100 calls of the mix.
+/// The call on this subscriber, by its place, 0 to 99, among 100 calls of the mix.
 #[tactic(auto, unfolding(crate::specs::DrawnCall::call_on))]
 fn call_on(words: &[u64; 7], subscriber: u64) -> Call
     ensures { result ≡ call_on subscriber words.now }

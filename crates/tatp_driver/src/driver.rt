@@ -54,7 +54,7 @@ impl Driver {
         }
     }
 
-    /// The call of its next seven words.
+    /// The call that its next seven words make.
     pub fn next_call(&mut self) -> Call
         ensures call { result ≡ drawn_call self.old.distribution self.old.subscribers
             (next_words 7 (words_of self.old.generator)).0 }

@@ -46,8 +46,8 @@ pub enum Answer {
     Denied(u64),
     /// The running call goes on.
     Moved,
-    /// The client's call has ended with this reply.
-    Ended(u64, Reply),
+    /// The client's call has ended: what it asked, and the reply.
+    Ended(u64, Ask, Reply),
     /// The extent is in hand: its number, its moves.
     Parcel(u32, u16),
     /// The extent has landed: its number, its moves.
@@ -56,7 +56,7 @@ pub enum Answer {
     Set(u32, u8),
     /// The extent's route knew of as many moves or more.
     Superseded(u32),
-    /// The extent has handed out a chapter: its index, and how many entries it has.
+    /// The extent has handed out a chapter: the extent, the chapter's index, its number of entries.
     Chapter(u32, u16, u64),
     /// It is done.
     Done,

@@ -7,9 +7,8 @@ ghost use Rattle.tatp_explanations.specs.Numbers.{all_numbers};
 ghost use Rattle.tatp_explanations.specs.Texts.{line_text, explanation_text, Explains, IsListing, LeavesFront};
 ghost use Rattle.tatp_explanations.specs.Words.{AsksForNone};
 
-use crate::explanation::Line;
-use crate::search::END;
-use crate::{Explanation, explanation_asked, explanation_of};
+use crate::explanation::{Explanation, Line};
+use crate::search::{END, explanation_asked, explanation_of};
 use std::alloc::{AllocError, Global};
 use std::io::Write;
 use tatp_streams::{StreamFault, write_last};

@@ -7,7 +7,7 @@ use std::fmt;
 /// What the refusals and faults of one number mean. No text ends with a line feed, and no line
 /// that is written of one is wider than 80 columns.
 #[derive(Clone, Copy, Debug, PartialEq, Eq)]
-pub struct Explanation {
+pub(crate) struct Explanation {
     /// The number, which comes before the name wherever it is answered.
     pub number: u64,
     /// The name.

@@ -7,5 +7,3 @@ mod search;
 mod table;
 
 pub use commands::{run_explain, run_explain_all};
-pub use explanation::Explanation;
-pub use search::{explanation_asked, explanation_of};

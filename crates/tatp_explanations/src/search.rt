@@ -4,7 +4,7 @@ ghost use Rattle.tatp_explanations.specs.Names.{name_of};
 ghost use Rattle.tatp_explanations.specs.Numbers.{is_explained};
 ghost use Rattle.tatp_explanations.specs.Words.{IsNumber, AsksFor, AsksForNone};
 
-use crate::Explanation;
+use crate::explanation::Explanation;
 use crate::table::{
     about_changes, about_logs, about_machines, about_modules, about_openings, about_places,
     about_queues, about_rules, about_streams, about_texts,
@@ -34,7 +34,7 @@ fn explained(number: u64) -> Explanation
 }
 
 /// The explanation of a number, if it is one of a refusal or a fault.
-pub fn explanation_of(number: u64) -> Option<Explanation>
+pub(crate) fn explanation_of(number: u64) -> Option<Explanation>
     ensures own { IfSome result (λ row. row.number ≡ number) }
     ensures named { IfSome result (λ row. row.name.now ≡ name_of number) }
     ensures some { is_some result ≡ is_explained number }
@@ -82,7 +82,7 @@ fn explanation_named(word: &str) -> Option<Explanation>
 }
 
 /// The explanation that a word asks for, by its number or by its name, if it asks for one.
-pub fn explanation_asked(word: &str) -> Option<Explanation>
+pub(crate) fn explanation_asked(word: &str) -> Option<Explanation>
     ensures own { IfSome result (λ row. AsksFor word.now row.number) }
     ensures named { IfSome result (λ row. row.name.now ≡ name_of row.number) }
     ensures none { IfNone result (AsksForNone word.now) }

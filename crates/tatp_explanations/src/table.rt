@@ -2,7 +2,7 @@
 ghost use Rattle.std.specs.Prelude.{◌≡◌, ◌≤◌};
 ghost use Rattle.tatp_explanations.specs.Names.{name_of};
 
-use crate::Explanation;
+use crate::explanation::Explanation;
 
 /// The explanation of a number: the rows are number, name, meaning, example and advice. Each line
 /// of the last two is indented by two spaces.

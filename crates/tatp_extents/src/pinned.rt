@@ -1,16 +1,20 @@
 //! Pinned extents: extents while a call runs on one of their homes.
-ghost use Rattle.std.specs.Prelude.{◌≡◌, ◌≤◌, ◌↔◌, IsSome, length};
+ghost use Rattle.std.specs.Prelude.{◌≡◌, ◌≤◌, ◌↔◌, IsSome, OnOk, length};
 ghost use Rattle.std.specs.Option.{option_copied};
 ghost use Rattle.std.specs.Borrow.{sem};
 ghost use Rattle.tatp_extents.specs.Parts.{state_of, pinned_state_of};
 ghost use Rattle.tatp_extents.specs.Extents.{IsExtent, LiesIn, last_stamp_of, home_at, with_entry, as_mixed};
 ghost use Rattle.tatp_extents.specs.Pinning.{IsPinned, Logs, HasItsHome};
+ghost use Rattle.tatp_extents.specs.HomeRows.{with_homes};
 
 use crate::extent_numbers::first_subscriber;
+use crate::homes::add_rows;
 use crate::{Extent, ExtentParts};
+use std::alloc::AllocError;
 use std::marker::Model;
 use tatp_homes::Home;
 use tatp_procs::Entry;
+use tatp_tables::Rows;
 
 /// An extent while a call runs on the home of one of its subscribers. All its other homes are what
 /// its log makes of those at the last checkpoint, and there is room for the call's entry. It can be
@@ -105,6 +109,13 @@ impl Pinned {
     {
         let place = s_id.checked_sub(first_subscriber(self.parts.number))?;
         self.parts.homes.get(place as usize)
+    }
+
+    /// Appends the rows of its homes as they are now, home by home. An error may leave some.
+    pub fn add_rows(&self, rows: &mut Rows) -> Result<(), AllocError>
+        ensures { OnOk result (rows.new ≡ with_homes rows.old self.now.extent.homes) }
+    {
+        add_rows(&self.parts.homes, rows)
     }
 
     /// The home on which the call runs.

@@ -1,4 +1,4 @@
--- Configurations of the search: where it may be between two events.
+-- Configurations of the search: the states in which it may be between two events.
 use Rattle.std.specs.Prelude.{◌≡◌, ◌⊎◌, List, [], ◌∷◌, length}
 use Rattle.std.specs.List.{AllByRecursion}
 use Rattle.tatp_tables.specs.Database.{Database}
@@ -18,7 +18,7 @@ pub record Configuration : Type 0 where
 abbrev pub starting : Database → Configuration
 starting u = record { rows = u; opened = [] }
 
--- the second may follow on the first at the event
+-- the second configuration may follow on the first at the event
 abbrev pub Follows : Event → Configuration → Configuration → Type 0
 Follows (Asks x) c d = d ≡ record { rows = c.rows; opened = x ∷ c.opened }
 Follows (Ends asked at) c d =
@@ -26,7 +26,7 @@ Follows (Ends asked at) c d =
     ⊎ TakeEffect (length c.opened) (λ u opened. d ≡ record { rows = u; opened = opened }) asked
     c.rows c.opened
 
--- the events lead from the first to the second
+-- the events lead from the first configuration to the second
 abbrev pub Lead : List Event → Configuration → Configuration → Type 0
 Lead [] c d = d ≡ c
 Lead (event ∷ more) c d = (e : Configuration) × Follows event c e × Lead more e d
@@ -35,7 +35,7 @@ Lead (event ∷ more) c d = (e : Configuration) × Follows event c e × Lead mor
 abbrev pub LeadToSome : List Event → Configuration → (Configuration → Type 0) → Type 0
 LeadToSome events c Holds = (d : Configuration) × Lead events c d × Holds d
 
--- none of these was answered
+-- none of these calls was answered
 abbrev pub AreUnanswered : List Observed → Type 0
 AreUnanswered calls = AllByRecursion (λ (x : Observed). IsAnswered x.outcome → ⊥) calls
 

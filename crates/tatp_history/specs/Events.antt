@@ -8,7 +8,7 @@ use Rattle.tatp_history.specs.declared.observed.Outcome.TheVariants.{Answered, A
 use Rattle.tatp_history.specs.declared.observed.Observed.{Observed}
 use Rattle.tatp_history.specs.Histories.{IsAnswered}
 
--- the calls, as they are asked
+-- the calls that are asked in the events
 abbrev pub asked_in : List Event → List Observed
 asked_in [] = []
 asked_in (Asks x ∷ more) = x ∷ asked_in more
@@ -22,7 +22,7 @@ time_of (Ends asked at) = at
 abbrev pub AreAfter : ℕ → List Event → Type 0
 AreAfter time events = AllByRecursion (λ event. time < time_of event) events
 
--- their times rise
+-- the times of the events rise
 abbrev pub TimesRise : List Event → Type 0
 TimesRise [] = Unit {0}
 TimesRise (event ∷ more) = AreAfter (time_of event) more × TimesRise more
@@ -39,13 +39,13 @@ EndsIn x [] = ⊥
 EndsIn x (Asks y ∷ more) = EndsIn x more
 EndsIn x (Ends asked at ∷ more) = ((x.asked ≡ asked) × IsAnsweredAt at x.outcome) ⊎ EndsIn x more
 
--- each end of the call is where it was answered
+-- each end of the call is at the time at which the call was answered
 abbrev pub EndsFit : Observed → List Event → Type 0
 EndsFit x [] = Unit {0}
 EndsFit x (Asks y ∷ more) = EndsFit x more
 EndsFit x (Ends asked at ∷ more) = (x.asked ≡ asked → IsAnsweredAt at x.outcome) × EndsFit x more
 
--- each call that is answered has its end, later, and no other has one
+-- each call that is answered has its end among the later events, and no other call has one
 abbrev pub HaveEnds : List Event → Type 0
 HaveEnds [] = Unit {0}
 HaveEnds (Asks x ∷ more) = (IsAnswered x.outcome → EndsIn x more) × EndsFit x more × HaveEnds more

@@ -14,13 +14,13 @@ use Rattle.tatp_history.specs.declared.observed.Outcome.TheVariants.{Answered, A
 use Rattle.tatp_history.specs.declared.observed.Observed.{Observed}
 
 -- ---- how a call ended
--- it was answered
+-- the call was answered
 abbrev pub IsAnswered : Outcome → Type 0
 IsAnswered (Answered at recorded) = Unit {0}
 IsAnswered (Aborted at) = ⊥
 IsAnswered Unknown = ⊥
 
--- it was answered before this time
+-- the call was answered before this time
 abbrev pub IsAnsweredBefore : ℕ → Outcome → Type 0
 IsAnsweredBefore time (Answered at recorded) = at < time
 IsAnsweredBefore time (Aborted at) = ⊥
@@ -40,20 +40,20 @@ IsFailure (Failed number) = Unit {0}
 IsFailure (Trapped trap) = ⊥
 IsFailure Refused = ⊥
 
--- the reply is as its client recorded it
+-- a client that got this reply may have recorded this
 abbrev pub IsAsRecorded : Recorded → Reply → Type 0
 IsAsRecorded (Exactly recorded) reply = recorded ≡ reply
 IsAsRecorded Success reply = IsSuccess reply
 IsAsRecorded Failure reply = IsFailure reply
 
--- a call that took effect with this reply may have ended so. One that was aborted took no effect
+-- a call that took effect with this reply may have this outcome. An aborted call took no effect
 abbrev pub MayHaveReply : Outcome → Reply → Type 0
 MayHaveReply (Answered at recorded) reply = IsAsRecorded recorded reply
 MayHaveReply (Aborted at) reply = ⊥
 MayHaveReply Unknown reply = Unit {0}
 
 -- ---- calls
--- it is one of them
+-- the call is one of these
 abbrev pub IsIn : Observed → List Observed → Type 0
 IsIn x [] = ⊥
 IsIn x (y ∷ more) = (x ≡ y) ⊎ IsIn x more
@@ -62,14 +62,14 @@ IsIn x (y ∷ more) = (x ≡ y) ⊎ IsIn x more
 abbrev pub Precedes : Observed → Observed → Type 0
 Precedes first second = IsAnsweredBefore second.asked first.outcome
 
--- no two were asked at one time
+-- no two of the calls were asked at one time
 abbrev pub AreAskedApart : List Observed → Type 0
 AreAskedApart [] = Unit {0}
 AreAskedApart (x ∷ more) =
     AllByRecursion (λ (y : Observed). x.asked ≡ y.asked → ⊥) more × AreAskedApart more
 
 -- ---- orders
--- none stands before a call that precedes it in real time
+-- no call comes before one that precedes it in real time
 abbrev pub KeepsRealTime : List Observed → Type 0
 KeepsRealTime [] = Unit {0}
 KeepsRealTime (x ∷ more) =
@@ -100,7 +100,7 @@ IsStrictlySerializable before calls = (order : List Observed) × IsSerialOrder b
 abbrev pub rows_after : Database → List Observed → Database
 rows_after before order = (in_order before (map (λ (x : Observed). x.call) order)).database
 
--- it has one that leaves these rows
+-- what clients saw has a serial order that leaves these rows
 abbrev pub IsStrictlySerializableTo : Database → List Observed → Database → Type 0
 IsStrictlySerializableTo before calls after =
     (order : List Observed) × IsSerialOrder before calls order × (rows_after before order ≡ after)

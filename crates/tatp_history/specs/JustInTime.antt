@@ -1,5 +1,5 @@
--- Lowe's search, just in time: along the events of one subscriber's calls, calls take effect only
--- where one is answered.
+-- Lowe's search, just in time: it goes along the events of one subscriber's calls, and calls take
+-- effect only where one is answered.
 use Rattle.std.specs.Prelude.{◌≡◌, ℕ, zero, suc, ◌⊎◌, List, [], ◌∷◌, length}
 use Rattle.std.specs.List.{AllByRecursion}
 use Rattle.tatp_tables.specs.Database.{Database}
@@ -10,7 +10,7 @@ use Rattle.tatp_history.specs.declared.observed.Observed.{Observed}
 use Rattle.tatp_history.specs.Histories.{IsIn, IsAnswered, AreAskedApart, MayHaveReply}
 use Rattle.tatp_history.specs.Events.{AreAfter, EndsIn, EndsFit}
 
--- the call is one of these, and the others are left
+-- the call is one of these, and `left` are the others
 abbrev pub Chooses : List Observed → Observed → List Observed → Type 0
 Chooses [] x left = ⊥
 Chooses (y ∷ ys) x left =
@@ -20,8 +20,8 @@ Chooses (y ∷ ys) x left =
 abbrev pub NoneAskedAt : ℕ → List Observed → Type 0
 NoneAskedAt time opened = AllByRecursion (λ (x : Observed). x.asked ≡ time → ⊥) opened
 
--- of at most so many open calls some take effect, one after another, up to the one that was asked
--- at this time; and then it goes on
+-- open calls take effect one after another, at most this many, the last of them the one that was
+-- asked at this time; and of the database and the open calls that they leave, `goes_on` holds
 abbrev pub TakeEffect
     : ℕ → (Database → List Observed → Type 0) → ℕ → Database → List Observed → Type 0
 TakeEffect zero goes_on asked u opened = ⊥
@@ -39,8 +39,8 @@ Explains (Ends asked at ∷ more) u opened =
     (NoneAskedAt asked opened × Explains more u opened)
     ⊎ TakeEffect (length opened) (Explains more) asked u opened
 
--- of the open calls: those answered end later, there and nowhere else, and they were asked before,
--- and apart
+-- each open call that was answered has its end in the events, each end there of an open call is the
+-- one it had, and the open calls were asked before the events, no two at one time
 pub record AreOpen (events : List Event) (opened : List Observed) : Type 0 where
   pub ends : (z : Observed) → IsIn z opened → IsAnswered z.outcome → EndsIn z events
   pub fit : (z : Observed) → IsIn z opened → EndsFit z events

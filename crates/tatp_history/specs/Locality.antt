@@ -37,28 +37,28 @@ FailWithout u calls =
     AllByRecursion (λ (x : Observed). FailsWithout (subscriber_of u x.call) x.outcome) calls
 
 -- ---- calls
--- none was answered before it was asked
+-- no call was answered before it was asked
 abbrev pub AreInTime : List Observed → Type 0
 AreInTime calls = AllByRecursion (λ (x : Observed). Precedes x x → ⊥) calls
 
--- their arguments are in their domains
+-- the arguments of the calls are in their domains
 abbrev pub AreAccepted : List Observed → Type 0
 AreAccepted calls = AllByRecursion (λ (x : Observed). arguments_accepted x.call ≡ Ok tt) calls
 
--- calls of clients: no two asked at one time, none answered before it was asked, arguments in their
--- domains
+-- clients can have made these calls: no two were asked at one time, none was answered before it was
+-- asked, and their arguments are in their domains
 pub record AreCalls (calls : List Observed) : Type 0 where
   pub apart : AreAskedApart calls
   pub in_time : AreInTime calls
   pub accepted : AreAccepted calls
 
 -- ---- subscriber by subscriber
--- each subscriber's calls are strictly serializable on its rows, and those of none fail
+-- each subscriber's calls are strictly serializable on its rows, and calls that name none fail
 pub record IsSerializableAtEach (u : Database) (calls : List Observed) : Type 0 where
   pub each : (s : ℕ) → IsStrictlySerializable (of_subscriber u s) (calls_on u s calls)
   pub none : FailWithout u calls
 
--- of each subscriber's calls some serial order leaves its rows, and those of none fail
+-- a serial order of each subscriber's calls leaves its rows, and calls that name none fail
 pub record IsSerializableToEach (u : Database) (calls : List Observed) (after : Database)
     : Type 0 where
   pub each : (s : ℕ)

@@ -4,13 +4,13 @@ use Rattle.tatp_history.specs.declared.observed.Outcome.{Outcome}
 use Rattle.tatp_history.specs.declared.observed.Outcome.TheVariants.{Answered, Aborted, Unknown}
 use Rattle.tatp_history.specs.declared.observed.Observed.{Observed}
 
--- whether it wasn't aborted
+-- whether a call with this outcome may have taken effect: it wasn't aborted
 abbrev pub may_take_effect : Outcome → Bool
 may_take_effect (Answered at recorded) = true
 may_take_effect (Aborted at) = false
 may_take_effect Unknown = true
 
--- whether it was answered
+-- whether a call with this outcome has taken effect: it was answered
 abbrev pub takes_effect : Outcome → Bool
 takes_effect (Answered at recorded) = true
 takes_effect (Aborted at) = false

@@ -1,4 +1,4 @@
--- The events of one subscriber's calls, as the lines of a history tell them.
+-- The events of one subscriber's calls, as the lines of a history record them.
 use Rattle.std.specs.Prelude.{◌≡◌, ℕ, suc, ◌==◌, if◌then◌else◌, List, [], ◌∷◌, Option, Some, None}
 use Rattle.tatp_tables.specs.Database.{Database}
 use Rattle.tatp_history.specs.declared.line.Line.{Line}
@@ -27,7 +27,7 @@ opened_by u s number opened (End client recorded) = with_call opened client None
 opened_by u s number opened (Abort client) = with_call opened client None
 opened_by u s number opened (Lost client) = with_call opened client None
 
--- the open calls after lines the first of which has this number
+-- the open calls after lines of which the first has this number
 abbrev pub opened_after : Database → ℕ → ℕ → OpenCalls → List Line → OpenCalls
 opened_after u s number opened [] = opened
 opened_after u s number opened (line ∷ more) =
@@ -38,12 +38,12 @@ abbrev pub NothingIsOpen : Database → ℕ → List Line → Type 0
 NothingIsOpen u s lines = (client : ℕ) → opened_after u s 1 no_calls lines client ≡ None
 
 -- ---- events
--- the end of the call that was asked then, before other events
+-- the end of the call that was asked at this time, if there is one, before other events
 abbrev pub end_before : Option ℕ → ℕ → List Event → List Event
 end_before None number events = events
 end_before (Some asked) number events = Ends asked number ∷ events
 
--- the events in lines the first of which has this number, where these calls are open
+-- the events in lines of which the first has this number, where these calls are open
 abbrev pub events_with : Database → ℕ → ℕ → OpenCalls → List Line → List Event
 events_with u s number opened [] = []
 events_with u s number opened (Ask client call ∷ more) =
@@ -59,7 +59,7 @@ events_with u s number opened (Abort client ∷ more) =
 events_with u s number opened (Lost client ∷ more) =
     events_with u s (suc number) (with_call opened client None) more
 
--- the events in lines the first of which has this number, where no call is open
+-- the events in lines of which the first has this number, where no call is open
 abbrev pub events_from : Database → ℕ → ℕ → List Line → List Event
 events_from u s number lines = events_with u s number no_calls lines
 

@@ -9,7 +9,7 @@ use Rattle.tatp_history.specs.declared.observed.Recorded.TheVariants.{Exactly}
 use Rattle.tatp_history.specs.declared.observed.Observed.{Observed}
 use Rattle.tatp_history.specs.Histories.{IsAnswered, Precedes}
 
--- each was answered before all later ones were asked
+-- each call was answered before any later one was asked
 abbrev pub AreInTurn : List Observed → Type 0
 AreInTurn [] = Unit {0}
 AreInTurn (x ∷ more) =

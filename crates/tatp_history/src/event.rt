@@ -9,9 +9,9 @@ pub enum Event {
     Asks(Observed),
     /// The call that was asked at a time is answered at another.
     Ends {
-        /// When it was asked.
+        /// The time at which it was asked.
         asked: u64,
-        /// When it is answered.
+        /// The time at which it is answered.
         at: u64,
     },
 }

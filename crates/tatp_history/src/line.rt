@@ -3,16 +3,16 @@
 use crate::Recorded;
 use tatp_procs::Call;
 
-/// What the driver of a client wrote of its calls. Lines stand in the order of time: that a client
-/// asks is written before its call is sent, and how the call ended after that is known.
+/// What the driver of a client wrote about its calls, in the order of time. It writes that the
+/// client asks before it sends the call, and how the call ended once the client knows that.
 #[derive(Clone, Copy, Debug, PartialEq, Eq)]
 pub enum Line {
-    /// A client asks.
+    /// The client asks.
     Ask { client: u64, call: Call },
-    /// Its open call is answered.
+    /// The client's open call is answered.
     End { client: u64, recorded: Recorded },
-    /// Its open call is aborted, and changed nothing.
+    /// The client's open call is aborted, and it changed nothing.
     Abort { client: u64 },
-    /// Its open call will never be answered.
+    /// The client's open call will never be answered.
     Lost { client: u64 },
 }

@@ -7,11 +7,11 @@ use tatp_procs::{Call, Reply};
 /// What a client recorded of a reply.
 #[derive(Clone, Copy, Debug, PartialEq, Eq)]
 pub enum Recorded {
-    /// This reply.
+    /// The client recorded this reply.
     Exactly(Reply),
-    /// A success, whatever its values.
+    /// It recorded that the call succeeded, and no values.
     Success,
-    /// A failure, whatever its number.
+    /// It recorded that the call failed, and no number.
     Failure,
 }
 
@@ -20,14 +20,14 @@ pub enum Recorded {
 pub enum Outcome {
     /// It was answered.
     Answered {
-        /// When.
+        /// The time of the answer.
         at: u64,
-        /// How.
+        /// What the client recorded of the reply.
         recorded: Recorded,
     },
     /// It was aborted, and changed nothing.
     Aborted {
-        /// When.
+        /// The time at which it was aborted.
         at: u64,
     },
     /// No answer came, and none will: it takes effect at any time after it was asked, or never.
@@ -37,7 +37,7 @@ pub enum Outcome {
 /// A call as its client saw it.
 #[derive(Clone, Copy, Debug, PartialEq, Eq)]
 pub struct Observed {
-    /// When it was asked.
+    /// The time at which it was asked: in a history the number of its line.
     pub asked: u64,
     /// What was asked.
     pub call: Call,
@@ -46,7 +46,7 @@ pub struct Observed {
 }
 
 impl Recorded {
-    /// Whether a reply is as it was recorded.
+    /// Whether a client that got the reply may have recorded this.
     fn allows(&self, reply: &Reply) -> bool
         ensures { IsTrue result ↔ IsAsRecorded self.now reply.now }
     {
@@ -59,7 +59,7 @@ impl Recorded {
 }
 
 impl Outcome {
-    /// Whether a call that took effect with this reply may have ended so.
+    /// Whether a call that took effect with this reply may have had this outcome.
     pub fn allows(&self, reply: &Reply) -> bool
         ensures { IsTrue result ↔ MayHaveReply self.now reply.now }
     {

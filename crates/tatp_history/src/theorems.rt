@@ -60,7 +60,7 @@ pub fn equal_rows_of_each_subscriber_are_equal_databases()
 {}
 
 /// Calls of which no two overlap are strictly serializable exactly where each has the reply of its
-/// transaction, in their order; so it is with the history of a client that waits for each reply.
+/// transaction, in their order. The same holds of a history whose one client waits for each reply.
 pub fn calls_in_turn_are_answered_in_order()
     ensures calls { (u : Database) (calls : List Observed)
         → AreInTurn calls → AreInTime calls
@@ -70,7 +70,7 @@ pub fn calls_in_turn_are_answered_in_order()
         ↔ (replies_had pairs ≡ (in_order u (calls_made pairs)).replies)) }
 {}
 
-/// Calls that were aborted change nothing, and those of unknown outcome may.
+/// Calls that were aborted change nothing, and calls of unknown outcome may change rows.
 pub fn only_answered_calls_have_to_take_effect()
     ensures aborted { (u : Database) (calls : List Observed)
         → (IsStrictlySerializable u (without_aborted calls) ↔ IsStrictlySerializable u calls) }
@@ -104,8 +104,8 @@ pub fn reads_may_take_effect_at_once()
     ensures access { (s t : ℕ) → IsRead (GetAccessData s t) }
 {}
 
-/// What clients had seen by any time is strictly serializable where all that they saw is; and a
-/// history's first lines tell what they had seen by the last of these.
+/// Where all that clients saw is strictly serializable, so is what they had seen by any time. The
+/// first lines of a history give what clients had seen by the time of the last of these lines.
 pub fn prefixes_are_strictly_serializable()
     ensures times { (time : ℕ) (u : Database) (calls : List Observed)
         → AreInTime calls

@@ -105,31 +105,27 @@ refused_before n lines (Stream NoMemory) h = tt
 refused_before n lines (Stream ReadFault) h = tt
 refused_before n lines (Stream WriteFault) h = absurd h
 
--- ---- an input that is rows alone
-pub rows_of_input : (start : LineReaderState) (limit : ℕ) (known : Option (List ℕ)) (left : Option LinesLeft) (rows : Rows) (n : ℕ) → start ≡ nothing_taken limit
-    → Relates (lines_left start known) left (TakesRows false rows start.number n) → IfSome known (λ input. rows_of_lines 1 (lines_of input) ≡ Ok rows)
-rows_of_input start limit known left rows n e h =
-    of_input known limit (λ all. rows_of_lines 1 all.lines ≡ Ok rows)
-    (relates_all (lines_left (nothing_taken limit) known) left (TakesRows false rows 0 n) (λ all. rows_of_lines 1 all.lines ≡ Ok rows) (rw e at h) (λ a l t. rows_without_dot 1 a.lines rows t.part.later t.read))
+-- ---- lines that are rows up to their end
+pub rows_to_end : (all left : Option LinesLeft) (rows : Rows) (n m : ℕ) → Relates all left (TakesRows false rows n m) → IfSome all (λ a. rows_of_lines (n + 1) a.lines ≡ Ok rows)
+rows_to_end all left rows n m h = relates_all all left (TakesRows false rows n m) (λ a. rows_of_lines (n + 1) a.lines ≡ Ok rows) h (λ a l t. rows_without_dot (n + 1) a.lines rows t.part.later t.read)
 
-pub input_within : (start : LineReaderState) (limit : ℕ) (known : Option (List ℕ)) (left : Option LinesLeft) (rows : Rows) (n : ℕ) → start ≡ nothing_taken limit
-    → Relates (lines_left start known) left (TakesRows false rows start.number n) → IfSome known (λ input. length input ≤ limit)
-input_within start limit known left rows n e h =
-    of_input known limit (λ all. IsWithinLimit all.input)
-    (relates_all (lines_left (nothing_taken limit) known) left (TakesRows false rows 0 n) (λ all. IsWithinLimit all.input) (rw e at h) (λ a l t. t.part.within refl))
+pub all_within : (all left : Option LinesLeft) (rows : Rows) (n m : ℕ) → Relates all left (TakesRows false rows n m) → IfSome all (λ a. IsWithinLimit a.input)
+all_within all left rows n m h = relates_all all left (TakesRows false rows n m) (λ a. IsWithinLimit a.input) h (λ a l t. t.part.within refl)
 
-pub dot_refused : (start : LineReaderState) (limit : ℕ) (known : Option (List ℕ)) (left : Option LinesLeft) (rows : Rows) (n : ℕ) → start ≡ nothing_taken limit
-    → Relates (lines_left start known) left (TakesRows true rows start.number n) → IfSome known (λ input. rows_of_lines 1 (lines_of input) ≡ Err n)
-dot_refused start limit known left rows n e h =
-    of_input known limit (λ all. rows_of_lines 1 all.lines ≡ Err n)
-    (relates_all (lines_left (nothing_taken limit) known) left (TakesRows true rows 0 n) (λ all. rows_of_lines 1 all.lines ≡ Err n) (rw e at h)
-    (λ a l t. rows_with_dot 1 a.lines l.lines rows n t.part.later t.read (omega (arith, t.part.counted))))
+pub dot_refused : (all left : Option LinesLeft) (rows : Rows) (n m : ℕ) → Relates all left (TakesRows true rows n m) → IfSome all (λ a. rows_of_lines (n + 1) a.lines ≡ Err m)
+dot_refused all left rows n m h =
+    relates_all all left (TakesRows true rows n m) (λ a. rows_of_lines (n + 1) a.lines ≡ Err m) h (λ a l t. rows_with_dot (n + 1) a.lines l.lines rows m t.part.later t.read (omega (arith, t.part.counted)))
 
-pub input_refused : (start : LineReaderState) (limit : ℕ) (known : Option (List ℕ)) (fault : InputFault) → start ≡ nothing_taken limit
-    → IfSome (lines_left start known) (λ all. RefusesReading (rows_of_lines (start.number + 1) (before_dot all.lines)) fault) → IfSome known (λ input. RefusesReading (rows_of_lines 1 (lines_of input)) fault)
-input_refused start limit known fault e h =
-    of_input known limit (λ all. RefusesReading (rows_of_lines 1 all.lines) fault)
-    (IfSome_then (lines_left (nothing_taken limit) known) (rw e at h) (λ all refused. refused_before 1 all.lines fault refused))
+pub front_refused : (all : Option LinesLeft) (n : ℕ) (fault : InputFault) → IfSome all (λ a. RefusesReading (rows_of_lines (n + 1) (before_dot a.lines)) fault) → IfSome all (λ a. RefusesReading (rows_of_lines (n + 1) a.lines) fault)
+front_refused all n fault h = IfSome_then all h (λ a refused. refused_before (n + 1) a.lines fault refused)
+
+-- of an input that is rows alone
+pub of_rows : (start : LineReaderState) (limit : ℕ) (known : Option (List ℕ)) (P : Result Rows ℕ → Type 0) → start ≡ nothing_taken limit → IfSome (lines_left start known) (λ all. P (rows_of_lines (start.number + 1) all.lines))
+    → IfSome known (λ input. P (rows_of_lines 1 (lines_of input)))
+of_rows start limit known P e h = of_input known limit (λ all. P (rows_of_lines 1 all.lines)) (rw e at h)
+
+pub input_within : (start : LineReaderState) (limit : ℕ) (known : Option (List ℕ)) → start ≡ nothing_taken limit → IfSome (lines_left start known) (λ all. IsWithinLimit all.input) → IfSome known (λ input. length input ≤ limit)
+input_within start limit known e h = of_input known limit (λ all. IsWithinLimit all.input) (rw e at h)
 
 -- ---- the work that lines bring
 pub brought_rows : (n : ℕ) (lines calls : List (List ℕ)) (rows : Rows) → after_dot lines ≡ Some calls → rows_of_lines n (before_dot lines) ≡ Ok rows

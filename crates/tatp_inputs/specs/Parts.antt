@@ -1,4 +1,4 @@
--- The parts of an input: what stands before a first line `.`, and what follows it: docs/FORMATS.md.
+-- The parts of an input: the lines before the first line `.` and those after it: docs/FORMATS.md.
 use Rattle.std.specs.Prelude.{◌≡◌, ℕ, ◌+◌, Bool, false, List, [], ◌∷◌, ◌++◌, length, Option, Some, None, bytes_eq, codes, if◌then◌else◌}
 use Rattle.tatp_streams.specs.LineReading.{LinesLeft, IsWithinLimit}
 
@@ -16,8 +16,8 @@ after_dot [] = None
 after_dot (line ∷ more) = if is_dot line then Some more else after_dot more
 
 -- ---- taking a part
--- the lines up to the first line `.` are taken, or all of them where there is none; before it and
--- after it so many lines are taken in all
+-- the lines up to the first line `.` are taken, or all of them where there is none; `before` and
+-- `after` say how many lines were taken in all before this and after it
 pub record TakesPart (dot : Bool) (before after : ℕ) (all left : LinesLeft) : Type 0 where
   pub later : after_dot all.lines ≡ (if dot then Some left.lines else None)
   pub counted : after ≡ before + length (before_dot all.lines) + (if dot then 1 else 0)
@@ -34,7 +34,7 @@ text_of (line ∷ more) = line ++ 10 ∷ text_of more
 abbrev pub text_before_dot : List (List ℕ) → List ℕ
 text_before_dot lines = text_of (before_dot lines)
 
--- such a part is taken, which is this text
+-- such a part is taken, and its text is this one
 pub record TakesText (dot : Bool) (text : List ℕ) (before after : ℕ) (all left : LinesLeft)
     : Type 0 where
   pub told : text ≡ text_before_dot all.lines

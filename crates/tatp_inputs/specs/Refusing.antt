@@ -4,8 +4,8 @@ use Rattle.tatp_streams.specs.declared.fault.StreamFault.TheVariants.{WriteFault
 use Rattle.tatp_inputs.specs.declared.fault.InputFault.{InputFault}
 use Rattle.tatp_inputs.specs.declared.fault.InputFault.TheVariants.{BadLine, Stream}
 
--- by what was to be read, or the number of the line that is wrong. A reader can fail, and memory
--- run out, at any of them
+-- `read` is what was to be read, or the number of the line that is wrong. At any line the reader
+-- can fail, and memory can run out
 abbrev pub RefusesReading : {A : Type 0} → Result A ℕ → InputFault → Type 0
 RefusesReading read (BadLine n) = read ≡ Err n
 RefusesReading read (Stream WriteFault) = ⊥

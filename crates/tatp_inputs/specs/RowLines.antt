@@ -8,11 +8,11 @@ use Rattle.tatp_tables.specs.declared.row.Rows.{Rows}
 use Rattle.tatp_population.specs.PopulationText.{on_rows, row_first, in_tables}
 use Rattle.tatp_inputs.specs.Parts.{before_dot, TakesPart}
 
--- the row that a line is, which has to be text
+-- the row that a line is, if it is UTF-8 and a row
 unfoldable pub row_in : List ℕ → Option Row
 row_in line = if is_utf8 line then row_of line else None
 
--- the rows that the lines from line n on are; else the number of the first that is no row
+-- the rows that the lines from line n on are, or the number of the first line that is no row
 abbrev pub rows_from : ℕ → List (List ℕ) → Result (List Row) ℕ
 rows_from n [] = Ok []
 rows_from n (line ∷ more) = row_first n (row_in line) (rows_from (n + 1) more)

@@ -21,21 +21,21 @@ pub record IsVerdictOn (input : List ℕ) (verdict : Verdict) : Type 0 where
 abbrev pub verdict_line : Verdict → List ℕ
 verdict_line verdict = verdict_text verdict ++ 10 ∷ []
 
--- the text tells the verdict
+-- the text is the line of the verdict on the input
 pub record TellsVerdict (input : List ℕ) (text : List ℕ) : Type 0 where
   pub verdict : Verdict
   pub found : IsVerdictOn input verdict
   pub told : text ≡ verdict_line verdict
 
--- old and new are the bytes that a writer holds: new has the verdict besides, and clean is whether
--- it says so
+-- old and new are the bytes that a writer holds: new is old and then the verdict, and `clean` is
+-- whether the verdict is that the rows are clean
 pub record WritesVerdict (input : List ℕ) (old new : Option (List ℕ)) (clean : Bool) : Type 0 where
   pub verdict : Verdict
   pub found : IsVerdictOn input verdict
   pub written : Appends old new (verdict_line verdict)
   pub says : clean ≡ says_clean verdict
 
--- what each fault tells of the input, and leaves
+-- what each fault says of the input, and what it leaves of the output
 abbrev pub LeavesVerdict : List ℕ → Option (List ℕ) → Option (List ℕ) → InputFault → Type 0
 LeavesVerdict input old new (BadLine n) =
     (rows_of_lines 1 (lines_of input) ≡ Err n) × Appends old new []

@@ -19,15 +19,15 @@ pub record Work : Type 0 where
   pub rows : Rows
   pub lines : List (List ℕ)
 
--- ---- lines that bring both
--- by the rows before the line `.`, and the lines after it; where that line is missing, its number
--- would be n
+-- ---- lines that have both
+-- the work of the rows before the line `.` and the lines after it, or the number of the wrong line;
+-- where the line `.` is missing, this number is n
 abbrev pub work_by : ℕ → Result Rows ℕ → Option (List (List ℕ)) → Result Work ℕ
 work_by n (Err bad) after = Err bad
 work_by n (Ok rows) None = Err n
 work_by n (Ok rows) (Some lines) = Ok (record { rows = rows; lines = lines })
 
--- the work that the lines from line n on bring; else the number of the line that is wrong
+-- the work of the lines from line n on, or the number of the line that is wrong
 abbrev pub brought : ℕ → List (List ℕ) → Result Work ℕ
 brought n lines =
     work_by (n + length lines) (rows_of_lines n (before_dot lines)) (after_dot lines)
@@ -36,8 +36,8 @@ brought n lines =
 abbrev pub lines_of_rows : List (List ℕ) → ℕ
 lines_of_rows lines = length (before_dot lines) + 1
 
--- of all these lines the first bring these rows, and the others are left; before them and after
--- them so many lines are taken in all
+-- of all these lines the first are these rows, and the others are left; `before` and `after` say
+-- how many lines were taken in all before this and after it
 pub record BringsLines (rows : Rows) (before after : ℕ) (all left : LinesLeft) : Type 0 where
   pub work : brought (before + 1) all.lines ≡ Ok (record { rows = rows; lines = left.lines })
   pub counted : after ≡ before + lines_of_rows all.lines
@@ -51,7 +51,7 @@ generated n seed =
     (drawn.population next_u64 n (stream_of (steps_u64_low pcg64) start)).0
 
 -- ---- either
--- the lines from line n on bring both, or the rows are drawn and all of them are answered
+-- the lines from line n on have both, or the rows are drawn and all of the lines are answered
 abbrev pub work_of : Population → ℕ → List (List ℕ) → Result Work ℕ
 work_of Read n lines = brought n lines
 work_of (Generated count seed) n lines =
@@ -62,8 +62,8 @@ abbrev pub lines_before : Population → List (List ℕ) → ℕ
 lines_before Read lines = lines_of_rows lines
 lines_before (Generated count seed) lines = 0
 
--- of all these lines the work has these rows, and those that are left; before it is brought and
--- after so many lines are taken in all
+-- the work of all these lines has these rows, and the lines that are left; `before` and `after` say
+-- how many lines were taken in all before this and after it
 pub record BringsWork (population : Population) (rows : Rows) (before after : ℕ)
     (all left : LinesLeft) : Type 0 where
   pub work : work_of population (before + 1) all.lines

@@ -14,7 +14,7 @@ use std::io::{Read, Write};
 use tatp_audits::{Verdict, audit};
 use tatp_streams::write_last;
 
-/// The verdict on the rows that an input is.
+/// The verdict on the rows that an input is, of which at most `input_limit` bytes are read.
 fn judged<R: Read>(alloc: Global, reader: &mut R, input_limit: usize) -> Result<Verdict, InputFault>
     requires limit { IsInputLimit input_limit }
     ensures verdict { IfOk result (λ verdict.
@@ -28,15 +28,15 @@ fn judged<R: Read>(alloc: Global, reader: &mut R, input_limit: usize) -> Result<
     Ok(audit(alloc, &rows)?)
 }
 
-/// The line of a verdict.
+/// The line of a verdict. `Err` means that memory was refused.
 fn line_of(alloc: Global, verdict: Verdict) -> Result<String, AllocError>
     ensures { IfOk result (λ line. string_bytes line ≡ verdict_line verdict) }
 {
     format!(in alloc; "{verdict}\n")
 }
 
-/// Reads rows, so many bytes at most, and writes the verdict on them. Whether it is that they are
-/// clean.
+/// Reads rows, at most `input_limit` bytes, and writes the verdict on them. `Ok` says whether the
+/// verdict is that they are clean.
 pub fn run_audit<R: Read, W: Write>(
     alloc: Global,
     reader: &mut R,

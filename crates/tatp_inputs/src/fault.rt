@@ -7,12 +7,12 @@ use std::alloc::{AllocError, AllocFailed};
 use tatp_streams::StreamFault;
 use thiserror::Error;
 
-/// Why an input isn't taken, or what comes of it isn't written. Its text is a number, a name and
+/// Why an input isn't taken, or the answer to it isn't written. Its text is a number, a name and
 /// details.
 #[derive(Clone, Copy, Debug, PartialEq, Eq, Error)]
 pub enum InputFault {
-    /// The line with this number, counted from 1, is no row; or it is the first after the last and
-    /// the line `.` is missing.
+    /// The line with this number, counted from 1, is no row; or the line `.` is missing, and would
+    /// have this number.
     #[error("5 BadLine {0}")]
     BadLine(u64),
     /// Reading or writing ends early.

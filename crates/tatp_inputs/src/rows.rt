@@ -1,7 +1,7 @@
 //! Rows from the lines of an input.
 ghost use Rattle.std.specs.Prelude.{◌≡◌, ◌+◌, ◌≤◌, Ok, IfOk, IfErr, IfSome, OnOk, length};
 ghost use Rattle.tatp_lines.specs.Lines.{lines_of};
-ghost use Rattle.tatp_streams.specs.LineReading.{lines_left, Relates};
+ghost use Rattle.tatp_streams.specs.LineReading.{lines_left, IsWithinLimit, Relates};
 ghost use Rattle.tatp_tasks.specs.Populations.{IsInputLimit};
 ghost use Rattle.tatp_inputs.specs.Refusing.{RefusesReading};
 ghost use Rattle.tatp_inputs.specs.Parts.{before_dot};
@@ -20,11 +20,11 @@ use tatp_texts::read_row;
 #[derive(Drop)]
 struct Front {
     rows: Rows,
-    /// Whether there is such a line.
+    /// Whether there is a line `.`.
     dot: bool,
 }
 
-/// The row that a line is, which has to be text.
+/// The row that a line is. `None` means that the line isn't UTF-8, or is no row.
 #[tactic(auto, unfolding(crate::specs::RowLines::row_in))]
 fn row_in(line: &[u8]) -> Option<Row>
     ensures { result ≡ row_in line.now }
@@ -64,7 +64,30 @@ fn read_front<R: Read>(
     }
 }
 
-/// The rows that all lines of an input are, of which so many bytes are read at most.
+/// The rows that all lines left of an input are.
+pub fn read_rows_to_end<R: Read>(
+    alloc: Global,
+    lines: &mut LineReader,
+    reader: &mut R,
+) -> Result<Rows, InputFault>
+    ensures rows { IfOk result (λ rows.
+        IfSome (lines_left lines.old (R.remaining reader.old)) (λ all.
+        rows_of_lines (lines.old.number + 1) all.lines ≡ Ok rows)) }
+    ensures limit { OnOk result (IfSome (lines_left lines.old (R.remaining reader.old))
+        (λ all. IsWithinLimit all.input)) }
+    ensures faults { IfErr result (λ fault.
+        IfSome (lines_left lines.old (R.remaining reader.old)) (λ all.
+        RefusesReading (rows_of_lines (lines.old.number + 1) all.lines) fault)) }
+{
+    let Front { dot, rows } = read_front(alloc, lines, reader)?;
+    if dot {
+        Err(InputFault::BadLine(lines.number()))
+    } else {
+        Ok(rows)
+    }
+}
+
+/// The rows that all lines of an input are, of which at most `input_limit` bytes are read.
 pub(crate) fn read_rows<R: Read>(
     alloc: Global,
     reader: &mut R,
@@ -79,15 +102,10 @@ pub(crate) fn read_rows<R: Read>(
         RefusesReading (rows_of_lines 1 (lines_of input)) fault)) }
 {
     let mut lines = LineReader::new(alloc, input_limit);
-    let Front { rows, dot } = read_front(alloc, &mut lines, reader)?;
-    if dot {
-        Err(InputFault::BadLine(lines.number()))
-    } else {
-        Ok(rows)
-    }
+    read_rows_to_end(alloc, &mut lines, reader)
 }
 
-/// The rows of the lines before the line `.`. The lines after it are left.
+/// The rows of the lines before the line `.`. The lines after it are left to be taken.
 pub(crate) fn read_work<R: Read>(
     alloc: Global,
     lines: &mut LineReader,

@@ -11,19 +11,20 @@ use tatp_streams::{LineReader, StreamFault};
 /// The text of the lines before a line `.` or the end.
 #[derive(Drop)]
 pub struct FrontText {
-    /// Each line with its line feed, which the last may have lacked.
+    /// Each line with its line feed, which the last line may have lacked.
     pub text: Vec<u8>,
-    /// Whether there is such a line.
+    /// Whether there is a line `.`.
     pub dot: bool,
 }
 
-pub(crate) fn is_dot(line: &[u8]) -> bool
+/// Whether a line is the one that parts what an input brings.
+pub fn is_dot(line: &[u8]) -> bool
     ensures { result ≡ is_dot line.now }
 {
     line == b".".as_slice()
 }
 
-/// Appends a line and its line feed.
+/// Appends a line and its line feed. `Err` means that memory was refused.
 fn push_line(text: &mut Vec<u8>, line: &[u8]) -> Result<(), AllocError>
     ensures { OnOk result (text.new.items ≡ text.old.items ++ (line.now ++ 10 ∷ [])) }
 {

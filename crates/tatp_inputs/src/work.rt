@@ -15,8 +15,8 @@ use tatp_streams::LineReader;
 use tatp_tables::Rows;
 use tatp_tasks::Population;
 
-/// The rows of a run: the lines up to a line `.` are they, or they are drawn and no line is taken.
-/// The lines that are left are those that the run answers.
+/// The rows of a run. They are read from the lines up to a line `.`, or they are drawn and no line
+/// is taken. The run answers the lines that are left.
 #[tactic(auto, unfolding(crate::specs::Work::generated))]
 pub fn work_of<R: Read>(
     alloc: Global,

@@ -20,25 +20,31 @@ use Rattle.tatp_history.proofs.OrderLaws.{all_map}
 use Rattle.tatp_history.proofs.SubscriberEventLaws.{times_rise, have_ends, opened_none}
 use Rattle.tatp_linearization.specs.declared.first.First.{First}
 use Rattle.tatp_linearization.specs.declared.first.First.TheVariants.{Never, At, Undecided}
+use Rattle.tatp_linearization.specs.declared.explanations.Explanations.{Explanations}
 use Rattle.tatp_linearization.specs.Cut.{events_by, AreWindow}
 use Rattle.tatp_linearization.specs.Held.{IsAcceptedEvent}
 use Rattle.tatp_linearization.specs.Possible.{NeedMore}
-use Rattle.tatp_linearization.specs.Reached.{AreReached}
+use Rattle.tatp_linearization.specs.Reached.{AreOfSubscriber, AreReached}
 use Rattle.tatp_linearization.specs.Single.{events_alone}
-use Rattle.tatp_linearization.proofs.CutLaws.{both_by, by_append, none_by, first_rises}
+use Rattle.tatp_linearization.proofs.CutLaws.{asked_by, both_by, by_append, none_by, first_rises}
 use Rattle.tatp_linearization.proofs.FollowLaws.{some_explain}
 use Rattle.tatp_linearization.proofs.SingleLaws.{alone_answered}
 use Rattle.tatp_judge.specs.declared.window.Window.{Window}
 use Rattle.tatp_judge.specs.Verdicts.{NeedMoreBy}
-use Rattle.tatp_judge.specs.Windows.{AreCounted, IsWindowAfter, IsExplainedBy, IsExplainedBefore, IsFirstOf}
+use Rattle.tatp_judge.specs.Windows.{AreCounted, IsForgotten, IsWindowAfter, IsExplainedBy, IsExplainedBefore, IsFirstOf}
 use Rattle.tatp_judge.proofs.FirstLinesLaws.{events_then, events_now, asked_then, explained_now, now_explained, fewer_explained, still_past, times_within}
-use Rattle.tatp_judge.proofs.WindowLaws.{none_waits}
+use Rattle.tatp_judge.proofs.NumberLaws.{kept_closed}
+use Rattle.tatp_judge.proofs.WindowLaws.{nothing_open, none_waits}
+
+pub none_left : (events : List Event) → length events ≡ 0 → events ≡ []
+none_left [] e = refl
+none_left (event ∷ more) e = absurd (omega (arith, e))
 
 -- ---- all events on a subscriber
-rises : (u : Database) (s : ℕ) (lines : List Line) → TimesRise (events_of u s lines)
+pub rises : (u : Database) (s : ℕ) (lines : List Line) → TimesRise (events_of u s lines)
 rises u s lines = times_rise u s 1 no_calls lines
 
-all_end : (u : Database) (s : ℕ) (lines : List Line) → HaveEnds (events_of u s lines)
+pub all_end : (u : Database) (s : ℕ) (lines : List Line) → HaveEnds (events_of u s lines)
 all_end u s lines = have_ends u s 1 no_calls lines (opened_none 1)
 
 module _ (u : Database) (most s : ℕ) (lines : List Line) (w : Window) (is : IsWindowAfter u most s lines w) where
@@ -59,13 +65,14 @@ module _ (u : Database) (most s : ℕ) (lines : List Line) (w : Window) (is : Is
   unsaid h = subst (IsStrictlySerializable (of_subscriber u s)) (sym (ap asked_in (sym is.all) ∙ asked_then u s lines)) (explained_now u s lines h)
 
   -- ---- the end of the window
-  pub closed : (after : Window) → w.waiting ≡ 0 → AreReached (of_subscriber u s) (is.before ++ w.events.items) after.explanations → after.explanations.most ≡ w.explanations.most → after.events.items ≡ [] → after.from ≡ length lines → after.waiting ≡ w.waiting
+  pub closed : (after : Window) → w.waiting ≡ 0 → AreReached (of_subscriber u s) (is.before ++ w.events.items) after.explanations → AreOfSubscriber s after.explanations → after.explanations.most ≡ w.explanations.most → IsForgotten after → after.from ≡ length lines → after.waiting ≡ w.waiting
       → IsWindowAfter u most s lines after
-  closed after none reached most_is events_are from_is waiting_is = record {
+  closed after none reached own most_is forgotten from_is waiting_is = let events_are = forgotten.events in record {
     before = events_of u s lines;
     all = sym (append-nil (events_of u s lines)) ∙ ap (λ es. events_of u s lines ++ es) (sym events_are);
     accepted = subst (AllByRecursion IsAcceptedEvent) (sym events_are) tt;
     reached = subst (λ es. AreReached (of_subscriber u s) es after.explanations) (sym is.all) reached;
+    own = own;
     most_is = most_is ∙ is.most_is;
     ends = all_end u s lines;
     past = subst (λ k. events_by k (events_of u s lines) ≡ events_of u s lines) (sym from_is) (events_now u s lines);
@@ -74,7 +81,15 @@ module _ (u : Database) (most s : ℕ) (lines : List Line) (w : Window) (is : Is
     since = λ client asked h. absurd (none_waits (opened_after u s 1 no_calls lines) client asked (subst (AreCounted (opened_after u s 1 no_calls lines)) none is.counted) h);
     counted = subst (AreCounted (opened_after u s 1 no_calls lines)) (sym waiting_is) is.counted;
     few = omega (arith, waiting_is, is.few);
+    numbers = kept_closed u s lines after from_is forgotten.numbers (nothing_open (opened_after u s 1 no_calls lines) w.waiting is.counted none);
   }
+
+  -- ... of a window without events
+  pub closed_empty : (after : Window) → w.waiting ≡ 0 → w.events.items ≡ [] → after.explanations ≡ w.explanations → IsForgotten after → after.from ≡ length lines → after.waiting ≡ w.waiting → IsWindowAfter u most s lines after
+  closed_empty after none empty explanations forgotten from_is waiting_is =
+      closed after none
+      (subst (AreReached (of_subscriber u s) (is.before ++ w.events.items)) (sym explanations) (subst (λ es. AreReached (of_subscriber u s) es w.explanations) (sym (ap (λ es. is.before ++ es) empty ∙ append-nil is.before)) is.reached))
+      (subst (AreOfSubscriber s) (sym explanations) is.own) (ap (λ (e : Explanations). e.most) explanations) forgotten from_is waiting_is
 
   -- ---- too many configurations
   pub many_now : NeedMore most (of_subscriber u s) (is.before ++ w.events.items) → NeedMoreBy u most lines (length lines) s
@@ -139,6 +154,19 @@ module _ (u : Database) (most s : ℕ) (lines : List Line) (w : Window) (is : Is
   past_explained : IsStrictlySerializable (of_subscriber u s) (asked_in is.before)
   past_explained = some_explain (of_subscriber u s) is.before w.explanations.configurations.items is.reached.kept (first_rises is.before w.events.items rise_both) is.ends is.reached.some
 
+  -- so it begins before a line by which they are unexplained
+  pub begins_after : (line : ℕ) → line ≤ length lines → (IsExplainedBy u s lines line → ⊥) → w.from < line
+  begins_after line within fails = elim (cases_lt w.from line) [
+    | inl lt ↦ lt
+    | inr le ↦ absurd (fails (fewer_explained u s w.from lines is.from_within (explained_at w.from (omega arith) is.from_within past_then) line (omega (arith, le)) within))
+  ]
+    where
+      none_then : calls_by w.from (asked_in w.events.items) ≡ []
+      none_then = sym (asked_by w.from w.events.items) ∙ ap asked_in (none_by w.from w.events.items is.after)
+
+      past_then : IsStrictlySerializable (of_subscriber u s) (asked_in is.before ++ calls_by w.from (asked_in w.events.items))
+      past_then = subst (IsStrictlySerializable (of_subscriber u s)) (sym (ap (λ xs. asked_in is.before ++ xs) none_then ∙ append-nil (asked_in is.before))) past_explained
+
 -- one more call, which may not have taken effect
 in_front : (x : Observed) (first second : List Observed) → IsIn x first → IsIn x (first ++ second)
 in_front x [] second h = absurd h
@@ -177,11 +205,13 @@ alone_then time at x lt = elim (nat_le x.asked time) as (λ b. (map (call_by tim
   | false ↦ inl refl
 ]
 
+pub alone_began : (u : Database) (most s : ℕ) (lines : List Line) (w : Window) (x : Observed) → IsWindowAfter u most s lines w → w.events.items ≡ events_alone x (length lines) → w.from < length lines
+alone_began u most s lines w x is alone = (subst (AreAfter w.from) alone is.after).1.0
+
 pub spent : (u : Database) (most s : ℕ) (lines : List Line) (w : Window) (x : Observed) → IsWindowAfter u most s lines w → w.events.items ≡ events_alone x (length lines) → IsExplainedBefore u s lines (length lines)
 spent u most s lines w x is alone =
     let answered : IsAnsweredAt (length lines) x.outcome = alone_answered x (length lines) is.before (subst (λ es. HaveEnds (is.before ++ es)) alone (end_both u most s lines w is)) in
-    let times = subst (AreAfter w.from) alone is.after in
-    let last : w.from < length lines = times.1.0 in
+    let last : w.from < length lines = alone_began u most s lines w x is alone in
     let before = length lines - 1 in
     let next : suc before ≡ length lines = omega (arith, last) in
     let past = past_explained u most s lines w is in
@@ -244,6 +274,7 @@ first_told w number events (Ok Undecided) same some never explained unexplained 
     (subst (λ es. NeedMore most (of_subscriber u s) (is.before ++ events_by many.0 es)) same (subst (λ m. NeedMore m (of_subscriber u s) (is.before ++ events_by many.0 events)) is.most_is many.1))
 
 -- ---- a window that stays as it was
-pub same_window : (u : Database) (most s : ℕ) (lines : List Line) (w after : Window) → IsWindowAfter u most s lines w → after.explanations ≡ w.explanations → after.events ≡ w.events → after.from ≡ w.from → after.waiting ≡ w.waiting → IsWindowAfter u most s lines after
-same_window u most s lines w after is explanations events from waiting =
-    subst (IsWindowAfter u most s lines) (λ i. record { explanations = sym explanations i; from = sym from i; events = sym events i; waiting = sym waiting i }) is
+pub same_window : (u : Database) (most s : ℕ) (lines : List Line) (w after : Window) → IsWindowAfter u most s lines w → after.explanations ≡ w.explanations → after.events ≡ w.events → after.numbers ≡ w.numbers → after.from ≡ w.from → after.waiting ≡ w.waiting
+    → IsWindowAfter u most s lines after
+same_window u most s lines w after is explanations events numbers from waiting =
+    subst (IsWindowAfter u most s lines) (λ i. record { explanations = sym explanations i; from = sym from i; events = sym events i; numbers = sym numbers i; waiting = sym waiting i }) is

@@ -31,7 +31,7 @@ parts zero xs = refl
 parts (suc k) [] = refl
 parts (suc k) (x ∷ xs) = ap (λ ys. x ∷ ys) (parts k xs)
 
-taken : {X : Type 0} (k : ℕ) (xs : List X) → k ≤ length xs → length (take k xs) ≡ k
+pub taken : {X : Type 0} (k : ℕ) (xs : List X) → k ≤ length xs → length (take k xs) ≡ k
 taken zero xs le = refl
 taken (suc k) [] le = absurd (omega (arith, le))
 taken (suc k) (x ∷ xs) le = ap suc (taken k xs (omega (arith, le)))

@@ -1,6 +1,6 @@
 -- What the judge keeps, after one line more.
 use Rattle.std.specs.Prelude.{IfSome}
-use Rattle.std.proofs.Common.{◌≡◌, ℕ, zero, suc, ◌+◌, ◌-◌, ◌^◌, ◌<◌, ◌≤◌, ◌∙◌, ◌==◌, sym, ap, subst, Bool, true, false, cond, eqb, List, [], ◌∷◌, ◌++◌, length, take, slice_get, refl, arith, Option, Some, None, nat_eq, eq-eqb, ne_eqb, inl, inr}
+use Rattle.std.proofs.Common.{◌≡◌, ℕ, suc, ◌+◌, ◌-◌, ◌^◌, ◌<◌, ◌≤◌, ◌∙◌, ◌==◌, sym, ap, subst, Bool, true, false, cond, eqb, List, [], ◌∷◌, ◌++◌, length, take, slice_get, refl, arith, Option, Some, None, nat_eq, eq-eqb, ne_eqb, inl, inr}
 use Rattle.std.proofs.lemmas.List.{length-append}
 use Rattle.std.proofs.lemmas.Option.{none-some, same_Some}
 use Rattle.indexmap.specs.IndexMap.{get}
@@ -9,7 +9,9 @@ use Rattle.tatp_numbers.specs.Listing.{Listing}
 use Rattle.tatp_history.specs.declared.line.Line.{Line}
 use Rattle.tatp_history.specs.declared.line.Line.TheVariants.{Ask, End, Abort, Lost}
 use Rattle.tatp_history.specs.HistoryLines.{client_of, end_at, calls_of, AreAcceptedLines}
-use Rattle.tatp_history.specs.Locality.{subscriber_of, FailsWithout, FailWithout}
+use Rattle.tatp_history.specs.Events.{TimesRise}
+use Rattle.tatp_history.specs.Histories.{IsStrictlySerializable}
+use Rattle.tatp_history.specs.Locality.{subscriber_of, calls_on, FailsWithout, FailWithout}
 use Rattle.tatp_history.specs.SubscriberEvents.{OpenCalls, no_calls, opened_by, opened_after, events_of}
 use Rattle.tatp_history.proofs.SubscriberEventLaws.{same_or_not}
 use Rattle.tatp_linearization.specs.Possible.{NeedMore}
@@ -24,11 +26,14 @@ use Rattle.tatp_judge.specs.Followed.{HasNoted, HasFollowed, EndsAs}
 use Rattle.tatp_judge.specs.NextLine.{asks_of}
 use Rattle.tatp_judge.specs.Population.{IsDirectoryOf}
 use Rattle.tatp_judge.specs.Steps.{AreEach, IsAskedIn, IsEndedIn, IsNoted, IsNotedBy, also_asked}
-use Rattle.tatp_judge.specs.Verdicts.{IsLegal, NeedMoreBy, IsVerdictOn}
+use Rattle.tatp_judge.specs.Verdicts.{IsLegal, IsUnexplained, NeedMoreBy, IsVerdictOn}
+use Rattle.tatp_judge.proofs.ClosingLaws.{rise_both}
 use Rattle.tatp_judge.proofs.NoneLaws.{MayEnd, asked_next, still_fail, fails_itself}
+use Rattle.tatp_judge.proofs.NumberLaws.{front}
 use Rattle.tatp_judge.proofs.SearchLaws.{named_within}
 use Rattle.tatp_judge.proofs.StepLaws.{both_noted}
 use Rattle.tatp_judge.proofs.WindowLaws.{window_next, some_waits}
+use Rattle.tatp_judge.proofs.WritingLaws.{later_rise}
 
 -- ---- open calls
 turned : (a b : ℕ) → eqb a b ≡ eqb b a
@@ -142,7 +147,8 @@ module _ (u : Database) where
             let one : asked_on (suc place) ended ≡ opened_after u (suc place) 1 no_calls lines client = ap (asked_on (suc place)) was ∙ sym (opened_is (suc place) lines client) in
             window_next u most (suc place) lines line found.0 w accepted
             (subst (λ (o : Option ℕ). IsNoted o (asks_of u (suc place) (suc (length lines)) line) (suc (length lines)) line found.0 w) one
-            (subst (λ k. IsNoted (asked_on (suc place) ended) (asks_of u (suc place) k line) k line found.0 w) now found.2)) old_window;
+            (subst (λ k. IsNoted (asked_on (suc place) ended) (asks_of u (suc place) k line) k line found.0 w) now found.2))
+            (λ none. (is.forgets place found.0 (ap (λ ws. slice_get ws place) (sym mid_windows) ∙ found.1) (λ e. none-some (suc place) e) none).numbers) old_window;
       }
 
   -- the windows before the line: a call that ends is counted, and there is room for one more
@@ -154,11 +160,11 @@ module _ (u : Database) where
 
   -- ---- how it ends
   front_is : (lines : List Line) (line : Line) (k : ℕ) → k ≡ length lines → take k (lines ++ line ∷ []) ≡ lines
-  front_is lines line k e = ap (λ n. take n (lines ++ line ∷ [])) e ∙ front lines
+  front_is lines line k e = ap (λ n. take n (lines ++ line ∷ [])) e ∙ first_all lines
     where
-      front : (ls : List Line) → take (length ls) (ls ++ line ∷ []) ≡ ls
-      front [] = refl
-      front (first ∷ more) = ap (λ xs. first ∷ xs) (front more)
+      first_all : (ls : List Line) → take (length ls) (ls ++ line ∷ []) ≡ ls
+      first_all [] = refl
+      first_all (first ∷ more) = ap (λ xs. first ∷ xs) (first_all more)
 
   pub ends_as : (lines : List Line) (line : Line) (number : ℕ) (asked : Asked) → FailWithout u (calls_of lines) → number ≡ suc (length lines) → asked_in_all u lines (client_of line) ≡ Some asked → EndsAs u (lines ++ line ∷ []) asked (end_at number line)
   ends_as lines line number asked none now is =
@@ -177,11 +183,6 @@ module _ (u : Database) where
   none_ended lines line none is = still_fail u lines line none (subst (λ (o : Option Asked). MayEnd u o (end_at (suc (length lines)) line)) (sym is) tt)
 
 -- ---- verdicts on longer histories
-taken_front : (k : ℕ) (lines more : List Line) → k ≤ length lines → take k (lines ++ more) ≡ take k lines
-taken_front zero lines more le = refl
-taken_front (suc k) [] more le = absurd (omega (arith, le))
-taken_front (suc k) (line ∷ lines) more le = ap (λ ls. line ∷ ls) (taken_front k lines more (omega (arith, le)))
-
 longer : (lines more : List Line) → length lines ≤ length (lines ++ more)
 longer lines more = let sum = length-append lines more in omega (arith, sum)
 
@@ -192,19 +193,25 @@ need_stays u most lines more line s h =
       within = omega (arith, h.within, all);
       first = h.first;
       by = h.by;
-      many = subst (λ ls. NeedMore most (of_subscriber u s) (events_of u s ls)) (sym (taken_front h.first lines more (omega (arith, h.by, h.within)))) h.many;
+      many = subst (λ ls. NeedMore most (of_subscriber u s) (events_of u s ls)) (sym (front h.first lines more (omega (arith, h.by, h.within)))) h.many;
     }
+
+unexplained_stays : (u : Database) (lines more : List Line) (n : ℕ) (s_id : Option ℕ) → n ≤ length lines → IsUnexplained u lines n s_id → IsUnexplained u (lines ++ more) n s_id
+unexplained_stays u lines more n None within h = λ fail. h (subst (λ ls. FailWithout u (calls_of ls)) (front n lines more within) fail)
+unexplained_stays u lines more n (Some s) within h = λ explained. h (subst (λ ls. IsStrictlySerializable (of_subscriber u s) (calls_on u s (calls_of ls))) (front n lines more within) explained)
 
 pub verdict_stays : (u : Database) (most : ℕ) (lines more : List Line) (verdict : Verdict) → (IsLegal u lines → ⊥) → IsVerdictOn u most lines verdict → IsVerdictOn u most (lines ++ more) verdict
 verdict_stays u most lines more Legal illegal h = absurd (illegal h)
-verdict_stays u most lines more (Illegal n) illegal h =
-    let all = longer lines more in
-    record {
-      first = h.first;
-      within = omega (arith, h.within, all);
-      illegal = λ legal. h.illegal (subst (IsLegal u) (taken_front n lines more h.within) legal);
-      before = subst (IsLegal u) (sym (taken_front (n - 1) lines more (omega (arith, h.within)))) h.before;
-    }
+verdict_stays u most lines more (Illegal n s_id) illegal h =
+    let all = longer lines more in (
+      record {
+        first = h.0.first;
+        within = omega (arith, h.0.within, all);
+        illegal = λ legal. h.0.illegal (subst (IsLegal u) (front n lines more h.0.within) legal);
+        before = subst (IsLegal u) (sym (front (n - 1) lines more (omega (arith, h.0.within)))) h.0.before;
+      },
+      unexplained_stays u lines more n s_id h.0.within h.1,
+    )
 verdict_stays u most lines more (Undecided line s) illegal h = need_stays u most lines more line s h
 
 -- ---- all of a line
@@ -222,6 +229,9 @@ module _ (u : Database) (most : ℕ) (lines : List Line) (line : Line) (ended : 
       cases : (o : Option Asked) → o ≡ asked_in_all u lines (client_of line) → IfSome o (λ asked. IfSome asked.s_id (λ s. (1 ≤ s) × (s ≤ length old.windows.items)))
       cases None e = tt
       cases (Some asked) e = named asked asked.s_id refl (sym e)
+
+  pub rise_there : (place : ℕ) (w : Window) → slice_get old.windows.items place ≡ Some w → TimesRise w.events.items
+  rise_there place w at = let window = is.noted.windows_are place w at in later_rise window.before w.events.items (rise_both u most (suc place) lines w window)
 
   pub room_there : (place : ℕ) (w : Window) → slice_get old.windows.items place ≡ Some w → w.waiting + 1 < 2 ^ 64
   room_there place w at = let few = (is.noted.windows_are place w at).few in let room = is.noted.read.room in omega (arith, few, room)

@@ -1,4 +1,5 @@
 pub mod NextLineLaws
+pub mod NumberLaws
 pub mod FirstLinesLaws
 pub mod NoneLaws
 pub mod WindowLaws
@@ -8,4 +9,7 @@ pub mod SearchLaws
 pub mod PlaceLaws
 pub mod StepLaws
 pub mod JudgeLaws
+pub mod ExplainingLaws
 pub mod PopulationLaws
+pub mod FinishingLaws
+pub mod LeavingLaws

@@ -8,12 +8,13 @@ use Rattle.std.specs.List.{AllByRecursion}
 use Rattle.tatp_history.specs.Events.{AreAfter}
 use Rattle.tatp_linearization.specs.Held.{IsAcceptedEvent}
 use Rattle.tatp_history.proofs.SubscriberEventLaws.{same_or_not}
-use Rattle.tatp_linearization.specs.Reached.{AreReached}
+use Rattle.tatp_linearization.specs.Reached.{AreOfSubscriber, AreReached}
 use Rattle.tatp_judge.specs.declared.window.Window.{Window}
 use Rattle.tatp_judge.specs.Searched.{AreHomesOf}
 use Rattle.tatp_judge.specs.Steps.{AreEach}
-use Rattle.tatp_judge.specs.Windows.{IsWindowAfter}
-use Rattle.tatp_judge.proofs.SearchLaws.{home_at}
+use Rattle.tatp_judge.specs.Windows.{IsForgotten, IsWindowAfter}
+use Rattle.tatp_judge.proofs.NumberLaws.{kept_new}
+use Rattle.tatp_judge.proofs.SearchLaws.{home_at, home_own}
 
 -- ---- one of several
 pub found_at : {X : Type 0} (xs : List X) (k : ℕ) (x : X) → k < length xs → x ≡ get_or xs k x → slice_get xs k ≡ Some x
@@ -31,7 +32,7 @@ got_same [] k x y h = absurd (none-some x h)
 got_same (z ∷ zs) zero x y h = sym (same_Some y x h)
 got_same (z ∷ zs) (suc k) x y h = got_same zs k x y h
 
-got_other : {X : Type 0} (xs : List X) (k j : ℕ) (y : X) → j ≢ k → slice_get (set xs k y) j ≡ slice_get xs j
+pub got_other : {X : Type 0} (xs : List X) (k j : ℕ) (y : X) → j ≢ k → slice_get (set xs k y) j ≡ slice_get xs j
 got_other [] k j y n = refl
 got_other (z ∷ zs) zero zero y n = absurd (n refl)
 got_other (z ∷ zs) zero (suc j) y n = refl
@@ -57,12 +58,13 @@ each_set Stands ws k old new lt at stands others = record {
 }
 
 -- ---- before any line
-pub window_new : (u : Database) (most s : ℕ) (w : Window) (rows : Database) → rows ≡ of_subscriber u s → AreReached rows [] w.explanations → w.explanations.most ≡ most → w.from ≡ 0 → w.events.items ≡ [] → w.waiting ≡ 0 → IsWindowAfter u most s [] w
-window_new u most s w rows is reached most_is from_is events_are waiting_is = record {
+pub window_new : (u : Database) (most s : ℕ) (w : Window) (rows : Database) → rows ≡ of_subscriber u s → AreReached rows [] w.explanations → AreOfSubscriber s w.explanations → w.explanations.most ≡ most → w.from ≡ 0 → w.events.items ≡ [] → w.numbers.items ≡ [] → w.waiting ≡ 0 → IsWindowAfter u most s [] w
+window_new u most s w rows is reached own most_is from_is events_are numbers_are waiting_is = record {
   before = [];
   all = sym events_are;
   accepted = subst (AllByRecursion IsAcceptedEvent) (sym events_are) tt;
   reached = subst (λ v. AreReached v [] w.explanations) is reached;
+  own = own;
   most_is = most_is;
   ends = tt;
   past = refl;
@@ -71,12 +73,13 @@ window_new u most s w rows is reached most_is from_is events_are waiting_is = re
   since = λ client asked h. absurd (none-some asked h);
   counted = record { clients = []; count = sym waiting_is; once = tt; all = λ client. inl refl; still = λ client k. absurd k };
   few = omega (arith, waiting_is);
+  numbers = kept_new u s w from_is numbers_are;
 }
 
 -- those of the first homes
 pub record AreWindowsTo (most : ℕ) (homes : List SubscriberRows) (i : ℕ) (ws : List Window) : Type 0 where
   pub count : length ws ≡ i
-  pub none : (place : ℕ) (w : Window) → slice_get ws place ≡ Some w → w.events.items ≡ []
+  pub none : (place : ℕ) (w : Window) → slice_get ws place ≡ Some w → IsForgotten w
   pub each : (u : Database) → AreHomesOf u homes → (place : ℕ) (w : Window) → slice_get ws place ≡ Some w → IsWindowAfter u most (suc place) [] w
 
 last_or_before : (ws : List Window) (new : Window) (place : ℕ) (w : Window) → slice_get (ws ++ new ∷ []) place ≡ Some w → (slice_get ws place ≡ Some w) ⊎ ((place ≡ length ws) × (w ≡ new))
@@ -93,19 +96,21 @@ none_yet most homes ws none = record {
 }
 
 pub one_window_more : (most : ℕ) (homes : List SubscriberRows) (i : ℕ) (ws longer : List Window) (home : SubscriberRows) (new : Window) → AreWindowsTo most homes i ws → i < length homes → home ≡ get_or homes i home → longer ≡ ws ++ new ∷ []
-    → AreReached home.tables [] new.explanations → new.explanations.most ≡ most → new.from ≡ 0 → new.events.items ≡ [] → new.waiting ≡ 0 → AreWindowsTo most homes (i + 1) longer
-one_window_more most homes i ws longer home new are lt at is reached most_is from_is events_are waiting_is = record {
+    → AreReached home.tables [] new.explanations → AreOfSubscriber home.s_id new.explanations → new.explanations.most ≡ most → new.from ≡ 0 → new.events.items ≡ [] → new.numbers.items ≡ [] → new.waiting ≡ 0 → AreWindowsTo most homes (i + 1) longer
+one_window_more most homes i ws longer home new are lt at is reached own most_is from_is events_are numbers_are waiting_is = record {
   count = ap length is ∙ (length-append ws (new ∷ []) ∙ omega (arith, are.count));
   none = λ place w h. elim (last_or_before ws new place w (ap (λ xs. slice_get xs place) (sym is) ∙ h)) [
     | inl k ↦ are.none place w k
-    | inr k ↦ ap (λ (v : Window). v.events.items) k.1 ∙ events_are
+    | inr k ↦ subst IsForgotten (sym k.1) (record { events = events_are; numbers = numbers_are })
   ];
   each = λ u homes_are place w h. elim (last_or_before ws new place w (ap (λ xs. slice_get xs place) (sym is) ∙ h)) [
     | inl k ↦ are.each u homes_are place w k
     | inr k ↦
         let here : place ≡ i = k.0 ∙ are.count in
-        let rows = home_at u homes i home homes_are (found_at homes i home lt at) in
+        let there = found_at homes i home lt at in
+        let rows = home_at u homes i home homes_are there in
+        let s_id = home_own u homes i home homes_are there ∙ ap suc (sym here) in
         subst (IsWindowAfter u most (suc place) []) (sym k.1)
-        (window_new u most (suc place) new home.tables (rows ∙ ap (λ p. of_subscriber u (suc p)) (sym here)) reached most_is from_is events_are waiting_is)
+        (window_new u most (suc place) new home.tables (rows ∙ ap (λ p. of_subscriber u (suc p)) (sym here)) reached (subst (λ s. AreOfSubscriber s new.explanations) s_id own) most_is from_is events_are numbers_are waiting_is)
   ];
 }

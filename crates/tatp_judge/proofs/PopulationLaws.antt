@@ -1,6 +1,6 @@
 -- Clean rows as homes and a directory.
 use Rattle.std.proofs.Common.{◌≡◌, ℕ, ◌≤◌, ◌==◌, ◌∙◌, ◌&&◌, sym, ap, subst, true, is_some, List, [], ◌∷◌, length, refl, arith, Option, Some, None, nat_le, leb-true, eqb-true}
-use Rattle.std.proofs.lemmas.Bool.{and_parts}
+use Rattle.std.proofs.lemmas.Bool.{and_from, and_parts, cond-true, le-leb}
 use Rattle.std.proofs.lemmas.List.FromFn.{length-map-range_with_len}
 use Rattle.std.proofs.lemmas.Option.{none-some, same_Some, cond_some}
 use Rattle.std.specs.Option.{option_map}
@@ -36,6 +36,10 @@ id_within d s t h =
     let both = and_parts (nat_le 1 s) (nat_le s d.count) parts.0 in
     subst (λ k. (1 ≤ k) × (k ≤ d.count)) parts.1 (leb-true 1 s both.0, leb-true s d.count both.1)
 
+-- and each of them is
+id_answered : (d : Listing) (s : ℕ) → 1 ≤ s → s ≤ d.count → answer d (Id s) ≡ Some s
+id_answered d s least most = cond-true (nat_le 1 s && nat_le s d.count) (Some s) None (and_from (nat_le 1 s) (nat_le s d.count) (le-leb 1 s least) (le-leb s d.count most))
+
 -- a row has its s_id
 row_has_s_id : (u : Database) (row : Tuple) → IsConsistent u → has u.subscribers row ≡ true → has_key (s_id_of row ∷ []) row ≡ true
 row_has_s_id u row is there =
@@ -63,6 +67,7 @@ pub directory_of : (u : Database) (d : Listing) (n : ℕ) → IsConsistent u →
 directory_of u d n is count keys = record {
   keys = keys;
   named = λ key s h. subst (λ k. (1 ≤ s) × (s ≤ k)) count (key_within u d is keys key s h);
+  each = λ s least most. id_answered d s least (omega (arith, most, count));
 }
 
 pub rows_of_clean : (r : Rows) (homes : List SubscriberRows) (d : Listing) → IsConsistent (database_of r) → homes ≡ homes_in (database_of r) 1 (length r.subscribers) → d.count ≡ length r.subscribers → ((key : Key) → answer d key ≡ home_of_key (set_of r.subscribers) key)

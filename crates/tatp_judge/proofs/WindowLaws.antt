@@ -18,7 +18,7 @@ use Rattle.tatp_history.specs.SubscriberEvents.{OpenCalls, no_calls, with_call, 
 use Rattle.tatp_history.proofs.SubscriberEventLaws.{same_or_not, with_same, with_other}
 use Rattle.tatp_linearization.specs.Cut.{events_by}
 use Rattle.tatp_linearization.specs.Held.{IsAcceptedEvent}
-use Rattle.tatp_linearization.specs.Reached.{AreReached}
+use Rattle.tatp_linearization.specs.Reached.{AreOfSubscriber, AreReached}
 use Rattle.tatp_linearization.specs.declared.explanations.Explanations.{Explanations}
 use Rattle.tatp_judge.specs.declared.window.Window.{Window}
 use Rattle.tatp_judge.specs.Accepted.{IsAcceptedLine}
@@ -26,6 +26,7 @@ use Rattle.tatp_judge.specs.NextLine.{ended_call, with_outcome, ends_of, closed_
 use Rattle.tatp_judge.specs.Steps.{fewer, IsNoted}
 use Rattle.tatp_judge.specs.Windows.{IsAmong, AreEachOnce, AreCounted, IsWindowAfter}
 use Rattle.tatp_judge.proofs.FirstLinesLaws.{times_within}
+use Rattle.tatp_judge.proofs.NumberLaws.{kept_next, number_noted}
 use Rattle.tatp_judge.proofs.NextLineLaws.{events_next, opened_next, opened_own, opened_other}
 
 -- ---- an outcome is written
@@ -218,6 +219,13 @@ nothing_waits opened n c none = empty c.clients c.count c.still
     empty [] e still = sym e
     empty (first ∷ more) e still = absurd (still first (inl refl) (none first))
 
+pub nothing_open : (opened : OpenCalls) (n : ℕ) → AreCounted opened n → n ≡ 0 → (client : ℕ) → opened client ≡ None
+nothing_open opened n c zero client = elim (c.all client) [ inl none ↦ none | inr among ↦ absurd (empty c.clients (c.count ∙ zero) among) ]
+  where
+    empty : (clients : List ℕ) → length clients ≡ 0 → IsAmong client clients → ⊥
+    empty [] e h = h
+    empty (first ∷ more) e h = omega (arith, e)
+
 pub none_waits : (opened : OpenCalls) (client asked : ℕ) → AreCounted opened 0 → opened client ≡ Some asked → ⊥
 none_waits opened client asked c has = let lt : 0 < 0 = some_waits opened 0 client asked c has in omega (arith, lt)
 
@@ -236,8 +244,9 @@ since_next u s number from opened line lt since client asked h = elim (same_or_n
   | inr n ↦ since client asked (sym (opened_other u s number opened line client n) ∙ h)
 ]
 
-pub window_next : (u : Database) (most s : ℕ) (lines : List Line) (line : Line) (w after : Window) → IsAcceptedLine line → IsNotedAfter u s lines line w after → IsWindowAfter u most s lines w → IsWindowAfter u most s (lines ++ line ∷ []) after
-window_next u most s lines line w after accepted noted is =
+pub window_next : (u : Database) (most s : ℕ) (lines : List Line) (line : Line) (w after : Window) → IsAcceptedLine line → IsNotedAfter u s lines line w after → (w.waiting ≡ 0 → w.numbers.items ≡ []) → IsWindowAfter u most s lines w
+    → IsWindowAfter u most s (lines ++ line ∷ []) after
+window_next u most s lines line w after accepted noted quiet is =
     let number = suc (length lines) in
     let opened = opened_after u s 1 no_calls lines in
     let one = opened (client_of line) in
@@ -256,6 +265,7 @@ window_next u most s lines line w after accepted noted is =
           (all_append IsAcceptedEvent (closed_by one number line w.events.items) (asks_of u s number line)
           (all_closed IsAcceptedEvent (λ x o h. h) one number line w.events.items (λ asked. tt) is.accepted) (accepted_asks u s number line accepted));
       reached = subst (AreReached (of_subscriber u s) is.before) (sym noted.explanations_are) is.reached;
+      own = subst (AreOfSubscriber s) (sym noted.explanations_are) is.own;
       most_is = ap (λ (e : Explanations). e.most) noted.explanations_are ∙ is.most_is;
       ends = is.ends;
       past = subst (λ k. events_by k is.before ≡ is.before) (sym noted.from_is) is.past;
@@ -267,4 +277,6 @@ window_next u most s lines line w after accepted noted is =
           (subst (λ k. (client asked : ℕ) → opened_by u s number opened line client ≡ Some asked → k < asked) (sym noted.from_is) (since_next u s number w.from opened line later is.since));
       counted = subst (λ (o : OpenCalls). AreCounted o after.waiting) (sym open_then) (subst (AreCounted (opened_by u s number opened line)) (sym noted.waiting_is) (counted_next u s number w.waiting opened line is.counted));
       few = omega (arith, noted.waiting_is, few, no_more, is.few, longer);
+      numbers = kept_next u s lines line w after is.from_within noted.from_is (noted.numbers_are ∙ ap (λ ns. w.numbers.items ++ ns) (number_noted u s number opened line))
+          (λ none. quiet (nothing_waits opened w.waiting is.counted none)) is.numbers;
     }

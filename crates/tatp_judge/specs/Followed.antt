@@ -1,5 +1,5 @@
 -- What the judge keeps of the lines that it has followed.
-use Rattle.std.specs.Prelude.{◌≡◌, ◌↔◌, ℕ, suc, ◌+◌, ◌-◌, ◌^◌, ◌<◌, ◌≤◌, ◌⊎◌, nat_eq, Bool, IsTrue, List, [], length, take, slice_get, Option, Some, None}
+use Rattle.std.specs.Prelude.{◌≡◌, ◌↔◌, ℕ, suc, ◌+◌, ◌-◌, ◌^◌, ◌<◌, ◌≤◌, ◌⊎◌, nat_eq, Bool, IsTrue, List, length, take, slice_get, Option, Some, None}
 use Rattle.indexmap.specs.IndexMap.{get}
 use Rattle.tatp_tables.specs.Database.{Database}
 use Rattle.tatp_procs.specs.Consistent.{IsConsistent}
@@ -12,8 +12,8 @@ use Rattle.tatp_judge.specs.declared.judge.Judge.{Judge}
 use Rattle.tatp_judge.specs.declared.window.Window.{Window}
 use Rattle.tatp_judge.specs.Asked.{asked_in_all}
 use Rattle.tatp_judge.specs.Population.{IsDirectoryOf}
-use Rattle.tatp_judge.specs.Verdicts.{IsLegal}
-use Rattle.tatp_judge.specs.Windows.{IsWindowAfter, IsSpent}
+use Rattle.tatp_judge.specs.Verdicts.{IsLegal, IsUnexplained}
+use Rattle.tatp_judge.specs.Windows.{IsWindowAfter, IsForgotten, IsSpent}
 
 -- so many lines, from the database on
 pub record HasRead (u : Database) (lines : List Line) (judge : Judge) : Type 0 where
@@ -30,10 +30,10 @@ pub record HasNoted (u : Database) (most : ℕ) (lines : List Line) (judge : Jud
   pub windows_are : (place : ℕ) (w : Window) → slice_get judge.windows.items place ≡ Some w
       → IsWindowAfter u most (suc place) lines w
 
--- of each window in which no call is open the events are forgotten, but for that of one subscriber
+-- each window in which no call is open is forgotten, but for that of one subscriber
 abbrev pub Forgets : Judge → Option ℕ → Type 0
 Forgets judge but = (place : ℕ) (w : Window) → slice_get judge.windows.items place ≡ Some w
-    → (but ≡ Some (suc place) → ⊥) → w.waiting ≡ 0 → w.events.items ≡ []
+    → (but ≡ Some (suc place) → ⊥) → w.waiting ≡ 0 → IsForgotten w
 
 -- it has followed the lines, which decided nothing: of the calls that name no subscriber each that
 -- was answered failed
@@ -52,9 +52,9 @@ pub record EndsAs (u : Database) (lines : List Line) (asked : Asked) (outcome : 
   pub now : FailsWithout asked.s_id outcome ↔ FailWithout u (calls_of lines)
 
 -- what a search for the first illegal line begins with: where the lines are known to be illegal,
--- the last of them may be the first, and a window may be spent
+-- the last of them may be the first, by this subscriber's calls, and a window may be spent
 pub record IsSearchable (u : Database) (most : ℕ) (lines : List Line) (illegal : Bool)
-    (judge : Judge) : Type 0 where
+    (s_id : Option ℕ) (judge : Judge) : Type 0 where
   pub read : HasRead u lines judge
   pub windows_are : (place : ℕ) (w : Window) → slice_get judge.windows.items place ≡ Some w
       → IsWindowAfter u most (suc place) lines w
@@ -62,3 +62,11 @@ pub record IsSearchable (u : Database) (most : ℕ) (lines : List Line) (illegal
   pub none : (k : ℕ) → k ≤ length lines → (IsTrue illegal → k < length lines)
       → FailWithout u (calls_of (take k lines))
   pub known : IsTrue illegal → IsLegal u lines → ⊥
+  pub whose : IsTrue illegal → IsUnexplained u lines (length lines) s_id
+
+-- what it keeps is that of these lines, as a search finds it
+pub record HasKept (u : Database) (lines : List Line) (judge : Judge) : Type 0 where
+  pub most : ℕ
+  pub illegal : Bool
+  pub s_id : Option ℕ
+  pub searchable : IsSearchable u most lines illegal s_id judge

@@ -7,3 +7,6 @@ pub mod Verdicts
 pub mod Windows
 pub mod Followed
 pub mod Steps
+pub mod Finishing
+pub mod Leaving
+pub mod Explained

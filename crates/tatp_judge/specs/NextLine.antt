@@ -41,6 +41,18 @@ closed_by None number line events = events
 closed_by (Some asked) number line events =
     with_outcome asked (end_at number line) events ++ ends_of asked number line
 
+-- the number of a line that ends its client's open call and asks no other
+abbrev pub number_of_last : ℕ → Line → List ℕ
+number_of_last number (Ask client call) = []
+number_of_last number (End client recorded) = number ∷ []
+number_of_last number (Abort client) = number ∷ []
+number_of_last number (Lost client) = number ∷ []
+
+-- and where its client has such a call
+abbrev pub number_closed_by : Option ℕ → ℕ → Line → List ℕ
+number_closed_by None number line = []
+number_closed_by (Some asked) number line = number_of_last number line
+
 -- the call that the line of this number asks, if it is on the subscriber
 abbrev pub asks_of : Database → ℕ → ℕ → Line → List Event
 asks_of u s number (Ask client call) =

@@ -3,6 +3,7 @@ use Rattle.std.specs.Prelude.{◌≡◌, ℕ, ◌≤◌, List, Some, length}
 use Rattle.tatp_tables.specs.Database.{Database}
 use Rattle.tatp_homes.specs.Home.{SubscriberRows}
 use Rattle.tatp_numbers.specs.declared.key.Key.{Key}
+use Rattle.tatp_numbers.specs.declared.key.Key.TheVariants.{Id}
 use Rattle.tatp_numbers.specs.Homes.{home_of_key}
 use Rattle.tatp_numbers.specs.Listing.{Listing, answer}
 use Rattle.tatp_procs.specs.Consistent.{IsConsistent}
@@ -13,6 +14,7 @@ pub record IsDirectoryOf (u : Database) (n : ℕ) (directory : Listing) : Type 0
   pub keys : (key : Key) → answer directory key ≡ home_of_key u.subscribers key
   pub named : (key : Key) (s : ℕ)
       → answer directory key ≡ Some s → (1 ≤ s) × (s ≤ n)
+  pub each : (s : ℕ) → 1 ≤ s → s ≤ n → answer directory (Id s) ≡ Some s
 
 -- homes and directory are those of a consistent database
 pub record AreRowsOf (u : Database) (homes : List SubscriberRows) (directory : Listing)

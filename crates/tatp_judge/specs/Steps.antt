@@ -1,5 +1,5 @@
 -- What a line, and its window's end, make of the windows.
-use Rattle.std.specs.Prelude.{◌≡◌, ℕ, suc, ◌+◌, ◌-◌, ◌⊎◌, if◌then◌else◌, nat_eq, List, [], ◌∷◌, ◌++◌, length, slice_get, Option, Some, None}
+use Rattle.std.specs.Prelude.{◌≡◌, ℕ, suc, ◌+◌, ◌-◌, ◌⊎◌, if◌then◌else◌, nat_eq, List, [], ◌∷◌, ◌++◌, length, map, slice_get, Option, Some, None}
 use Rattle.indexmap.specs.IndexMap.{get}
 use Rattle.tatp_tables.specs.Database.{Database}
 use Rattle.tatp_history.specs.declared.line.Line.{Line}
@@ -8,15 +8,16 @@ use Rattle.tatp_history.specs.declared.event.Event.TheVariants.{Asks}
 use Rattle.tatp_history.specs.declared.observed.Observed.{Observed}
 use Rattle.tatp_history.specs.declared.line.Line.TheVariants.{Ask, End, Abort, Lost}
 use Rattle.tatp_history.specs.Locality.{subscriber_of, is_this}
+use Rattle.tatp_history.specs.Events.{time_of}
 use Rattle.tatp_linearization.specs.declared.explanations.Standing.{Standing}
 use Rattle.tatp_linearization.specs.declared.explanations.Standing.TheVariants.{Explained, Unexplained, Undecided}
 use Rattle.tatp_judge.specs.declared.window.Window.{Window}
 use Rattle.tatp_judge.specs.declared.asked.Asked.{Asked}
 use Rattle.tatp_judge.specs.declared.judge.Judge.{Judge}
 use Rattle.tatp_judge.specs.Asked.{AskedCalls, with_asked, asked_on}
-use Rattle.tatp_judge.specs.NextLine.{closed_by, asks_of}
+use Rattle.tatp_judge.specs.NextLine.{closed_by, number_closed_by, asks_of}
 use Rattle.tatp_judge.specs.Verdicts.{NeedMoreBy}
-use Rattle.tatp_judge.specs.Windows.{IsWindowAfter, IsExplainedBy, IsSpent}
+use Rattle.tatp_judge.specs.Windows.{IsWindowAfter, IsExplainedBy, IsForgotten, IsSpent}
 
 -- each window of the second list stands for one of the first, at the same place
 pub record AreEach (Stands : ℕ → Window → Window → Type 0) (old new : List Window)
@@ -35,6 +36,7 @@ fewer (Some asked) n = n - 1
 pub record IsEndedIn (one : Option ℕ) (number : ℕ) (line : Line) (w after : Window)
     : Type 0 where
   pub events_are : after.events.items ≡ closed_by one number line w.events.items
+  pub numbers_are : after.numbers.items ≡ w.numbers.items ++ number_closed_by one number line
   pub waiting_is : after.waiting ≡ fewer one w.waiting
   pub from_is : after.from ≡ w.from
   pub explanations_are : after.explanations ≡ w.explanations
@@ -45,6 +47,7 @@ asks_on s s_id x = if is_this s s_id then Asks x ∷ [] else []
 
 pub record IsAskedIn (asks : List Event) (w after : Window) : Type 0 where
   pub events_are : after.events.items ≡ w.events.items ++ asks
+  pub numbers_are : after.numbers.items ≡ w.numbers.items ++ map time_of asks
   pub waiting_is : after.waiting ≡ w.waiting + length asks
   pub from_is : after.from ≡ w.from
   pub explanations_are : after.explanations ≡ w.explanations
@@ -53,6 +56,8 @@ pub record IsAskedIn (asks : List Event) (w after : Window) : Type 0 where
 pub record IsNoted (one : Option ℕ) (asks : List Event) (number : ℕ) (line : Line)
     (w after : Window) : Type 0 where
   pub events_are : after.events.items ≡ closed_by one number line w.events.items ++ asks
+  pub numbers_are : after.numbers.items
+      ≡ w.numbers.items ++ (number_closed_by one number line ++ map time_of asks)
   pub waiting_is : after.waiting ≡ fewer one w.waiting + length asks
   pub from_is : after.from ≡ w.from
   pub explanations_are : after.explanations ≡ w.explanations
@@ -78,7 +83,7 @@ pub record IsNotedBy (u : Database) (ended : Option Asked) (number : ℕ) (line 
 -- ---- the end of a window
 abbrev pub IsClosedTo : Database → ℕ → ℕ → List Line → Standing → Window → Type 0
 IsClosedTo u most s lines Explained w =
-    IsWindowAfter u most s lines w × (w.waiting ≡ 0 → w.events.items ≡ [])
+    IsWindowAfter u most s lines w × (w.waiting ≡ 0 → IsForgotten w)
 IsClosedTo u most s lines Unexplained w =
     (IsExplainedBy u s lines (length lines) → ⊥)
     × (IsWindowAfter u most s lines w ⊎ IsSpent u s lines w)

@@ -8,13 +8,14 @@ use Rattle.tatp_history.specs.Histories.{IsStrictlySerializable}
 use Rattle.tatp_history.specs.HistoryLines.{calls_of}
 use Rattle.tatp_history.specs.Locality.{calls_on}
 use Rattle.tatp_history.specs.Events.{AreAfter, HaveEnds}
-use Rattle.tatp_history.specs.SubscriberEvents.{OpenCalls, no_calls, opened_after, events_of}
+use Rattle.tatp_history.specs.SubscriberEvents.{OpenCalls, NothingIsOpen, no_calls, opened_after, events_of}
 use Rattle.tatp_linearization.specs.declared.first.First.{First}
 use Rattle.tatp_linearization.specs.declared.first.First.TheVariants.{Never, At, Undecided}
 use Rattle.tatp_linearization.specs.Cut.{events_by}
 use Rattle.tatp_linearization.specs.Held.{IsAcceptedEvent}
-use Rattle.tatp_linearization.specs.Reached.{AreReached}
+use Rattle.tatp_linearization.specs.Reached.{AreOfSubscriber, AreReached}
 use Rattle.tatp_judge.specs.declared.window.Window.{Window}
+use Rattle.tatp_judge.specs.Explained.{numbers_since}
 use Rattle.tatp_judge.specs.Verdicts.{NeedMoreBy}
 
 -- ---- open calls, counted
@@ -36,6 +37,14 @@ pub record AreCounted (opened : OpenCalls) (n : ℕ) : Type 0 where
   pub still : (client : ℕ) → IsAmong client clients → opened client ≡ None → ⊥
 
 -- ---- windows
+-- what is kept of the lines: the numbers of those of the subscriber's calls since the window began.
+-- None of the calls was open then, nor after a later line once there was such a line
+pub record AreNumbersKept (u : Database) (s : ℕ) (lines : List Line) (w : Window) : Type 0 where
+  pub numbers_are : w.numbers.items ≡ numbers_since u s w.from lines
+  pub none : NothingIsOpen u s (take w.from lines)
+  pub last : (later : ℕ) → later < length lines → NothingIsOpen u s (take later lines)
+      → numbers_since u s w.from (take later lines) ≡ []
+
 -- the configurations kept are those after the events before the window, which is of the last events
 -- on the subscriber
 pub record IsWindowAfter (u : Database) (most s : ℕ) (lines : List Line) (w : Window)
@@ -44,6 +53,7 @@ pub record IsWindowAfter (u : Database) (most s : ℕ) (lines : List Line) (w : 
   pub all : events_of u s lines ≡ before ++ w.events.items
   pub accepted : AllByRecursion IsAcceptedEvent w.events.items
   pub reached : AreReached (of_subscriber u s) before w.explanations
+  pub own : AreOfSubscriber s w.explanations
   pub most_is : w.explanations.most ≡ most
   pub ends : HaveEnds before
   pub past : events_by w.from before ≡ before
@@ -53,6 +63,12 @@ pub record IsWindowAfter (u : Database) (most s : ℕ) (lines : List Line) (w : 
       → opened_after u s 1 no_calls lines client ≡ Some asked → w.from < asked
   pub counted : AreCounted (opened_after u s 1 no_calls lines) w.waiting
   pub few : w.waiting ≤ length lines
+  pub numbers : AreNumbersKept u s lines w
+
+-- it has no events
+pub record IsForgotten (w : Window) : Type 0 where
+  pub events : w.events.items ≡ []
+  pub numbers : w.numbers.items ≡ []
 
 -- ---- explained calls
 -- those of the subscriber in the first lines have an order
@@ -68,6 +84,8 @@ IsExplainedBefore u s lines end =
 -- where the last line leaves no order, and no events are kept
 pub record IsSpent (u : Database) (s : ℕ) (lines : List Line) (w : Window) : Type 0 where
   pub none : w.events.items ≡ []
+  pub began : w.from < length lines
+  pub numbers : AreNumbersKept u s lines w
   pub before : IsExplainedBefore u s lines (length lines)
 
 -- up to which of the lines the subscriber's calls are explained

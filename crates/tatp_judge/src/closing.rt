@@ -5,7 +5,7 @@ ghost use Rattle.tatp_procs.specs.Arguments.{arguments_accepted};
 ghost use Rattle.tatp_history.specs.declared.line.Line.{Line as ALine};
 ghost use Rattle.tatp_linearization.specs.Single.{IsSingle, events_alone};
 ghost use Rattle.tatp_judge.specs.Steps.{Closes};
-ghost use Rattle.tatp_judge.specs.Windows.{IsWindowAfter, IsFirstOf};
+ghost use Rattle.tatp_judge.specs.Windows.{IsForgotten, IsWindowAfter, IsFirstOf};
 
 use crate::window::Window;
 use std::alloc::{AllocError, Global};
@@ -30,6 +30,18 @@ fn alone(events: &[Event], number: u64) -> Option<Observed>
 }
 
 impl Window {
+    /// The line of this number is the last before the next window.
+    fn forget(&mut self, alloc: Global, number: u64)
+        ensures forgotten { IsForgotten self.new }
+        ensures from { self.new.from ≡ number }
+        ensures waiting { self.new.waiting ≡ self.old.waiting }
+        ensures explanations { self.new.explanations ≡ self.old.explanations }
+    {
+        self.events = Vec::new(alloc);
+        self.numbers = Vec::new(alloc);
+        self.from = number;
+    }
+
     /// Goes on over a call that overlaps no other, and is answered in the line of this number, in
     /// place.
     fn go_on_alone(&mut self, alloc: Global, x: &Observed, number: u64) -> Standing
@@ -41,11 +53,11 @@ impl Window {
     {
         let mut reply = Reply::Refused;
         let fits = self.explanations.follow_alone(x, &mut reply);
-        self.events = Vec::new(alloc);
         if fits {
-            self.from = number;
+            self.forget(alloc, number);
             Standing::Explained
         } else {
+            self.events = Vec::new(alloc);
             Standing::Unexplained
         }
     }
@@ -60,8 +72,7 @@ impl Window {
     {
         match self.explanations.follow(alloc, self.events.as_slice())? {
             Standing::Explained => {
-                self.events = Vec::new(alloc);
-                self.from = number;
+                self.forget(alloc, number);
                 Ok(Standing::Explained)
             }
             Standing::Unexplained => Ok(Standing::Unexplained),
@@ -75,7 +86,11 @@ impl Window {
             × IsWindowAfter u most s lines self.old }
         ensures { IfOk result (λ standing. Closes number standing self.old self.new) }
     {
-        if self.waiting > 0 || self.events.is_empty() {
+        if self.waiting > 0 {
+            return Ok(Standing::Explained);
+        }
+        if self.events.is_empty() {
+            self.forget(alloc, number);
             return Ok(Standing::Explained);
         }
         if self.explanations.is_single() {

@@ -1,15 +1,16 @@
 //! The judge, line after line.
-ghost use Rattle.std.specs.Prelude.{◌≡◌, ℕ, suc, ◌+◌, ◌<◌, ◌≤◌, ◌^◌, [], ◌∷◌, ◌++◌, IfOk, IfSome, OnOk, Ok, None, Some, List, length, nat_eq, slice_get};
+ghost use Rattle.std.specs.Prelude.{◌≡◌, ℕ, suc, ◌+◌, ◌<◌, ◌≤◌, ◌^◌, [], ◌∷◌, ◌++◌, IfOk, IfSome, OnOk, Ok, None, Option, Some, List, length, nat_eq, slice_get};
 ghost use Rattle.indexmap.specs.IndexMap.{get};
 ghost use Rattle.tatp_tables.specs.Clean.{IsClean};
 ghost use Rattle.tatp_tables.specs.Database.{Database, database_of};
 ghost use Rattle.tatp_history.specs.declared.line.Line.{Line as ALine};
 ghost use Rattle.tatp_history.specs.declared.line.Line.TheVariants.{Ask};
 ghost use Rattle.tatp_history.specs.HistoryLines.{end_at};
+ghost use Rattle.tatp_history.specs.Events.{TimesRise};
 ghost use Rattle.tatp_judge.specs.declared.window.Window.{Window as AWindow};
 ghost use Rattle.tatp_judge.specs.Accepted.{IsAcceptedLine};
 ghost use Rattle.tatp_judge.specs.Asked.{asked_on};
-ghost use Rattle.tatp_judge.specs.Followed.{EndsAs, Forgets, HasFollowed, HasNoted};
+ghost use Rattle.tatp_judge.specs.Followed.{EndsAs, Forgets, HasFollowed, HasKept, HasNoted};
 ghost use Rattle.tatp_judge.specs.NextLine.{asks_of};
 ghost use Rattle.tatp_judge.specs.Population.{IsDirectoryOf};
 ghost use Rattle.tatp_judge.specs.Steps.{AreEach, IsAskedIn, IsEndedIn, IsNotedBy, also_asked};
@@ -33,8 +34,14 @@ use tatp_tables::Rows;
 pub enum Verdict {
     /// It is strictly serializable.
     Legal,
-    /// Its lines up to this one, counted from 1, aren't, and those before it are.
-    Illegal(u64),
+    /// Its first lines aren't, and those before the last of these are.
+    Illegal {
+        /// How many lines these are.
+        line: u64,
+        /// The subscriber whose calls in them no order explains; none where a call that names none
+        /// was answered otherwise than by its failure.
+        s_id: Option<u64>,
+    },
     /// It isn't known, since more configurations of a subscriber are possible than may be kept.
     Undecided {
         /// How many lines were followed.
@@ -87,6 +94,10 @@ impl Judge {
             (u : Database) (most : ℕ) (lines more : List ALine)
             → HasFollowed u most lines self.old
             → IsVerdictOn u most ((lines ++ line.now ∷ []) ++ more) verdict)) }
+        ensures kept { (first : ℕ) (s_id : Option ℕ)
+            → result ≡ Ok (Some (Verdict.Illegal first s_id))
+            → (u : Database) (most : ℕ) (lines : List ALine) → HasFollowed u most lines self.old
+            → HasKept u (lines ++ line.now ∷ []) self.new }
         ensures never { result ≡ Ok (Some Verdict.Legal) → ⊥ }
         ensures explained { result ≡ Ok None → (u : Database) (most : ℕ) (lines : List ALine)
             → HasFollowed u most lines self.old
@@ -106,10 +117,12 @@ impl Judge {
     pub fn finish(&self, alloc: Global) -> Result<Verdict, AllocError>
         requires { (u : Database) × (most : ℕ) × (lines : List ALine)
             × HasFollowed u most lines self.now }
-        ensures { IfOk result (λ verdict. (u : Database) (most : ℕ) (lines : List ALine)
+        ensures verdict { IfOk result (λ verdict. (u : Database) (most : ℕ) (lines : List ALine)
             → HasFollowed u most lines self.now → IsVerdictOn u most lines verdict) }
+        ensures kept { (u : Database) (most : ℕ) (lines : List ALine)
+            → HasFollowed u most lines self.now → HasKept u lines self.now }
     {
-        self.search(alloc, false)
+        self.search(alloc, false, None)
     }
 
     /// The line of this number ends an open call, if there is one, and may ask another.
@@ -121,6 +134,8 @@ impl Judge {
         requires some { (place : ℕ) (w : AWindow) (asked : ℕ)
             → asked_on (suc place) ended.now ≡ Some asked
             → slice_get self.old.windows.items place ≡ Some w → 0 < w.waiting }
+        requires rise { (place : ℕ) (w : AWindow)
+            → slice_get self.old.windows.items place ≡ Some w → TimesRise w.events.items }
         requires few { (place : ℕ) (w : AWindow)
             → slice_get self.old.windows.items place ≡ Some w → w.waiting + 1 < 2 ^ 64 }
         ensures { OnOk result ((u : Database)
@@ -143,6 +158,8 @@ impl Judge {
         requires some { (place : ℕ) (w : AWindow) (asked : ℕ)
             → asked_on (suc place) ended.now ≡ Some asked
             → slice_get self.old.windows.items place ≡ Some w → 0 < w.waiting }
+        requires rise { (place : ℕ) (w : AWindow)
+            → slice_get self.old.windows.items place ≡ Some w → TimesRise w.events.items }
         ensures directory { self.new.directory ≡ self.old.directory }
         ensures asked { self.new.asked ≡ self.old.asked }
         ensures windows { OnOk result (AreEach (λ place.
@@ -203,20 +220,25 @@ impl Judge {
             → HasNoted u most lines self.old
             → EndsAs u lines asked.now (end_at self.old.number line.now)
             → IsVerdictOn u most (lines ++ more) verdict)) }
+        ensures kept { (first : ℕ) (s_id : Option ℕ)
+            → result ≡ Ok (Some (Verdict.Illegal first s_id))
+            → (u : Database) (most : ℕ) (lines : List ALine) → HasNoted u most lines self.old
+            → EndsAs u lines asked.now (end_at self.old.number line.now)
+            → HasKept u lines self.new }
         ensures never { result ≡ Ok (Some Verdict.Legal) → ⊥ }
     {
         let number = self.number;
         match asked.s_id {
             Some(s_id) => match close_in(alloc, &mut self.windows, s_id, number)? {
                 Standing::Explained => Ok(None),
-                Standing::Unexplained => Ok(Some(self.search(alloc, true)?)),
+                Standing::Unexplained => Ok(Some(self.search(alloc, true, Some(s_id))?)),
                 Standing::Undecided => Ok(Some(Verdict::Undecided { line: number, s_id })),
             },
             None => {
                 if may_fail(number, line) {
                     Ok(None)
                 } else {
-                    Ok(Some(self.search(alloc, true)?))
+                    Ok(Some(self.search(alloc, true, None)?))
                 }
             }
         }

@@ -4,6 +4,8 @@
 mod accepted;
 mod asked;
 mod closing;
+mod explaining;
+mod finishing;
 mod judge;
 mod outcome;
 mod searching;
@@ -11,4 +13,5 @@ mod window;
 mod windows;
 
 pub use accepted::is_accepted;
+pub use finishing::FinalVerdict;
 pub use judge::{Judge, Verdict};

@@ -3,7 +3,7 @@ ghost use Rattle.std.specs.Prelude.{◌≡◌, ◌↔◌, ℕ, IsTrue, None, [],
 ghost use Rattle.tatp_history.specs.declared.event.Event.TheVariants.{Ends};
 ghost use Rattle.tatp_history.specs.HistoryLines.{client_of, end_at};
 ghost use Rattle.tatp_history.specs.Locality.{FailsWithout};
-ghost use Rattle.tatp_judge.specs.NextLine.{ends_of};
+ghost use Rattle.tatp_judge.specs.NextLine.{ends_of, number_of_last};
 
 use tatp_history::{Line, Outcome};
 use tatp_procs::Reply;
@@ -46,6 +46,14 @@ pub(crate) fn is_answer(line: &Line) -> bool
         Line::Abort { .. } => false,
         Line::Lost { .. } => false,
     }
+}
+
+/// Whether the line asks a call.
+pub(crate) fn is_ask(line: &Line) -> bool
+    ensures { (number : ℕ)
+        → number_of_last number line.now ≡ (if result then [] else number ∷ []) }
+{
+    matches!(line, Line::Ask { .. })
 }
 
 /// Whether a call whose key names no subscriber may have ended so.

@@ -1,11 +1,12 @@
 //! The calls on one subscriber, from the last line on after which none of them was open.
 ghost use Rattle.std.specs.Prelude.{◌≡◌, ◌<◌, ◌+◌, ◌-◌, ◌^◌, [], ◌∷◌, ◌++◌, IfOk, OnOk};
 ghost use Rattle.tatp_history.specs.declared.event.Event.TheVariants.{Asks};
-ghost use Rattle.tatp_linearization.specs.Reached.{AreReached};
-ghost use Rattle.tatp_judge.specs.NextLine.{ends_of, with_outcome};
+ghost use Rattle.tatp_history.specs.Events.{TimesRise, time_of};
+ghost use Rattle.tatp_linearization.specs.Reached.{AreOfSubscriber, AreReached};
+ghost use Rattle.tatp_judge.specs.NextLine.{ends_of, number_of_last, with_outcome};
 ghost use Rattle.tatp_history.specs.HistoryLines.{end_at};
 
-use crate::outcome::{end_at, is_answer};
+use crate::outcome::{end_at, is_answer, is_ask};
 use std::alloc::{AllocError, Global};
 use tatp_history::{Event, Line, Observed};
 use tatp_homes::Home;
@@ -19,6 +20,8 @@ pub(crate) struct Window {
     /// The number of the last line before, or of one after that which says nothing of its calls.
     pub(crate) from: u64,
     pub(crate) events: Vec<Event>,
+    /// The numbers of the lines that asked its calls, and of those that ended one.
+    pub(crate) numbers: Vec<u64>,
     /// How many of its calls are open.
     pub(crate) waiting: u64,
 }
@@ -44,13 +47,25 @@ fn ended(event: &Event, asked: u64, number: u64, line: &Line) -> Event
     }
 }
 
-/// Writes down how the call that was asked then ends by the line of this number.
-#[tactic(auto, using(crate::proofs::WritingLaws::none_written, crate::proofs::WritingLaws::all_written))]
+/// When it happened.
+fn time_of(event: &Event) -> u64
+    ensures { result ≡ time_of event.now }
+{
+    match event {
+        Event::Asks(x) => x.asked,
+        Event::Ends { at, .. } => *at,
+    }
+}
+
+/// Writes down how the call that was asked then ends by the line of this number. Events are in the
+/// order of time, so that it was asked is looked for by halves.
 fn write_outcome(events: &mut Vec<Event>, asked: u64, number: u64, line: &Line)
+    requires { TimesRise events.old.items }
     ensures { events.new.items ≡ with_outcome asked (end_at number line.now) events.old.items }
 {
-    'events: for i in 0..events.len() {
-        events[i] = ended(&events[i], asked, number, line);
+    let place = events.partition_point(|event| time_of(event) < asked);
+    if place < events.len() {
+        events[place] = ended(&events[place], asked, number, line);
     }
 }
 
@@ -66,15 +81,18 @@ impl Window {
     /// That of a subscriber with this home, before any line.
     pub(crate) fn new(alloc: Global, home: &Home, most: usize) -> Result<Window, AllocError>
         ensures reached { IfOk result (λ w. AreReached home.now.tables [] w.explanations) }
+        ensures own { IfOk result (λ w. AreOfSubscriber home.now.s_id w.explanations) }
         ensures most { IfOk result (λ w. w.explanations.most ≡ most) }
         ensures from { IfOk result (λ w. w.from ≡ 0) }
         ensures events { IfOk result (λ w. w.events.items ≡ []) }
+        ensures numbers { IfOk result (λ w. w.numbers.items ≡ []) }
         ensures waiting { IfOk result (λ w. w.waiting ≡ 0) }
     {
         Ok(Window {
             explanations: Explanations::new(alloc, home, most)?,
             from: 0,
             events: Vec::new(alloc),
+            numbers: Vec::new(alloc),
             waiting: 0,
         })
     }
@@ -84,21 +102,27 @@ impl Window {
         requires { self.old.waiting + 1 < 2 ^ 64 }
         ensures events { OnOk result
             (self.new.events.items ≡ self.old.events.items ++ Asks x.now ∷ []) }
+        ensures numbers { OnOk result
+            (self.new.numbers.items ≡ self.old.numbers.items ++ x.now.asked ∷ []) }
         ensures waiting { OnOk result (self.new.waiting ≡ self.old.waiting + 1) }
         ensures from { OnOk result (self.new.from ≡ self.old.from) }
         ensures explanations { OnOk result (self.new.explanations ≡ self.old.explanations) }
     {
         push(&mut self.events, &Event::Asks(*x))?;
+        self.numbers.push(x.asked)?;
         self.waiting += 1;
         Ok(())
     }
 
     /// The open call that was asked then ends by the line of this number.
     pub(crate) fn end(&mut self, asked: u64, number: u64, line: &Line) -> Result<(), AllocError>
-        requires { 0 < self.old.waiting }
+        requires some { 0 < self.old.waiting }
+        requires rise { TimesRise self.old.events.items }
         ensures events { OnOk result (self.new.events.items
             ≡ with_outcome asked (end_at number line.now) self.old.events.items
             ++ ends_of asked number line.now) }
+        ensures numbers { OnOk result (self.new.numbers.items
+            ≡ self.old.numbers.items ++ number_of_last number line.now) }
         ensures waiting { OnOk result (self.new.waiting ≡ self.old.waiting - 1) }
         ensures from { OnOk result (self.new.from ≡ self.old.from) }
         ensures explanations { OnOk result (self.new.explanations ≡ self.old.explanations) }
@@ -107,6 +131,9 @@ impl Window {
         if is_answer(line) {
             let event = Event::Ends { asked, at: number };
             push(&mut self.events, &event)?;
+        }
+        if !is_ask(line) {
+            self.numbers.push(number)?;
         }
         self.waiting -= 1;
         Ok(())

@@ -2,11 +2,12 @@
 ghost use Rattle.std.specs.Prelude.{◌≡◌, ◌+◌, ◌<◌, ◌≤◌, ◌^◌, ℕ, suc, [], Some, IfOk, IfSome, OnOk, List, length, slice_get};
 ghost use Rattle.tatp_tables.specs.Database.{Database};
 ghost use Rattle.tatp_history.specs.declared.line.Line.{Line as ALine};
+ghost use Rattle.tatp_history.specs.Events.{TimesRise};
 ghost use Rattle.tatp_judge.specs.declared.window.Window.{Window as AWindow};
 ghost use Rattle.tatp_judge.specs.Asked.{asked_on};
 ghost use Rattle.tatp_judge.specs.Searched.{AreHomesOf};
 ghost use Rattle.tatp_judge.specs.Steps.{AreEach, ClosesAt, IsAskedIn, IsEndedIn, asks_on};
-ghost use Rattle.tatp_judge.specs.Windows.{IsWindowAfter};
+ghost use Rattle.tatp_judge.specs.Windows.{IsForgotten, IsWindowAfter};
 
 use crate::asked::Asked;
 use crate::window::Window;
@@ -23,7 +24,7 @@ pub(crate) fn windows_of(
 ) -> Result<Vec<Window>, AllocError>
     ensures count { IfOk result (λ windows. length windows.items ≡ length homes.now) }
     ensures none { IfOk result (λ windows. (place : ℕ) (w : AWindow)
-        → slice_get windows.items place ≡ Some w → w.events.items ≡ []) }
+        → slice_get windows.items place ≡ Some w → IsForgotten w) }
     ensures windows { IfOk result (λ windows. (u : Database) → AreHomesOf u homes.now
         → (place : ℕ) (w : AWindow) → slice_get windows.items place ≡ Some w
         → IsWindowAfter u most (suc place) [] w) }
@@ -45,6 +46,8 @@ pub(crate) fn end_in(
     requires within { IfSome asked.now.s_id (λ s. (1 ≤ s) × (s ≤ length windows.old.items)) }
     requires some { (place : ℕ) (w : AWindow) → asked.now.s_id ≡ Some (suc place)
         → slice_get windows.old.items place ≡ Some w → 0 < w.waiting }
+    requires rise { (place : ℕ) (w : AWindow) → slice_get windows.old.items place ≡ Some w
+        → TimesRise w.events.items }
     ensures { OnOk result (AreEach (λ place.
         IsEndedIn (asked_on (suc place) (Some asked.now)) number line.now)
         windows.old.items windows.new.items) }

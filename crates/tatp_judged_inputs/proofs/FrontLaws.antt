@@ -3,16 +3,20 @@ use Rattle.std.specs.Prelude.{◌≡◌, ℕ, zero, suc, ◌+◌, ◌-◌, ◌�
 use Rattle.std.proofs.Common.{refl, sym, ap, subst, ◌∙◌, arith}
 use Rattle.std.proofs.lemmas.List.{append-nil, length-append, take_all}
 use Rattle.std.proofs.lemmas.Option.{none-some, same_Some}
-use Rattle.tatp_tables.specs.Database.{Database}
+use Rattle.tatp_tables.specs.Database.{Database, of_subscriber}
+use Rattle.tatp_history.specs.Histories.{IsStrictlySerializable}
+use Rattle.tatp_history.specs.HistoryLines.{calls_of}
+use Rattle.tatp_history.specs.Locality.{calls_on, FailWithout}
 use Rattle.tatp_history.specs.declared.line.Line.{Line}
 use Rattle.tatp_history_lines.specs.declared.fault.LineFault.{LineFault}
 use Rattle.tatp_history_lines.specs.Open.{CallsOpen, opened_by}
 use Rattle.tatp_judged_inputs.specs.HistoryTexts.{Told, BadText, said_in, onto, tell_on, history_from, none_open}
 use Rattle.tatp_judge.specs.declared.judge.Verdict.{Verdict}
 use Rattle.tatp_judge.specs.declared.judge.Verdict.TheVariants as verdicts
-use Rattle.tatp_judge.specs.Verdicts.{IsLegal, IsFirstIllegal, NeedMoreBy, IsVerdictOn}
+use Rattle.tatp_judge.specs.Verdicts.{IsLegal, IsFirstIllegal, IsUnexplained, NeedMoreBy, IsVerdictOn}
 use Rattle.tatp_judged_inputs.specs.declared.judging.Judged.{Judged}
-use Rattle.tatp_judged_inputs.specs.Judged.{Tell, TellLegal, TellIllegal, IsIllegalAt, IsUndecidedAt, IsJudged, IsTold}
+use Rattle.tatp_judged_inputs.specs.declared.judging.Judged.TheVariants.{Illegal}
+use Rattle.tatp_judged_inputs.specs.Judged.{first_told, AreWindowTold, IsJudgement, IsWindowBy, IsWindowOf, Tell, TellLegal, TellIllegal, IsIllegalAt, IsUndecidedAt, IsJudged, IsTold}
 use Rattle.tatp_judged_inputs.proofs.HistoryLaws.{ReadAll}
 
 -- the first k lines
@@ -126,6 +130,25 @@ taken_front zero read more le = refl
 taken_front (suc k) [] more le = absurd (omega (arith, le))
 taken_front (suc k) (text ∷ read) more le = ap (λ ts. text ∷ ts) (taken_front k read more (omega (arith, le)))
 
+-- what holds of the first lines that are told holds of the texts up to the last of these
+front_told : (taken : ℕ) (read more : List (List ℕ)) (t : Told) (n number : ℕ) (P : Told → Type 0) → history_from none_open (taken + 1) read ≡ Ok t → 1 ≤ n → slice_get t.numbers (n - 1) ≡ Some number → P (first_told n t)
+    → Tell taken (take (number - taken) (read ++ more)) P
+front_told taken read more t n number P h some at holds =
+    let f = front_of none_open taken read t (n - 1) number h at in
+    let last : suc (n - 1) ≡ n = omega (arith, some) in
+    let count : suc f.count ≡ number - taken = omega (arith, f.number_is) in
+    let same : take (number - taken) (read ++ more) ≡ take (suc f.count) read
+    = taken_front (number - taken) read more (omega (arith, f.within, count)) ∙ ap (λ m. take m read) (sym count) in (
+      first_told (suc (n - 1)) t,
+      ap (history_from none_open (taken + 1)) same ∙ f.with,
+      subst (λ m. P (first_told m t)) (sym last) holds,
+    )
+
+unexplained_there : (u : Database) (lines : List Line) (n : ℕ) (s_id : Option ℕ) → IsUnexplained u lines n s_id → IsUnexplained u (take n lines) (length (take n lines)) s_id
+unexplained_there u lines n None h = λ fail. h (subst (λ ls. FailWithout u (calls_of ls)) (take_all (length (take n lines)) (take n lines) (omega arith)) fail)
+unexplained_there u lines n (Some s) h = λ explained.
+    h (subst (λ ls. IsStrictlySerializable (of_subscriber u s) (calls_on u s (calls_of ls))) (take_all (length (take n lines)) (take n lines) (omega arith)) explained)
+
 -- unread texts follow
 illegal_stays : (u : Database) (taken : ℕ) (read more : List (List ℕ)) (number : ℕ) → IsIllegalAt u taken read number → IsIllegalAt u taken (read ++ more) number
 illegal_stays u taken read more number h =
@@ -158,11 +181,34 @@ undecided_there u most taken number line s read more t all h =
       );
     }
 
-pub is_judged : (u : Database) (most taken number : ℕ) (read more : List (List ℕ)) (t : Told) (verdict : Verdict) (judged : Judged) → ReadAll taken number read t → (verdict ≡ verdicts.Legal → more ≡ []) → IsVerdictOn u most t.lines verdict
+is_judged : (u : Database) (most taken number : ℕ) (read more : List (List ℕ)) (t : Told) (verdict : Verdict) (judged : Judged) → ReadAll taken number read t → (verdict ≡ verdicts.Legal → more ≡ []) → IsVerdictOn u most t.lines verdict
     → IsTold t.numbers number verdict judged → IsJudged u most taken (read ++ more) judged
 is_judged u most taken number read more t verdicts.Legal judged all last legal told =
     subst (IsJudged u most taken (read ++ more)) (sym told) (t, ap (history_from none_open (taken + 1)) (ap (λ ts. read ++ ts) (last refl) ∙ append-nil read) ∙ all.told, legal)
-is_judged u most taken number read more t (verdicts.Illegal first) judged all last illegal told =
-    subst (IsJudged u most taken (read ++ more)) (sym told.2) (illegal_stays u taken read more told.0 (told_illegal u taken read t first told.0 all.told illegal told.1))
+is_judged u most taken number read more t (verdicts.Illegal first s_id) judged all last illegal told =
+    subst (IsJudged u most taken (read ++ more)) (sym told.2) (
+      illegal_stays u taken read more told.0 (told_illegal u taken read t first told.0 all.told illegal.0 told.1),
+      front_told taken read more t first told.0 (λ t. IsUnexplained u t.lines (length t.lines) s_id) all.told illegal.0.first told.1 (unexplained_there u t.lines first s_id illegal.1),
+    )
 is_judged u most taken number read more t (verdicts.Undecided line s) judged all last many told =
     subst (IsJudged u most taken (read ++ more)) (sym told) (undecided_there u most taken number line s read more t all many)
+
+-- ---- the lines that are told
+window_there : (u : Database) (taken number : ℕ) (read more : List (List ℕ)) (t : Told) (first : ℕ) (s_id : Option ℕ) (window : List ℕ) → history_from none_open (taken + 1) read ≡ Ok t → 1 ≤ first → slice_get t.numbers (first - 1) ≡ Some number
+    → IsWindowBy u t (verdicts.Illegal first s_id) window → IsWindowOf u taken (read ++ more) (Illegal number s_id) window
+window_there u taken number read more t first None window h some at by = by
+window_there u taken number read more t first (Some s) window h some at by = front_told taken read more t first number (λ t. AreWindowTold u s t window) h some at by
+
+window_told : (u : Database) (most taken number : ℕ) (read more : List (List ℕ)) (t : Told) (verdict : Verdict) (judged : Judged) (window : List ℕ) → ReadAll taken number read t → IsVerdictOn u most t.lines verdict → IsTold t.numbers number verdict judged → IsWindowBy u t verdict window
+    → IsWindowOf u taken (read ++ more) judged window
+window_told u most taken number read more t verdicts.Legal judged window all is told by = subst (λ j. IsWindowOf u taken (read ++ more) j window) (sym told) by
+window_told u most taken number read more t (verdicts.Illegal first s_id) judged window all is told by =
+    subst (λ j. IsWindowOf u taken (read ++ more) j window) (sym told.2) (window_there u taken told.0 read more t first s_id window all.told is.0.first told.1 by)
+window_told u most taken number read more t (verdicts.Undecided line s) judged window all is told by = subst (λ j. IsWindowOf u taken (read ++ more) j window) (sym told) by
+
+pub is_judgement : (u : Database) (most taken number : ℕ) (read more : List (List ℕ)) (t : Told) (verdict : Verdict) (judged : Judged) (window : List ℕ) → ReadAll taken number read t → (verdict ≡ verdicts.Legal → more ≡ []) → IsVerdictOn u most t.lines verdict
+    → IsTold t.numbers number verdict judged → IsWindowBy u t verdict window → IsJudgement u most taken (read ++ more) judged window
+is_judgement u most taken number read more t verdict judged window all last is told by = record {
+  judged_is = is_judged u most taken number read more t verdict judged all last is told;
+  window_is = window_told u most taken number read more t verdict judged window all is told by;
+}

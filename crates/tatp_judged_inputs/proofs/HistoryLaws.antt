@@ -104,7 +104,7 @@ reading_starts u most judge r n left followed h o = record {
 one_longer : (read : List (List ℕ)) (text : List ℕ) → length (read ++ text ∷ []) ≡ length read + 1
 one_longer read text = length-append read (text ∷ [])
 
-split_next : (read : List (List ℕ)) (text : List ℕ) (all left left' : Option LinesLeft) → Relates all left (λ a l. a.lines ≡ read ++ l.lines) → Stays left (option_map (with_line text) left') → Relates all left' (λ a l. a.lines ≡ (read ++ text ∷ []) ++ l.lines)
+pub split_next : (read : List (List ℕ)) (text : List ℕ) (all left left' : Option LinesLeft) → Relates all left (λ a l. a.lines ≡ read ++ l.lines) → Stays left (option_map (with_line text) left') → Relates all left' (λ a l. a.lines ≡ (read ++ text ∷ []) ++ l.lines)
 split_next read text all left left' split stays =
     relates_line all left left' text (λ a l. a.lines ≡ read ++ l.lines) (λ a l. a.lines ≡ (read ++ text ∷ []) ++ l.lines) split stays
     (λ a l h. h ∙ sym (append_assoc read (text ∷ []) l.lines))
@@ -126,6 +126,16 @@ reading_goes_on u most judge judge' r r' taken now number text all left left' s 
       split = split_next s.read text all left left' s.split stays;
     }
 
+-- what was read then
+pub none_read : (u : Database) (most : ℕ) (judge : Judge) (r : Reading) (n : ℕ) (left : Option LinesLeft) (followed : HasFollowed u most [] judge) (h : r.numbers.items ≡ []) (o : (client : ℕ) → open_call r.opened client ≡ None) → (reading_starts u most judge r n left followed h o).read ≡ []
+unfolding reading_starts
+none_read u most judge r n left followed h o = refl
+
+pub one_more_read : (u : Database) (most : ℕ) (judge judge' : Judge) (r r' : Reading) (taken now number : ℕ) (text : List ℕ) (all left left' : Option LinesLeft) (s : ReadSoFar u most judge r taken now all left) (next : number ≡ now + 1)
+    (stays : Stays left (option_map (with_line text) left')) (on : GoesOn u most s.past number text judge' r r') → (reading_goes_on u most judge judge' r r' taken now number text all left left' s next stays on).read ≡ s.read ++ text ∷ []
+unfolding reading_goes_on
+one_more_read u most judge judge' r r' taken now number text all left left' s next stays on = refl
+
 -- ---- decided
 -- texts that were read tell this
 pub record ReadAll (taken now : ℕ) (read : List (List ℕ)) (t : Told) : Type 0 where
@@ -138,9 +148,9 @@ read_all r past taken now read to = record {
   count = to.count;
 }
 
-pub read_decided : (u : Database) (most : ℕ) (verdict : Verdict) (r r' : Reading) (past : List Line) (taken now number : ℕ) (read : List (List ℕ)) (text : List ℕ) → ReadTo r past taken now read → number ≡ now + 1 → (d : Decides u most past number text verdict r r')
+pub read_decided : (u : Database) (most : ℕ) (verdict : Verdict) (judge : Judge) (r r' : Reading) (past : List Line) (taken now number : ℕ) (read : List (List ℕ)) (text : List ℕ) → ReadTo r past taken now read → number ≡ now + 1 → (d : Decides u most past number text verdict judge r r')
     → ReadAll taken number (read ++ text ∷ []) (record { numbers = r'.numbers.items; lines = past ++ d.line ∷ [] })
-read_decided u most verdict r r' past taken now number read text to next d =
+read_decided u most verdict judge r r' past taken now number read text to next d =
     let long = one_longer read text in
     record {
       told = to.told (text ∷ [])
@@ -154,7 +164,7 @@ pub by_all : (all : Option LinesLeft) (P : LinesLeft → Type 0) → ((a : Lines
 by_all None P f = tt
 by_all (Some a) P f = f a refl
 
-at_all : (all : Option LinesLeft) (a : LinesLeft) (P : LinesLeft → Type 0) → all ≡ Some a → IfSome all P → P a
+pub at_all : (all : Option LinesLeft) (a : LinesLeft) (P : LinesLeft → Type 0) → all ≡ Some a → IfSome all P → P a
 at_all all a P e h = subst (λ o. IfSome o P) e h
 
 -- all were read
@@ -183,6 +193,10 @@ reading_refused u most judge r taken now number text f all left left' s next sta
     subst (λ told. RefusesHistory told f)
     (sym (ap (history_from none_open (taken + 1)) (one.1 ∙ append_assoc s.read (text ∷ []) one.0) ∙ (s.to.told (text ∷ one.0) ∙ ap (λ k. told_by r s.past k (text ∷ one.0)) (sym next))))
     (refused s.past one.0))
+
+pub if_some_is : {T : Type 0} {P Q : T → Type 0} (o : Option T) → ((v : T) → o ≡ Some v → P v → Q v) → IfSome o P → IfSome o Q
+if_some_is (Some v) f h = f v refl h
+if_some_is None f h = tt
 
 -- ---- lines
 by_arguments : (client : ℕ) (call : Call) (line : Line) (r : Result (Unit {0}) Bad) → arguments_accepted call ≡ r → if_accepted (Ask client call) r ≡ Ok (Some line) → IsAcceptedLine line

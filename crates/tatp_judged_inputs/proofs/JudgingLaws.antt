@@ -1,5 +1,5 @@
 -- What is said of an input, by what its parts tell.
-use Rattle.std.proofs.Common.{◌≡◌, ℕ, ◌+◌, List, [], Option, Some, None, subst, arith, inr}
+use Rattle.std.proofs.Common.{◌≡◌, ℕ, List, [], Option, Some, None, subst, arith, inl, inr}
 use Rattle.std.proofs.lemmas.Option.{IfSome_then}
 use Rattle.std.specs.Option.{IfSome}
 use Rattle.tatp_lines.specs.Lines.{lines_of}
@@ -15,13 +15,10 @@ use Rattle.tatp_streams.proofs.LineReadingLaws.{of_input, relates_known}
 use Rattle.tatp_tasks.specs.declared.judging.JudgePlan.{JudgePlan}
 use Rattle.tatp_tasks.specs.declared.population.Population.{Population}
 use Rattle.tatp_inputs.specs.Work.{Work, lines_before, BringsWork}
-use Rattle.tatp_judged_inputs.specs.HistoryTexts.{history_from, none_open}
-use Rattle.tatp_judged_inputs.specs.Reading.{RefusesHistory}
-use Rattle.tatp_judged_inputs.specs.declared.history_fault.HistoryFault.{HistoryFault}
-use Rattle.tatp_judged_inputs.specs.declared.history_fault.HistoryFault.TheVariants as history
-use Rattle.tatp_judged_inputs.specs.Judged.{IsJudged}
-use Rattle.tatp_judged_inputs.specs.Judging.{OfWork, AreAdmitted, JudgesWork, JudgesInput, RefusesWork, BringsNoHistory, RefusesInput, history_fault}
-use Rattle.tatp_judged_inputs.specs.declared.fault.JudgeFault.TheVariants.{Unopened}
+use Rattle.tatp_judged_inputs.specs.Judging.{OfWork, IsJudgedWith, JudgesWork, JudgesInput, RefusesTexts, RefusesAfterRows, RefusesInput}
+use Rattle.tatp_judged_inputs.specs.RowsAtEnd.{AreAdmitted}
+use Rattle.tatp_judged_inputs.specs.declared.fault.JudgeFault.{JudgeFault}
+use Rattle.tatp_judged_inputs.specs.declared.fault.JudgeFault.TheVariants.{BadLine, BadArgument, Unopened, Stream}
 use Rattle.tatp_judged_inputs.specs.declared.judging.Judged.{Judged}
 
 -- ---- the lines after the rows
@@ -39,11 +36,11 @@ of_work population start limit known left rows n P e b h =
     (λ all. OfWork population all.lines (λ work. P work (lines_before population all.lines))) (rw e at b) h
     (λ all l brings holds. (record { rows = rows; lines = l.lines }, brings.work, subst (P (record { rows = rows; lines = l.lines })) (come_before population rows n all l brings) holds)))
 
-pub input_judged : (plan : JudgePlan) (start : LineReaderState) (limit : ℕ) (known : Option (List ℕ)) (left : Option LinesLeft) (rows : Rows) (n : ℕ) (judge : Judge) (judged : Judged)
+pub input_judged : (plan : JudgePlan) (start : LineReaderState) (limit : ℕ) (known : Option (List ℕ)) (left : Option LinesLeft) (rows : Rows) (n : ℕ) (judge : Judge) (judged : Judged) (window : List ℕ)
     → start ≡ nothing_taken limit → Relates (lines_left start known) left (BringsWork plan.population rows start.number n) → AreAdmitted rows → HasFollowed (database_of rows) plan.most [] judge
-    → IfSome left (λ l. (u : Database) (most : ℕ) → HasFollowed u most [] judge → IsJudged u most n l.lines judged) → IfSome known (λ input. JudgesInput plan (lines_of input) judged)
-input_judged plan start limit known left rows n judge judged e b admitted from h =
-    of_work plan.population start limit known left rows n (λ work taken. JudgesWork plan.most work taken judged) e b
+    → IfSome left (λ l. (u : Database) (most : ℕ) → HasFollowed u most [] judge → IsJudgedWith plan.final_rows u most n l.lines judged window) → IfSome known (λ input. JudgesInput plan (lines_of input) judged window)
+input_judged plan start limit known left rows n judge judged window e b admitted from h =
+    of_work plan.population start limit known left rows n (λ work taken. JudgesWork plan work taken judged window) e b
     (IfSome_then left h (λ l says. record { admitted = admitted; is = says (database_of rows) plan.most from }))
 
 -- ---- what is refused
@@ -51,23 +48,24 @@ holds_where : {A : Type 0} {P : A → Type 0} (known : Option A) → ((a : A) �
 holds_where None h = tt
 holds_where (Some a) h = h a
 
-pub rows_refused : (population : Population) (start : LineReaderState) (limit : ℕ) (known : Option (List ℕ)) (left : Option LinesLeft) (rows : Rows) (n : ℕ) (error : OpenError)
-    → start ≡ nothing_taken limit → Relates (lines_left start known) left (BringsWork population rows start.number n) → RefusesRows rows error
-    → IfSome known (λ input. RefusesInput population (lines_of input) (Unopened error))
-rows_refused population start limit known left rows n error e b h =
-    of_work population start limit known left rows n (λ work taken. RefusesRows work.rows error) e b (holds_where left (λ l. h))
+pub rows_refused : (plan : JudgePlan) (start : LineReaderState) (limit : ℕ) (known : Option (List ℕ)) (left : Option LinesLeft) (rows : Rows) (n : ℕ) (error : OpenError)
+    → start ≡ nothing_taken limit → Relates (lines_left start known) left (BringsWork plan.population rows start.number n) → RefusesRows rows error
+    → IfSome known (λ input. RefusesInput plan (lines_of input) (Unopened error))
+rows_refused plan start limit known left rows n error e b h =
+    IfSome_then known (of_work plan.population start limit known left rows n (λ work taken. RefusesRows work.rows error) e b (holds_where left (λ l. h))) (λ input refused. inl refused)
 
-by_history : (population : Population) (lines : List (List ℕ)) (fault : HistoryFault) → BringsNoHistory population lines fault → RefusesInput population lines (history_fault fault)
-by_history population lines (history.BadLine n) h = inr h
-by_history population lines (history.BadArgument n bad) h = h
-by_history population lines (history.Stream NoMemory) h = tt
-by_history population lines (history.Stream ReadFault) h = tt
-by_history population lines (history.Stream WriteFault) h = absurd h.2.refused
+after_rows : (plan : JudgePlan) (lines : List (List ℕ)) (fault : JudgeFault) → RefusesAfterRows plan lines fault → RefusesInput plan lines fault
+after_rows plan lines (BadLine n) h = inr h
+after_rows plan lines (BadArgument n bad) h = h
+after_rows plan lines (Unopened error) h = inr h
+after_rows plan lines (Stream NoMemory) h = tt
+after_rows plan lines (Stream ReadFault) h = tt
+after_rows plan lines (Stream WriteFault) h = h.2.1
 
-pub history_refused : (population : Population) (start : LineReaderState) (limit : ℕ) (known : Option (List ℕ)) (left : Option LinesLeft) (rows : Rows) (n : ℕ) (fault : HistoryFault)
-    → start ≡ nothing_taken limit → Relates (lines_left start known) left (BringsWork population rows start.number n) → AreAdmitted rows
-    → IfSome left (λ l. RefusesHistory (history_from none_open (n + 1) l.lines) fault) → IfSome known (λ input. RefusesInput population (lines_of input) (history_fault fault))
-history_refused population start limit known left rows n fault e b admitted h =
+pub texts_refused : (plan : JudgePlan) (start : LineReaderState) (limit : ℕ) (known : Option (List ℕ)) (left : Option LinesLeft) (rows : Rows) (n : ℕ) (fault : JudgeFault)
+    → start ≡ nothing_taken limit → Relates (lines_left start known) left (BringsWork plan.population rows start.number n) → AreAdmitted rows
+    → IfSome left (λ l. RefusesTexts plan.final_rows n l.lines fault) → IfSome known (λ input. RefusesInput plan (lines_of input) fault)
+texts_refused plan start limit known left rows n fault e b admitted h =
     IfSome_then known
-    (of_work population start limit known left rows n (λ work taken. RefusesWork work taken fault) e b (IfSome_then left h (λ l refused. record { admitted = admitted; refused = refused })))
-    (λ input none. by_history population (lines_of input) fault none)
+    (of_work plan.population start limit known left rows n (λ work taken. AreAdmitted work.rows × RefusesTexts plan.final_rows taken work.lines fault) e b (IfSome_then left h (λ l refused. (admitted, refused))))
+    (λ input refused. after_rows plan (lines_of input) fault refused)

@@ -1,4 +1,6 @@
 pub mod HistoryLaws
 pub mod FrontLaws
 pub mod JudgingLaws
+pub mod TellingLaws
 pub mod VerdictLaws
+pub mod RowsAtEndLaws

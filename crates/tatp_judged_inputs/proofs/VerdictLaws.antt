@@ -2,7 +2,8 @@
 use Rattle.std.proofs.Common.{◌≡◌, ℕ, zero, suc, ◌+◌, ◌-◌, ◌<◌, ◌≤◌, List, [], ◌∷◌, ◌++◌, length, take, Option, Some, None, Result, Ok, Err, refl, sym, ap, subst, ◌∙◌, arith, inl, inr}
 use Rattle.std.proofs.lemmas.Bool.{cases_lt}
 use Rattle.std.proofs.lemmas.List.{take-take}
-use Rattle.tatp_tables.specs.Database.{Database}
+use Rattle.tatp_tables.specs.Database.{Database, database_of}
+use Rattle.tatp_tables.specs.declared.row.Rows.{Rows}
 use Rattle.tatp_history.specs.declared.line.Line.{Line}
 use Rattle.tatp_history.specs.Histories.{IsStrictlySerializable}
 use Rattle.tatp_history.specs.HistoryLines.{calls_of}
@@ -11,8 +12,12 @@ use Rattle.tatp_history.proofs.PrefixLaws.{prefixes}
 use Rattle.tatp_history_lines.specs.declared.fault.LineFault.{LineFault}
 use Rattle.tatp_history_lines.specs.Open.{CallsOpen, opened_by}
 use Rattle.tatp_judged_inputs.specs.HistoryTexts.{Told, BadText, said_in, onto, tell_on, history_from, none_open}
+use Rattle.tatp_inputs.specs.Parts.{before_dot}
+use Rattle.tatp_judge.specs.Finishing.{LeadsTo, IsFirstUnreached}
 use Rattle.tatp_judge.specs.Verdicts.{IsLegal}
+use Rattle.tatp_judged_inputs.specs.declared.judging.Judged.TheVariants.{Legal}
 use Rattle.tatp_judged_inputs.specs.Judged.{TellLegal, TellIllegal, IsIllegalAt}
+use Rattle.tatp_judged_inputs.specs.RowsAtEnd.{Bring, IsJudgedTo, IsUnreachedAt, rows_at_end}
 
 -- ---- what the first texts tell begins what all of them do
 abbrev lines_told : Result Told BadText → List Line
@@ -65,4 +70,32 @@ pub illegal_at_one : (u : Database) (taken : ℕ) (texts : List (List ℕ)) (n m
 illegal_at_one u taken texts n m a b = elim (cases_lt n m) [
   | inl lt ↦ absurd (not_before u taken texts n m a b lt)
   | inr le ↦ elim (cases_lt m n) [ inl lt ↦ absurd (not_before u taken texts m n b a lt) | inr ge ↦ omega (arith, le, ge) ]
+]
+
+-- ---- with the rows at the end
+same_rows : (r : Result Rows ℕ) (a b : Rows) → r ≡ Ok a → r ≡ Ok b → a ≡ b
+same_rows r a b e h = cc
+
+same_told : (r : Result Told BadText) (a b : Told) → r ≡ Ok a → r ≡ Ok b → a ≡ b
+same_told r a b e h = cc
+
+-- what holds of what the texts bring holds of it anywhere
+brought_once : (taken : ℕ) (texts : List (List ℕ)) (P Q : List Line → Database → Type 0) (a : Bring taken texts P) (b : Bring taken texts Q) → P b.holds.0.lines (database_of b.rows)
+brought_once taken texts P Q a b =
+    subst (λ r. P b.holds.0.lines (database_of r)) (same_rows (rows_at_end taken texts) a.rows b.rows a.read b.read)
+    (subst (λ (t : Told). P t.lines (database_of a.rows)) (same_told (history_from none_open (taken + 1) (before_dot texts)) a.holds.0 b.holds.0 a.holds.1 b.holds.1) a.holds.2)
+
+pub legal_nowhere_unreached : (u : Database) (most taken : ℕ) (texts : List (List ℕ)) (number s : ℕ) → IsJudgedTo u most taken texts Legal → IsUnreachedAt u taken texts number s → ⊥
+legal_nowhere_unreached u most taken texts number s legal is =
+    is.unreached.holds.2.none (brought_once taken texts (LeadsTo u) (λ lines after. IsFirstUnreached u lines after s) legal is.unreached)
+
+not_earlier : (u : Database) (taken : ℕ) (texts : List (List ℕ)) (n m s t : ℕ) → IsUnreachedAt u taken texts n s → IsUnreachedAt u taken texts m t → s < t → ⊥
+not_earlier u taken texts n m s t a b lt =
+    let here = brought_once taken texts (λ lines after. IsFirstUnreached u lines after s) (λ lines after. IsFirstUnreached u lines after t) a.unreached b.unreached in
+    here.here (b.unreached.holds.2.before s here.first lt)
+
+pub unreached_at_one : (u : Database) (taken : ℕ) (texts : List (List ℕ)) (n m s t : ℕ) → IsUnreachedAt u taken texts n s → IsUnreachedAt u taken texts m t → s ≡ t
+unreached_at_one u taken texts n m s t a b = elim (cases_lt s t) [
+  | inl lt ↦ absurd (not_earlier u taken texts n m s t a b lt)
+  | inr le ↦ elim (cases_lt t s) [ inl lt ↦ absurd (not_earlier u taken texts m n t s b a lt) | inr ge ↦ omega (arith, le, ge) ]
 ]

@@ -1,12 +1,13 @@
 -- What is said of a history by the numbers of its lines in the input.
-use Rattle.std.specs.Prelude.{◌≡◌, ℕ, ◌+◌, ◌-◌, ◌<◌, ◌≤◌, List, length, take, slice_get, Some, Ok}
+use Rattle.std.specs.Prelude.{◌≡◌, ℕ, ◌+◌, ◌-◌, ◌<◌, ◌≤◌, List, [], length, map, take, slice_get, slice_index, Option, Some, None, Ok}
 use Rattle.tatp_tables.specs.Database.{Database}
 use Rattle.tatp_judged_inputs.specs.HistoryTexts.{Told, history_from, none_open}
 use Rattle.tatp_judge.specs.declared.judge.Verdict.{Verdict}
 use Rattle.tatp_judge.specs.declared.judge.Verdict.TheVariants as verdicts
-use Rattle.tatp_judge.specs.Verdicts.{IsLegal, NeedMoreBy}
+use Rattle.tatp_judge.specs.Explained.{AreWindowNumbers}
+use Rattle.tatp_judge.specs.Verdicts.{IsLegal, IsUnexplained, NeedMoreBy}
 use Rattle.tatp_judged_inputs.specs.declared.judging.Judged.{Judged}
-use Rattle.tatp_judged_inputs.specs.declared.judging.Judged.TheVariants.{Legal, Illegal, Undecided}
+use Rattle.tatp_judged_inputs.specs.declared.judging.Judged.TheVariants.{Legal, Illegal, Undecided, Unreached}
 
 -- the texts, the first of which comes after so many lines of the input, tell a history of which
 -- this holds
@@ -38,15 +39,62 @@ pub record IsUndecidedAt (u : Database) (most taken : ℕ) (texts : List (List �
   pub many : Tell taken (take (number - taken) texts)
       (λ told. NeedMoreBy u most told.lines (length told.lines) s)
 
+-- in the lines up to the one with this number the calls on this subscriber aren't strictly
+-- serializable; or, where none is named, a call that names none didn't fail
+abbrev pub AreUnexplainedAt : Database → ℕ → List (List ℕ) → ℕ → Option ℕ → Type 0
+AreUnexplainedAt u taken texts number s_id = Tell taken (take (number - taken) texts)
+    (λ told. IsUnexplained u told.lines (length told.lines) s_id)
+
 abbrev pub IsJudged : Database → ℕ → ℕ → List (List ℕ) → Judged → Type 0
 IsJudged u most taken texts Legal = TellLegal u taken texts
-IsJudged u most taken texts (Illegal number) = IsIllegalAt u taken texts number
+IsJudged u most taken texts (Illegal number s_id) =
+    IsIllegalAt u taken texts number × AreUnexplainedAt u taken texts number s_id
 IsJudged u most taken texts (Undecided number s) = IsUndecidedAt u most taken texts number s
+IsJudged u most taken texts (Unreached number s) = ⊥
 
 -- it says what a verdict says, by these numbers of lines, where so many lines of the input were
 -- read
 abbrev pub IsTold : List ℕ → ℕ → Verdict → Judged → Type 0
 IsTold numbers read verdicts.Legal judged = judged ≡ Legal
-IsTold numbers read (verdicts.Illegal first) judged =
-    (number : ℕ) × (slice_get numbers (first - 1) ≡ Some number) × (judged ≡ Illegal number)
+IsTold numbers read (verdicts.Illegal first s_id) judged =
+    (number : ℕ) × (slice_get numbers (first - 1) ≡ Some number) × (judged ≡ Illegal number s_id)
 IsTold numbers read (verdicts.Undecided line s) judged = judged ≡ Undecided read s
+
+-- ---- the lines of an unexplained window
+-- the numbers that lines of the history have in the input
+abbrev pub in_input : List ℕ → List ℕ → List ℕ
+in_input numbers lines = map (λ line. slice_index numbers (line - 1)) lines
+
+-- they are those of the window of the subscriber that ends with the last line
+abbrev pub AreWindowTold : Database → ℕ → Told → List ℕ → Type 0
+AreWindowTold u s told window =
+    (lines : List ℕ) × AreWindowNumbers u s told.lines lines
+    × (window ≡ in_input told.numbers lines)
+
+-- those that are told with what is said of the texts, where this names a subscriber whose calls are
+-- unexplained
+abbrev pub IsWindowOf : Database → ℕ → List (List ℕ) → Judged → List ℕ → Type 0
+IsWindowOf u taken texts Legal window = window ≡ []
+IsWindowOf u taken texts (Illegal number None) window = window ≡ []
+IsWindowOf u taken texts (Illegal number (Some s)) window =
+    Tell taken (take (number - taken) texts) (λ told. AreWindowTold u s told window)
+IsWindowOf u taken texts (Undecided number s) window = window ≡ []
+IsWindowOf u taken texts (Unreached number s) window = window ≡ []
+
+-- what is said of the texts, and the numbers told with it
+pub record IsJudgement (u : Database) (most taken : ℕ) (texts : List (List ℕ)) (judged : Judged)
+    (window : List ℕ) : Type 0 where
+  pub judged_is : IsJudged u most taken texts judged
+  pub window_is : IsWindowOf u taken texts judged window
+
+-- the first lines of what is told
+abbrev pub first_told : ℕ → Told → Told
+first_told n told = record { numbers = take n told.numbers; lines = take n told.lines }
+
+-- the numbers told with a verdict on lines
+abbrev pub IsWindowBy : Database → Told → Verdict → List ℕ → Type 0
+IsWindowBy u told verdicts.Legal window = window ≡ []
+IsWindowBy u told (verdicts.Illegal first None) window = window ≡ []
+IsWindowBy u told (verdicts.Illegal first (Some s)) window =
+    AreWindowTold u s (first_told first told) window
+IsWindowBy u told (verdicts.Undecided line s) window = window ≡ []

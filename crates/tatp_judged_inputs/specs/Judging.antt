@@ -1,17 +1,16 @@
 -- What the command `judge` writes, and what each fault leaves. Old and new are the bytes that a
 -- writer holds.
-use Rattle.std.specs.Prelude.{◌≡◌, ◌⊎◌, ℕ, ◌+◌, ◌≤◌, List, [], ◌∷◌, ◌++◌, length, Option, Ok, Err, codes, decimal}
+use Rattle.std.specs.Prelude.{◌≡◌, ◌⊎◌, ℕ, ◌+◌, Bool, true, false, if◌then◌else◌, List, [], ◌∷◌, ◌++◌, Option, Some, None, Ok, Err, codes, decimal}
 use Rattle.std.specs.Io.KnownBytes.{Appends}
-use Rattle.tatp_limits.specs.declared.limits.TheConstants.{MAX_SUBSCRIBERS}
 use Rattle.tatp_lines.specs.Lines.{lines_of}
-use Rattle.tatp_tables.specs.Clean.{IsClean}
-use Rattle.tatp_tables.specs.Database.{database_of}
+use Rattle.tatp_tables.specs.Database.{Database, database_of}
 use Rattle.tatp_tables.specs.declared.row.Rows.{Rows}
 use Rattle.tatp_extents.specs.Opening.{RefusesRows}
 use Rattle.tatp_streams.specs.Writing.{LeavesText}
 use Rattle.tatp_streams.specs.declared.fault.StreamFault.TheVariants.{WriteFault}
 use Rattle.tatp_tasks.specs.declared.judging.JudgePlan.{JudgePlan}
 use Rattle.tatp_tasks.specs.declared.population.Population.{Population}
+use Rattle.tatp_inputs.specs.Parts.{before_dot}
 use Rattle.tatp_inputs.specs.Work.{Work, work_of, lines_before}
 use Rattle.tatp_inputs.specs.declared.fault.InputFault.{InputFault}
 use Rattle.tatp_inputs.specs.declared.fault.InputFault.TheVariants as input
@@ -19,73 +18,111 @@ use Rattle.tatp_judged_inputs.specs.HistoryTexts.{history_from, none_open}
 use Rattle.tatp_judged_inputs.specs.Reading.{RefusesHistory}
 use Rattle.tatp_judged_inputs.specs.declared.history_fault.HistoryFault.{HistoryFault}
 use Rattle.tatp_judged_inputs.specs.declared.history_fault.HistoryFault.TheVariants as history
-use Rattle.tatp_judged_inputs.specs.Judged.{IsJudged}
+use Rattle.tatp_judged_inputs.specs.Judged.{IsJudgement}
+use Rattle.tatp_judged_inputs.specs.RowsAtEnd.{AreAdmitted, IsJudgementTo, rows_at_end}
 use Rattle.tatp_judged_inputs.specs.declared.fault.JudgeFault.{JudgeFault}
 use Rattle.tatp_judged_inputs.specs.declared.fault.JudgeFault.TheVariants.{BadLine, BadArgument, Unopened, Stream}
 use Rattle.tatp_judged_inputs.specs.declared.judging.Judged.{Judged}
-use Rattle.tatp_judged_inputs.specs.declared.judging.Judged.TheVariants.{Legal, Illegal, Undecided}
+use Rattle.tatp_judged_inputs.specs.declared.judging.Judged.TheVariants.{Legal, Illegal, Undecided, Unreached}
 
 -- ---- an input
 -- of the rows and the lines that the lines of an input bring
 abbrev pub OfWork : Population → List (List ℕ) → (Work → Type 0) → Type 0
 OfWork population lines P = (work : Work) × (work_of population 1 lines ≡ Ok work) × P work
 
--- a history can begin with these rows
-pub record AreAdmitted (rows : Rows) : Type 0 where
-  pub few : length rows.subscribers ≤ MAX_SUBSCRIBERS
-  pub clean : IsClean rows
+-- this is said of the history that the lines are, with the rows at its end where these follow it
+abbrev pub IsJudgedWith
+    : Bool → Database → ℕ → ℕ → List (List ℕ) → Judged → List ℕ → Type 0
+IsJudgedWith false u most taken texts judged window =
+    IsJudgement u most taken texts judged window
+IsJudgedWith true u most taken texts judged window =
+    IsJudgementTo u most taken texts judged window
 
--- this is said of the history that the lines are, which begins with the rows; so many lines of the
--- input come before it, and at most so many configurations of a subscriber are kept
-pub record JudgesWork (most : ℕ) (work : Work) (taken : ℕ) (judged : Judged) : Type 0 where
+-- the history begins with the rows; so many lines of the input come before it, and at most so many
+-- configurations of a subscriber are kept
+pub record JudgesWork (plan : JudgePlan) (work : Work) (taken : ℕ) (judged : Judged)
+    (window : List ℕ) : Type 0 where
   pub admitted : AreAdmitted work.rows
-  pub is : IsJudged (database_of work.rows) most taken work.lines judged
+  pub is : IsJudgedWith plan.final_rows (database_of work.rows) plan.most taken work.lines judged
+      window
 
-abbrev pub JudgesInput : JudgePlan → List (List ℕ) → Judged → Type 0
-JudgesInput plan lines judged = OfWork plan.population lines
-    (λ work. JudgesWork plan.most work (lines_before plan.population lines) judged)
+abbrev pub JudgesInput : JudgePlan → List (List ℕ) → Judged → List ℕ → Type 0
+JudgesInput plan lines judged window = OfWork plan.population lines
+    (λ work. JudgesWork plan work (lines_before plan.population lines) judged window)
 
 -- ---- why nothing is said
--- the lines are no history, for this reason
-pub record RefusesWork (work : Work) (taken : ℕ) (fault : HistoryFault) : Type 0 where
-  pub admitted : AreAdmitted work.rows
-  pub refused : RefusesHistory (history_from none_open (taken + 1) work.lines) fault
+-- the lines of a history: where the rows at its end follow it, those before a line `.`
+abbrev pub history_texts : Bool → List (List ℕ) → List (List ℕ)
+history_texts final texts = if final then before_dot texts else texts
 
-abbrev pub BringsNoHistory : Population → List (List ℕ) → HistoryFault → Type 0
-BringsNoHistory population lines fault =
-    OfWork population lines (λ work. RefusesWork work (lines_before population lines) fault)
+-- the lines after the rows are refused: they are no history, or the rows at its end are wrong
+abbrev pub RefusesTexts : Bool → ℕ → List (List ℕ) → JudgeFault → Type 0
+RefusesTexts final taken texts (BadLine n) =
+    RefusesHistory (history_from none_open (taken + 1) (history_texts final texts))
+    (history.BadLine n)
+    ⊎ ((final ≡ true) × (rows_at_end taken texts ≡ Err n))
+RefusesTexts final taken texts (BadArgument n bad) = RefusesHistory
+    (history_from none_open (taken + 1) (history_texts final texts)) (history.BadArgument n bad)
+RefusesTexts final taken texts (Unopened error) =
+    (final ≡ true) × ((rows : Rows) × (rows_at_end taken texts ≡ Ok rows) × RefusesRows rows error)
+RefusesTexts final taken texts (Stream WriteFault) = ⊥
+RefusesTexts final taken texts (Stream fault) = Unit {0}
+
+-- they are, after rows that are admitted
+abbrev pub RefusesAfterRows : JudgePlan → List (List ℕ) → JudgeFault → Type 0
+RefusesAfterRows plan lines fault = OfWork plan.population lines (λ work. AreAdmitted work.rows
+    × RefusesTexts plan.final_rows (lines_before plan.population lines) work.lines fault)
 
 -- a fault of the rows comes before one of the history. A reader can fail, and memory run out, at
 -- any line
-abbrev pub RefusesInput : Population → List (List ℕ) → JudgeFault → Type 0
-RefusesInput population lines (BadLine n) =
-    (work_of population 1 lines ≡ Err n) ⊎ BringsNoHistory population lines (history.BadLine n)
-RefusesInput population lines (BadArgument n bad) =
-    BringsNoHistory population lines (history.BadArgument n bad)
-RefusesInput population lines (Unopened error) =
-    OfWork population lines (λ work. RefusesRows work.rows error)
-RefusesInput population lines (Stream WriteFault) = ⊥
-RefusesInput population lines (Stream fault) = Unit {0}
+abbrev pub RefusesInput : JudgePlan → List (List ℕ) → JudgeFault → Type 0
+RefusesInput plan lines (BadLine n) =
+    (work_of plan.population 1 lines ≡ Err n) ⊎ RefusesAfterRows plan lines (BadLine n)
+RefusesInput plan lines (BadArgument n bad) = RefusesAfterRows plan lines (BadArgument n bad)
+RefusesInput plan lines (Unopened error) =
+    OfWork plan.population lines (λ work. RefusesRows work.rows error)
+    ⊎ RefusesAfterRows plan lines (Unopened error)
+RefusesInput plan lines (Stream WriteFault) = ⊥
+RefusesInput plan lines (Stream fault) = Unit {0}
 
 -- ---- what is written
+-- a word, a number and a line feed
+abbrev pub number_line : List ℕ → ℕ → List ℕ
+number_line word number = word ++ (decimal number ++ 10 ∷ [])
+
+-- the line that names a subscriber
+abbrev pub subscriber_line : Option ℕ → List ℕ
+subscriber_line None = []
+subscriber_line (Some s) = number_line (codes "SUBSCRIBER ") s
+
+-- a line for each line of a window
+abbrev pub window_lines : List ℕ → List ℕ
+window_lines [] = []
+window_lines (number ∷ more) = number_line (codes "LINE ") number ++ window_lines more
+
 -- the lines that say it, each with its line feed
-abbrev pub judged_lines : Judged → List ℕ
-judged_lines Legal = codes "LEGAL" ++ 10 ∷ []
-judged_lines (Illegal number) = codes "ILLEGAL " ++ (decimal number ++ 10 ∷ [])
-judged_lines (Undecided number s) = codes "UNDECIDED "
-    ++ (decimal number ++ 10 ∷ (codes "SUBSCRIBER " ++ (decimal s ++ 10 ∷ [])))
+abbrev pub judged_lines : Judged → List ℕ → List ℕ
+judged_lines Legal window = codes "LEGAL" ++ 10 ∷ []
+judged_lines (Illegal number s_id) window =
+    number_line (codes "ILLEGAL ") number ++ (subscriber_line s_id ++ window_lines window)
+judged_lines (Unreached number s) window =
+    number_line (codes "ILLEGAL ") number ++ subscriber_line (Some s)
+judged_lines (Undecided number s) window =
+    number_line (codes "UNDECIDED ") number ++ subscriber_line (Some s)
 
 -- the text tells what is said of the input
 pub record TellsJudged (plan : JudgePlan) (input text : List ℕ) : Type 0 where
   pub judged : Judged
-  pub is : JudgesInput plan (lines_of input) judged
-  pub told : text ≡ judged_lines judged
+  pub window : List ℕ
+  pub is : JudgesInput plan (lines_of input) judged window
+  pub told : text ≡ judged_lines judged window
 
 -- this is said of the input, and new has it besides
 pub record WritesJudged (plan : JudgePlan) (input : List ℕ) (judged : Judged)
     (old new : Option (List ℕ)) : Type 0 where
-  pub is : JudgesInput plan (lines_of input) judged
-  pub written : Appends old new (judged_lines judged)
+  pub window : List ℕ
+  pub is : JudgesInput plan (lines_of input) judged window
+  pub written : Appends old new (judged_lines judged window)
 
 -- what each fault tells of the input, and leaves
 abbrev pub LeavesJudged : JudgePlan → List ℕ → Option (List ℕ) → Option (List ℕ)
@@ -93,7 +130,7 @@ abbrev pub LeavesJudged : JudgePlan → List ℕ → Option (List ℕ) → Optio
 LeavesJudged plan input old new (Stream fault) =
     LeavesText (TellsJudged plan input) old new fault
 LeavesJudged plan input old new fault =
-    RefusesInput plan.population (lines_of input) fault × Appends old new []
+    RefusesInput plan (lines_of input) fault × Appends old new []
 
 -- ---- the same faults among those of the command
 abbrev pub input_fault : InputFault → JudgeFault

@@ -1,4 +1,5 @@
 pub mod HistoryTexts
 pub mod Reading
 pub mod Judged
+pub mod RowsAtEnd
 pub mod Judging

@@ -1,6 +1,7 @@
 -- What was read of a history, and why it is none.
-use Rattle.std.specs.Prelude.{◌≡◌, ℕ, ◌+◌, List, [], ◌∷◌, ◌++◌, length, Some, Result, Ok, Err}
+use Rattle.std.specs.Prelude.{◌≡◌, ℕ, ◌+◌, List, [], ◌∷◌, ◌++◌, length, Option, Some, Result, Ok, Err}
 use Rattle.tatp_tables.specs.Database.{Database}
+use Rattle.tatp_streams.specs.LineReading.{LinesLeft}
 use Rattle.tatp_streams.specs.declared.fault.StreamFault.TheVariants.{WriteFault}
 use Rattle.tatp_history.specs.declared.line.Line.{Line}
 use Rattle.tatp_history_lines.specs.declared.fault.LineFault.{LineFault}
@@ -8,12 +9,14 @@ use Rattle.tatp_history_lines.specs.declared.fault.LineFault.TheVariants as line
 use Rattle.tatp_history_lines.specs.Open.{open_call}
 use Rattle.tatp_judged_inputs.specs.declared.history_fault.HistoryFault.{HistoryFault}
 use Rattle.tatp_judged_inputs.specs.declared.history_fault.HistoryFault.TheVariants.{BadLine, BadArgument, Stream}
+use Rattle.tatp_inputs.specs.Parts.{before_dot, after_dot}
 use Rattle.tatp_judge.specs.declared.judge.Judge.{Judge}
 use Rattle.tatp_judge.specs.declared.judge.Verdict.{Verdict}
-use Rattle.tatp_judge.specs.Followed.{HasFollowed}
+use Rattle.tatp_judge.specs.declared.judge.Verdict.TheVariants.{Illegal}
+use Rattle.tatp_judge.specs.Followed.{HasFollowed, HasKept}
 use Rattle.tatp_judge.specs.Verdicts.{IsVerdictOn}
 use Rattle.tatp_judged_inputs.specs.declared.reading.Reading.{Reading}
-use Rattle.tatp_judged_inputs.specs.HistoryTexts.{Told, BadText, said_in, history_from}
+use Rattle.tatp_judged_inputs.specs.HistoryTexts.{Told, BadText, said_in, history_from, none_open}
 
 -- each line that was read has its number
 abbrev pub IsNumbered : Reading → List Line → Type 0
@@ -52,13 +55,19 @@ pub record GoesOn (u : Database) (most : ℕ) (past : List Line) (number : ℕ) 
   pub told : (more : List (List ℕ))
       → told_by new now (number + 1) more ≡ told_by old past number (text ∷ more)
 
+-- where the verdict is that the lines are illegal, the judge keeps what explains it
+abbrev pub IsKeptFor : Database → List Line → Verdict → Judge → Type 0
+IsKeptFor u past verdict judge =
+    (line : ℕ) (s_id : Option ℕ) → verdict ≡ Illegal line s_id → HasKept u past judge
+
 -- the text with this number says a line, which decides the history
 pub record Decides (u : Database) (most : ℕ) (past : List Line) (number : ℕ) (text : List ℕ)
-    (verdict : Verdict) (old new : Reading) : Type 0 where
+    (verdict : Verdict) (judge : Judge) (old new : Reading) : Type 0 where
   pub line : Line
   pub said : said_in (open_call old.opened) text ≡ Ok (Some line)
   pub numbers_are : new.numbers.items ≡ old.numbers.items ++ number ∷ []
   pub decided : IsVerdictOn u most (past ++ line ∷ []) verdict
+  pub kept : IsKeptFor u (past ++ line ∷ []) verdict judge
 
 -- the fault is that of the first text that is no line. A reader can fail, and memory run out, at
 -- any
@@ -69,3 +78,13 @@ RefusesHistory told (BadArgument n bad) =
     told ≡ Err (record { number = n; fault = lines.BadArgument bad })
 RefusesHistory told (Stream WriteFault) = ⊥
 RefusesHistory told (Stream fault) = Unit {0}
+
+-- ---- up to a line `.`
+-- the lines up to the first line `.` are taken, and tell these lines of a history; before and after
+-- them so many lines are taken in all
+pub record ReadsToDot (past : List Line) (before after : ℕ) (all left : LinesLeft) : Type 0 where
+  pub told : Told
+  pub tell : history_from none_open (before + 1) (before_dot all.lines) ≡ Ok told
+  pub lines_are : told.lines ≡ past
+  pub later : after_dot all.lines ≡ Some left.lines
+  pub counted : after ≡ before + length (before_dot all.lines) + 1

@@ -1,5 +1,5 @@
 //! The command `judge`: the verdict on a history.
-ghost use Rattle.std.specs.Prelude.{◌≡◌, [], IfOk, IfErr, IfSome, OnOk};
+ghost use Rattle.std.specs.Prelude.{◌≡◌, [], ◌++◌, Some, IfOk, IfErr, IfSome, OnOk};
 ghost use Rattle.std.specs.String.{string_bytes};
 ghost use Rattle.tatp_lines.specs.Lines.{lines_of};
 ghost use Rattle.tatp_tables.specs.Database.{database_of};
@@ -8,14 +8,17 @@ ghost use Rattle.tatp_judge.specs.Followed.{HasFollowed};
 ghost use Rattle.tatp_tasks.specs.Judging.{IsJudgePlan};
 ghost use Rattle.tatp_inputs.specs.Work.{AreCleanWhereDrawn};
 ghost use Rattle.tatp_judged_inputs.specs.declared.fault.JudgeFault.TheVariants.{Stream, Unopened};
-ghost use Rattle.tatp_judged_inputs.specs.Judging.{AreAdmitted, JudgesInput, RefusesInput, judged_lines, WritesJudged, LeavesJudged};
+ghost use Rattle.tatp_judged_inputs.specs.RowsAtEnd.{AreAdmitted};
+ghost use Rattle.tatp_judged_inputs.specs.Judging.{JudgesInput, RefusesInput, number_line, subscriber_line, window_lines, judged_lines, WritesJudged, LeavesJudged};
 
-use crate::{JudgeFault, Judged, judge_history};
+use crate::to_rows::judge_lines;
+use crate::{JudgeFault, Judged, Judgement};
 use std::alloc::{AllocError, Global};
 use std::io::{Read, Write};
 use tatp_extents::{OpenError, admit};
 use tatp_inputs::work_of;
 use tatp_judge::Judge;
+use tatp_lines::push_decimal;
 use tatp_streams::{LineReader, MAX_INPUT_LIMIT, write_last};
 use tatp_tables::Rows;
 use tatp_tasks::{JudgePlan, Population};
@@ -36,31 +39,86 @@ fn judge_of(alloc: Global, plan: &JudgePlan, rows: &Rows) -> Result<Judge, OpenE
 }
 
 /// What is said of the history that an input is.
-fn judged<R: Read>(alloc: Global, reader: &mut R, plan: &JudgePlan) -> Result<Judged, JudgeFault>
+fn judged<R: Read>(alloc: Global, reader: &mut R, plan: &JudgePlan) -> Result<Judgement, JudgeFault>
     requires { IsJudgePlan plan.now }
-    ensures judged { IfOk result (λ judged. IfSome (R.remaining reader.old) (λ input.
-        JudgesInput plan.now (lines_of input) judged)) }
+    ensures judged { IfOk result (λ judgement. IfSome (R.remaining reader.old) (λ input.
+        JudgesInput plan.now (lines_of input) judgement.judged judgement.window.items)) }
     ensures faults { IfErr result (λ fault. IfSome (R.remaining reader.old) (λ input.
-        RefusesInput plan.now.population (lines_of input) fault)) }
+        RefusesInput plan.now (lines_of input) fault)) }
 {
     let mut lines = LineReader::new(alloc, MAX_INPUT_LIMIT);
     let rows = work_of(alloc, plan.population, &mut lines, reader)?;
     let mut judge = judge_of(alloc, plan, &rows)?;
     drop(rows);
-    Ok(judge_history(alloc, &mut judge, &mut lines, reader)?)
+    judge_lines(alloc, plan.final_rows, &mut judge, &mut lines, reader)
+}
+
+/// Appends a line of a word and a number.
+fn push_number_line(text: &mut String, word: &str, number: u64) -> Result<(), AllocError>
+    ensures { OnOk result
+        (string_bytes text.new ≡ string_bytes text.old ++ number_line word.now number) }
+{
+    text.push_str(word)?;
+    push_decimal(text, number)?;
+    text.push('\n')
+}
+
+/// Appends such a line, and the one that names a subscriber.
+fn push_with_subscriber(
+    text: &mut String,
+    word: &str,
+    number: u64,
+    s_id: u64,
+) -> Result<(), AllocError>
+    ensures { OnOk result (string_bytes text.new
+        ≡ string_bytes text.old ++ (number_line word.now number ++ subscriber_line (Some s_id))) }
+{
+    push_number_line(text, word, number)?;
+    push_number_line(text, "SUBSCRIBER ", s_id)
+}
+
+/// Appends a line for each line of a window.
+fn push_window(text: &mut String, window: &[u64]) -> Result<(), AllocError>
+    ensures { OnOk result
+        (string_bytes text.new ≡ string_bytes text.old ++ window_lines window.now) }
+{
+    'window: for i in 0..window.len() {
+        push_number_line(text, "LINE ", window[i])?;
+    }
+    Ok(())
+}
+
+/// Appends the lines that tell why the lines up to one are illegal.
+fn push_explanation(text: &mut String, s_id: Option<u64>, window: &[u64]) -> Result<(), AllocError>
+    ensures { OnOk result (string_bytes text.new
+        ≡ string_bytes text.old ++ (subscriber_line s_id ++ window_lines window.now)) }
+{
+    if let Some(s_id) = s_id {
+        push_number_line(text, "SUBSCRIBER ", s_id)?;
+    }
+    push_window(text, window)
 }
 
 /// The lines that tell it.
-fn lines_that_tell(alloc: Global, judged: Judged) -> Result<String, AllocError>
-    ensures { IfOk result (λ lines. string_bytes lines ≡ judged_lines judged) }
+fn lines_that_tell(alloc: Global, judgement: &Judgement) -> Result<String, AllocError>
+    ensures { IfOk result (λ lines. string_bytes lines
+        ≡ judged_lines judgement.now.judged judgement.now.window.items) }
 {
-    match judged {
-        Judged::Legal => format!(in alloc; "LEGAL\n"),
-        Judged::Illegal(number) => format!(in alloc; "ILLEGAL {number}\n"),
+    let mut text = String::new(alloc);
+    match judgement.judged {
+        Judged::Legal => text.push_str("LEGAL\n")?,
+        Judged::Illegal { line, s_id } => {
+            push_number_line(&mut text, "ILLEGAL ", line)?;
+            push_explanation(&mut text, s_id, judgement.window.as_slice())?;
+        }
+        Judged::Unreached { line, s_id } => {
+            push_with_subscriber(&mut text, "ILLEGAL ", line, s_id)?;
+        }
         Judged::Undecided { line, s_id } => {
-            format!(in alloc; "UNDECIDED {line}\nSUBSCRIBER {s_id}\n")
+            push_with_subscriber(&mut text, "UNDECIDED ", line, s_id)?;
         }
     }
+    Ok(text)
 }
 
 /// Reads rows and a history, or a history alone, and writes what is said of it, which it gives
@@ -79,8 +137,8 @@ pub fn run_judge<R: Read, W: Write>(
         LeavesJudged plan.now input
         (W.contents writer.old) (W.contents writer.new) fault)) }
 {
-    let judged = judged(alloc, reader, plan)?;
-    let lines = lines_that_tell(alloc, judged)?;
+    let judgement = judged(alloc, reader, plan)?;
+    let lines = lines_that_tell(alloc, &judgement)?;
     write_last(writer, lines.as_bytes())?;
-    Ok(judged)
+    Ok(judgement.judged)
 }

@@ -6,12 +6,12 @@ ghost use Rattle.tatp_streams.specs.LineReading.{lines_left};
 ghost use Rattle.tatp_judge.specs.Followed.{HasFollowed};
 ghost use Rattle.tatp_judge.specs.Verdicts.{IsVerdictOn};
 ghost use Rattle.tatp_judged_inputs.specs.HistoryTexts.{history_from, none_open};
-ghost use Rattle.tatp_judged_inputs.specs.Judged.{IsJudged, IsTold};
-ghost use Rattle.tatp_judged_inputs.specs.Reading.{IsNumbered, RefusesHistory};
+ghost use Rattle.tatp_judged_inputs.specs.Judged.{IsJudgement, IsTold, IsWindowBy};
+ghost use Rattle.tatp_judged_inputs.specs.Reading.{IsKeptFor, IsNumbered, RefusesHistory, told_of};
 
 use crate::HistoryFault;
 use crate::reading::Reading;
-use std::alloc::Global;
+use std::alloc::{AllocError, Global};
 use std::io::Read;
 use tatp_history_lines::OpenCalls;
 use tatp_judge::{Judge, Verdict};
@@ -22,9 +22,14 @@ use tatp_streams::LineReader;
 pub enum Judged {
     /// It is strictly serializable.
     Legal,
-    /// Up to the line of the input with this number, counted from 1, it isn't, and up to the one
-    /// before it is.
-    Illegal(u64),
+    /// Up to a line of the input it isn't, and up to the one before it is.
+    Illegal {
+        /// The number of that line, counted from 1.
+        line: u64,
+        /// The subscriber whose calls no order explains up to there; none where a call that names
+        /// none was answered otherwise than by its failure.
+        s_id: Option<u64>,
+    },
     /// It isn't known, since more configurations of a subscriber are possible than may be kept.
     Undecided {
         /// How many lines of the input were read.
@@ -32,20 +37,63 @@ pub enum Judged {
         /// The subscriber.
         s_id: u64,
     },
+    /// It is, and no order of its calls leads to the rows at its end.
+    Unreached {
+        /// The number of the line `.` before these rows.
+        line: u64,
+        /// The first subscriber of whose calls no order leaves its rows.
+        s_id: u64,
+    },
+}
+
+/// What is said of a history in an input, and the lines that are told with it.
+#[derive(Drop)]
+pub struct Judgement {
+    pub judged: Judged,
+    /// Where a subscriber's calls are unexplained, the numbers in the input of the lines in which
+    /// they were asked and ended, since none of them was open.
+    pub window: Vec<u64>,
 }
 
 impl Reading {
     /// A verdict by the numbers of the lines in the input, of which so many were read.
-    fn judged(&self, verdict: &Verdict, number: u64) -> Judged
+    pub(crate) fn judged(&self, verdict: &Verdict, number: u64) -> Judged
         requires { (u : Database) × (most : ℕ) × (past : List ALine)
             × IsNumbered self.now past × IsVerdictOn u most past verdict.now }
         ensures { IsTold self.now.numbers.items number verdict.now result }
     {
         match *verdict {
             Verdict::Legal => Judged::Legal,
-            Verdict::Illegal(first) => Judged::Illegal(self.numbers[first as usize - 1]),
+            Verdict::Illegal { line, s_id } => {
+                let line = self.numbers[line as usize - 1];
+                Judged::Illegal { line, s_id }
+            }
             Verdict::Undecided { s_id, .. } => Judged::Undecided { line: number, s_id },
         }
+    }
+
+    /// A verdict by the numbers of the lines in the input, of which so many were read, and the
+    /// lines that are told with it.
+    pub(crate) fn judgement(
+        &self,
+        alloc: Global,
+        judge: &Judge,
+        verdict: &Verdict,
+        number: u64,
+    ) -> Result<Judgement, AllocError>
+        requires { (u : Database) × (most : ℕ) × (past : List ALine) × IsNumbered self.now past
+            × IsVerdictOn u most past verdict.now × IsKeptFor u past verdict.now judge.now }
+        ensures judged { IfOk result (λ judgement.
+            IsTold self.now.numbers.items number verdict.now judgement.judged) }
+        ensures window { IfOk result (λ judgement. (u : Database) (most : ℕ) (past : List ALine)
+            → IsNumbered self.now past → IsVerdictOn u most past verdict.now
+            → IsKeptFor u past verdict.now judge.now
+            → IsWindowBy u (told_of self.now past) verdict.now judgement.window.items) }
+    {
+        Ok(Judgement {
+            judged: self.judged(verdict, number),
+            window: self.window(alloc, judge, verdict)?,
+        })
     }
 }
 
@@ -56,12 +104,12 @@ pub fn judge_history<R: Read>(
     judge: &mut Judge,
     lines: &mut LineReader,
     reader: &mut R,
-) -> Result<Judged, HistoryFault>
+) -> Result<Judgement, HistoryFault>
     requires { (u : Database) × (most : ℕ) × HasFollowed u most [] judge.old }
-    ensures judged { IfOk result (λ judged.
+    ensures judged { IfOk result (λ judgement.
         IfSome (lines_left lines.old (R.remaining reader.old)) (λ all.
-        (u : Database) (most : ℕ) → HasFollowed u most [] judge.old
-        → IsJudged u most lines.old.number all.lines judged)) }
+        (u : Database) (most : ℕ) → HasFollowed u most [] judge.old → IsJudgement u most
+        lines.old.number all.lines judgement.judged judgement.window.items)) }
     ensures faults { IfErr result (λ fault.
         IfSome (lines_left lines.old (R.remaining reader.old)) (λ all.
         RefusesHistory (history_from none_open (lines.old.number + 1) all.lines) fault)) }
@@ -73,10 +121,10 @@ pub fn judge_history<R: Read>(
     'lines: loop {
         if !lines.advance(reader)? {
             let verdict = judge.finish(alloc)?;
-            return Ok(reading.judged(&verdict, lines.number()));
+            return Ok(reading.judgement(alloc, judge, &verdict, lines.number())?);
         }
         if let Some(verdict) = reading.take(alloc, judge, lines.number(), lines.line())? {
-            return Ok(reading.judged(&verdict, lines.number()));
+            return Ok(reading.judgement(alloc, judge, &verdict, lines.number())?);
         }
     }
 }

@@ -7,10 +7,12 @@ mod fault;
 mod history_fault;
 mod judging;
 mod reading;
+mod telling;
 mod theorems;
+mod to_rows;
 
 pub use command::run_judge;
 pub use fault::JudgeFault;
 pub use history_fault::HistoryFault;
-pub use judging::{Judged, judge_history};
-pub use theorems::histories_have_one_verdict;
+pub use judging::{Judged, Judgement, judge_history};
+pub use theorems::{histories_and_rows_have_one_verdict, histories_have_one_verdict};

@@ -64,7 +64,7 @@ impl Reading {
         ensures decided { IfOk result (λ found. IfSome found (λ verdict.
             (u : Database) (most : ℕ) (past : List ALine)
             → HasFollowed u most past judge.old → IsNumbered self.old past
-            → Decides u most past number text.now verdict self.old self.new)) }
+            → Decides u most past number text.now verdict judge.new self.old self.new)) }
         ensures never { result ≡ Ok (Some Verdict.Legal) → ⊥ }
         ensures faults { IfErr result (λ fault. (past : List ALine) (more : List (List ℕ))
             → RefusesHistory (told_by self.old past number (text.now ∷ more)) fault) }

@@ -28,14 +28,14 @@ only_reads (DeleteCallForwarding n t b) = false
 abbrev pub FitsAtOnce : Database → Observed → Type 0
 FitsAtOnce u x = (only_reads x.call ≡ true) × MayHaveReply x.outcome (transaction x.call u).reply
 
--- the second are the first without such reads
+-- `left` are the open calls without such reads
 abbrev pub AreLeft : Database → List Observed → List Observed → Type 0
 AreLeft u [] left = left ≡ []
 AreLeft u (x ∷ more) left =
     (FitsAtOnce u x × AreLeft u more left)
     ⊎ ((FitsAtOnce u x → ⊥) × ((rest : List Observed) × (left ≡ x ∷ rest) × AreLeft u more rest))
 
--- where it is such a read the one holds, and else the other
+-- where the call is such a read `Taken` holds, and else `Kept`
 abbrev pub IsSettledAt : Database → Observed → Type 0 → Type 0 → Type 0
 IsSettledAt u x Taken Kept = (FitsAtOnce u x × Taken) ⊎ ((FitsAtOnce u x → ⊥) × Kept)
 
@@ -47,8 +47,8 @@ IsSettled c = AllByRecursion (λ (x : Observed). FitsAtOnce c.rows x → ⊥) c.
 abbrev pub NeedsNoPlace : Database → Observed → Type 0
 NeedsNoPlace u x = (may_take_effect x.outcome ≡ false) ⊎ FitsAtOnce u x
 
--- the second is the first after an open call that writes took effect, and reads whose reply then
--- fits
+-- the second is the first after an open call that writes took effect, and after it the reads whose
+-- reply fits the new rows
 pub record TakesWrite (c d : Configuration) (x : Observed) (left : List Observed) : Type 0 where
   pub chosen : Chooses c.opened x left
   pub writes : only_reads x.call ≡ false
@@ -59,8 +59,8 @@ pub record TakesWrite (c d : Configuration) (x : Observed) (left : List Observed
 abbrev pub TakesOne : Configuration → Configuration → Type 0
 TakesOne c d = (x : Observed) × (left : List Observed) × TakesWrite c d x left
 
--- the second is the first after at most so many open calls that write took effect, one after
--- another, until the call that was asked then was no longer open
+-- the second is the first after open calls that write took effect one after another, at most this
+-- many, until the call that was asked at this time wasn't open any more
 abbrev pub TakeUntil : ℕ → ℕ → Configuration → Configuration → Type 0
 TakeUntil zero asked c d = ⊥
 TakeUntil (suc n) asked c d =
@@ -68,7 +68,7 @@ TakeUntil (suc n) asked c d =
     × ((NoneAskedAt asked e.opened × (d ≡ e))
     ⊎ ((NoneAskedAt asked e.opened → ⊥) × TakeUntil n asked e d))
 
--- the second may follow on the first at the event
+-- the second configuration may follow on the first at the event
 abbrev pub FollowsAtOnce : Event → Configuration → Configuration → Type 0
 FollowsAtOnce (Asks x) c d =
     (NeedsNoPlace c.rows x × (d ≡ c))
@@ -77,7 +77,7 @@ FollowsAtOnce (Ends asked at) c d =
     (NoneAskedAt asked c.opened × (d ≡ c))
     ⊎ ((NoneAskedAt asked c.opened → ⊥) × TakeUntil (length c.opened) asked c d)
 
--- the events lead from the first to the second
+-- the events lead from the first configuration to the second
 abbrev pub LeadAtOnce : List Event → Configuration → Configuration → Type 0
 LeadAtOnce [] c d = d ≡ c
 LeadAtOnce (event ∷ more) c d = (e : Configuration) × FollowsAtOnce event c e × LeadAtOnce more e d

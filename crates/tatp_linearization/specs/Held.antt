@@ -14,7 +14,7 @@ use Rattle.tatp_linearization.specs.declared.configuration.Configuration.{Config
 use Rattle.tatp_linearization.specs.AtOnce.{only_reads, AreLeft, TakesOne, FollowsAtOnce}
 use Rattle.tatp_linearization.specs.Possible.{AreDistinct}
 
--- the configuration that is held
+-- the configuration that the search holds
 abbrev pub seen : Held → Configuration
 seen c = record { rows = c.home.tables; opened = c.opened.items }
 
@@ -31,11 +31,11 @@ abbrev pub IsAcceptedEvent : Event → Type 0
 IsAcceptedEvent (Asks x) = arguments_accepted x.call ≡ Ok tt
 IsAcceptedEvent (Ends asked at) = Unit {0}
 
--- arguments are in their domains
+-- the arguments of all open calls are in their domains
 abbrev pub AreReady : List Held → Type 0
 AreReady cs = AllByRecursion (λ (c : Held). AreAccepted c.opened.items) cs
 
--- the homes are of one s_id, and each configuration stands once
+-- the homes are of one s_id, and each configuration is there once
 pub record AreApart (s : ℕ) (cs : List Held) : Type 0 where
   pub own : AllByRecursion (λ (c : Held). c.home.s_id ≡ s) cs
   pub distinct : AreDistinct (all_seen cs)
@@ -56,8 +56,8 @@ pub record TakesAt (c d : Held) (i : ℕ) (x : Observed) : Type 0 where
       (remove c.opened.items i) d.opened.items
   pub own : d.home.s_id ≡ c.home.s_id
 
--- the second is the first after its open call of this place, which writes, took effect; none where
--- that call reads, or has another reply
+-- the second is the first after its open call at this place, which writes, took effect. There is
+-- none where that call reads, or can't have ended with its reply here
 abbrev pub Takes : Held → ℕ → Option Held → Type 0
 Takes c i (Some d) = (x : Observed) × TakesAt c d i x
 Takes c i None =
@@ -65,33 +65,33 @@ Takes c i None =
     → MayHaveReply x.outcome (transaction x.call c.home.tables).reply → ⊥
 
 -- ---- lists of configurations
--- the new list has those of the old, and those of which this holds
+-- the new list has those of the old list, and those of which this holds
 abbrev pub Adds : List Held → (Configuration → Type 0) → List Held → Type 0
 Adds old Holds new = (d : Configuration) → Has new d ↔ (Has old d ⊎ Holds d)
 
--- the new list begins with the old
+-- the new list begins with the old list
 abbrev pub StandFirst : List Held → List Held → Type 0
 StandFirst old new = (rest : List Held) × (new ≡ old ++ rest)
 
--- those of the old, or such as this holds of
+-- the configuration is in the old list, or this holds of it
 abbrev pub IsOldOr : List Held → (Configuration → Type 0) → Configuration → Type 0
 IsOldOr old Holds d = Has old d ⊎ Holds d
 
--- this holds of the configuration and one of the list
+-- this holds of one of the list and the configuration
 abbrev pub HoldsOfOne
     : (Configuration → Configuration → Type 0) → List Held → Configuration → Type 0
 HoldsOfOne Holds set d = (c : Configuration) × Has set c × Holds c d
 
--- ---- what may be by one open call
--- the call that was asked then has taken effect
+-- ---- what one open call may lead to
+-- one open call takes effect, and then the call that was asked at this time isn't open
 abbrev pub TakesLast : ℕ → Configuration → Configuration → Type 0
 TakesLast asked c d = TakesOne c d × NoneAskedAt asked d.opened
 
--- it is open
+-- one open call takes effect, and the call that was asked at this time stays open
 abbrev pub TakesOther : ℕ → Configuration → Configuration → Type 0
 TakesOther asked c d = TakesOne c d × (NoneAskedAt asked d.opened → ⊥)
 
--- the second is the first after so many open calls that write took effect
+-- the second is the first after this many open calls that write took effect
 abbrev pub TakeMany : ℕ → Configuration → Configuration → Type 0
 TakeMany zero c d = d ≡ c
 TakeMany (suc n) c d = (e : Configuration) × TakesOne c e × TakeMany n e d
@@ -99,12 +99,12 @@ TakeMany (suc n) c d = (e : Configuration) × TakesOne c e × TakeMany n e d
 abbrev pub TakeSome : Configuration → Configuration → Type 0
 TakeSome c d = (n : ℕ) × TakeMany n c d
 
--- ---- what may be at an event
--- what is tried: what follows where a call is asked, and what may be before a call's end is passed
+-- ---- what an event may lead to
+-- what is tried: what follows where a call is asked, and what can come before the end of a call
 abbrev pub IsTried : Event → Configuration → Configuration → Type 0
 IsTried (Asks x) c d = FollowsAtOnce (Asks x) c d
 IsTried (Ends asked at) c d = TakeSome c d
 
--- exactly what may follow on one of these
+-- the new list has exactly what may follow on one of the set
 abbrev pub FollowAll : Event → List Held → List Held → Type 0
 FollowAll event set new = (d : Configuration) → Has new d ↔ HoldsOfOne (FollowsAtOnce event) set d

@@ -12,19 +12,19 @@ use Rattle.tatp_linearization.specs.Legal.{IsAmong, MayLeave}
 abbrev pub AreAcceptedCalls : List Call → Type 0
 AreAcceptedCalls calls = AllByRecursion (λ call. arguments_accepted call ≡ Ok tt) calls
 
--- the rows alone
+-- the configuration's rows, with no call open
 abbrev pub without_calls : Configuration → Configuration
 without_calls c = record { rows = c.rows; opened = [] }
 
--- the rows that a call leaves
+-- the rows that the call leaves of the configuration's, with no call open
 abbrev pub left_by : Call → Configuration → Configuration
 left_by call c = record { rows = (transaction call c.rows).database; opened = [] }
 
--- the calls leave each of these, from some of the first
+-- the calls may leave each of these, of one of the first
 abbrev pub AreFrom : List Call → List Held → List Held → Type 0
 AreFrom calls first cs = (d : Configuration) → Has cs d → HoldsOfOne (MayLeave calls) first d
 
--- what the calls leave of each is one of these
+-- what each of the calls leaves of each of these is one of these
 abbrev pub AreClosed : List Call → List Held → Type 0
 AreClosed calls cs = (d : Configuration) → Has cs d → (call : Call) → IsAmong call calls
     → Has cs (left_by call d)

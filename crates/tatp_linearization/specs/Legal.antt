@@ -11,7 +11,7 @@ use Rattle.tatp_history.specs.Configurations.{Configuration}
 use Rattle.tatp_linearization.specs.declared.configuration.Configuration.{Configuration as Held}
 use Rattle.tatp_linearization.specs.Held.{HoldsOfOne}
 
--- ---- another call in the place of the one that was asked then
+-- ---- another call in the place of the one that was asked at the same time
 abbrev pub placed : Observed → Observed → Observed
 placed y x = if x.asked == y.asked then y else x
 
@@ -27,26 +27,26 @@ events_with y (Ends asked at ∷ more) = Ends asked at ∷ events_with y more
 abbrev pub calls_in : List Observed → List Call
 calls_in calls = map (λ (x : Observed). x.call) calls
 
--- those open in configurations
+-- the calls that are open in configurations
 abbrev pub open_calls : List Held → List Call
 open_calls [] = []
 open_calls (c ∷ cs) = calls_in c.opened.items ++ open_calls cs
 
--- these, and those of a window
+-- those calls, and the calls of a window
 abbrev pub all_calls : List Held → List Event → List Call
 all_calls cs events = open_calls cs ++ calls_in (asked_in events)
 
--- it is one of the calls
+-- the call is one of these
 abbrev pub IsAmong : Call → List Call → Type 0
 IsAmong call [] = ⊥
 IsAmong call (other ∷ more) = (call ≡ other) ⊎ IsAmong call more
 
--- calls of these, as often as may be, leave the rows of the second where those of the first stood
+-- some of the calls, each any number of times, turn the rows of the first into those of the second
 pub record MayLeave (calls : List Call) (c d : Configuration) : Type 0 where
   pub order : List Call
   pub made : AllByRecursion (λ call. IsAmong call calls) order
   pub rows : d ≡ record { rows = (in_order c.rows order).database; opened = [] }
 
--- so do the calls of a window and those open before it
+-- the calls of a window and those open before it do so, from one of these configurations
 abbrev pub MayBeLeft : List Held → List Event → Configuration → Type 0
 MayBeLeft cs events d = HoldsOfOne (MayLeave (all_calls cs events)) cs d

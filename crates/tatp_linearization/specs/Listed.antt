@@ -12,27 +12,27 @@ abbrev pub IsListed : Reply → List Reply → Type 0
 IsListed reply [] = ⊥
 IsListed reply (other ∷ more) = (reply ≡ other) ⊎ IsListed reply more
 
--- each stands there once
+-- each reply is in the list once
 abbrev pub AreEachOnce : List Reply → Type 0
 AreEachOnce [] = Unit {0}
 AreEachOnce (reply ∷ more) = (IsListed reply more → ⊥) × AreEachOnce more
 
 -- ---- replies that explain
--- an order explains all that is before and these events
+-- a serial order explains all events before the window and these
 abbrev pub IsExplainedBy : Explanations → List Event → Type 0
 IsExplainedBy explanations events =
     (u : Database) (past : List Event) → AreReached u past explanations
     → TimesRise (past ++ events) → HaveEnds (past ++ events)
     → IsStrictlySerializable u (asked_in (past ++ events))
 
--- none does
+-- no serial order explains them
 abbrev pub IsUnexplainedBy : Explanations → List Event → Type 0
 IsUnexplainedBy explanations events =
     (u : Database) (past : List Event) → AreReached u past explanations
     → TimesRise (past ++ events) → HaveEnds (past ++ events)
     → IsStrictlySerializable u (asked_in (past ++ events)) → ⊥
 
--- of the replies, those with which an order explains the events, each once
+-- `legal` are those of the replies with which a serial order explains the events, each once
 pub record AreSifted (explanations : Explanations) (told : Reply → List Event)
     (replies legal : List Reply) : Type 0 where
   pub sound : (reply : Reply) → IsListed reply legal → IsExplainedBy explanations (told reply)

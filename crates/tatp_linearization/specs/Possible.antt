@@ -20,13 +20,13 @@ CallTakesEffect c d =
     × MayHaveReply x.outcome (transaction x.call c.rows).reply
     × (d ≡ record { rows = (transaction x.call c.rows).database; opened = left })
 
--- the second is the first after so many of its open calls took effect
+-- the second is the first after this many of its open calls took effect
 abbrev pub CallsTakeEffect : ℕ → Configuration → Configuration → Type 0
 CallsTakeEffect zero c d = d ≡ c
 CallsTakeEffect (suc n) c d = (e : Configuration) × CallTakesEffect c e × CallsTakeEffect n e d
 
--- a call is open once it is asked, but for one that was aborted; and where one is answered, it has
--- taken effect
+-- a call is open once it is asked, unless it was aborted; and a call has taken effect by the time
+-- at which it is answered
 abbrev pub Passes : Event → Configuration → Configuration → Type 0
 Passes (Asks x) c d = d ≡ record {
   rows = c.rows;
@@ -34,7 +34,7 @@ Passes (Asks x) c d = d ≡ record {
 }
 Passes (Ends asked at) c d = NoneAskedAt asked c.opened × (d ≡ c)
 
--- with the events the first may become the second
+-- by these events the first configuration may become the second
 abbrev pub MayBecome : List Event → Configuration → Configuration → Type 0
 MayBecome [] c d = (n : ℕ) × CallsTakeEffect n c d
 MayBecome (event ∷ more) c d =
@@ -47,18 +47,18 @@ AreDistinct [] = Unit {0}
 AreDistinct (c ∷ more) =
     AllByRecursion (λ (d : Configuration). c ≡ d → ⊥) more × AreDistinct more
 
--- more than so many configurations are such
+-- this holds of more than `most` configurations
 pub record AreMoreThan (most : ℕ) (Holds : Configuration → Type 0) : Type 0 where
   pub some : List Configuration
   pub many : most < length some
   pub distinct : AreDistinct some
   pub hold : AllByRecursion Holds some
 
--- after the events it is possible, with no read open whose reply fits
+-- the configuration is possible after the events, and no read is open whose reply fits
 abbrev pub IsPossible : Database → List Event → Configuration → Type 0
 IsPossible u past c = MayBecome past (starting u) c × IsSettled c
 
--- after the first of the events, up to some, more than so many configurations are possible
+-- after some first part of the events, more than `most` configurations are possible
 abbrev pub NeedMore : ℕ → Database → List Event → Type 0
 NeedMore most u events =
     (first : List Event) × (second : List Event) × (events ≡ first ++ second)

@@ -8,18 +8,18 @@ use Rattle.tatp_linearization.specs.declared.explanations.Explanations.{Explanat
 use Rattle.tatp_linearization.specs.AtOnce.{LeadAtOnce}
 use Rattle.tatp_linearization.specs.Held.{Has, AreReady, AreApart}
 
--- they are exactly the configurations to which the events lead from the rows, each once
+-- these are exactly the configurations to which the events lead from the rows, each once
 pub record AreKept (u : Database) (past : List Event) (cs : List Held) : Type 0 where
   pub exact : (d : Configuration) → Has cs d ↔ LeadAtOnce past (starting u) d
   pub ready : AreReady cs
   pub apart : (s : ℕ) × AreApart s cs
 
--- and there are some
+-- the explanations are these configurations, and there is at least one
 pub record AreReached (u : Database) (past : List Event) (explanations : Explanations)
     : Type 0 where
   pub kept : AreKept u past explanations.configurations.items
   pub some : 0 < length explanations.configurations.items
 
--- their homes are of this s_id
+-- the homes of the configurations are of this s_id
 abbrev pub AreOfSubscriber : ℕ → Explanations → Type 0
 AreOfSubscriber s explanations = AreApart s explanations.configurations.items

@@ -15,14 +15,14 @@ use tatp_history::Observed;
 use tatp_homes::Home;
 use tatp_procs::Reply;
 
-/// A home, and the open calls that have not taken effect, the last that was asked first.
+/// A home, and the open calls that have not taken effect, of which the last asked comes first.
 #[derive(Drop)]
 pub(crate) struct Configuration {
     pub(crate) home: Home,
     pub(crate) opened: Vec<Observed>,
 }
 
-/// Whether none of these was asked then.
+/// Whether none of these calls was asked at this time.
 fn none_of(opened: &[Observed], asked: u64) -> bool
     ensures { IsTrue result ↔ NoneAskedAt asked opened.now }
 {
@@ -34,14 +34,14 @@ fn none_of(opened: &[Observed], asked: u64) -> bool
     true
 }
 
-/// Whether none of the open calls was asked then.
+/// Whether none of the open calls was asked at this time.
 pub(crate) fn none_asked(c: &Configuration, asked: u64) -> bool
     ensures { IsTrue result ↔ NoneAskedAt asked c.now.opened.items }
 {
     none_of(c.opened.as_slice(), asked)
 }
 
-/// The configuration once more.
+/// A copy of the configuration.
 pub(crate) fn copy(alloc: Global, c: &Configuration) -> Result<Configuration, AllocError>
     ensures same { IfOk result (λ d. seen d ≡ seen c.now) }
     ensures own { IfOk result (λ d. d.home.s_id ≡ c.now.home.s_id) }
@@ -52,7 +52,7 @@ pub(crate) fn copy(alloc: Global, c: &Configuration) -> Result<Configuration, Al
     })
 }
 
-/// Whether two are one: with the same home and the same open calls.
+/// Whether two configurations have the same home and the same open calls.
 fn is_same(c: &Configuration, d: &Configuration) -> bool
     ensures same { IsTrue result → seen c.now ≡ seen d.now }
     ensures other { c.now.home.s_id ≡ d.now.home.s_id → seen c.now ≡ seen d.now → IsTrue result }
@@ -60,7 +60,7 @@ fn is_same(c: &Configuration, d: &Configuration) -> bool
     c.home == d.home && are_same(c.opened.as_slice(), d.opened.as_slice())
 }
 
-/// Whether it is one of these.
+/// Whether the configuration is one of these.
 fn is_among(set: &[Configuration], d: &Configuration) -> bool
     ensures there { IsTrue result → Has set.now (seen d.now) }
     ensures other { AreApart d.now.home.s_id set.now → Has set.now (seen d.now) → IsTrue result }
@@ -73,7 +73,8 @@ fn is_among(set: &[Configuration], d: &Configuration) -> bool
     false
 }
 
-/// Adds a configuration, unless it is there, where no more than so many are kept.
+/// Adds a configuration, unless the set has it. `Err` means that the set would have more than
+/// `most`, or that memory was refused.
 pub(crate) fn add(
     set: &mut Vec<Configuration>,
     d: Configuration,
@@ -119,8 +120,8 @@ pub(crate) fn ask(
     Ok(Configuration { home, opened })
 }
 
-/// The configuration after one of its open calls took effect, if that writes and its reply may be
-/// that one's.
+/// The configuration after its open call at the place `i` took effect. `None` means that this call
+/// only reads, or that it can't have ended with the reply that it has there.
 pub(crate) fn take(
     alloc: Global,
     c: &Configuration,

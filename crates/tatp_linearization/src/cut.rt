@@ -6,7 +6,7 @@ ghost use Rattle.tatp_linearization.specs.Cut.{events_by as events_then};
 use std::alloc::{AllocError, Global};
 use tatp_history::{Event, Observed, Outcome};
 
-/// An outcome up to a time: an end that came later hadn't come.
+/// An outcome as it was known at a time: an end that came later wasn't.
 fn outcome_by(outcome: &Outcome, time: u64) -> Outcome
     ensures { result ≡ outcome_then time outcome.now }
 {
@@ -39,7 +39,7 @@ fn call_by(x: &Observed, time: u64) -> Observed
     }
 }
 
-/// Adds an event, if it had happened by the time.
+/// Adds an event, if it had happened by this time.
 fn add_by(cut: &mut Vec<Event>, event: &Event, time: u64) -> Result<(), AllocError>
     ensures { OnOk result (cut.new.items ≡ cut.old.items ++ events_then time (event.now ∷ [])) }
 {
@@ -62,7 +62,7 @@ fn add_by(cut: &mut Vec<Event>, event: &Event, time: u64) -> Result<(), AllocErr
     }
 }
 
-/// The events that had happened by the time.
+/// The events that had happened by this time.
 pub(crate) fn events_by(
     alloc: Global,
     events: &[Event],

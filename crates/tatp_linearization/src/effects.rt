@@ -10,8 +10,8 @@ use crate::configuration::{Configuration, add, copy, none_asked, take};
 use crate::stopped::Stopped;
 use std::alloc::Global;
 
-/// Tries each open call of a configuration that writes: where the call that was asked then isn't
-/// open any more it is answered, else it goes on.
+/// Lets each open call of a configuration that writes take effect. The configuration after that is
+/// added to `answered` where the call asked at the time `asked` isn't open, and else to `going`.
 fn try_each(
     alloc: Global,
     c: &Configuration,
@@ -51,7 +51,7 @@ fn try_each(
     Ok(())
 }
 
-/// Tries each open call of each of these.
+/// Does the same with each configuration of the set, and gives those that go on.
 fn try_all(
     alloc: Global,
     set: &[Configuration],
@@ -81,8 +81,9 @@ fn try_all(
     Ok(going)
 }
 
-/// Adds what a configuration may be where the call that was asked then has taken effect, after
-/// others or none. Each of those is tried with one call more in every turn, each once.
+/// Adds what the configuration can become once the call asked at the time `asked` has taken effect,
+/// after other calls or none. In every turn one call more takes effect, and each configuration is
+/// tried once.
 pub(crate) fn take_effect(
     alloc: Global,
     c: &Configuration,

@@ -16,27 +16,27 @@ use std::alloc::{AllocError, Global};
 use tatp_history::Event;
 use tatp_homes::Home;
 
-/// Whether an order explains calls.
+/// Whether a serial order explains calls.
 #[derive(Clone, Copy, Debug, PartialEq, Eq)]
 pub enum Standing {
-    /// One does.
+    /// A serial order explains them.
     Explained,
-    /// None does.
+    /// No serial order explains them.
     Unexplained,
     /// It isn't known, since more configurations are possible than may be kept.
     Undecided,
 }
 
-/// The configurations that explain a subscriber's events so far: after the events each call that
-/// was answered has taken effect there.
+/// The configurations that explain a subscriber's events so far: in each of them all calls that
+/// were answered have taken effect.
 #[derive(Drop)]
 pub struct Explanations {
     pub(crate) configurations: Vec<Configuration>,
-    /// How many may be kept.
+    /// The most configurations that may be kept.
     pub(crate) most: usize,
 }
 
-/// What events lead to.
+/// The configurations to which events lead.
 fn after_events(
     alloc: Global,
     set: &[Configuration],
@@ -65,7 +65,7 @@ fn after_events(
 }
 
 impl Explanations {
-    /// Before any event, on this home, with at most so many configurations to be kept.
+    /// What explains no event: this home alone. At most `most` configurations will be kept.
     pub fn new(alloc: Global, home: &Home, most: usize) -> Result<Explanations, AllocError>
         ensures reached { IfOk result (AreReached home.now.tables []) }
         ensures own { IfOk result (AreOfSubscriber home.now.s_id) }

@@ -1,4 +1,4 @@
-//! What may follow on configurations at an event.
+//! Configurations that may follow on others at an event.
 ghost use Rattle.std.specs.Prelude.{◌≡◌, ◌↔◌, ℕ, IsTrue, IfOk, OnOk, IsErrOf};
 ghost use Rattle.tatp_history.specs.Configurations.{Configuration as Seen};
 ghost use Rattle.tatp_history.specs.Locality.{AreAccepted};
@@ -13,8 +13,8 @@ use crate::stopped::Stopped;
 use std::alloc::Global;
 use tatp_history::Event;
 
-/// Whether an event leaves a configuration as it is: a call that needn't be open is asked, or one
-/// ends that isn't open.
+/// Whether an event leaves a configuration as it is: a call is asked that needn't be open, or a
+/// call ends that isn't open.
 fn leaves(c: &Configuration, event: &Event) -> bool
     requires accepted { IsAcceptedEvent event.now }
     ensures { IsTrue result → (d : Seen)
@@ -42,7 +42,7 @@ pub(crate) fn leaves_all(set: &[Configuration], event: &Event) -> bool
     true
 }
 
-/// Adds what may follow on a configuration at an event.
+/// Adds the configurations that may follow on one at an event.
 fn follow(
     alloc: Global,
     c: &Configuration,
@@ -72,7 +72,7 @@ fn follow(
     }
 }
 
-/// What may follow on any of these at an event.
+/// The configurations that may follow on any of these at an event.
 pub(crate) fn after_event(
     alloc: Global,
     set: &[Configuration],

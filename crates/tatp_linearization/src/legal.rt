@@ -45,7 +45,7 @@ fn is_listed(replies: &[Reply], reply: &Reply) -> bool
     false
 }
 
-/// Adds a reply, unless it is there.
+/// Adds a reply, unless the list has it.
 fn add_reply(replies: &mut Vec<Reply>, reply: &Reply) -> Result<(), AllocError>
     ensures added { OnOk result ((other : Replied)
         → IsListed other replies.new.items
@@ -59,7 +59,7 @@ fn add_reply(replies: &mut Vec<Reply>, reply: &Reply) -> Result<(), AllocError>
     Ok(())
 }
 
-/// What a call replies on some of these rows.
+/// The reply that a call has on the rows of a configuration.
 fn reply_on(c: &Configuration, call: &Call) -> Reply
     requires { arguments_accepted call.now ≡ Ok tt }
     ensures { result ≡ (transaction call.now c.now.home.tables).reply }
@@ -70,7 +70,7 @@ fn reply_on(c: &Configuration, call: &Call) -> Reply
     reply
 }
 
-/// What a call replies on these rows, each once.
+/// The replies that a call has on the rows of these configurations, each once.
 fn replies_on(alloc: Global, rows: &[Configuration], call: &Call) -> Result<Vec<Reply>, AllocError>
     requires { arguments_accepted call.now ≡ Ok tt }
     ensures { IfOk result (λ replies. (d : Seen) → Has rows.now d
@@ -97,7 +97,7 @@ fn answered(x: &Observed, at: u64, reply: &Reply) -> Observed
     }
 }
 
-/// The event, with another call in the place of the one that was asked then.
+/// The event, with `y` in the place of the call that was asked at the same time.
 fn placed(y: &Observed, event: &Event) -> Event
     ensures { result ∷ [] ≡ events_then_with y.now (event.now ∷ []) }
 {
@@ -116,7 +116,7 @@ fn placed(y: &Observed, event: &Event) -> Event
     }
 }
 
-/// The events, with another call in the place of the one that was asked then.
+/// The events, with `y` in the place of the call that was asked at the same time.
 fn events_with(alloc: Global, y: &Observed, events: &[Event]) -> Result<Vec<Event>, AllocError>
     ensures { IfOk result (λ told. told.items ≡ events_then_with y.now events.now) }
 {
@@ -155,7 +155,7 @@ impl Explanations {
     }
 
     /// Those of some replies with which the call could have been answered, so that an order
-    /// explains these events. None where it isn't known of one.
+    /// explains these events. `None` means that this isn't known of one of the replies.
     fn legal_of(
         &self,
         alloc: Global,
@@ -186,8 +186,8 @@ impl Explanations {
     }
 
     /// The replies with which a call of a window could have been answered at a time, so that an
-    /// order explains the calls up to then, each once. None where it isn't known, since more
-    /// configurations are possible, or more rows, than may be kept.
+    /// order explains the calls up to that time, each once. `None` means that they aren't known,
+    /// since more configurations or more rows are possible than may be kept.
     pub fn legal_replies(
         &self,
         alloc: Global,

@@ -25,8 +25,8 @@ pub(crate) fn only_reads(call: &Call) -> bool
     }
 }
 
-/// Whether a call is a read whose reply is one with which it may have ended. The home keeps its
-/// rows.
+/// Whether a call only reads, and may have ended with the reply that it has on this home. The home
+/// keeps its rows.
 fn fits_at_once(home: &mut Home, x: &Observed) -> bool
     requires accepted { arguments_accepted x.now.call ≡ Ok tt }
     ensures fits { IsTrue result ↔ FitsAtOnce home.old.tables x.now }

@@ -1,4 +1,4 @@
-//! Rows that calls may leave, in any order, as often as may be.
+//! Rows that calls may leave, in any order, each any number of times.
 ghost use Rattle.std.specs.Prelude.{◌≡◌, ℕ, ◌<◌, ◌≤◌, OnOk, IfOk, IsErrOf, List, ◌∷◌, [], ◌++◌, length, slice_get, Ok, Some};
 ghost use Rattle.tatp_procs.specs.declared.call.Call.{Call as Asked};
 ghost use Rattle.tatp_procs.specs.Arguments.{arguments_accepted};
@@ -17,7 +17,7 @@ use tatp_evaluation::evaluate;
 use tatp_history::{Event, Observed};
 use tatp_procs::{Call, Reply};
 
-/// Adds what is asked in these.
+/// Adds the calls of these, in their order.
 fn add_calls(calls: &mut Vec<Call>, opened: &[Observed]) -> Result<(), AllocError>
     ensures { OnOk result (calls.new.items ≡ calls.old.items ++ calls_in opened.now) }
 {
@@ -40,7 +40,7 @@ fn add_event(calls: &mut Vec<Call>, event: &Event) -> Result<(), AllocError>
     }
 }
 
-/// The calls of a window, and those open before it.
+/// The calls that are open in the configurations, and then those of a window.
 pub(crate) fn calls_of(
     alloc: Global,
     set: &[Configuration],
@@ -58,7 +58,7 @@ pub(crate) fn calls_of(
     Ok(calls)
 }
 
-/// The rows alone.
+/// The configuration's rows, with no call open.
 fn without_calls(alloc: Global, c: &Configuration) -> Configuration
     ensures bare { seen result ≡ bare (seen c.now) }
     ensures own { result.home.s_id ≡ c.now.home.s_id }
@@ -69,7 +69,7 @@ fn without_calls(alloc: Global, c: &Configuration) -> Configuration
     }
 }
 
-/// The rows that a call leaves.
+/// The rows that a call leaves of a configuration's, with no call open.
 fn left_by(alloc: Global, c: &Configuration, call: &Call) -> Configuration
     requires { arguments_accepted call.now ≡ Ok tt }
     ensures left { seen result ≡ left call.now (seen c.now) }
@@ -84,7 +84,7 @@ fn left_by(alloc: Global, c: &Configuration, call: &Call) -> Configuration
     }
 }
 
-/// Adds what each of the calls leaves of the rows at a place.
+/// Adds the rows that each of the calls leaves of those at a place of the set.
 fn add_left(
     alloc: Global,
     set: &mut Vec<Configuration>,
@@ -134,7 +134,8 @@ fn all_without_calls(
     Ok(rows)
 }
 
-/// The rows that the calls may leave of those of configurations, each once.
+/// The rows that the calls may leave of those of the configurations, each once. `Err` means that
+/// there are more than `most`, or that memory was refused.
 pub(crate) fn rows_left(
     alloc: Global,
     set: &[Configuration],

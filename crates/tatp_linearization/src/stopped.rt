@@ -9,7 +9,7 @@ use std::alloc::{AllocError, AllocFailed};
 pub(crate) enum Stopped {
     /// Memory was refused.
     NoMemory,
-    /// More configurations would have to be kept than may be.
+    /// More configurations would have to be kept than `most`.
     MoreThanMost,
 }
 

@@ -19,7 +19,7 @@ use crate::stopped::Stopped;
 use std::alloc::{AllocError, Global};
 use tatp_homes::Home;
 
-/// Adds what a configuration may be after one of its open calls that write took effect.
+/// Adds what a configuration can become when one of its open calls that write takes effect.
 fn add_taken(
     alloc: Global,
     c: &Configuration,
@@ -43,7 +43,7 @@ fn add_taken(
     Ok(())
 }
 
-/// What any of these may be after one open call that writes took effect.
+/// What any of these can become when one of its open calls that write takes effect.
 fn after_one(
     alloc: Global,
     set: &[Configuration],
@@ -93,8 +93,8 @@ fn most_open(set: &[Configuration]) -> usize
     most
 }
 
-/// Whether one of these has the rows, after open calls that write took effect or none. One call
-/// more takes effect in every turn.
+/// Whether one of these has the rows, once some of its open calls that write took effect, or none.
+/// One call more takes effect in every turn.
 fn may_have_rows(
     alloc: Global,
     set: &[Configuration],

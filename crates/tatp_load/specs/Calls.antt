@@ -17,6 +17,6 @@ calls_drawn plan =
 abbrev pub line_of : Call → List ℕ
 line_of call = call_text call ++ 10 ∷ []
 
--- these calls, each a line
+-- the lines of these calls
 abbrev pub calls_written : CallsPlan → List ℕ
 calls_written plan = flat_map line_of (calls_drawn plan)

@@ -7,7 +7,7 @@ use Rattle.tatp_population.specs.DrawnOrder.{rows_text, population_in_order}
 use Rattle.tatp_driver.specs.DrawnWords.{words_of}
 use Rattle.tatp_tasks.specs.declared.load.RowsPlan.{RowsPlan}
 
--- the words of the seed's stream 0
+-- the words of the stream 0 of the seed
 abbrev pub words_drawn : RowsPlan → Stream
 words_drawn plan = words_of (started 128 multiplier_128 plan.seed (increment_of 128 0))
 

@@ -1,4 +1,4 @@
-//! The line of a call, appended to a text: `call_text` of `tatp_procs` takes memory for each line.
+//! Appends the line of a call to a text. `call_text` of `tatp_procs` takes memory for each line.
 ghost use Rattle.std.specs.Prelude.{◌≡◌, ◌++◌, [], ◌∷◌, OnOk, slice_index_or};
 ghost use Rattle.std.specs.String.{string_bytes};
 ghost use Rattle.tatp_texts.specs.Text.{value_text};
@@ -27,7 +27,7 @@ fn name(call: &Call) -> &'static str
     }
 }
 
-/// The columns in whose forms its arguments are.
+/// The columns in whose forms the call's arguments are written.
 fn columns(call: &Call) -> &'static [u8]
     ensures { result.now ≡ columns_of call.now }
 {
@@ -42,14 +42,14 @@ fn columns(call: &Call) -> &'static [u8]
     }
 }
 
-/// The column at a place; 255, which is none, past the last.
+/// The column at a place. Past the last it is 255, which is no column.
 fn column_at(columns: &[u8], place: usize) -> u8
     ensures { result ≡ slice_index_or columns.now place 255 }
 {
     columns.get(place).copied().unwrap_or(255)
 }
 
-/// Appends a space, and the value in the form of the column.
+/// Appends a space, and the value in the form of the column. `Err` means that memory was refused.
 fn push_spaced(text: &mut String, column: u8, value: u64) -> Result<(), AllocError>
     ensures { OnOk result
         (string_bytes text.new ≡ string_bytes text.old ++ 32 ∷ value_text column value) }
@@ -61,7 +61,7 @@ fn push_spaced(text: &mut String, column: u8, value: u64) -> Result<(), AllocErr
     push_value(text, column, value)
 }
 
-/// Appends the values, each after a space and in the form of its column.
+/// Appends the values, each after a space and in the form of its column. `Err` is refused memory.
 #[tactic(auto, using(tatp_procs::proofs::PrintingLaws::none_printed))]
 fn push_values(text: &mut String, columns: &[u8], values: &[u64]) -> Result<(), AllocError>
     ensures { OnOk result
@@ -73,7 +73,7 @@ fn push_values(text: &mut String, columns: &[u8], values: &[u64]) -> Result<(), 
     Ok(())
 }
 
-/// Appends a call as a line.
+/// Appends a call as a line, with its line feed. `Err` means that memory was refused.
 pub fn push_call(text: &mut String, call: &Call) -> Result<(), AllocError>
     ensures { OnOk result (string_bytes text.new ≡ string_bytes text.old ++ line_of call.now) }
 {

@@ -13,8 +13,9 @@ use tatp_driver::Driver;
 use tatp_streams::{StreamFault, write_if_full, write_last};
 use tatp_tasks::CallsPlan;
 
-/// Draws the calls of a client and writes them, each a line. A call is drawn when those before are
-/// in the text that is gathered to be written, so no more of them is held than one piece.
+/// Draws the calls of a client and writes them, a line each. A call is drawn once those before it
+/// are in the pending text, so no more than one piece of the output is held. `Err` means that
+/// memory was refused or that the writer failed.
 pub fn run_calls<W: Write>(
     alloc: Global,
     writer: &mut W,

@@ -13,9 +13,9 @@ use tatp_population::push_subscriber;
 use tatp_streams::{StreamFault, write_if_full, write_last};
 use tatp_tasks::RowsPlan;
 
-/// Draws a population and writes its rows, each a line, in the order drawn. A subscriber's rows are
-/// drawn when those before are in the text that is gathered to be written, so no more of them is
-/// held than one piece.
+/// Draws a population and writes its rows, a line each, in the order drawn. A subscriber's rows are
+/// drawn once those before them are in the pending text, so no more than one piece of the output is
+/// held. `Err` means that memory was refused or that the writer failed.
 pub fn run_rows<W: Write>(alloc: Global, writer: &mut W, plan: &RowsPlan) -> Result<(), StreamFault>
     requires { IsRowsPlan plan.now }
     ensures written { OnOk result

@@ -1,8 +1,6 @@
 -- Completed calls, as contracts see them.
-use Rattle.std.specs.Prelude.{ℕ, ◌-◌, List, Option, length, slice_get, refl}
-use Rattle.std.specs.Option.{option_map}
+use Rattle.std.specs.Prelude.{ℕ, List, refl}
 use Rattle.std.specs.Coded.{Coded, code_by, coded×, coded_ℕ, coded_list}
-use Rattle.tatp_procs.specs.declared.ask.Ask.{Ask}
 use Rattle.tatp_procs.specs.declared.entry.Entry.{Entry}
 use Rattle.tatp_procs.specs.contracts.entry.Entry as entry
 
@@ -18,7 +16,3 @@ completions_state_code =
     (λ x. (x.entries, x.room))
     (λ p. record { entries = p.0; room = p.1 })
     (λ _. refl)
-
--- what the last completed call asked, where one is completed
-abbrev pub last_ask : List Entry → Option Ask
-last_ask entries = option_map (λ (e : Entry). e.ask) (slice_get entries (length entries - 1))

@@ -2,7 +2,6 @@
 ghost use Rattle.std.specs.Prelude.{◌≡◌, ◌+◌, ◌<◌, ◌≤◌, [], ◌∷◌, ◌++◌, List, OnOk, length, slice_get};
 ghost use Rattle.tatp_procs.specs.declared.entry.Entry.{Entry};
 ghost use Rattle.tatp_procs.specs.Replies.{reply_seen};
-ghost use Rattle.tatp_logs.specs.Completions.{last_ask};
 
 use crate::completed_call::CompletedCall;
 use crate::kept_ask::KeptAsk;
@@ -10,7 +9,7 @@ use crate::kept_reply::KeptReply;
 use std::alloc::{AllocError, Global};
 use std::marker::Model;
 use tatp_limits::{MAX_ARGUMENTS, MAX_OUTPUTS};
-use tatp_procs::{Ask, Entry, Reply, ReplyRef};
+use tatp_procs::{Entry, Reply, ReplyRef};
 
 /// The most values of a call, its outputs and its arguments.
 const MOST_VALUES: usize = MAX_OUTPUTS + MAX_ARGUMENTS;
@@ -67,14 +66,6 @@ impl Completions {
             reply: call.reply.reply(&self.values),
             stamp: call.stamp,
         })
-    }
-
-    /// What the last call asked, where there is one.
-    pub fn last_ask(&self) -> Option<Ask>
-        ensures { result ≡ last_ask self.now.entries }
-    {
-        let call = self.calls.last()?;
-        Some(call.ask.ask(&self.values))
     }
 
     /// What was replied to the last call.

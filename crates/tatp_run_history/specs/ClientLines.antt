@@ -1,5 +1,5 @@
 -- trusted: read it
--- The lines that tell what clients asked and were answered: docs/FORMATS.md, "Lines of a history".
+-- The lines of what clients asked and were answered: docs/FORMATS.md, "Lines of a history".
 use Rattle.std.specs.Prelude.{ℕ, suc, List, [], ◌∷◌, ◌++◌, codes, decimal, map, Vec}
 use Rattle.std.specs.declared.alloc.Global.{Global}
 use Rattle.tatp_procs.specs.declared.ask.Ask.{Ask}
@@ -13,7 +13,7 @@ use Rattle.tatp_logs.specs.declared.receipt.Receipt.TheVariants.{Done, Refused}
 abbrev pub lists_of : List (Vec Ask Global) → List (List Ask)
 lists_of lists = map (λ (list : Vec Ask Global). list.items) lists
 
--- the line of a transaction; no history tells of calls that are none
+-- the line of a transaction; no history has calls that are none
 abbrev pub asked_text : Ask → List ℕ
 asked_text (Txn call) = call_text call
 asked_text (Raw raw) = []

@@ -1,5 +1,5 @@
 -- trusted: read it
--- The text that tells what the clients of a run asked and were answered.
+-- The text of what the clients of a run asked and were answered.
 use Rattle.std.specs.Prelude.{◌≡◌, ℕ, List, ◌++◌, Vec}
 use Rattle.std.specs.List.{flat_map}
 use Rattle.std.specs.declared.alloc.Global.{Global}
@@ -8,7 +8,7 @@ use Rattle.tatp_logs.specs.Receipts.{ReceiptsState, receipts_of}
 use Rattle.tatp_run_history.specs.ClientLines.{all_lines, lists_of}
 use Rattle.tatp_run_history.specs.Interleaving.{Interleaves}
 
--- behind a head stand lines, merged of these lists so that each list's keep their order
+-- a head is followed by lines, merged of these lists so that each list's keep their order
 abbrev pub TellsMerged : List ℕ → List (List (List ℕ)) → List ℕ → Type 0
 TellsMerged head lists text =
     (lines : List (List ℕ)) × Interleaves lists lines

@@ -17,7 +17,7 @@ use tatp_logs::Receipts;
 use tatp_procs::Ask;
 use tatp_streams::{StreamFault, write_if_full, write_last};
 
-/// The parts of all clients, of which no line is written.
+/// The parts of all clients, before any line is written.
 fn parts_of<'a>(
     alloc: Global,
     lists: &'a [Vec<Ask>],

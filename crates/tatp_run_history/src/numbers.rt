@@ -22,7 +22,7 @@ fn place_of(call: u64, is_answer: bool) -> usize {
     usize::try_from(place).unwrap_or(usize::MAX)
 }
 
-/// So many numbers, each 0.
+/// This many numbers, each 0.
 fn zeros(alloc: Global, count: usize) -> Result<Vec<AtomicU64>, AllocError> {
     let mut zeros = Vec::with_capacity(alloc, count)?;
     for _ in 0..count {
@@ -32,7 +32,7 @@ fn zeros(alloc: Global, count: usize) -> Result<Vec<AtomicU64>, AllocError> {
 }
 
 impl Numbers {
-    /// Room for the numbers of so many calls of each of so many clients.
+    /// Reserves the numbers of `calls` calls of each of `clients` clients.
     pub fn with_room(alloc: Global, clients: usize, calls: usize) -> Result<Numbers, AllocError> {
         let mut given = Vec::with_capacity(alloc, clients)?;
         for _ in 0..clients {
@@ -64,8 +64,8 @@ impl Numbers {
         self.give(client, call, true);
     }
 
-    /// The number of a client's asking or answer; that of none, which is above all, where there is
-    /// no such call.
+    /// The number of a client's asking or answer; where there is no such call, `u64::MAX`, which is
+    /// above all others.
     pub(crate) fn number(&self, client: u64, call: usize, is_answer: bool) -> u64 {
         match self.given.get(client as usize) {
             None => u64::MAX,

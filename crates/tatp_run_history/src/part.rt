@@ -19,7 +19,7 @@ pub(crate) struct Part<'a> {
     pub(crate) receipts: &'a Receipts,
     /// The first call of which a line is left.
     pub(crate) call: usize,
-    /// Whether that it is asked is written.
+    /// Whether the line that it is asked is written.
     pub(crate) is_asked: bool,
 }
 

@@ -9,7 +9,7 @@ use Rattle.tatp_settle.specs.Closings.{ClosedSiteState, times_standing}
 use Rattle.tatp_settle.specs.Runs.{Run}
 use Rattle.tatp_settle.specs.Causes.{IsMixed, IsInParcel}
 
--- whether a log of this number that is mixed stood at the site
+-- whether a log of this number that is mixed was at the site
 abbrev pub mixed_here : ClosedSiteState → ℕ → Bool
 mixed_here s e =
     ((e == 0) && ((s.partition == 0) && s.homeless.mixed))

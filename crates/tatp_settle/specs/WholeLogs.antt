@@ -9,7 +9,7 @@ use Rattle.tatp_settle.specs.declared.log_parts.JoinedPart.{JoinedPart}
 abbrev pub entries_of_parts : List JoinedPart → List Entry
 entries_of_parts parts = flat_map (λ (part : JoinedPart). part.entries.now.entries) parts
 
--- each part tells how many entries come before it, counted from this many on; all together are so
+-- each part says how many entries come before it, counted from this many on; all together are so
 -- many
 abbrev pub AreJoined : ℕ → List JoinedPart → ℕ → Type 0
 AreJoined before [] len = len ≡ before

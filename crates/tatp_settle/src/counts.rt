@@ -8,8 +8,8 @@ ghost use Rattle.tatp_settle.specs.Answering.{is_of_kind};
 ghost use Rattle.tatp_settle.specs.Settlements.{completed, refused, calls_by_kind};
 
 use crate::run::Run;
-use crate::{ReceiptRef, Receipts};
 use std::thread::{Threads, join};
+use tatp_logs::{ReceiptRef, Receipts};
 use tatp_procs::Ask;
 
 /// How many calls were completed, to how many memory was refused, and how many there are of each

@@ -10,8 +10,8 @@ use crate::log_table::LogTable;
 use crate::places::{CallPlace, LogPlace};
 use crate::searches::{Search, first_call};
 use crate::table::Table;
-use crate::{ReceiptRef, Receipts};
 use std::thread::Threads;
+use tatp_logs::{ReceiptRef, Receipts};
 use tatp_procs::Ask;
 
 /// Whether the entry in a place is what a call's receipt and its client say.

@@ -50,14 +50,14 @@ fn is_mixed(closed: &Closed, number: u64) -> bool
     is_mixed_at(closed.sites(), number) || is_mixed_in(closed.parcels(), number)
 }
 
-/// Whether a log of the number that stood at one of the sites is mixed.
+/// Whether a log of the number that was at one of the sites is mixed.
 fn is_mixed_at(sites: &[ClosedSite], number: u64) -> bool
     ensures { result ≡ list_any (λ (site : ClosedSiteState). mixed_here site number) sites.now }
 {
     sites.iter().any(|site| is_mixed_here(site, number))
 }
 
-/// Whether a log of the number that stood at the site is mixed.
+/// Whether a log of the number that was at the site is mixed.
 fn is_mixed_here(site: &ClosedSite, number: u64) -> bool
     ensures { result ≡ mixed_here site.now number }
 {
@@ -95,14 +95,14 @@ fn is_doubled(closed: &Closed, number: u64) -> bool
     at_sites.saturating_add(in_parcels) >= 2
 }
 
-/// At how many of these sites the number stood.
+/// At how many of these sites the number was.
 fn times_at(sites: &[ClosedSite], number: u64) -> usize
     ensures { result ≡ count_by (λ (site : ClosedSiteState). is_here site number) sites.now }
 {
     sites.iter().filter(|site| stood_at(site, number)).count()
 }
 
-/// Whether the number stood at the site.
+/// Whether the number was at the site.
 fn stood_at(site: &ClosedSite, number: u64) -> bool
     ensures { result ≡ is_here site.now number }
 {

@@ -1,35 +1,24 @@
 //! The verdict on a run: settled, or its first cause.
-ghost use Rattle.std.specs.Prelude.{◌≡◌, ◌<◌, ◌^◌, ℕ, IfNone, IfOk, IfErr, OnOk, length};
-ghost use Rattle.std.specs.Option.{option_map};
+ghost use Rattle.std.specs.Prelude.{◌≡◌, ◌<◌, ◌^◌, ℕ, IfOk, IfErr, OnOk, length};
 ghost use Rattle.std.specs.Result.{result_err};
 ghost use denote.Param.Send.{IsSync};
 ghost use Rattle.tatp_tables.specs.Clean.{IsClean};
-ghost use Rattle.tatp_settle.specs.Causes.{IsMixed, IsChapterTwice, IsUnmatched, HasNoCause};
-ghost use Rattle.tatp_settle.specs.CallPlaces.{HoldsNowhere};
+ghost use Rattle.tatp_settle.specs.Causes.{IsMixed, IsChapterTwice, HasNoCause};
 ghost use Rattle.tatp_settle.specs.ChapterTables.{IsFirstChapter};
 ghost use Rattle.tatp_settle.specs.Runs.{joined, lists_of, rows_left, shown};
-ghost use Rattle.tatp_settle.specs.CauseOrder.{IsFirstOf, IsFirstAfter, IsFirstInCalls};
+ghost use Rattle.tatp_settle.specs.CauseOrder.{IsFirstAfter, IsFirstInCalls};
 ghost use Rattle.tatp_settle.specs.Settlements.{AreCountsOf, IsAuditOf, IsSettled, RefusesToSettle};
 
 use crate::chapter_table::{ChapterTable, Listed};
 use crate::counts::{Counts, count_all};
-use crate::differences::{Differing, first_differing};
-use crate::extents::{ExtentCause, first_extent};
-use crate::joins::first_unjoined;
-use crate::log_table::LogTable;
-use crate::named_calls::first_homed;
-use crate::placement::{Placed, place_entries};
-use crate::places::{CallPlace, ChapterPlace};
+use crate::first_cause::{cause_in_calls, cause_without_home, chapter_cause, extent_cause};
+use crate::places::ChapterPlace;
 use crate::rows::{count_moves, rows_now};
 use crate::run::Run;
-use crate::stamps::first_falling;
-use crate::unmatched_calls::first_unmatched;
 use crate::{SettleError, Settled, Unsettled};
 use std::alloc::{AllocError, Global};
 use std::thread::{Threads, join};
 use tatp_audits::{Verdict, audit};
-use tatp_homes::homes;
-use tatp_numbers::Directory;
 
 /// What a settled run counts, or why the run isn't settled.
 pub(crate) fn judge<R: Threads + Sync>(
@@ -48,7 +37,11 @@ pub(crate) fn judge<R: Threads + Sync>(
         return Err(SettleError::Because(cause));
     }
     let Listed { chapters, twice } = ChapterTable::new(alloc, run.closed)?;
-    let (in_chapters, (audited, in_calls)) = judge_apart(rt, alloc, run, &chapters, twice);
+    let Judged {
+        chapters: in_chapters,
+        audit: audited,
+        calls: in_calls,
+    } = judge_apart(rt, alloc, run, &chapters, twice);
     if let Some(cause) = in_chapters? {
         return Err(SettleError::Because(cause));
     }
@@ -73,30 +66,34 @@ pub(crate) fn judge<R: Threads + Sync>(
     })
 }
 
-/// What can be judged apart: the first cause that a chapter is, where no extent is one, and what
-/// `audit_beside_calls` gives. Each by a thread of its own, where one can be made.
+/// What can be judged apart.
+struct Judged {
+    /// The first cause that a chapter is, where no extent is one.
+    chapters: Result<Option<Unsettled>, AllocError>,
+    /// The verdict on the rows now.
+    audit: Result<Verdict, AllocError>,
+    /// What `judge_calls` gives.
+    calls: Result<Result<Counts, Unsettled>, AllocError>,
+}
+
+/// What can be judged apart, each by a thread of its own, where one can be made.
 fn judge_apart<R: Threads + Sync>(
     rt: &R,
     alloc: Global,
     run: &Run<'_>,
     chapters: &ChapterTable<'_>,
     twice: Option<ChapterPlace>,
-) -> (
-    Result<Option<Unsettled>, AllocError>,
-    (
-        Result<Verdict, AllocError>,
-        Result<Result<Counts, Unsettled>, AllocError>,
-    ),
-)
+) -> Judged
     requires clean { IsClean run.now.population.now }
     requires gathered { chapters.now ≡ run.now.closed.now }
     requires twice { IsFirstChapter (IsChapterTwice chapters.now) twice }
     requires unmixed { (e : ℕ) → IsMixed chapters.now e → ⊥ }
     requires few { length (joined (shown run.now).calls) < 2 ^ 64 }
-    ensures chapters { IfOk result.0 (IsFirstAfter 3 6 (shown run.now)) }
-    ensures audit { IfOk result.1.0 (IsAuditOf (rows_left (shown run.now))) }
-    ensures calls { IfOk result.1.1 (λ judged. IsFirstInCalls (shown run.now) (result_err judged)) }
-    ensures counts { IfOk result.1.1 (λ judged. IfOk judged (AreCountsOf (shown run.now))) }
+    ensures chapters { IfOk result.chapters (IsFirstAfter 3 6 (shown run.now)) }
+    ensures audit { IfOk result.audit (IsAuditOf (rows_left (shown run.now))) }
+    ensures calls { IfOk result.calls
+        (λ judged. IsFirstInCalls (shown run.now) (result_err judged)) }
+    ensures counts { IfOk result.calls (λ judged. IfOk judged (AreCountsOf (shown run.now))) }
 {
     let in_chapters = || -> Result<Option<Unsettled>, AllocError>
         requires { IsClean run.now.population.now
@@ -118,7 +115,12 @@ fn judge_apart<R: Threads + Sync>(
         ensures counts { IfOk result.1
             (λ judged. IfOk judged (AreCountsOf (shown run.entry.now))) }
     { audit_beside_calls(rt, alloc, run, chapters) };
-    join(rt, in_chapters, rest)
+    let (chapters, (audit, calls)) = join(rt, in_chapters, rest);
+    Judged {
+        chapters,
+        audit,
+        calls,
+    }
 }
 
 /// The verdict on the rows now, and what `judge_calls` gives: each by a thread of its own, where
@@ -160,62 +162,6 @@ fn audit_left(alloc: Global, run: &Run<'_>) -> Result<Verdict, AllocError>
     audit(alloc, &rows)
 }
 
-/// The first cause that an extent is.
-fn extent_cause(run: &Run<'_>) -> Option<Unsettled>
-    ensures { IsFirstOf 3 (shown run.now) result }
-{
-    if let Some(number) = first_extent(ExtentCause::IsAsMixed, run) {
-        return Some(Unsettled::Mixed(number));
-    }
-    if let Some(number) = first_extent(ExtentCause::InParcel, run) {
-        return Some(Unsettled::ParcelLeft(number));
-    }
-    if let Some(number) = first_extent(ExtentCause::StandsTwice, run) {
-        return Some(Unsettled::Doubled(number));
-    }
-    None
-}
-
-/// The first cause that a chapter is, where no extent is a cause.
-fn chapter_cause(
-    alloc: Global,
-    run: &Run<'_>,
-    chapters: &ChapterTable<'_>,
-    twice: Option<ChapterPlace>,
-) -> Result<Option<Unsettled>, AllocError>
-    requires clean { IsClean run.now.population.now }
-    requires gathered { chapters.now ≡ run.now.closed.now }
-    requires twice { IsFirstChapter (IsChapterTwice chapters.now) twice }
-    requires unmixed { (e : ℕ) → IsMixed chapters.now e → ⊥ }
-    ensures { IfOk result (IsFirstAfter 3 6 (shown run.now)) }
-{
-    if let Some(place) = chapters.first_missing() {
-        return Ok(Some(Unsettled::ChapterMissing {
-            extent: place.extent,
-            index: place.index,
-        }));
-    }
-    if let Some(place) = twice {
-        return Ok(Some(Unsettled::ChapterTwice {
-            extent: place.extent,
-            index: place.index,
-        }));
-    }
-    let homes = homes(alloc, run.population)?;
-    Ok(join_cause(first_unjoined(chapters, &homes)))
-}
-
-/// That the chapter differs.
-fn join_cause(place: Option<ChapterPlace>) -> Option<Unsettled>
-    ensures { result ≡ option_map (λ (chapter : ChapterPlace).
-        Unsettled.ChapterDiffers chapter.extent chapter.index) place }
-{
-    place.map(|chapter| Unsettled::ChapterDiffers {
-        extent: chapter.extent,
-        index: chapter.index,
-    })
-}
-
 /// What receipts and calls count, where no call is a cause by its receipt and its entries; else the
 /// first that is, where no extent and no chapter is one.
 fn judge_calls<R: Threads + Sync>(
@@ -233,77 +179,4 @@ fn judge_calls<R: Threads + Sync>(
         Some(cause) => Ok(Err(cause)),
         None => Ok(Ok(count_all(rt, run))),
     }
-}
-
-/// The first cause that a call is by its receipt and its entries, where no extent and no chapter is
-/// one. If there is none, then each call has its receipt and each receipt its call.
-fn cause_in_calls<R: Threads + Sync>(
-    rt: &R,
-    alloc: Global,
-    run: &Run<'_>,
-    chapters: &ChapterTable<'_>,
-) -> Result<Option<Unsettled>, AllocError>
-    requires { chapters.now ≡ run.now.closed.now }
-    ensures cause { IfOk result (IsFirstInCalls (shown run.now)) }
-    ensures matched { IfOk result (λ cause. IfNone cause
-        (HoldsNowhere (IsUnmatched (shown run.now).calls (shown run.now).receipts))) }
-{
-    if let Some(place) = first_unmatched(rt, run.receipts, run.calls) {
-        return Ok(Some(Unsettled::CallMissing {
-            client: place.client,
-            number: place.number,
-        }));
-    }
-    let logs = LogTable::new(alloc, chapters)?;
-    let Placed { table, extra } = place_entries(rt, alloc, &logs, run.receipts)?;
-    if let Some(place) = extra {
-        return Ok(Some(Unsettled::ReceiptMissing {
-            client: place.client,
-            number: place.number,
-        }));
-    }
-    let differing = Differing {
-        logs: &logs,
-        table: &table,
-        receipts: run.receipts,
-        calls: run.calls,
-    };
-    if let Some(place) = first_differing(rt, &differing) {
-        return Ok(Some(Unsettled::ReplyDiffers {
-            client: place.client,
-            number: place.number,
-        }));
-    }
-    if let Some(place) = first_falling(rt, run.receipts) {
-        return Ok(Some(Unsettled::StampOrder {
-            client: place.client,
-            number: place.number,
-        }));
-    }
-    Ok(None)
-}
-
-/// The first call without a home whose key names a subscriber, where there is no cause before it.
-fn cause_without_home(
-    alloc: Global,
-    run: &Run<'_>,
-    chapters: &ChapterTable<'_>,
-) -> Result<Option<Unsettled>, AllocError>
-    requires clean { IsClean run.now.population.now }
-    requires gathered { chapters.now ≡ run.now.closed.now }
-    ensures { IfOk result (IsFirstAfter 10 11 (shown run.now)) }
-{
-    let directory = Directory::of_clean(alloc, run.population)?;
-    Ok(home_cause(first_homed(alloc, &directory, chapters)?))
-}
-
-/// That the call has a home.
-fn home_cause(place: Option<CallPlace>) -> Option<Unsettled>
-    ensures { result ≡ option_map (λ (call : CallPlace).
-        Unsettled.HasHome call.client call.number) place }
-{
-    place.map(|call| Unsettled::HasHome {
-        client: call.client,
-        number: call.number,
-    })
 }

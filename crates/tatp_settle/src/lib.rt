@@ -8,6 +8,7 @@ mod closed;
 mod counts;
 mod differences;
 mod extents;
+mod first_cause;
 mod gathering;
 mod joins;
 mod judgement;
@@ -35,7 +36,6 @@ pub use gathering::gather;
 pub use refusals::{GatherError, NotGathered, NotSettled, SettleError};
 pub use settled::Settled;
 pub use settlement::settle;
-pub use tatp_logs::{Receipt, ReceiptRef, Receipts};
 pub use theorems::{
     every_interleaving_is_one_history, logs_can_be_merged, merged_logs_are_one_history,
     runs_are_one_history, runs_are_one_history_in_any_order,

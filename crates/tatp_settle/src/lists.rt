@@ -4,7 +4,7 @@ ghost use Rattle.std.specs.Option.{option_copied, option_map, option_map_or};
 ghost use Rattle.tatp_logs.specs.Receipts.{receipt_seen, receipts_of};
 ghost use Rattle.tatp_settle.specs.Runs.{at_call, lists_of};
 
-use crate::{ReceiptRef, Receipts};
+use tatp_logs::{ReceiptRef, Receipts};
 
 /// What is kept of a client and one of its call numbers.
 pub(crate) fn at<T>(lists: &[Vec<T>], client: u64, number: u64) -> Option<&T>

@@ -18,7 +18,7 @@ fn first_of(extents: &[Extent], number: u64) -> Option<&Extent>
         .find(|extent| extent.number() as u64 == number)
 }
 
-/// The first extent that stood in these sites under a number.
+/// The first extent that was in these sites under a number.
 fn extent_at(sites: &[ClosedSite], number: u64) -> Option<&Extent>
     requires { All IsClosedSite sites.now }
     ensures { option_copied result
@@ -87,7 +87,7 @@ pub(crate) fn chapter_count(closed: &Closed, number: u64) -> u16
     }
 }
 
-/// How many places the site has that has the most: a number above that of each extent that stood
+/// How many places the site has that has the most: a number above that of each extent that was
 /// there.
 fn places_of(sites: &[ClosedSite]) -> u64
     ensures { result ≡ most_places sites.now }

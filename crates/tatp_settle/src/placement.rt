@@ -6,12 +6,12 @@ ghost use Rattle.tatp_logs.specs.Receipts.{receipts_of};
 ghost use Rattle.tatp_settle.specs.Closings.{ClosedState};
 ghost use Rattle.tatp_settle.specs.Placing.{ArePlacedOrExtra, IsTableOf, IsTableOfPart};
 
-use crate::Receipts;
 use crate::log_table::LogTable;
 use crate::places::{CallPlace, LogPlace, lesser};
 use crate::table::Table;
 use std::alloc::{AllocError, Global};
 use std::thread::{Threads, join};
+use tatp_logs::Receipts;
 
 /// How often the clients are halved, where each half is seen to by a thread of its own, where one
 /// can be made. Each thread reads all logs: more of them than processors would read in vain.

@@ -1,5 +1,6 @@
 //! A run that is to be settled, as functions hand it on.
-use crate::{Closed, Receipts};
+use crate::Closed;
+use tatp_logs::Receipts;
 use tatp_procs::Ask;
 use tatp_tables::Rows;
 

@@ -8,9 +8,10 @@ ghost use Rattle.tatp_settle.specs.Settlements.{IsSettled, RefusesToSettle};
 
 use crate::judgement::judge;
 use crate::run::Run;
-use crate::{Closed, NotSettled, Receipts, SettleError, Settled};
+use crate::{Closed, NotSettled, SettleError, Settled};
 use std::alloc::Global;
 use std::thread::Threads;
+use tatp_logs::Receipts;
 use tatp_procs::Ask;
 use tatp_tables::Rows;
 

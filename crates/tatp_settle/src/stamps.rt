@@ -8,8 +8,8 @@ ghost use Rattle.tatp_settle.specs.Stamping.{is_above};
 use crate::lists::{clients_of, receipt_at, receipts_len};
 use crate::places::CallPlace;
 use crate::searches::{Search, first_call};
-use crate::{ReceiptRef, Receipts};
 use std::thread::Threads;
+use tatp_logs::{ReceiptRef, Receipts};
 
 /// Whether the stamp is above the last one, if there is one.
 fn is_above(last: Option<u64>, stamp: u64) -> bool

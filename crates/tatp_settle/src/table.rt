@@ -5,9 +5,9 @@ ghost use Rattle.tatp_logs.specs.Receipts.{receipts_of};
 ghost use Rattle.tatp_settle.specs.Runs.{at_call};
 ghost use Rattle.tatp_settle.specs.Placing.{cells_of, IsFresh, Puts};
 
-use crate::Receipts;
 use std::alloc::{AllocError, Global};
 use std::marker::Model;
+use tatp_logs::Receipts;
 
 /// Rows of cells, each of which is empty or filled.
 #[derive(Drop)]

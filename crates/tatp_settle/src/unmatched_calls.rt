@@ -11,8 +11,8 @@ ghost use Rattle.tatp_settle.specs.Receipts.{IsOf};
 use crate::lists::{at, clients_of, count_of, len_of, receipt_at, receipts_len};
 use crate::places::CallPlace;
 use crate::searches::{Search, first_call};
-use crate::{ReceiptRef, Receipts};
 use std::thread::Threads;
+use tatp_logs::{ReceiptRef, Receipts};
 use tatp_procs::Ask;
 
 /// Whether the receipt is that of this call.

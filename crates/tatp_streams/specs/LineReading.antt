@@ -10,10 +10,10 @@ pub record LineReaderState : Type 0 where
   pub number : ℕ  -- how many lines were taken
   pub ahead : List ℕ  -- the bytes that were read and not taken
   pub count : ℕ  -- how many bytes were read in all
-  pub limit : ℕ  -- how many may be
+  pub limit : ℕ  -- the most bytes that may be read in all
   pub ended : Bool  -- whether the input has ended
 
--- no more than `limit` bytes may be read
+-- nothing was read, and no more than `limit` bytes may be
 abbrev pub nothing_taken : ℕ → LineReaderState
 nothing_taken limit =
     record { line = []; number = 0; ahead = []; count = 0; limit = limit; ended = false }
@@ -24,7 +24,7 @@ pub record InputSize : Type 0 where
   pub bytes : ℕ
   pub limit : ℕ
 
--- all may be read
+-- the whole input may be read
 abbrev pub IsWithinLimit : InputSize → Type 0
 IsWithinLimit input = input.bytes ≤ input.limit
 
@@ -33,23 +33,23 @@ pub record LinesLeft : Type 0 where
   pub lines : List (List ℕ)
   pub input : InputSize
 
--- by the bytes that are left to read
+-- these, where `more` are the bytes that are left to read
 abbrev pub left_with : LineReaderState → List ℕ → LinesLeft
 left_with s more = record {
   lines = lines_of (s.ahead ++ more);
   input = record { bytes = s.count + length more; limit = s.limit };
 }
 
--- where the bytes that the reader has left are known; past the end of the input none is read
+-- these, where the bytes that the reader has left are known; past the end of the input none is read
 abbrev pub lines_left : LineReaderState → Option (List ℕ) → Option LinesLeft
 lines_left s known = option_map (λ more. left_with s (if s.ended then [] else more)) known
 
--- what was known is known, and the same
+-- what was known is still known, and is the same
 abbrev pub Stays : {A : Type 0} → Option A → Option A → Type 0
 Stays None new = ⊤
 Stays (Some x) new = new ≡ Some x
 
--- this holds of the lines that were left and of those that are, where the first are known
+-- this holds of the lines that were left and those that are left, where the first are known
 abbrev pub Relates : Option LinesLeft → Option LinesLeft
     → (LinesLeft → LinesLeft → Type 0) → Type 0
 Relates old new P = IfSome old (λ all. IsSomeAnd new (P all))
@@ -96,8 +96,8 @@ pub record HoldsNoLine (s : LineReaderState) : Type 0 where
   pub last : s.ended ≡ true → s.ahead ≡ []
 
 -- ---- the fields of a LineReader
--- the line goes from `start` to before `end`; what was not taken begins at `taken`, and at its
--- front `clear` bytes have no line feed
+-- the line goes from `start` to just before `end`; the bytes that were not taken begin at `taken`,
+-- and the first `clear` of them have no line feed
 pub record HoldsLines (buffer : List ℕ) (start end taken clear number count limit : ℕ)
     : Type 0 where
   pub line : start ≤ end
@@ -108,8 +108,8 @@ pub record HoldsLines (buffer : List ℕ) (start end taken clear number count li
   pub count_within : count ≤ limit
   pub limit_within : limit ≤ MAX_INPUT_LIMIT
 
--- the first line of bytes is `long`, and takes `taken` of them with its line feed, whatever
--- follows; past the end of the input nothing does
+-- the first line of the bytes has `long` bytes, and `taken` with its line feed, whatever follows
+-- them; past the end of the input nothing does
 pub record IsFirstLine (bytes : List ℕ) (ended : Bool) (long taken : ℕ) : Type 0 where
   pub some : 0 < taken
   pub long_within : long ≤ taken

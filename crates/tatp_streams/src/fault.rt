@@ -11,7 +11,7 @@ pub enum StreamFault {
     /// Memory ran out.
     #[error("46 NoMemory")]
     NoMemory,
-    /// The input could not be read, or is longer than is read.
+    /// The input could not be read, or is longer than the limit.
     #[error("47 ReadFault")]
     ReadFault,
     /// The output could not be written.

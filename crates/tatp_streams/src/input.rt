@@ -1,4 +1,4 @@
-//! A whole input, read.
+//! Reading a whole input.
 ghost use Rattle.std.specs.Prelude.{◌≡◌, ℕ, ◌≤◌, ◌<◌, ◌++◌, ◌+◌, ◌⊎◌, List, length, vec_len, true, false, IfOk, IfErr, OnOk, OnErr, IfSome};
 ghost use Rattle.std.specs.Io.KnownBytes.{Consumes, IsAtEnd};
 ghost use Rattle.tatp_streams.specs.declared.fault.StreamFault.TheVariants.{ReadFault, NoMemory};
@@ -8,11 +8,13 @@ use std::alloc::Global;
 use std::io::Read;
 use tatp_limits::MAX_INPUT_BYTES;
 
-/// How many bytes are asked for at a time.
+/// The most bytes that one read asks for.
 pub(crate) const PIECE: usize = 65_536;
 
-/// Appends what one read gives of an input of which `before` bytes were read, and no more than
-/// `limit` may be. `true`: at least a byte came. `false`: the input has ended.
+/// Appends to `bytes` what one read gives. Of the input `before` bytes were read already, and no
+/// more than `limit` bytes may be read in all. `Ok(true)` means that at least one byte came, and
+/// `Ok(false)` that the input has ended. `Err` means that the read failed, that the input is longer
+/// than `limit`, or that memory was refused.
 pub(crate) fn read_piece<R: Read>(
     reader: &mut R,
     before: usize,
@@ -48,8 +50,8 @@ pub(crate) fn read_piece<R: Read>(
     }
 }
 
-/// All that a reader gives, at most [`MAX_INPUT_BYTES`] bytes. Any error of the reader ends it, an
-/// interrupted read too.
+/// All bytes that a reader gives, at most [`MAX_INPUT_BYTES`]. `Err` means that a read failed, also
+/// by an interruption, that the input is longer, or that memory was refused.
 #[tactic(auto, using(crate::proofs::StreamLaws::consumes_none, crate::proofs::StreamLaws::consumes_both, crate::proofs::StreamLaws::consumed_all, crate::proofs::StreamLaws::input_within))]
 pub fn read_all<R: Read>(alloc: Global, reader: &mut R) -> Result<Vec<u8>, StreamFault>
     ensures all { IfOk result (λ all.

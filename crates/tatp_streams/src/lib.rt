@@ -1,4 +1,5 @@
-//! A whole input read, or line by line; an output written in pieces; and why that ends early.
+//! Reads a whole input, or its lines one after another; writes an output in pieces; and says why
+//! either ends early.
 #![tactic(auto)]
 
 mod fault;
@@ -12,5 +13,5 @@ pub use fault::StreamFault;
 pub use input::read_all;
 pub use limit::MAX_INPUT_LIMIT;
 pub use line_reader::LineReader;
-pub use output::{write_if_full, write_last, write_out};
+pub use output::{write_if_full, write_last};
 pub use text::text_of;

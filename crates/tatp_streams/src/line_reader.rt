@@ -11,26 +11,26 @@ use std::marker::Model;
 
 /// The lines of a reader, taken one after another.
 ///
-/// Lines that were read whole are taken without reading, so that whoever takes them decides what is
-/// done before the program waits for the next. It holds no more than a piece of the input beside
+/// A line that was read whole is taken without reading, so the caller decides what is done before
+/// the program waits for the next one. The reader holds no more than one piece of the input beside
 /// its longest line.
 #[derive(Drop)]
 pub struct LineReader {
-    /// What was read, from the last piece that was taken to its end.
+    /// The bytes that were read, without those that had been taken before the last read.
     buffer: Vec<u8>,
-    /// The line that was taken last goes from here ..
+    /// The place in the buffer where the line begins that was taken last.
     start: usize,
-    /// .. to before this place.
+    /// The place just after that line, without its line feed.
     end: usize,
-    /// What was not taken begins here.
+    /// The place where the bytes begin that were not taken.
     taken: usize,
-    /// How many bytes from there on were searched and have no line feed.
+    /// How many bytes from that place on were searched and have no line feed.
     clear: usize,
     /// How many lines were taken.
     number: u64,
     /// How many bytes were read in all.
     count: usize,
-    /// How many may be.
+    /// The most bytes that may be read in all.
     limit: usize,
     /// Whether the input has ended.
     ended: bool,
@@ -61,8 +61,9 @@ fn line_feed(bytes: &[u8]) -> Option<usize>
     bytes.iter().position(|byte| *byte == b'\n')
 }
 
-/// How long the first line is, and how many bytes it takes with its line feed. The first `clear`
-/// bytes have none. The last line of an input that has ended may lack it.
+/// The length of the first line in bytes, without and with its line feed. The first `clear` bytes
+/// have no line feed. The last line of an input that has ended may lack its own. `None` means that
+/// no line is there whole.
 fn first_line(bytes: &[u8], clear: usize, ended: bool) -> Option<(usize, usize)>
     requires within { clear ≤ length bytes.now }
     requires clear { HasNoLineFeed (take clear bytes.now) }
@@ -77,12 +78,12 @@ fn first_line(bytes: &[u8], clear: usize, ended: bool) -> Option<(usize, usize)>
     }
 }
 
-/// The first `count` bytes leave, and the others move to the front.
+/// Removes the first `count` bytes; the others move to the front.
 fn remove_front(buffer: &mut Vec<u8>, count: usize)
     requires { count ≤ vec_len buffer.old }
     ensures { buffer.new.items ≡ drop count buffer.old.items }
 {
-    // (a long line comes in many pieces, and stays where it is)
+    // (a long line comes in many pieces, and isn't moved for each of them)
     if count > 0 {
         let len = buffer.len();
         buffer.as_mut_slice().copy_within(count..len, 0);
@@ -91,7 +92,7 @@ fn remove_front(buffer: &mut Vec<u8>, count: usize)
 }
 
 impl LineReader {
-    /// Nothing is read yet, and no more than `limit` bytes will be.
+    /// A reader of lines that has read nothing, and will read no more than `limit` bytes.
     pub fn new(alloc: Global, limit: usize) -> LineReader
         requires { limit ≤ MAX_INPUT_LIMIT }
         ensures { result ≡ nothing_taken limit }
@@ -109,8 +110,8 @@ impl LineReader {
         }
     }
 
-    /// Takes the next line where it was read whole; the last one needs no line feed once the input
-    /// has ended. `false`: there is none.
+    /// Takes the next line, if it was read whole. The last line needs no line feed once the input
+    /// has ended. `false` means that no such line is there.
     pub fn advance_ready(&mut self) -> bool
         ensures line { result ≡ true
             → (known : Option (List ℕ)) → TakesLine self.old known self.new known }
@@ -133,8 +134,10 @@ impl LineReader {
         }
     }
 
-    /// Takes the next line, and reads on until it has come whole: this may wait. `false`: there is
-    /// none, and the input has ended. After an error nothing is known of the lines that are left.
+    /// Takes the next line, and reads until it is whole, which may wait. `Ok(false)` means that no
+    /// line is left and that the input has ended. `Err` means that a read failed, that the input is
+    /// longer than the limit, or that memory was refused; after it nothing is known of the lines
+    /// that are left.
     pub fn advance<R: Read>(&mut self, reader: &mut R) -> Result<bool, StreamFault>
         ensures line { IfOk result (λ more. more ≡ true
             → TakesLine self.old (R.remaining reader.old) self.new (R.remaining reader.new)) }
@@ -160,7 +163,7 @@ impl LineReader {
         &self.buffer[self.start..self.end]
     }
 
-    /// How many lines were taken: the number of that line, counted from 1.
+    /// How many lines were taken, which is the number of the last one, counted from 1.
     pub fn number(&self) -> u64
         ensures number { result ≡ self.now.number }
         ensures few { result ≤ MAX_INPUT_LIMIT }
@@ -176,7 +179,7 @@ impl LineReader {
         self.ended
     }
 
-    /// Takes what one read gives, which may be the end.
+    /// Makes one read, which may find the end of the input. `Err` is as that of `advance`.
     fn read_more<R: Read>(&mut self, reader: &mut R) -> Result<(), StreamFault>
         requires { self.old.ended ≡ false }
         ensures more { OnOk result

@@ -6,7 +6,7 @@ use Rattle.crossbeam_channel.specs.Claims.{Pass, view}
 abbrev pub IsRuled : {M : Type 0} → (M → Type 0) → List M → List (List M) → Type 0
 IsRuled allows messages histories = All allows messages
 
--- which inbox it is, by a name that no other channel has, and how many messages it has room for
+-- which inbox it is, by a name that no other channel has, and how many messages it can hold
 pub record Inbox : Type 0 where
   pub name : ℕ
   pub room : ℕ
@@ -17,7 +17,7 @@ pub record End (M : Type 0) : Type 0 where
   pub history : List M
 
 module _ {M : Type 0} where
-  -- the end that has this pass, of an inbox with this room
+  -- the end that has this pass, of an inbox that can hold this many messages
   abbrev pub end_by : Pass M (List M) → ℕ → End M
   end_by pass room = record {
     inbox = record { name = pass.table_id.views_name; room = room };

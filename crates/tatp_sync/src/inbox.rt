@@ -89,7 +89,7 @@ impl<M: Drop, L: MessageRule<M>> Model for Port<M, L> {
 
 impl<M: Drop, L: MessageRule<M>> Port<M, L> {
     /// Puts a message at the back. It comes back where the inbox is full, and where no end that
-    /// takes is left: no contract of a channel tells these two apart.
+    /// takes is left: no contract of a channel distinguishes the two.
     pub fn put<R: Wait>(&mut self, rt: &R, message: M) -> Result<(), M>
         requires { L.allows message }
         ensures { Puts self.old message result self.new }
@@ -99,7 +99,7 @@ impl<M: Drop, L: MessageRule<M>> Port<M, L> {
             .map_err(|error| error.into_inner())
     }
 
-    /// Another end of the same inbox.
+    /// Makes another end of the same inbox.
     fn again(&mut self) -> Result<Port<M, L>, AllocError>
         ensures beside { IfOk result (λ port. port ≡ end_beside self.old) }
         ensures same { self.new ≡ self.old }
@@ -162,7 +162,7 @@ impl<M: Drop, L: MessageRule<M>> Reader<M, L> {
     }
 }
 
-/// An inbox for at most `room` messages, by its first two ends.
+/// Opens an inbox for at most `room` messages, and gives its first two ends.
 fn open_inbox<M: Drop, L: MessageRule<M>>(
     alloc: Global,
     room: usize,
@@ -184,7 +184,7 @@ fn open_inbox<M: Drop, L: MessageRule<M>>(
     ))
 }
 
-/// Inboxes for at most `room` messages each: the ends that put, and those that take.
+/// Opens inboxes for at most `room` messages each: the ends that put, and those that take.
 /// The two at one place are of one inbox: new ends, whose histories are empty, are then equal.
 pub fn open_inboxes<M: Drop, L: MessageRule<M>>(
     alloc: Global,
@@ -206,7 +206,7 @@ pub fn open_inboxes<M: Drop, L: MessageRule<M>>(
     Ok((ports, readers))
 }
 
-/// For one more thread, an end at each inbox.
+/// Makes an end at each inbox for one more thread.
 pub fn ends_of<M: Drop, L: MessageRule<M>>(
     alloc: Global,
     ports: &mut [Port<M, L>],

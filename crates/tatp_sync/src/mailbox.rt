@@ -17,7 +17,7 @@ struct Place<T> {
 /// Where the messages to one thread come, one after another.
 #[derive(Drop)]
 pub struct Mailbox<T> {
-    /// Apart from all else: its thread looks at it while others look at theirs.
+    /// The place has a cache line of its own: its thread looks at it while others look at theirs.
     place: CachePadded<Mutex<Place<T>>>,
     filled: Condvar,
 }
@@ -36,7 +36,7 @@ impl<T> Taken<'_, T> {
 }
 
 impl<T: Copy> Mailbox<T> {
-    /// An empty one. The message, which may be any, is never taken: it makes the place.
+    /// Makes an empty mailbox. The message, which may be any, is never taken: it makes the place.
     pub fn new(message: T) -> Mailbox<T> {
         Mailbox {
             place: CachePadded::new(Mutex::new(Place {
@@ -62,7 +62,7 @@ impl<T: Copy> Mailbox<T> {
         Taken { place }
     }
 
-    /// The place, once it is filled.
+    /// Waits until the place is filled.
     fn filled_place<R: Wait>(&self, rt: &R) -> MutexGuard<'_, Place<T>> {
         for _ in 0..LOOKS {
             let place = lock(rt, &self.place);

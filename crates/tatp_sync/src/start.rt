@@ -12,7 +12,7 @@ pub struct Start {
 }
 
 impl Start {
-    /// One that isn't open yet.
+    /// Makes a start that isn't open yet.
     pub fn new() -> Start {
         Start {
             is_open: Mutex::new(false),
@@ -27,7 +27,7 @@ impl Start {
             .wait_while(rt, self.is_open.lock(rt), |is_open| !*is_open);
     }
 
-    /// Opens it: whoever waits may begin.
+    /// Opens it: all threads that wait may begin.
     pub fn open<R: Wait>(&self, rt: &R) {
         *self.is_open.lock(rt) = true;
         self.opened.notify_all();

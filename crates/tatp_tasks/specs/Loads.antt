@@ -5,12 +5,12 @@ use Rattle.tatp_tasks.specs.declared.load.CallsPlan.{CallsPlan}
 use Rattle.tatp_tasks.specs.declared.load.RowsPlan.{RowsPlan}
 use Rattle.tatp_tasks.specs.declared.load.TheConstants.{MAX_DRAWN_CALLS}
 
--- there can be so many subscribers
+-- there can be this many subscribers
 pub record IsRowsPlan (plan : RowsPlan) : Type 0 where
   pub some : 1 ≤ plan.subscribers
   pub few : plan.subscribers ≤ MAX_SUBSCRIBERS
 
--- there can be so many subscribers and calls, and such a client
+-- there can be this many subscribers and calls, and a client of this number
 pub record IsCallsPlan (plan : CallsPlan) : Type 0 where
   pub some_subscribers : 1 ≤ plan.subscribers
   pub few_subscribers : plan.subscribers ≤ MAX_SUBSCRIBERS

@@ -10,11 +10,11 @@ abbrev pub IsPopulation : Population → Type 0
 IsPopulation Read = Unit {0}
 IsPopulation (Generated n seed) = (1 ≤ n) × (n ≤ MAX_SUBSCRIBERS)
 
--- so many bytes of an input can be asked to be read
+-- a task can ask for this many bytes of an input to be read
 abbrev pub IsInputLimit : ℕ → Type 0
 IsInputLimit bytes = (1 ≤ bytes) × (bytes ≤ MAX_INPUT_LIMIT)
 
--- rows that can be had, over so many partitions and for so many clients as there can be
+-- the rows can be drawn, and there can be this many partitions, clients and bytes of an input
 pub record IsSetup (setup : Setup) : Type 0 where
   pub population : IsPopulation setup.population
   pub some_partitions : 1 ≤ setup.partitions

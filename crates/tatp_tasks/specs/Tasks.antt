@@ -8,8 +8,8 @@ use Rattle.tatp_tasks.specs.Loads.{IsRowsPlan, IsCallsPlan}
 use Rattle.tatp_tasks.specs.Plans.{IsPlan}
 use Rattle.tatp_tasks.specs.Populations.{IsPopulation, IsSetup, IsInputLimit}
 
--- where rows or calls are drawn, so many can be; there can be so many partitions and clients; so
--- many bytes of the input can be read; the run of the benchmark can be asked for
+-- each number of the task is in its range: of drawn rows and calls, of partitions and clients, of
+-- configurations, and of bytes of the input; and the run of the benchmark can be asked for
 abbrev pub IsTask : Task → Type 0
 IsTask (Call population partitions rows input_limit) =
     IsPopulation population × (1 ≤ partitions) × (partitions ≤ MAX_PARTITIONS)

@@ -11,4 +11,6 @@ pub struct JudgePlan {
     pub population: Population,
     /// How many configurations of one subscriber are kept at most, 1 to [`MAX_CONFIGURATIONS`].
     pub most: usize,
+    /// Whether the history is followed by a line `.` and the rows at its end.
+    pub final_rows: bool,
 }

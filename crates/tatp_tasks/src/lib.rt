@@ -1,4 +1,4 @@
-//! What the program can be asked to do, and what it is told to do it with.
+//! What the program can be asked to do, with the numbers and choices of each task.
 #![tactic(auto)]
 
 mod judging;

@@ -1,7 +1,7 @@
-//! What is to be drawn for another database: rows, or the calls of one client.
+//! Rows, or the calls of one client, that are to be drawn for another database.
 use tatp_driver::Distribution;
 
-/// The most calls of one client that are drawn to be written.
+/// The most calls of one client that can be drawn and written.
 pub const MAX_DRAWN_CALLS: u64 = 1_000_000_000;
 
 /// A population to be drawn and written.
@@ -9,7 +9,7 @@ pub const MAX_DRAWN_CALLS: u64 = 1_000_000_000;
 pub struct RowsPlan {
     /// How many subscribers it has, 1 to `MAX_SUBSCRIBERS`.
     pub subscribers: u64,
-    /// What its random words are drawn from.
+    /// The seed of its random words.
     pub seed: u64,
 }
 
@@ -22,8 +22,8 @@ pub struct CallsPlan {
     pub calls: u64,
     /// Which client makes them, counted from 0, below `MAX_CLIENTS`.
     pub client: u64,
-    /// What its random words are drawn from.
+    /// The seed of its random words.
     pub seed: u64,
-    /// How they are distributed over the subscribers.
+    /// How the calls are distributed over the subscribers.
     pub distribution: Distribution,
 }

@@ -5,6 +5,6 @@
 pub enum Procedures {
     /// They are the seven of the standard module.
     Standard,
-    /// Their text stands at the front of the input, up to a line `.`; other lines follow it.
+    /// The input begins with their text, up to a line `.`; other lines follow it.
     Read,
 }

@@ -4,11 +4,11 @@ use crate::{Population, Procedures};
 /// What a run over lines is opened with.
 #[derive(Clone, Copy, Debug, PartialEq, Eq)]
 pub struct Setup {
-    /// Where its procedures come from.
+    /// Where the procedures come from.
     pub procedures: Procedures,
-    /// Where its rows come from.
+    /// Where the rows come from.
     pub population: Population,
-    /// Over how many partitions they are dealt, 1 to `MAX_PARTITIONS`.
+    /// Over how many partitions the rows are dealt, 1 to `MAX_PARTITIONS`.
     pub partitions: u8,
     /// For how many clients, 1 to `MAX_CLIENTS`.
     pub clients: u16,

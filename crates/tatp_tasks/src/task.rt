@@ -4,15 +4,15 @@ use crate::{BenchPlan, CallsPlan, JudgePlan, Population, RowsPlan, Setup};
 /// What the program is asked to do: one of its commands.
 #[derive(Clone, Copy, Debug, PartialEq, Eq)]
 pub enum Task<'a> {
-    /// Answer calls, over this many partitions, 1 to `MAX_PARTITIONS`, and then write the rows or
-    /// not. The input limit is the most bytes that are read, 1 to `MAX_INPUT_LIMIT`.
+    /// Answer calls over this many partitions, 1 to `MAX_PARTITIONS`; `rows` says whether to write
+    /// the rows after them. At most `input_limit` bytes are read, 1 to `MAX_INPUT_LIMIT`.
     Call {
         population: Population,
         partitions: u8,
         rows: bool,
         input_limit: usize,
     },
-    /// Answer events, and write each line before its answers or not.
+    /// Answer events; `echo` says whether to write each line before its answers.
     Trace {
         setup: Setup,
         echo: bool,
@@ -23,14 +23,14 @@ pub enum Task<'a> {
     Dis,
     /// Test whether a module may be run.
     Check,
-    /// Test whether rows are clean. So many bytes of the input are read at most, 1 to
-    /// `MAX_INPUT_LIMIT`.
+    /// Test whether rows are clean. At most `input_limit` bytes are read, 1 to `MAX_INPUT_LIMIT`.
     Audit {
         input_limit: usize,
     },
     /// Judge a history.
     Judge(JudgePlan),
-    /// Run the benchmark, and tell how it goes on or not, and write its history or not.
+    /// Run the benchmark; `progress` says whether to report how it goes on, `history` whether to
+    /// write its history.
     Bench {
         plan: BenchPlan,
         progress: bool,
@@ -40,7 +40,7 @@ pub enum Task<'a> {
     Rows(RowsPlan),
     /// Write the calls that a client of the benchmark draws.
     Calls(CallsPlan),
-    /// Say what a refusal or a fault means, by a word that is its number or its name; without one,
-    /// tell what all of them mean.
+    /// Say what a refusal or a fault means, whose number or name this word is; without a word, say
+    /// what each of them means.
     Explain(Option<&'a str>),
 }

@@ -14,7 +14,7 @@ use Rattle.tatp_procs.specs.Asked.{has_procedure, bad_argument}
 use Rattle.tatp_threads.specs.declared.refusal.RunRefusal.{RunRefusal}
 use Rattle.tatp_threads.specs.declared.refusal.RunRefusal.TheVariants.{TooMany, NotClean, NoProcedure, BadArgument, NoMemory, NoThread}
 
--- what stands against a call
+-- why a call can't be run, if it can't
 abbrev pub obstacle_to : ModuleState → Ask → Option RunRefusal
 obstacle_to modul ask =
     if has_procedure modul ask then option_map BadArgument (bad_argument ask)
@@ -26,11 +26,11 @@ first_of [] = None
 first_of (Some obstacle ∷ more) = Some obstacle
 first_of (None ∷ more) = first_of more
 
--- what stands against the first call of a list that can't be run
+-- why the first call of a list that can't be run can't be, if there is one
 abbrev pub obstacle_in : ModuleState → List Ask → Option RunRefusal
 obstacle_in modul asks = first_of (map (obstacle_to modul) asks)
 
--- what stands against the first call of the first client that can't be run
+-- why the first call of the first client that can't be run can't be, if there is one
 abbrev pub obstacle_among : ModuleState → List (Vec Ask Global) → Option RunRefusal
 obstacle_among modul lists =
     first_of (map (λ (list : Vec Ask Global). obstacle_in modul list.items) lists)

@@ -1,4 +1,4 @@
--- What comes of the acts of executors, mover and debugger at partitions behind locks.
+-- What the mover and the debugger do at partitions behind locks.
 use Rattle.std.specs.Prelude.{ℕ, ◌<◌, Bool, true, false, ⊤, Result, Ok, Err}
 use Rattle.tatp_extents.specs.Extents.{ExtentState}
 use Rattle.tatp_partition.specs.declared.refusal.NotGiven.{NotGiven}
@@ -8,7 +8,7 @@ use Rattle.tatp_partition.specs.Sites.{SiteState}
 use Rattle.tatp_partition.specs.Stopping.{Stops}
 use Rattle.tatp_threads.specs.Locked.{OfSomeSite}
 
--- where a partition has this number, of so many, its site answered so
+-- of `count` partitions there is one with this number only if its site answered so
 abbrev pub OfPartition : ℕ → ℕ → (SiteState → SiteState → Type 0) → Type 0
 OfPartition count partition Answers = partition < count → OfSomeSite Answers
 

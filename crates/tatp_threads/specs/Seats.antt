@@ -31,7 +31,7 @@ module _ {A : Type 0} where
   abbrev pub clients_ports : List (ClientSeat A) → List (Vec (End Message) Global)
   clients_ports = map (λ (seat : ClientSeat A). seat.ports)
 
-  -- a client has no receipts yet, and room for one of each of its calls
+  -- a client has no receipts yet, and capacity for one of each of its calls
   abbrev pub HasRoomFor : Vec Ask Global → ClientSeat A → Type 0
   HasRoomFor list seat = (seat.receipts.receipts ≡ []) × (length list.items ≤ seat.receipts.room)
 
@@ -41,8 +41,8 @@ module _ {A : Type 0} where
   HaveRoomFor [] (seat ∷ seats) = ⊥
   HaveRoomFor (list ∷ lists) (seat ∷ seats) = HasRoomFor list seat × HaveRoomFor lists seats
 
-  -- a seat for each client: its number is its place, it puts into all inboxes, and it has room for
-  -- the receipts of its calls
+  -- a seat for each client: its number is its place, it puts into all inboxes, and it has capacity
+  -- for the receipts of its calls
   pub record AreClients (lists : List (Vec Ask Global)) (inboxes : List (End Message))
       (seats : List (ClientSeat A)) : Type 0 where
     pub numbers : numbers_of seats ≡ range_with_len 0 (length lists)

@@ -8,7 +8,7 @@ use tatp_partition::{Item, item_ok};
 use tatp_sync::MessageRule;
 use tatp_workers::Message;
 
-/// How many arguments each procedure takes. Each run picks it.
+/// How many arguments each procedure of a run's module takes.
 pub(crate) trait Arities {
     ghost arities: { List ℕ };
 }
@@ -43,7 +43,7 @@ pub(crate) struct Admission<A: Arities> {
 }
 
 impl<A: Arities> Admission<A> {
-    /// These are the arities of the run.
+    /// Keeps the arities of the run, which the rule of its inboxes names.
     pub(crate) fn new(arities: Vec<u8>) -> Admission<A>
         requires { arities.items ≡ A.arities }
     {
@@ -53,7 +53,7 @@ impl<A: Arities> Admission<A> {
         }
     }
 
-    /// Puts a call where it fits. False where it doesn't, and where there is no room.
+    /// Puts a call into an inbox if it fits the module. False if it doesn't, or the inbox is full.
     pub(crate) fn put<R: Wait>(&self, rt: &R, port: &mut Port<A>, item: &Item) -> bool
         ensures { PutsCall port.old item.now result port.new }
     {

@@ -1,4 +1,4 @@
-//! Whether the calls of a run can be run.
+//! Whether all calls of a run can be run, and why not.
 ghost use Rattle.std.specs.Prelude.{◌≡◌, ◌<◌, IfOk};
 ghost use denote.Param.Send.{IsSync};
 ghost use Rattle.tatp_procs.specs.Asked.{arities_of};
@@ -10,8 +10,8 @@ use std::thread::{Threads, join};
 use tatp_loader::Loaded;
 use tatp_procs::Ask;
 
-/// How often the clients are halved, where the calls of each half are looked through by a thread of
-/// its own, where one can be made.
+/// How often the clients are halved. The calls of each half are looked through by a thread of its
+/// own, if one can be made.
 const HALVINGS: u32 = 2;
 
 /// How many arguments each procedure of a module takes.
@@ -26,7 +26,7 @@ pub(crate) fn arities_of(alloc: Global, loaded: &Loaded) -> Result<Vec<u8>, Allo
     Ok(arities)
 }
 
-/// What stands against a call.
+/// Why a call can't be run, if it can't.
 fn obstacle_to(loaded: &Loaded, ask: &Ask) -> Option<RunRefusal>
     ensures { result ≡ obstacle_to loaded.now ask.now }
 {
@@ -39,7 +39,7 @@ fn obstacle_to(loaded: &Loaded, ask: &Ask) -> Option<RunRefusal>
     }
 }
 
-/// What stands against the first call of a list that can't be run.
+/// Why the first call of a list that can't be run can't be, if there is one.
 fn obstacle_in(loaded: &Loaded, asks: &[Ask]) -> Option<RunRefusal>
     ensures { result ≡ obstacle_in loaded.now asks.now }
 {
@@ -51,7 +51,8 @@ fn obstacle_in(loaded: &Loaded, asks: &[Ask]) -> Option<RunRefusal>
     None
 }
 
-/// What stands against the first call of the first client that can't be run, by this thread alone.
+/// Why the first call of the first client that can't be run can't be, if there is one. This thread
+/// alone looks for it.
 fn obstacle_in_turn(loaded: &Loaded, lists: &[Vec<Ask>]) -> Option<RunRefusal>
     ensures { result ≡ obstacle_among loaded.now lists.now }
 {
@@ -63,7 +64,7 @@ fn obstacle_in_turn(loaded: &Loaded, lists: &[Vec<Ask>]) -> Option<RunRefusal>
     None
 }
 
-/// As `obstacle_in_turn`, by halves of the clients, each by a thread of its own, where one can be
+/// As `obstacle_in_turn`, but each half of the clients gets a thread of its own, if one can be
 /// made.
 #[cycle(halves)]
 fn obstacle_in_parts<R: Threads + Sync>(
@@ -90,7 +91,7 @@ fn obstacle_in_parts<R: Threads + Sync>(
     front.or(back)
 }
 
-/// What stands against the first call of the first client that can't be run.
+/// Why the first call of the first client that can't be run can't be, if there is one.
 pub(crate) fn obstacle_among<R: Threads + Sync>(
     rt: &R,
     loaded: &Loaded,

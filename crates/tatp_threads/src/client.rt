@@ -35,7 +35,7 @@ impl<R: Wait, G: Gate, A: Arities> Requester for ClientEnds<'_, '_, '_, '_, R, G
     }
 }
 
-/// Puts the receipt that was delivered, if one was, behind the others. Whether one was.
+/// Appends the receipt that was delivered, if one was, to the others. Whether one was.
 fn keep(delivery: &Delivery, receipts: &mut Receipts) -> bool
     requires { 1 ≤ receipts.old.room }
     ensures { Receives (receipt_delivered delivery.now) result receipts.old receipts.new }
@@ -49,9 +49,9 @@ fn keep(delivery: &Delivery, receipts: &mut Receipts) -> bool
     }
 }
 
-/// Runs a client to its end. Without room for its receipts it asks nothing. While it runs, its list
-/// of receipts is its own: the seats of all clients are side by side, where each thread's writes
-/// would slow the others.
+/// Runs a client to its end. Without capacity for its receipts it asks nothing. While it runs, its
+/// list of receipts is its own: the seats of all clients lie side by side, where each thread's
+/// writes would slow the others.
 pub(crate) fn run_client<'t, R: Wait, G: Gate, A: Arities>(
     rt: &'t R,
     shared: &'t Shared<G, A>,

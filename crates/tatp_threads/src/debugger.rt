@@ -10,7 +10,7 @@ use crate::shared::Shared;
 use std::sync::Wait;
 use tatp_debug::{Snapshot, look};
 use tatp_partition::{Completion, SiteRefusal, Stepped};
-use tatp_workers::{Answering, Debugging, Delivery, Gate, debug_run};
+use tatp_workers::{Answering, Debugging, Delivery, Gate, debug_all};
 
 /// The sites under their locks, and the mailboxes.
 #[derive(Drop)]
@@ -77,5 +77,5 @@ impl<R: Wait, G: Gate, A: Arities> Debugging for Inspector<'_, '_, '_, R, G, A> 
 pub(crate) fn debug_partitions<R: Wait, G: Gate, A: Arities>(rt: &R, shared: &Shared<G, A>) {
     shared.start.wait(rt);
     let mut debugging = Inspector { rt, shared };
-    debug_run(&mut debugging, shared.moves);
+    debug_all(&mut debugging, shared.plan.stops);
 }

@@ -4,8 +4,8 @@ ghost use Rattle.tatp_threads.specs.Locked.{OfSomeSite};
 ghost use Rattle.tatp_workers.specs.Offering.{Offers};
 ghost use Rattle.tatp_workers.specs.Slices.{MakesSlice};
 
-use crate::Partition;
 use crate::admission::{Arities, Port, Reader};
+use crate::partition::Partition;
 use crate::reserved::ExecutorSeat;
 use crate::shared::Shared;
 use std::sync::Wait;
@@ -93,6 +93,6 @@ pub(crate) fn execute<'t, 'm, R: Wait, G: Gate, A: Arities>(
         ports: ports.as_mut_slice(),
         chapters: &mut chapters,
     };
-    take_calls(rt, &mut executing, partition.number, shared.chapter);
+    take_calls(rt, &mut executing, partition.number, shared.plan.chapter);
     partition.leave(rt, chapters);
 }

@@ -1,4 +1,4 @@
-//! What holds of a site each time its lock is got, copied out of it.
+//! Copies an extent out of a site while other threads run calls there.
 ghost use Rattle.std.specs.Prelude.{◌≡◌, IfOk, IfSome};
 ghost use Rattle.std.specs.Option.{option_map};
 ghost use Rattle.tatp_extents.specs.Parts.{state_of};
@@ -10,7 +10,7 @@ use std::sync::{Mutex, Wait};
 use tatp_extents::ExtentParts;
 use tatp_partition::{Site, what_holds_of_every_site};
 
-/// A copy of the parts of an extent, where it is here and no call runs on one of its homes.
+/// Copies the parts of an extent, if it is here and no call runs on one of its homes.
 fn copy_of(alloc: Global, site: &Site<'_>, extent: u32) -> Result<Option<ExtentParts>, AllocError>
     ensures copy { IfOk result (λ copy. option_map state_of copy ≡ extent_at_rest site.now extent) }
     ensures parts { IfOk result (λ copy. IfSome copy (ArePartsOf extent)) }
@@ -25,10 +25,10 @@ fn copy_of(alloc: Global, site: &Site<'_>, extent: u32) -> Result<Option<ExtentP
     }
 }
 
-/// A copy of the parts of an extent, while other threads run calls at its site: the log, the homes
-/// at the last checkpoint, and the homes to which the log led from those. None where the extent
-/// isn't at this site, and where a call runs on one of its homes. The contract of `copy_of`, which
-/// is lent the site, says that it is None there alone; here nothing is known of the site before its
+/// Copies the parts of an extent, while other threads run calls at its site: the log, the homes at
+/// the last checkpoint, and the homes to which the log led from those. None where the extent isn't
+/// at this site, and where a call runs on one of its homes. The contract of `copy_of`, which
+/// borrows the site, says that it is None only there; here nothing is known of the site before its
 /// lock is taken.
 pub fn copy_extent<R: Wait>(
     rt: &R,

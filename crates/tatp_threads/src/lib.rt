@@ -14,12 +14,13 @@ mod partition;
 mod refusal;
 mod reserved;
 mod run;
+mod run_plan;
 mod shared;
 mod starting;
 
 pub use history::copy_extent;
 pub use outcome::{Ran, RanParts, discard_chapters};
-pub use partition::Partition;
 pub use refusal::RunRefusal;
 pub use run::{run_calls, run_clean_calls};
-pub use tatp_workers::{Gate, Moves, NoGate};
+pub use run_plan::RunPlan;
+pub use tatp_workers::{Gate, NoGate};

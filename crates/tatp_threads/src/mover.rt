@@ -10,7 +10,7 @@ use std::sync::Wait;
 use tatp_move::{MoveRefusal, Plan};
 use tatp_partition::{Landed, NotGiven, Parcel, SiteRefusal};
 use tatp_sync::lock;
-use tatp_workers::{Carrying, move_run, plan};
+use tatp_workers::{Carrying, move_all, plan};
 
 /// The sites and the routes under their locks.
 #[derive(Drop)]
@@ -58,7 +58,7 @@ impl<R: Wait, G, A: Arities> Carrying for Carrier<'_, '_, '_, R, G, A> {
     }
 }
 
-/// Makes the moves of a run at the sites under their locks. Without room for a parcel it makes
+/// Makes the moves of a run at the sites under their locks. Without capacity for a parcel it makes
 /// none.
 pub(crate) fn move_extents<R: Wait, G, A: Arities>(
     rt: &R,
@@ -68,6 +68,6 @@ pub(crate) fn move_extents<R: Wait, G, A: Arities>(
     shared.start.wait(rt);
     if hand.len() < hand.capacity() {
         let mut carrying = Carrier { rt, shared };
-        move_run(&mut carrying, shared.moves, hand);
+        move_all(&mut carrying, shared.plan.moves, hand);
     }
 }

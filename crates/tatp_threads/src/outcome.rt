@@ -1,9 +1,9 @@
-//! What a run leaves.
+//! What a run of threads leaves.
 ghost use Rattle.std.specs.Prelude.{◌≡◌};
 
 use tatp_extents::Chapter;
 use tatp_logs::Receipts;
-use tatp_partition::{Landed, Parcel, Site, discard_all};
+use tatp_partition::{Parcel, Site, discard_all};
 
 /// What a run leaves. It can be neither copied nor dropped: [`Ran::parts`] spends it.
 pub struct Ran<'m> {
@@ -12,15 +12,13 @@ pub struct Ran<'m> {
 
 /// The parts of what a run leaves.
 pub struct RanParts<'m> {
-    /// The sites, that of partition 0 first.
+    /// The sites, that of partition 0 first, one for each partition.
     pub sites: Vec<Site<'m>>,
     /// The extents that were taken and not given.
     pub parcels: Vec<Parcel>,
-    /// The landings that the routes weren't told.
-    pub landings: Vec<Landed>,
-    /// The chapters that each executor's site handed out, one after another.
+    /// The chapters that each executor's site handed out, in that order, executor 0 first.
     pub chapters: Vec<Vec<Chapter>>,
-    /// The receipts of each client, in the order in which it got them.
+    /// The receipts of each client in the order in which it got them, client 0 first.
     pub receipts: Vec<Receipts>,
 }
 

@@ -1,5 +1,5 @@
-//! What is done at the site of one partition under its lock. What the site was before isn't known,
-//! but that it was a site; so contracts say that the answer is that of some site.
+//! What is done at the site of one partition under its lock. Nothing is known of the site before,
+//! but that it is a site; so contracts say that the answer is that of some site.
 ghost use Rattle.std.specs.Fn.{FnOnceReturnsAt};
 ghost use Rattle.std.specs.Prelude.{◌≡◌, ◌<◌, None, IfOk, IfErr, vec_len, vec_capacity};
 ghost use Rattle.tatp_extents.specs.Extents.{ExtentState};
@@ -26,20 +26,21 @@ use tatp_partition::{
 use tatp_sync::lock;
 use tatp_workers::{Checkpointed, Gate, Gated, Offered, checkpoint_full, is_wanted, offer, slice};
 
-/// One partition: its site under its lock, how many other threads want that lock, and where its
-/// executor leaves its chapters at the end.
-pub struct Partition<'m> {
+/// One partition: its site under its lock, how many other threads want that lock, and the place
+/// where its executor leaves its chapters at the end.
+pub(crate) struct Partition<'m> {
     /// Its number.
-    pub number: u8,
+    pub(crate) number: u8,
     site: Mutex<Site<'m>>,
-    /// Apart from all else: its executor reads it before each step.
+    /// How many threads want the lock. It has a cache line of its own, since the executor reads it
+    /// before each step.
     wanted: CachePadded<AtomicU64>,
     chapters: Mutex<Vec<Chapter>>,
 }
 
 impl<'m> Partition<'m> {
-    /// The partition of this site, whose lock nobody wants.
-    pub fn new(alloc: Global, site: Site<'m>) -> Partition<'m> {
+    /// Puts a site under a lock that nobody wants.
+    pub(crate) fn new(alloc: Global, site: Site<'m>) -> Partition<'m> {
         Partition {
             number: site.partition(),
             site: Mutex::new(site),
@@ -48,8 +49,8 @@ impl<'m> Partition<'m> {
         }
     }
 
-    /// Its site, and the chapters that were left.
-    pub fn into_parts(self) -> (Site<'m>, Vec<Chapter>) {
+    /// Gives back its site, and the chapters that its executor left.
+    pub(crate) fn into_parts(self) -> (Site<'m>, Vec<Chapter>) {
         let Partition {
             number: _,
             site,
@@ -59,14 +60,14 @@ impl<'m> Partition<'m> {
         (site.into_inner(), chapters.into_inner())
     }
 
-    /// Leaves chapters, in place of those that were left before.
-    pub fn leave<R: Wait>(&self, rt: &R, chapters: Vec<Chapter>) {
+    /// Leaves chapters here, in place of any that were left before.
+    pub(crate) fn leave<R: Wait>(&self, rt: &R, chapters: Vec<Chapter>) {
         let others = mem::replace(&mut *self.chapters.lock(rt), chapters);
         discard_all(others);
     }
 
-    /// Offers a call.
-    pub fn offer<R: Wait>(&self, rt: &R, alloc: Global, item: &Item) -> Offered
+    /// Offers a call to the site.
+    pub(crate) fn offer<R: Wait>(&self, rt: &R, alloc: Global, item: &Item) -> Offered
         ensures { OfSomeSite (λ s s'. Offers s item.now result s') }
     {
         let mut locked = lock(rt, &self.site);
@@ -79,7 +80,7 @@ impl<'m> Partition<'m> {
 
     /// Makes steps of the running call, the gate before each. Where the call ends, its completion
     /// is left in its place, and the answer is how many entries the log of its extent has then.
-    pub fn slice<R: Wait, G: Gate>(
+    pub(crate) fn slice<R: Wait, G: Gate>(
         &self,
         rt: &R,
         gate: &G,
@@ -108,9 +109,9 @@ impl<'m> Partition<'m> {
         }
     }
 
-    /// Hands out the log of an extent, where it has as many entries as a chapter has to have, or
-    /// more, and keeps the chapter behind the others.
-    pub fn checkpoint<R: Wait>(
+    /// Hands out the log of an extent if it has `chapter` entries or more, and appends it to the
+    /// chapters.
+    pub(crate) fn checkpoint<R: Wait>(
         &self,
         rt: &R,
         alloc: Global,
@@ -130,8 +131,8 @@ impl<'m> Partition<'m> {
         checkpointed
     }
 
-    /// The extent leaves.
-    pub fn take<R: Wait>(&self, rt: &R, extent: u32) -> Result<Parcel, SiteRefusal>
+    /// Takes an extent from the site.
+    pub(crate) fn take<R: Wait>(&self, rt: &R, extent: u32) -> Result<Parcel, SiteRefusal>
         ensures takes { OfSomeSite (λ s s'. Takes s extent result s') }
         ensures number { IfOk result (λ (parcel : ExtentState). parcel.number ≡ extent) }
     {
@@ -146,8 +147,8 @@ impl<'m> Partition<'m> {
         taken
     }
 
-    /// The extent lands, or comes back where there is no place for it.
-    pub fn give<R: Wait>(&self, rt: &R, parcel: Parcel) -> Result<Landed, NotGiven>
+    /// Gives an extent to the site. It comes back if the site doesn't take it.
+    pub(crate) fn give<R: Wait>(&self, rt: &R, parcel: Parcel) -> Result<Landed, NotGiven>
         ensures gives { OfSomeSite (λ s s'. Gives s parcel result s') }
         ensures landed { IfOk result (λ (landed : LandedState). landed.number ≡ parcel.number) }
         ensures back { IfErr result (λ (back : NotGiven). back.parcel ≡ parcel) }
@@ -164,7 +165,7 @@ impl<'m> Partition<'m> {
     }
 
     /// Stops the site.
-    pub fn stop<R: Wait>(&self, rt: &R) -> Result<(), SiteRefusal>
+    pub(crate) fn stop<R: Wait>(&self, rt: &R) -> Result<(), SiteRefusal>
         ensures { OfSomeSite (λ s s'. Stops s result s') }
     {
         self.want();
@@ -178,8 +179,8 @@ impl<'m> Partition<'m> {
         stopped
     }
 
-    /// Lends the site to who only reads it, and gives what was read.
-    pub fn read<R: Wait, T, F: FnOnce(&Site<'m>) -> T>(&self, rt: &R, reading: F) -> T
+    /// Lends the site to a closure that only reads it, and gives what that returns.
+    pub(crate) fn read<R: Wait, T, F: FnOnce(&Site<'m>) -> T>(&self, rt: &R, reading: F) -> T
         requires { F.IsAlwaysCallable reading }
         ensures { OfSomeSite (λ s s'. FnOnceReturnsAt F.FnOnce reading s result × (s' ≡ s)) }
     {
@@ -189,8 +190,8 @@ impl<'m> Partition<'m> {
         reading(site)
     }
 
-    /// One step of the running call, though the site is stopped.
-    pub fn one<R: Wait>(&self, rt: &R) -> Result<Stepped, SiteRefusal>
+    /// Makes one step of the running call, though the site is stopped.
+    pub(crate) fn one<R: Wait>(&self, rt: &R) -> Result<Stepped, SiteRefusal>
         ensures { OfSomeSite (λ s s'. AdvancesUnless (one_obstacle s) s result s') }
     {
         let mut locked = lock(rt, &self.site);
@@ -199,8 +200,8 @@ impl<'m> Partition<'m> {
         site.one()
     }
 
-    /// Ends a stop.
-    pub fn resume<R: Wait>(&self, rt: &R) -> Result<(), SiteRefusal>
+    /// Resumes the site after a stop.
+    pub(crate) fn resume<R: Wait>(&self, rt: &R) -> Result<(), SiteRefusal>
         ensures { OfSomeSite (λ s s'. Resumes s result s') }
     {
         let mut locked = lock(rt, &self.site);
@@ -209,12 +210,12 @@ impl<'m> Partition<'m> {
         site.resume()
     }
 
-    /// The executor is asked to leave the lock.
+    /// Asks the executor to leave the lock.
     fn want(&self) {
         self.wanted.fetch_add(1, Ordering::SeqCst);
     }
 
-    /// It needn't any more.
+    /// Withdraws that request.
     fn want_no_more(&self) {
         self.wanted.fetch_sub(1, Ordering::SeqCst);
     }

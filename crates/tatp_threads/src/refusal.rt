@@ -1,4 +1,4 @@
-//! Why calls aren't run.
+//! Why the calls of a run are refused.
 ghost use Rattle.std.specs.Prelude.{◌≡◌};
 ghost use Rattle.tatp_threads.specs.declared.refusal.RunRefusal.TheVariants.{NoMemory};
 
@@ -7,13 +7,14 @@ use tatp_audits::Verdict;
 use tatp_procs::BadArgument;
 use thiserror::Error;
 
-/// Why calls aren't run. Its text is its number and its name, and the details where there are any.
+/// Why the calls of a run are refused. The text is the number and the name of the refusal, and the
+/// details where there are any.
 #[derive(Clone, Copy, Debug, PartialEq, Eq, Error)]
 pub enum RunRefusal {
     /// There are more subscribers than are opened.
     #[error("28 TooMany")]
     TooMany,
-    /// The rows aren't clean.
+    /// The rows aren't clean: this is the verdict on them.
     #[error("27 NotClean {0}")]
     NotClean(Verdict),
     /// The module has no such procedure with as many arguments.

@@ -1,12 +1,12 @@
-//! What the threads fill and work with: all of it gets its room before they start.
+//! What the threads fill and work with. Its memory is all reserved before they start.
 ghost use Rattle.std.specs.Prelude.{◌≡◌, ◌≤◌, ◌+◌, All, IfOk, length, vec_len, vec_capacity};
 ghost use Rattle.tatp_procs.specs.Asked.{arities_of};
 ghost use Rattle.tatp_sync.specs.Inboxes.{IsNew};
 ghost use Rattle.tatp_threads.specs.Seats.{AreExecutors, AreClients};
 
-use crate::Partition;
 use crate::admission::{Admission, Arities, Port, Reader};
 use crate::calls::arities_of;
+use crate::partition::Partition;
 use std::alloc::{AllocError, Global};
 use tatp_extents::Chapter;
 use tatp_limits::MAX_CLIENTS;
@@ -17,7 +17,7 @@ use tatp_procs::Ask;
 use tatp_sync::{Mailbox, ends_of, open_inboxes};
 use tatp_workers::Delivery;
 
-/// Room for values that must be spent, none of which is there yet.
+/// An empty list with capacity for values that can't be dropped.
 pub(crate) struct Spare<T> {
     items: Vec<T>,
     ghost empty: { vec_len items ≡ 0 },
@@ -83,7 +83,7 @@ fn seat_executors<A: Arities>(
     Ok(seats)
 }
 
-/// A seat for each client, with room for a receipt of each of its calls.
+/// A seat for each client, with capacity for a receipt of each of its calls.
 fn seat_clients<A: Arities>(
     alloc: Global,
     lists: &[Vec<Ask>],
@@ -104,8 +104,8 @@ fn seat_clients<A: Arities>(
     Ok(seats)
 }
 
-/// For how many calls the log of each extent gets its room: for as many as there are if all extents
-/// are called about as often, and an eighth more, but for no more than a chapter has.
+/// For how many calls the log of each extent gets its capacity: an even share of all calls and an
+/// eighth more, but no more than the entries of a chapter.
 pub(crate) fn calls_an_extent(lists: &[Vec<Ask>], extents: usize, chapter: u64) -> usize {
     let mut calls: usize = 0;
     for list in lists {
@@ -115,7 +115,7 @@ pub(crate) fn calls_an_extent(lists: &[Vec<Ask>], extents: usize, chapter: u64) 
     even.saturating_add(even / 8).min(chapter as usize)
 }
 
-/// So many empty mailboxes.
+/// This many empty mailboxes.
 fn make_mailboxes(alloc: Global, count: usize) -> Result<Vec<Mailbox<Delivery>>, AllocError>
     ensures { IfOk result (λ mailboxes. vec_len mailboxes ≡ count) }
 {
@@ -135,17 +135,17 @@ pub(crate) struct Reserved<'m, A: Arities> {
     pub(crate) executors: Vec<ExecutorSeat<A>>,
     pub(crate) clients: Vec<ClientSeat<A>>,
     pub(crate) mailboxes: Vec<Mailbox<Delivery>>,
-    /// Room for the receipts of each client.
+    /// An empty list with capacity for the receipts of each client.
     pub(crate) receipts: Vec<Receipts>,
     pub(crate) partitions: Spare<Partition<'m>>,
     pub(crate) sites: Spare<Site<'m>>,
     pub(crate) hand: Spare<Parcel>,
-    /// Room for each executor's list of chapters.
+    /// Capacity for each executor's list of chapters.
     pub(crate) chapters: Spare<Vec<Chapter>>,
 }
 
 impl<'m, A: Arities> Reserved<'m, A> {
-    /// Room for a run of these calls in so many partitions.
+    /// Reserves the memory for a run of these calls in this many partitions.
     pub(crate) fn make(
         alloc: Global,
         loaded: &Loaded,

@@ -1,31 +1,32 @@
-//! The calls of clients are run by threads.
+//! Runs the calls of clients by threads.
 ghost use Rattle.std.specs.Prelude.{◌≡◌, ◌⊎◌, ◌≤◌, ◌<◌, ◌+◌, ◌^◌, IfOk, IfErr, OnOk, None, length, vec_len, vec_capacity};
 ghost use Rattle.tatp_procs.specs.Asked.{arities_of};
 ghost use Rattle.tatp_threads.specs.Calls.{obstacle_among, opening_refusal, AreOpened, RefusesRun};
+ghost use Rattle.tatp_threads.specs.RunPlans.{IsRunPlan};
 
 use crate::admission::Arities;
 use crate::calls::obstacle_among;
+use crate::partition::Partition;
 use crate::reserved::{ClientSeat, Reserved, calls_an_extent};
 use crate::shared::Shared;
-use crate::starting::{Crew, run_threads};
-use crate::{Partition, Ran, RanParts, RunRefusal, discard_chapters};
+use crate::starting::run_threads;
+use crate::{Ran, RanParts, RunPlan, RunRefusal, discard_chapters};
 use std::alloc::{AllocError, Global};
 use std::marker::Brand;
 use std::sync::{Mutex, Wait};
 use std::thread::Threads;
 use tatp_extents::{Chapter, OpenError, admit, discard, open_clean, reserve_logs};
-use tatp_limits::{MAX_CLIENTS, MAX_PARTITIONS};
+use tatp_limits::MAX_CLIENTS;
 use tatp_loader::Loaded;
 use tatp_logs::Receipts;
 use tatp_move::Routes;
 use tatp_numbers::Directory;
 use tatp_partition::{Site, close_sites, discard_parcels, open_sites};
-use tatp_procs::Ask;
 use tatp_sync::Start;
 use tatp_tables::Rows;
-use tatp_workers::{Gate, Moves};
+use tatp_workers::Gate;
 
-/// Why a run is refused whose rows aren't opened.
+/// Why a run is refused, by why its rows aren't opened.
 fn refusal_of(error: OpenError) -> RunRefusal
     ensures { result ≡ opening_refusal error }
 {
@@ -36,7 +37,7 @@ fn refusal_of(error: OpenError) -> RunRefusal
     }
 }
 
-/// Each site under a lock of its own.
+/// Puts each site under a lock of its own.
 fn lock_all<'m>(alloc: Global, sites: Vec<Site<'m>>, room: Vec<Partition<'m>>) -> Vec<Partition<'m>>
     requires { vec_len room + vec_len sites ≤ vec_capacity room }
     ensures { vec_len result ≡ vec_len room.entry + vec_len sites.entry }
@@ -50,7 +51,7 @@ fn lock_all<'m>(alloc: Global, sites: Vec<Site<'m>>, room: Vec<Partition<'m>>) -
     partitions
 }
 
-/// The sites out of their locks, and the chapters of each.
+/// Takes the sites out of their locks, and the chapters of each.
 fn unlock_all<'m>(
     partitions: Vec<Partition<'m>>,
     room: Vec<Site<'m>>,
@@ -75,7 +76,7 @@ fn unlock_all<'m>(
     (sites, chapters)
 }
 
-/// The receipts of all clients.
+/// Takes the receipts of all clients out of their seats.
 fn receipts_of<A: Arities>(clients: Vec<ClientSeat<A>>, room: Vec<Receipts>) -> Vec<Receipts>
     requires { vec_len room + vec_len clients ≤ vec_capacity room }
     ensures { vec_len result ≡ vec_len room + vec_len clients }
@@ -87,16 +88,14 @@ fn receipts_of<A: Arities>(clients: Vec<ClientSeat<A>>, room: Vec<Receipts>) -> 
     receipts
 }
 
-/// What a run is set up with: its module, where calls go, its sites, what the clients ask, what the
-/// mover and the debugger do, and how many entries a log has when it is handed out.
+/// What a run is set up with: its module, where calls go, its sites, and what the threads are to
+/// do.
 struct Setup<'m, 'w> {
     loaded: &'m Loaded,
     directory: Directory,
     routes: Routes,
     sites: Vec<Site<'m>>,
-    lists: &'w [Vec<Ask>],
-    moves: &'w Moves,
-    chapter: u64,
+    plan: RunPlan<'w>,
 }
 
 /// Runs the calls of clients, which can all be run, over sites, and gives back what they leave.
@@ -106,12 +105,11 @@ fn run_ruled<'m, R: Threads + Wait + Sync, G: Gate + Sync, A: Arities + Send + S
     setup: Setup<'m, '_>,
     gate: &G,
 ) -> Result<Ran<'m>, RunRefusal>
-    requires clients { length setup.lists.now ≤ MAX_CLIENTS }
+    requires clients { length setup.plan.lists.now ≤ MAX_CLIENTS }
     requires rule { arities_of setup.loaded.now ≡ A.arities }
     ensures sites { IfOk result (λ ran. vec_len ran.parts.sites ≡ vec_len setup.entry.sites) }
     ensures receipts { IfOk result
-        (λ ran. vec_len ran.parts.receipts ≡ length setup.entry.lists.now) }
-    ensures landings { IfOk result (λ ran. vec_len ran.parts.landings ≡ 0) }
+        (λ ran. vec_len ran.parts.receipts ≡ length setup.entry.plan.lists.now) }
     ensures chapters { IfOk result (λ ran. vec_len ran.parts.chapters ≡ vec_len setup.entry.sites) }
     ensures refusal { IfErr result
         (λ refusal. (refusal ≡ RunRefusal.NoMemory) ⊎ (refusal ≡ RunRefusal.NoThread)) }
@@ -121,9 +119,7 @@ fn run_ruled<'m, R: Threads + Wait + Sync, G: Gate + Sync, A: Arities + Send + S
         directory,
         routes,
         sites,
-        lists,
-        moves,
-        chapter,
+        plan,
     } = setup;
     let Reserved {
         admission,
@@ -136,7 +132,7 @@ fn run_ruled<'m, R: Threads + Wait + Sync, G: Gate + Sync, A: Arities + Send + S
         sites: unlocked,
         hand,
         chapters,
-    } = match Reserved::<A>::make(alloc, loaded, sites.len(), lists) {
+    } = match Reserved::<A>::make(alloc, loaded, sites.len(), plan.lists) {
         Ok(reserved) => reserved,
         Err(_) => {
             close_sites(sites);
@@ -154,17 +150,12 @@ fn run_ruled<'m, R: Threads + Wait + Sync, G: Gate + Sync, A: Arities + Send + S
         directory: &directory,
         admission: &admission,
         mailboxes: mailboxes.as_slice(),
-        moves,
-        chapter,
+        plan,
         gate,
         start: &start,
     };
-    let crew = Crew {
-        quit,
-        executors,
-        lists,
-    };
-    let started = run_threads(rt, &shared, crew, clients.as_mut_slice(), &mut hand);
+    let seats = clients.as_mut_slice();
+    let started = run_threads(rt, &shared, quit, executors, seats, &mut hand);
     let (sites, chapters) = unlock_all(partitions, unlocked.into_vec(), chapters.into_vec());
     if !started {
         close_sites(sites);
@@ -175,100 +166,83 @@ fn run_ruled<'m, R: Threads + Wait + Sync, G: Gate + Sync, A: Arities + Send + S
     Ok(Ran::new(RanParts {
         sites,
         parcels: hand,
-        landings: Vec::new(alloc),
         chapters,
         receipts: receipts_of(clients, receipts),
     }))
 }
 
-/// As [`run_calls`], of clean rows and of calls that can all be run, as drawn ones are: neither are
-/// looked through. Memory or a thread may be refused.
+/// As [`run_calls`], for rows that are clean and calls that can all be run, as drawn ones are, so
+/// that neither are checked. Memory or a thread may be refused.
 pub fn run_clean_calls<'m, R: Threads + Wait + Sync, G: Gate + Sync>(
     rt: &R,
     alloc: Global,
     loaded: &'m Loaded,
     rows: Rows,
-    partitions: u8,
-    lists: &[Vec<Ask>],
-    moves: &Moves,
+    plan: RunPlan<'_>,
     gate: &G,
-    chapter: u64,
 ) -> Result<Ran<'m>, RunRefusal>
-    requires some_partitions { 1 ≤ partitions }
-    requires few_partitions { partitions ≤ MAX_PARTITIONS }
-    requires some_clients { 1 ≤ length lists.now }
-    requires few_clients { length lists.now ≤ MAX_CLIENTS }
+    requires plan { IsRunPlan plan }
     requires rows { AreOpened rows }
-    requires calls { obstacle_among loaded.now lists.now ≡ None }
-    ensures sites { IfOk result (λ ran. vec_len ran.parts.sites ≡ partitions) }
-    ensures receipts { IfOk result (λ ran. vec_len ran.parts.receipts ≡ length lists.now) }
-    ensures landings { IfOk result (λ ran. vec_len ran.parts.landings ≡ 0) }
-    ensures chapters { IfOk result (λ ran. vec_len ran.parts.chapters ≡ partitions) }
+    requires calls { obstacle_among loaded.now plan.lists.now ≡ None }
+    ensures sites { IfOk result (λ ran. vec_len ran.parts.sites ≡ plan.entry.partitions) }
+    ensures receipts { IfOk result
+        (λ ran. vec_len ran.parts.receipts ≡ length plan.entry.lists.now) }
+    ensures chapters { IfOk result (λ ran. vec_len ran.parts.chapters ≡ plan.entry.partitions) }
     ensures refusal { IfErr result
         (λ refusal. (refusal ≡ RunRefusal.NoMemory) ⊎ (refusal ≡ RunRefusal.NoThread)) }
 {
     let subscribers = rows.subscribers.len() as u64;
     let (mut extents, directory) = open_clean(alloc, rows)?;
-    let routes = match Routes::open(alloc, subscribers, partitions) {
+    let routes = match Routes::open(alloc, subscribers, plan.partitions) {
         Ok(routes) => routes,
         Err(_) => {
             discard(extents);
             return Err(RunRefusal::NoMemory);
         }
     };
-    let room = calls_an_extent(lists, extents.len(), chapter);
+    let room = calls_an_extent(plan.lists, extents.len(), plan.chapter);
     if reserve_logs(extents.as_mut_slice(), room).is_err() {
         discard(extents);
         return Err(RunRefusal::NoMemory);
     }
-    let sites = open_sites(alloc, loaded, partitions, extents)?;
+    let sites = open_sites(alloc, loaded, plan.partitions, extents)?;
     let setup = Setup {
         loaded,
         directory,
         routes,
         sites,
-        lists,
-        moves,
-        chapter,
+        plan,
     };
     run_ruled::<R, G, Brand>(rt, alloc, setup, gate)
 }
 
-/// Runs the clients' lists of calls on these rows, by an executor for each of so many partitions, a
-/// thread for each client, a mover and a debugger, and gives back what they leave. After the end of
-/// a call the executor hands out the log of its extent, where it has as many entries as a chapter
-/// has to have, or more; where memory for the chapter is refused, or the site refuses, the run goes
-/// on without it. The rows are consumed, on a refusal too.
+/// Runs a plan on these rows, by an executor for each partition, a thread for each client, a mover
+/// and a debugger, and gives back what they leave. After the end of a call the executor hands out
+/// the log of its extent, where it has as many entries as the plan says, or more; where memory for
+/// the chapter is refused, or the site refuses, the run goes on without it. The rows are consumed,
+/// on a refusal too.
 pub fn run_calls<'m, R: Threads + Wait + Sync, G: Gate + Sync>(
     rt: &R,
     alloc: Global,
     loaded: &'m Loaded,
     rows: Rows,
-    partitions: u8,
-    lists: &[Vec<Ask>],
-    moves: &Moves,
+    plan: RunPlan<'_>,
     gate: &G,
-    chapter: u64,
 ) -> Result<Ran<'m>, RunRefusal>
-    requires some_partitions { 1 ≤ partitions }
-    requires few_partitions { partitions ≤ MAX_PARTITIONS }
-    requires some_clients { 1 ≤ length lists.now }
-    requires few_clients { length lists.now ≤ MAX_CLIENTS }
-    ensures sites { IfOk result (λ ran. vec_len ran.parts.sites ≡ partitions) }
-    ensures receipts { IfOk result (λ ran. vec_len ran.parts.receipts ≡ length lists.now) }
-    ensures landings { IfOk result (λ ran. vec_len ran.parts.landings ≡ 0) }
-    ensures chapters { IfOk result (λ ran. vec_len ran.parts.chapters ≡ partitions) }
+    requires plan { IsRunPlan plan }
+    ensures sites { IfOk result (λ ran. vec_len ran.parts.sites ≡ plan.entry.partitions) }
+    ensures receipts { IfOk result
+        (λ ran. vec_len ran.parts.receipts ≡ length plan.entry.lists.now) }
+    ensures chapters { IfOk result (λ ran. vec_len ran.parts.chapters ≡ plan.entry.partitions) }
     ensures rows { OnOk result (AreOpened rows) }
-    ensures calls { OnOk result (obstacle_among loaded.now lists.now ≡ None) }
-    ensures refusal { IfErr result (RefusesRun loaded.now rows lists.now) }
+    ensures calls { OnOk result (obstacle_among loaded.now plan.entry.lists.now ≡ None) }
+    ensures refusal { IfErr result (RefusesRun loaded.now rows plan.entry.lists.now) }
 {
     if let Err(error) = admit(alloc, &rows) {
         return Err(refusal_of(error));
     }
-    if let Some(refusal) = obstacle_among(rt, loaded, lists) {
+    if let Some(refusal) = obstacle_among(rt, loaded, plan.lists) {
         return Err(refusal);
     }
-    run_clean_calls(
-        rt, alloc, loaded, rows, partitions, lists, moves, gate, chapter,
-    )
+    run_clean_calls(rt, alloc, loaded, rows, plan, gate)
 }

@@ -2,15 +2,16 @@
 ghost use Rattle.std.specs.Prelude.{◌≤◌, IfNone, length};
 ghost use Rattle.tatp_threads.specs.Inboxes.{SendsCall};
 
-use crate::Partition;
+use crate::RunPlan;
 use crate::admission::{Admission, Arities, Port};
+use crate::partition::Partition;
 use std::alloc::Global;
 use std::sync::{Mutex, Wait};
 use tatp_move::Routes;
 use tatp_numbers::Directory;
 use tatp_partition::{Completion, Item};
 use tatp_sync::{Mailbox, Start, lock};
-use tatp_workers::{Delivery, Moves};
+use tatp_workers::Delivery;
 
 /// What the threads share.
 #[derive(Drop)]
@@ -23,9 +24,7 @@ pub(crate) struct Shared<'a, 'm, G, A: Arities> {
     pub(crate) admission: &'a Admission<A>,
     /// Where each client waits, client 0 first.
     pub(crate) mailboxes: &'a [Mailbox<Delivery>],
-    pub(crate) moves: &'a Moves,
-    /// How many entries a log has when it is handed out.
-    pub(crate) chapter: u64,
+    pub(crate) plan: RunPlan<'a>,
     pub(crate) gate: &'a G,
     /// Where clients, mover and debugger wait until all of them may begin.
     pub(crate) start: &'a Start,
@@ -39,7 +38,7 @@ impl<'a, 'm, G, A: Arities> Shared<'a, 'm, G, A> {
         self.partitions.get(number as usize)
     }
 
-    /// Puts a call into the inbox that the route of its home names. Whether it was put there.
+    /// Puts a call into the inbox that the route of its home names. Whether that inbox took it.
     pub(crate) fn send<R: Wait>(&self, rt: &R, ports: &mut [Port<A>], item: &Item) -> bool
         ensures { SendsCall ports.old item.now result ports.new }
     {
@@ -50,7 +49,7 @@ impl<'a, 'm, G, A: Arities> Shared<'a, 'm, G, A> {
         self.admission.put(rt, &mut ports[partition], item)
     }
 
-    /// Puts into a client's mailbox what it waits for.
+    /// Puts the delivery for which a client waits into its mailbox.
     pub(crate) fn answer<R: Wait>(&self, rt: &R, client: u64, delivery: &Delivery) {
         if let Some(mailbox) = self.mailboxes.get(client as usize) {
             mailbox.put(rt, |place| *place = *delivery);

@@ -1,4 +1,4 @@
-//! The threads are started, and end.
+//! Starts the threads of a run, and waits for their ends.
 ghost use denote.Param.Send.{IsSend};
 ghost use Rattle.std.specs.Prelude.{◌≡◌, length, vec_len};
 ghost use Rattle.tatp_threads.specs.Seats.{AreExecutors, AreClients};
@@ -15,43 +15,30 @@ use std::thread;
 use std::thread::Threads;
 use std::time::Duration;
 use tatp_partition::Parcel;
-use tatp_procs::Ask;
 use tatp_sync::pause;
 use tatp_workers::{Gate, Message};
 
-/// For how many milliseconds the executors are alone. Where there are enough processors, the system
-/// then has each of them on its own, and leaves it there as long as it doesn't sleep.
+/// For how many milliseconds the executors run alone. In that time the system gives each of them a
+/// processor, if there are enough, and leaves it there as long as the executor doesn't sleep.
 const ALONE: u64 = 20;
 
-/// What the threads start with: an end at each inbox, by which it gets Quit, the executors' seats,
-/// and what each client asks.
-#[derive(Drop)]
-pub(crate) struct Crew<'w, A: Arities> {
-    pub(crate) quit: Vec<Port<A>>,
-    pub(crate) executors: Vec<ExecutorSeat<A>>,
-    pub(crate) lists: &'w [Vec<Ask>],
-}
-
 /// Runs all threads to their ends: the executors until all clients, the mover and the debugger have
-/// ended. Whether each thread could be started; where one couldn't, those that could run to their
-/// ends.
+/// ended. Each inbox then gets Quit, by the ends in `quit`. Whether each thread could be started;
+/// where one couldn't, those that could run to their ends.
 pub(crate) fn run_threads<R: Threads + Wait + Sync, G: Gate + Sync, A: Arities + Send + Sync>(
     rt: &R,
     shared: &Shared<G, A>,
-    crew: Crew<'_, A>,
+    quit: Vec<Port<A>>,
+    executors: Vec<ExecutorSeat<A>>,
     clients: &mut [ClientSeat<A>],
     hand: &mut Vec<Parcel>,
 ) -> bool
-    requires partitions { vec_len crew.quit ≡ length shared.now.partitions.now }
-    requires executors { AreExecutors crew.quit.items crew.executors.items }
-    requires clients { AreClients crew.lists.now crew.quit.items clients.old }
-    requires mailboxes { length shared.now.mailboxes.now ≡ length crew.lists.now }
+    requires partitions { vec_len quit ≡ length shared.now.partitions.now }
+    requires executors { AreExecutors quit.items executors.items }
+    requires clients { AreClients shared.now.plan.lists.now quit.items clients.old }
+    requires mailboxes { length shared.now.mailboxes.now ≡ length shared.now.plan.lists.now }
 {
-    let Crew {
-        mut quit,
-        executors,
-        lists,
-    } = crew;
+    let mut quit = quit;
     let quit = quit.as_mut_slice();
     thread::scope(
         thread::scope_env(),
@@ -71,7 +58,7 @@ pub(crate) fn run_threads<R: Threads + Wait + Sync, G: Gate + Sync, A: Arities +
             }
             if started {
                 pause(rt, Duration::from_millis(ALONE));
-                started = run_clients(rt, shared, lists, clients, hand);
+                started = run_clients(rt, shared, clients, hand);
             }
             for port in quit.iter_mut() {
                 let _put = port.put(rt, Message::Quit);
@@ -86,14 +73,14 @@ pub(crate) fn run_threads<R: Threads + Wait + Sync, G: Gate + Sync, A: Arities +
 fn run_clients<R: Threads + Wait + Sync, G: Gate + Sync, A: Arities + Send + Sync>(
     rt: &R,
     shared: &Shared<G, A>,
-    lists: &[Vec<Ask>],
     clients: &mut [ClientSeat<A>],
     hand: &mut Vec<Parcel>,
 ) -> bool {
     thread::scope(thread::scope_env(), rt, |inner| -> bool {
         let mut started = inner.spawn(move || move_extents(rt, shared, hand)).is_ok()
             && inner.spawn(move || debug_partitions(rt, shared)).is_ok();
-        for ((list, mailbox), seat) in lists.iter().zip(shared.mailboxes).zip(clients.iter_mut()) {
+        let lists = shared.plan.lists.iter();
+        for ((list, mailbox), seat) in lists.zip(shared.mailboxes).zip(clients.iter_mut()) {
             let asks = list.as_slice();
             if started
                 && inner

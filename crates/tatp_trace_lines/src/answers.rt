@@ -2,40 +2,34 @@
 ghost use Rattle.std.specs.Prelude.{◌≡◌, ◌<◌, ◌∷◌, ◌++◌, IfOk, OnErr, OnOk, decimal, length, slice_index};
 ghost use Rattle.std.specs.String.{string_bytes};
 ghost use Rattle.tatp_procs.specs.Extends.{Extends};
-ghost use Rattle.tatp_trace_lines.specs.AnswerText.{answer_text, answered_text, last_asked, refused_text};
+ghost use Rattle.tatp_trace_lines.specs.AnswerText.{answer_text, answered_text, refused_text};
 
 use std::alloc::{AllocError, Global};
 use tatp_events::{Answer, Refusal};
 use tatp_lines::push_decimal;
-use tatp_numbers::Key;
-use tatp_procs::{Ask, Raw, push_reply};
+use tatp_procs::push_reply;
 
-/// Appends the line of what is answered to an event, where the last completed call asked this, if
-/// any call is completed. An error leaves the text as it was.
-pub fn push_answer(
-    text: &mut String,
-    last: Option<Ask>,
-    answered: &Result<Answer, Refusal>,
-) -> Result<(), AllocError>
-    ensures ok { OnOk result (string_bytes text.new
-        ≡ string_bytes text.old ++ answered_text last answered.now) }
+/// Appends the line of what is answered to an event. An error leaves the text as it was.
+pub fn push_answer(text: &mut String, answered: &Result<Answer, Refusal>) -> Result<(), AllocError>
+    ensures ok { OnOk result
+        (string_bytes text.new ≡ string_bytes text.old ++ answered_text answered.now) }
     ensures err { OnErr result (string_bytes text.new ≡ string_bytes text.old) }
 {
     match answered {
-        Ok(answer) => push_accepted(text, last, answer),
+        Ok(answer) => push_accepted(text, answer),
         Err(refusal) => push_refusal(text, refusal),
     }
 }
 
 /// Appends the line of an answer. An error leaves the text as it was.
 #[tactic(auto, using(tatp_procs::proofs::ExtendsLaws::may_be_cut, tatp_procs::proofs::ExtendsLaws::cut_back))]
-fn push_accepted(text: &mut String, last: Option<Ask>, answer: &Answer) -> Result<(), AllocError>
-    ensures ok { OnOk result (string_bytes text.new
-        ≡ string_bytes text.old ++ answer_text last answer.now) }
+fn push_accepted(text: &mut String, answer: &Answer) -> Result<(), AllocError>
+    ensures ok { OnOk result
+        (string_bytes text.new ≡ string_bytes text.old ++ answer_text answer.now) }
     ensures err { OnErr result (string_bytes text.new ≡ string_bytes text.old) }
 {
     let before = text.len();
-    let pushed = push_pieces(text, last, answer);
+    let pushed = push_pieces(text, answer);
     if pushed.is_err() {
         text.truncate(before);
     }
@@ -43,9 +37,9 @@ fn push_accepted(text: &mut String, last: Option<Ask>, answer: &Answer) -> Resul
 }
 
 /// Appends the pieces of that line. An error may leave the first of them.
-fn push_pieces(text: &mut String, last: Option<Ask>, answer: &Answer) -> Result<(), AllocError>
-    ensures ok { OnOk result (string_bytes text.new
-        ≡ string_bytes text.old ++ answer_text last answer.now) }
+fn push_pieces(text: &mut String, answer: &Answer) -> Result<(), AllocError>
+    ensures ok { OnOk result
+        (string_bytes text.new ≡ string_bytes text.old ++ answer_text answer.now) }
     ensures err { OnErr result (Extends (string_bytes text.old) (string_bytes text.new)) }
 {
     match answer {
@@ -54,10 +48,10 @@ fn push_pieces(text: &mut String, last: Option<Ask>, answer: &Answer) -> Result<
         Answer::Away(partition) => push_number(text, "AWAY ", u64::from(*partition)),
         Answer::Denied(client) => push_number(text, "DENIED ", *client),
         Answer::Moved => text.push_str("MOVED"),
-        Answer::Ended(client, reply) => {
+        Answer::Ended(client, ask, reply) => {
             push_number(text, "ENDED ", *client)?;
             text.push_str(" ")?;
-            push_reply(text, &last_asked(last), reply.as_ref())
+            push_reply(text, ask, reply.as_ref())
         }
         Answer::Parcel(extent, moves) => {
             push_numbers(text, "PARCEL ", u64::from(*extent), u64::from(*moves))
@@ -97,16 +91,6 @@ pub fn refused_text(alloc: Global, refusal: &Refusal) -> Result<String, AllocErr
     ensures { IfOk result (λ text. string_bytes text ≡ refused_text refusal.now) }
 {
     format!(in alloc; "REFUSED {refusal}")
-}
-
-/// What the last completed call asked; where none is completed, a call that is no transaction.
-fn last_asked(last: Option<Ask>) -> Ask
-    ensures { result ≡ last_asked last }
-{
-    match last {
-        Some(ask) => ask,
-        None => Ask::Raw(Raw::new(0, &[], Key::Id(0))),
-    }
 }
 
 /// Appends words and a number. An error may leave the words.

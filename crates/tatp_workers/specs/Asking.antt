@@ -36,7 +36,7 @@ abbrev pub receipt_delivered : Delivery → Option Receipt
 receipt_delivered (Got receipt) = Some receipt
 receipt_delivered Dropped = None
 
--- the receipt that a call got stands behind the others; or it got none, and the others are kept
+-- the receipt that a call got is appended to the others; or it got none, and the others are kept
 abbrev pub Receives : Option Receipt → Bool → ReceiptsState → ReceiptsState → Type 0
 Receives None is_got before after = (is_got ≡ false) × (after.receipts ≡ before.receipts)
 Receives (Some receipt) is_got before after =
@@ -56,13 +56,13 @@ with_receipt c item receipt = record {
   receipts = c.receipts ++ receipt ∷ [];
 }
 
--- one more call, which came to nothing
+-- one more call, which got no receipt
 abbrev pub with_nothing : Conversation → Item → Conversation
 with_nothing c item =
     record c { exchanges = c.exchanges ++ record { item = item; receipt = None } ∷ [] }
 
--- the first calls, so many, were asked one after another, and each got a receipt; the last stamp
--- that was seen then
+-- the first n calls were asked one after another, and each got a receipt; the last stamp that was
+-- seen then
 abbrev pub Answered : Listing → ℕ → List Ask → ℕ → Conversation → ℕ → Type 0
 Answered listing client asks zero c seen =
     (c ≡ record { exchanges = []; receipts = [] }) × (seen ≡ 0)
@@ -74,8 +74,8 @@ Answered listing client asks (suc n) c seen =
     (item_of listing client (record { number = n; seen = seen_before }) ask) receipt)
     × (seen ≡ seen_after seen_before receipt)
 
--- all calls were asked one after another, and got their receipts; or so many were, and the next
--- came to nothing
+-- all calls were asked one after another, and got their receipts; or the first few did, and the
+-- next got none
 pub record Converses (listing : Listing) (client : ℕ) (asks : List Ask) (c : Conversation)
     : Type 0 where
   pub answered : ℕ

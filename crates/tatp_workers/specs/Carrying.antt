@@ -12,7 +12,7 @@ use Rattle.tatp_workers.specs.declared.mover.MoveEffect.{MoveEffect}
 use Rattle.tatp_workers.specs.declared.mover.MoveEffect.TheVariants.{Plans, Takes, Gives, Settles}
 use Rattle.tatp_workers.specs.Growing.{Grows, InTurn}
 
--- ---- what is told of an answer
+-- ---- what an effect records of an answer
 -- why an extent wasn't taken
 abbrev pub refusal_in : Result ExtentState SiteRefusal → Option SiteRefusal
 refusal_in (Ok parcel) = None
@@ -36,8 +36,8 @@ abbrev pub IsPlanOf : ℕ → ℕ → Plan → Type 0
 IsPlanOf extent to plan = (plan.first ≡ extent) × (plan.last ≡ extent) × (plan.to ≡ to)
 
 -- ---- one move
--- extent e is given to a partition: it lands there, and the routes are told so before anything
--- else; or it comes back
+-- extent e is given to a partition: it lands there, and its route is set before anything else; or
+-- it comes back
 abbrev pub Delivers : ℕ → ℕ → Option ExtentState → List MoveEffect → Type 0
 Delivers to e None effects = effects ≡ Gives to e true ∷ Settles e ∷ []
 Delivers to e (Some back) effects = (back.number ≡ e) × (effects ≡ Gives to e false ∷ [])

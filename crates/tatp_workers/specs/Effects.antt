@@ -13,11 +13,11 @@ use Rattle.tatp_workers.specs.declared.effects.Effect.TheVariants.{Sends, Answer
 use Rattle.tatp_workers.specs.declared.offers.Offered.{Offered}
 use Rattle.tatp_workers.specs.declared.offers.Offered.TheVariants as offered
 
--- the receipt of a completed call: what its entry says, and in which extent's log it stands
+-- the receipt of a completed call: what its entry says, and in which extent's log the entry is
 abbrev pub receipt_of : Completion → Receipt
 receipt_of c = Done c.entry.client c.entry.number c.entry.reply c.extent c.entry.stamp
 
--- a call is completed: its client is answered, and then the gate is told
+-- a call is completed: its client is answered, and then the gate is notified
 abbrev pub concluding : ℕ → Completion → List Effect
 concluding partition c =
     Answers c.entry.client (Got (receipt_of c)) ∷ Tells partition c.entry.client ∷ []
@@ -28,7 +28,7 @@ effects_of_step partition (Ok Moved) = []
 effects_of_step partition (Ok (Ended completion)) = concluding partition completion
 effects_of_step partition (Err refusal) = []
 
--- a call is sent on; where it comes back, its client is told so
+-- a call is sent on; where it comes back, its client gets the answer that it was dropped
 abbrev pub effects_of_sending : Item → Bool → List Effect
 effects_of_sending item true = Sends item true ∷ []
 effects_of_sending item false = Sends item false ∷ Answers item.client Dropped ∷ []

@@ -52,16 +52,16 @@ GoesOnAfter effect =
     × (is_to_go_on answer ≡ true)
     × (effect ≡ Slices answer logged)
 
--- of a log with so many entries nothing more is done, where a chapter has to have more; otherwise
--- it is to be handed out
+-- the log of an extent has `logged` entries: it is to be handed out if a chapter needs no more, and
+-- otherwise nothing is done
 abbrev pub ChecksFull : ℕ → ℕ → ℕ → List Effect → Type 0
 ChecksFull extent chapter logged effects =
     ((logged < chapter) × (effects ≡ []))
     ⊎ ((done : Checkpointed) × (chapter ≤ logged)
     × (effects ≡ Checkpoints extent chapter done ∷ []))
 
--- a call is completed that ended when the log of its extent had so many entries: its client is
--- answered, the gate is told, and then comes the log
+-- a call is completed, at whose end the log of its extent had `logged` entries: its client is
+-- answered, the gate is notified, and then comes the log
 abbrev pub Completes : ℕ → ℕ → Completion → ℕ → List Effect → Type 0
 Completes partition chapter completion logged effects =
     (checking : List Effect)
@@ -102,7 +102,7 @@ pub record ExecutesCall (partition chapter : ℕ) (item : Item) (effects : List 
   pub runs : RunsWhereItBegan began partition chapter running
   pub all : effects ≡ offering ++ running
 
--- so many calls were taken out of the inbox one after another, and each was executed before the
+-- this many calls were taken out of the inbox one after another, and each was executed before the
 -- next
 abbrev pub Executes : ℕ → ℕ → ℕ → List Effect → Type 0
 Executes partition chapter zero effects = effects ≡ []

@@ -16,7 +16,7 @@ abbrev pub known_unless : {A : Type 0} → Bool → List A → Option (List A)
 known_unless true kept = None
 known_unless false kept = Some kept
 
--- of some things the first, so many, were dealt with one after another, each as it is to be
+-- the first n things of a list were dealt with one after another, each as it has to be
 abbrev pub InTurn : {A E : Type 0} → (A → List E → Type 0) → List A → ℕ → List E → Type 0
 InTurn IsDealtWith things zero effects = effects ≡ []
 InTurn {A = A} {E = E} IsDealtWith things (suc n) effects =

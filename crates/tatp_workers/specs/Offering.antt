@@ -13,14 +13,14 @@ use Rattle.tatp_workers.specs.declared.offers.Offered.TheVariants.{Began, Again,
 abbrev pub IsTaken : SiteState → Item → Type 0
 IsTaken s item = Fits (arities_of s.modul) item.ask
 
--- why a call is dropped: the module doesn't take it, or it can never begin here
+-- a call is dropped: the module doesn't take it, or it can never begin here
 abbrev pub IsDropped : SiteState → Item → Type 0
 IsDropped s item =
     (IsTaken s item → ⊥)
     ⊎ (begin_obstacle s item ≡ Some WrongHome)
     ⊎ (begin_obstacle s item ≡ Some StampFull)
 
--- why a call is to be offered again: another runs here, or the site is stopped
+-- a call is to be offered again: another runs here, or the site is stopped
 abbrev pub IsToWait : SiteState → Item → Type 0
 IsToWait s item = (begin_obstacle s item ≡ Some Running) ⊎ (begin_obstacle s item ≡ Some Stopped)
 

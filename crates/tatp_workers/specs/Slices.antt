@@ -33,7 +33,7 @@ steps_ahead_unless None s = alone (step_ahead s)
 abbrev pub steps_ahead : SiteState → List StepAhead
 steps_ahead s = steps_ahead_unless (step_obstacle s) s
 
--- so many steps, each of which went on and was seen before it was made, lead from one site to
+-- this many steps, each of which went on and was seen before it was made, lead from one site to
 -- another
 abbrev pub GoesOnObserved : ℕ → SiteState → SiteState → List StepAhead → Type 0
 GoesOnObserved zero s s' steps = (s' ≡ s) × (steps ≡ [])
@@ -73,7 +73,7 @@ MakesSlice s answer ended s' =
     × IsSlice s (result_and answer (Ok (stepped_of ended))) s' steps
     × IfOk answer (λ logged. logged ≡ logged_at s' ended)
 
--- how many entries the log has, by an answer that tells it; 0 where a step was refused
+-- how many entries the log has by the answer of a slice; 0 where a step was refused
 abbrev pub logged_by : Result ℕ SiteRefusal → ℕ
 logged_by (Ok logged) = logged
 logged_by (Err refusal) = 0

@@ -9,7 +9,7 @@ use tatp_partition::{Site, SiteRefusal};
 /// What became of a log that may be full.
 #[derive(Clone, Copy, Debug)]
 pub enum Checkpointed {
-    /// It was handed out as a chapter, which is kept.
+    /// It was handed out as a chapter, which was kept.
     Kept,
     /// It is shorter than a chapter has to be.
     Short,
@@ -17,8 +17,8 @@ pub enum Checkpointed {
     Refused(SiteRefusal),
 }
 
-/// Hands out the log of an extent at a site whose lock is held, where it has as many entries as a
-/// chapter has to have, or more, and keeps the chapter behind the others.
+/// Hands out the log of an extent at a site whose lock is held, if it has `chapter` entries or
+/// more, and appends it to the chapters.
 pub fn checkpoint_full(
     site: &mut Site<'_>,
     alloc: Global,

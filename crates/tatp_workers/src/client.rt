@@ -9,7 +9,7 @@ use tatp_numbers::Directory;
 use tatp_partition::Item;
 use tatp_procs::Ask;
 
-/// A call that was asked, and what came of it: none where it came to nothing.
+/// A call that was asked, and its receipt: none where it got none.
 #[derive(Clone, Copy, Debug)]
 pub struct Exchange {
     /// The call.
@@ -20,11 +20,11 @@ pub struct Exchange {
 
 /// Asks calls and waits for their receipts.
 pub trait Requester {
-    /// What was exchanged, where that is known.
+    /// The calls that were asked and their receipts, where these are known.
     ghost exchanges: { Self → Option (List Exchange) } = { λ _. None };
 
-    /// Puts a call into the inbox that its route names, waits for its receipt, and puts that behind
-    /// the others, where there is room for it. False where the call came to nothing.
+    /// Puts a call into the inbox that its route names, waits for its receipt, and appends that to
+    /// the others. False where the call got none.
     fn ask(&mut self, item: &Item, receipts: &mut Receipts) -> bool
         requires room { 1 ≤ receipts.old.room }
         ensures { (receipt : Option Receipt)
@@ -33,7 +33,7 @@ pub trait Requester {
             × Receives receipt result receipts.old receipts.new };
 }
 
-/// A client's next call.
+/// A client's call of this number.
 fn item_of(directory: &Directory, client: u64, number: u64, seen: u64, ask: &Ask) -> Item
     ensures { result
         ≡ item_of directory.now client (record { number = number; seen = seen }) ask.now }
@@ -60,8 +60,8 @@ fn seen_after(seen: u64, receipts: &Receipts) -> u64
     }
 }
 
-/// Asks the calls of one client, one after another, and keeps their receipts. It ends where a call
-/// came to nothing.
+/// Asks the calls of one client, one after another, and keeps their receipts. It ends with the
+/// first call that gets none.
 pub fn ask_all<D: Requester>(
     requester: &mut D,
     directory: &Directory,

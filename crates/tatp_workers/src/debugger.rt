@@ -7,19 +7,19 @@ ghost use Rattle.tatp_workers.specs.Growing.{Grows, Does, InTurn};
 ghost use Rattle.tatp_workers.specs.Debugging.{effects_of_inspection, IsDebugged};
 ghost use Rattle.tatp_workers.specs.declared.effects.Effect.TheVariants.{Stops, Looks, Steps, Resumes};
 
+use crate::Answering;
 use crate::effects::follow_step;
-use crate::{Answering, Moves};
 use tatp_debug::Snapshot;
 use tatp_partition::{SiteRefusal, Stepped};
 
 /// Stops sites, looks at them, has their calls make a step, and resumes them.
 pub trait Debugging: Answering {
-    /// Stops a site, where there is such a partition and it isn't stopped. Whether it did.
+    /// Stops the site of a partition, if there is one and it isn't stopped. Whether it did.
     fn stop(&mut self, partition: u8) -> bool
         ensures { Grows (Self.effects self.old) (Self.effects self.new)
             (Stops partition result ∷ []) };
 
-    /// Looks at the running call, and tells the gate what was seen.
+    /// Looks at the running call, and shows the gate what was seen.
     fn look(&mut self, partition: u8) -> Result<Snapshot, SiteRefusal>
         ensures { Grows (Self.effects self.old) (Self.effects self.new)
             (Looks partition result ∷ []) };
@@ -55,20 +55,12 @@ fn debug<D: Debugging>(debugging: &mut D, partition: u8)
     }
 }
 
-/// Makes one stop after another.
-fn debug_all<D: Debugging>(debugging: &mut D, stops: &[u8])
+/// Makes the stops of a run, one after another. A stop is the partition that is to be stopped.
+pub fn debug_all<D: Debugging>(debugging: &mut D, stops: &[u8])
     ensures { Does (InTurn IsDebugged stops.now (length stops.now)) (D.effects debugging.old)
         (D.effects debugging.new) }
 {
     for number in 0..stops.len() {
         debug(debugging, stops[number]);
     }
-}
-
-/// Makes the stops of a run.
-pub fn debug_run<D: Debugging>(debugging: &mut D, moves: &Moves)
-    ensures { Does (InTurn IsDebugged moves.now.stops.items (length moves.now.stops.items))
-        (D.effects debugging.old) (D.effects debugging.new) }
-{
-    debug_all(debugging, moves.stops.as_slice());
 }

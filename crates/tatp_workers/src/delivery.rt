@@ -16,8 +16,7 @@ pub enum Delivery {
 }
 
 impl Delivery {
-    /// The receipt of a completed call, in place of this one: it is written once, where it is to
-    /// stand.
+    /// Writes the receipt of a completed call in place of this delivery, once and where it stays.
     pub fn complete(&mut self, completion: &Completion)
         ensures { self.new ≡ Delivery.Got (receipt_of completion.now) }
     {
@@ -48,7 +47,7 @@ fn receipt_of(completion: &Completion) -> Receipt
     }
 }
 
-/// As `receipt_of`, in place of another receipt.
+/// Writes what `receipt_of` gives in place of another receipt.
 fn fill(receipt: &mut Receipt, completion: &Completion)
     ensures { receipt.new ≡ receipt_of completion.now }
 {
@@ -62,7 +61,7 @@ fn fill(receipt: &mut Receipt, completion: &Completion)
         } => {
             *client = completion.entry.client;
             *number = completion.entry.number;
-            // Copied once, where an assignment would copy it twice.
+            // This copies the reply once, where an assignment would copy it twice.
             slice::from_mut(reply).copy_from_slice(slice::from_ref(&completion.entry.reply));
             *extent = completion.extent;
             *stamp = completion.entry.stamp;

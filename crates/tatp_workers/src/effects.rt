@@ -21,17 +21,17 @@ pub enum Effect {
     Sends(Item, bool),
     /// A client was answered.
     Answers(u64, Delivery),
-    /// The gate was told of an end, with the partition and the client.
+    /// The gate was notified that a client's call has ended in a partition.
     Tells(u8, u64),
     /// A message was taken out of the inbox, or none will come.
     Receives(Option<Message>),
     /// A call was offered to the site.
     Offers(Item, Offered),
-    /// Steps of the running call were made, what the last of them answered, and how many entries
-    /// the log of the call's extent has where that ended it.
+    /// Steps of the running call were made; what the last of them answered, and how many entries
+    /// the log of the call's extent has if that step ended the call.
     Slices(Result<Stepped, SiteRefusal>, u64),
-    /// The log of an extent was to be handed out where it has as many entries as a chapter has to
-    /// have, or more, and what became of it.
+    /// The log of this extent was to be handed out if it has this many entries or more, and what
+    /// became of it.
     Checkpoints(u32, u64, Checkpointed),
     /// The site of a partition was to be stopped, and whether it was.
     Stops(u8, bool),
@@ -43,12 +43,12 @@ pub enum Effect {
     Resumes(u8),
 }
 
-/// Answers clients, and tells the gate.
+/// Answers clients, and notifies the gate.
 pub trait Answering {
     /// What was done, where that is known.
     ghost effects: { Self → Option (List Effect) } = { λ _. None };
 
-    /// Hands to a client what it waits for.
+    /// Hands a client the delivery for which it waits.
     fn answer(&mut self, client: u64, delivery: &Delivery)
         ensures { Grows (effects self.old) (effects self.new) (Answers client delivery.now ∷ []) };
 
@@ -57,14 +57,14 @@ pub trait Answering {
         ensures { Grows (effects self.old) (effects self.new)
             (Answers completion.now.entry.client (Got (receipt_of completion.now)) ∷ []) };
 
-    /// Tells the gate that a client's call has ended.
+    /// Notifies the gate that a client's call has ended in a partition.
     fn tell(&mut self, partition: u8, client: u64)
         ensures { Grows (effects self.old) (effects self.new) (Tells partition client ∷ []) };
 }
 
 /// Takes calls out of an inbox, has a site run them and hand out full logs, and sends them on.
 pub trait Executing: Answering {
-    /// The next message of the inbox. None where no end that puts is left.
+    /// Takes the next message out of the inbox. None where no end that puts is left.
     fn receive(&mut self) -> Option<Message>
         ensures { Grows (Self.effects self.old) (Self.effects self.new) (Receives result ∷ []) };
 
@@ -80,8 +80,8 @@ pub trait Executing: Answering {
         ensures { Grows (Self.effects self.old) (Self.effects self.new)
             (Slices (result_and result (Ok (stepped_of ended.new))) (logged_by result) ∷ []) };
 
-    /// Hands out the log of an extent at the site, where it has as many entries as a chapter has to
-    /// have, or more, and keeps the chapter.
+    /// Hands out the log of an extent at the site if it has `chapter` entries or more, and keeps it
+    /// as a chapter.
     fn checkpoint(&mut self, extent: u32, chapter: u64) -> Checkpointed
         ensures { Grows (Self.effects self.old) (Self.effects self.new)
             (Checkpoints extent chapter result ∷ []) };
@@ -91,7 +91,7 @@ pub trait Executing: Answering {
         ensures { Grows (Self.effects self.old) (Self.effects self.new) (Sends item result ∷ []) };
 }
 
-/// Gives a completed call's receipt to its client, and then tells the gate.
+/// Gives a completed call's receipt to its client, and then notifies the gate.
 #[tactic(auto, using(crate::proofs::GrowthLaws::grown_by_two))]
 pub(crate) fn conclude<A: Answering>(answering: &mut A, partition: u8, completion: &Completion)
     ensures { Grows (A.effects answering.old) (A.effects answering.new)
@@ -115,7 +115,8 @@ pub(crate) fn follow_step<A: Answering>(
     }
 }
 
-/// Does what follows from what became of a call that was offered.
+/// Acts on the outcome of an offer: a call that is away is sent on, and the client of one that
+/// can't begin gets its answer.
 pub(crate) fn follow<E: Executing>(executing: &mut E, item: &Item, offered: Offered)
     ensures { Does (Follows item.now offered) (E.effects executing.old) (E.effects executing.new) }
 {

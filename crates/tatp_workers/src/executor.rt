@@ -13,8 +13,8 @@ use std::thread;
 use tatp_partition::{Completion, CompletionPlace, Item, SiteRefusal};
 
 /// Takes one call after another out of an inbox and runs it, until Quit. After the end of a call a
-/// checkpoint of its extent is made, where the log has as many entries as a chapter has to have, or
-/// more. A completion is left in a place that stays from call to call.
+/// checkpoint of its extent is made if the log has `chapter` entries or more. Each completion is
+/// written to one place, which is made once.
 pub fn take_calls<R: Wait, E: Executing>(rt: &R, executing: &mut E, partition: u8, chapter: u64)
     ensures { Does (ExecutesUntilQuit partition chapter) (E.effects executing.old)
         (E.effects executing.new) }
@@ -72,7 +72,8 @@ fn is_not_running(refusal: &SiteRefusal) -> bool
     matches!(refusal, SiteRefusal::NotRunning)
 }
 
-/// Whether more steps are to be made after some, which left this completion, or none.
+/// Whether more steps are to be made after a slice that answered this and left this completion, if
+/// any.
 fn is_to_go_on(made: &Result<u64, SiteRefusal>, ended: &CompletionPlace) -> bool
     ensures { result ≡ is_to_go_on (result_and made.now (Ok (stepped_of ended.now))) }
 {
@@ -82,8 +83,7 @@ fn is_to_go_on(made: &Result<u64, SiteRefusal>, ended: &CompletionPlace) -> bool
     }
 }
 
-/// Has the log of an extent handed out, which has so many entries, where they are as many as those
-/// of a chapter, or more.
+/// Has the log of an extent handed out if it has `chapter` entries or more. It has `logged`.
 fn check_log<E: Executing>(executing: &mut E, extent: u32, chapter: u64, logged: u64)
     ensures { Does (ChecksFull extent chapter logged) (E.effects executing.old)
         (E.effects executing.new) }
@@ -93,7 +93,7 @@ fn check_log<E: Executing>(executing: &mut E, extent: u32, chapter: u64, logged:
     }
 }
 
-/// Concludes a call that ended, and then looks to the log of its extent.
+/// Concludes a call that ended, and then has the log of its extent handed out if that is due.
 fn complete<E: Executing>(
     executing: &mut E,
     partition: u8,

@@ -6,8 +6,8 @@ use tatp_partition::SiteRefusal;
 /// Is called by the threads as calls go on and end. It must return for the run to go on.
 pub trait Gate {
     /// An executor is about to make a step of a client's call, from this position of its procedure.
-    /// It holds its partition's lock. A step that is refused, as at a stopped site, is none; the
-    /// debugger's steps aren't told.
+    /// It holds its partition's lock. No step is announced that is refused, as at a stopped site,
+    /// and none that the debugger makes.
     fn before_step(&self, partition: u8, client: u64, pc: usize);
 
     /// A client's call has ended, by an executor's step or the debugger's, and its reply can be
@@ -21,7 +21,7 @@ pub trait Gate {
     /// A client is about to ask its call of this number, counted from 0.
     fn before_ask(&self, _client: u64, _number: u64) {}
 
-    /// A client has what came of its call of this number: a receipt, or that it was dropped.
+    /// A client has the outcome of its call of this number: a receipt, or that it was dropped.
     fn after_answer(&self, _client: u64, _number: u64) {}
 }
 

@@ -7,7 +7,6 @@ ghost use Rattle.tatp_workers.specs.Carrying.{refusal_in, is_landed, plan_to, Is
 ghost use Rattle.tatp_workers.specs.declared.mover.MoveEffect.{MoveEffect};
 ghost use Rattle.tatp_workers.specs.declared.mover.MoveEffect.TheVariants.{Plans, Takes, Gives, Settles};
 
-use crate::Moves;
 use tatp_extents::first_subscriber;
 use tatp_move::{MoveRefusal, Plan, Routes};
 use tatp_partition::{Landed, Parcel, SiteRefusal};
@@ -17,20 +16,20 @@ use tatp_partition::{Landed, Parcel, SiteRefusal};
 pub enum MoveEffect {
     /// An extent was to be moved to a partition, and the plan by its route.
     Plans(u32, u8, Result<Plan, MoveRefusal>),
-    /// An extent was to be taken from the site of a partition, and why it wasn't, where it wasn't.
+    /// An extent was to be taken from the site of a partition; the reason, if it wasn't.
     Takes(u8, u32, Option<SiteRefusal>),
     /// An extent was given to the site of a partition, and whether it landed.
     Gives(u8, u32, bool),
-    /// The routes were told that an extent landed.
+    /// The route of an extent was set to where it landed.
     Settles(u32),
 }
 
-/// Plans moves, takes extents from sites, gives them to others, and tells the routes.
+/// Plans moves, takes extents from sites, gives them to others, and updates the routes.
 pub trait Carrying {
     /// What was done, where that is known.
     ghost effects: { Self → Option (List MoveEffect) } = { λ _. None };
 
-    /// The plan to move an extent, that one alone, from where its route says to a partition.
+    /// Plans to move this extent alone from where its route says to a partition.
     fn plan(&mut self, extent: u32, to: u8) -> Result<Plan, MoveRefusal>
         ensures effects { Grows (effects self.old) (effects self.new)
             (Plans extent to result ∷ []) }
@@ -42,14 +41,14 @@ pub trait Carrying {
             (Takes from extent (refusal_in result) ∷ []) }
         ensures number { IfOk result (λ (parcel : ExtentState). parcel.number ≡ extent) };
 
-    /// Gives a parcel to the site of a partition. It comes back where there is no place for it.
+    /// Gives a parcel to the site of a partition. It comes back if the site doesn't take it.
     fn give(&mut self, to: u8, parcel: Parcel) -> Result<Landed, Parcel>
         ensures effects { Grows (effects self.old) (effects self.new)
             (Gives to parcel.number (is_landed result) ∷ []) }
         ensures landed { IfOk result (λ (landed : LandedState). landed.number ≡ parcel.number) }
         ensures back { IfErr result (λ back. back ≡ parcel) };
 
-    /// Tells the routes of a landing.
+    /// Sets the route of an extent that has landed.
     fn settle(&mut self, landed: Landed)
         ensures { Grows (effects self.old) (effects self.new) (Settles landed.number ∷ []) };
 }
@@ -69,8 +68,8 @@ pub fn plan(routes: &Routes, extent: u32, to: u8) -> Result<Plan, MoveRefusal>
     routes.move_range(s_id, s_id, from as u64, to as u64)
 }
 
-/// Gives a parcel to a site and tells the routes that it landed. What the site has no place for
-/// comes back.
+/// Gives a parcel to a site and sets the route of its extent once it has landed. A parcel that the
+/// site doesn't take comes back.
 fn deliver<C: Carrying>(carrying: &mut C, to: u8, parcel: Parcel) -> Option<Parcel>
     ensures { Does (Delivers to parcel.number result) (C.effects carrying.old)
         (C.effects carrying.new) }
@@ -85,7 +84,7 @@ fn deliver<C: Carrying>(carrying: &mut C, to: u8, parcel: Parcel) -> Option<Parc
 }
 
 /// Moves an extent, unless there is no plan for it, or its site doesn't give it: it isn't there, is
-/// pinned or was moved too often. What the other site has no place for comes back.
+/// pinned or was moved too often. A parcel that the other site doesn't take comes back.
 fn make_move<C: Carrying>(carrying: &mut C, extent: u32, to: u8) -> Option<Parcel>
     ensures { Does (MakesMove extent to result) (C.effects carrying.old) (C.effects carrying.new) }
 {
@@ -98,8 +97,9 @@ fn make_move<C: Carrying>(carrying: &mut C, extent: u32, to: u8) -> Option<Parce
     }
 }
 
-/// Makes one move after another, until a parcel stays in hand.
-fn move_all<C: Carrying>(carrying: &mut C, moves: &[(u32, u8)], hand: &mut Vec<Parcel>)
+/// Makes the moves of a run, one after another, until a parcel stays in hand. A move is an extent
+/// and the partition to which it is to be moved.
+pub fn move_all<C: Carrying>(carrying: &mut C, moves: &[(u32, u8)], hand: &mut Vec<Parcel>)
     requires room { vec_len hand.old < vec_capacity hand.old }
     ensures { MovesAll moves.now (C.effects carrying.old) (C.effects carrying.new) hand.old.items
         hand.new.items }
@@ -111,13 +111,4 @@ fn move_all<C: Carrying>(carrying: &mut C, moves: &[(u32, u8)], hand: &mut Vec<P
             return;
         }
     }
-}
-
-/// Makes the moves of a run.
-pub fn move_run<C: Carrying>(carrying: &mut C, moves: &Moves, hand: &mut Vec<Parcel>)
-    requires room { vec_len hand.old < vec_capacity hand.old }
-    ensures { MovesAll moves.now.moves.items (C.effects carrying.old) (C.effects carrying.new)
-        hand.old.items hand.new.items }
-{
-    move_all(carrying, moves.moves.as_slice(), hand);
 }

@@ -16,20 +16,20 @@ pub enum Offered {
     Away,
     /// Memory was refused to it.
     Denied,
-    /// It can't begin.
+    /// It can never begin here.
     Dropped,
 }
 
 impl Offered {
     /// Whether the call is to be offered again.
-    pub fn is_again(&self) -> bool
+    pub(crate) fn is_again(&self) -> bool
         ensures { result ≡ is_again self.now }
     {
         matches!(self, Offered::Again)
     }
 
     /// Whether the call runs.
-    pub fn has_begun(&self) -> bool
+    pub(crate) fn has_begun(&self) -> bool
         ensures { result ≡ has_begun self.now }
     {
         matches!(self, Offered::Began)

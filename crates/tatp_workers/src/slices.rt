@@ -60,8 +60,9 @@ fn observed_step<O: Observer>(
     site.step_into(StepKind::Step, ended)
 }
 
-/// Makes steps of the running call: up to the first that doesn't go on, and no more where another
-/// thread wants the lock. Where the call ends, its completion is left in its place.
+/// Makes up to 16 steps of the running call: it stops at the first after which the call doesn't go
+/// on, and after any step if another thread wants the lock. Where the call ends, its completion is
+/// left in its place.
 fn make_steps<O: Observer>(
     site: &mut Site<'_>,
     observer: &mut O,
@@ -96,9 +97,10 @@ fn logged_at(site: &Site<'_>, ended: &CompletionPlace) -> u64
     }
 }
 
-/// Makes steps of the running call at a site whose lock is held: up to the first that doesn't go
-/// on, and no more where another thread wants the lock. Where the call ends, its completion is left
-/// in its place, and the answer is how many entries the log of its extent has then.
+/// Makes up to 16 steps of the running call at a site whose lock is held: it stops at the first
+/// after which the call doesn't go on, and after any step if another thread wants the lock. Where
+/// the call ends, its completion is left in its place, and the answer is how many entries the log
+/// of its extent has then.
 pub fn slice<O: Observer>(
     site: &mut Site<'_>,
     observer: &mut O,

@@ -37,6 +37,13 @@ function clientPanel(client, place, step) {
     el("h2", "", `Client ${client}`), said, ...lines);
 }
 
+// What is told of the calls that have to come before another.
+function firstLine(count) {
+  if (count === 0) return "no call ended before it was asked.";
+  return count === 1 ? "one call ended before it was asked, and comes first."
+    : `${count} calls ended before it was asked, and come first.`;
+}
+
 // In real time a call comes before those that are asked after its answer; calls that overlap may change places.
 function overlapPanel(step) {
   const call = run.calls[run.call[step - 1]];
@@ -47,11 +54,11 @@ function overlapPanel(step) {
   const before = near.filter((other) => other[KIND] !== "unanswered" && other[ENDED] && other[ENDED] < call[ASKED]);
   const after = near.filter((other) => call[KIND] !== "unanswered" && call[ENDED] && call[ENDED] < other[ASKED]);
   const either = near.filter((other) => !before.includes(other) && !after.includes(other));
-  const who = call[SUBSCRIBER] ? `Calls on subscriber ${call[SUBSCRIBER]}: ` : "Its key names no subscriber. ";
+  const who = call[SUBSCRIBER] ? `On subscriber ${call[SUBSCRIBER]}` : "Its key names no subscriber";
   const list = either.length ? el("div", "either", ...either.map((other) => callLine(other, true)))
     : el("p", "either quiet", "none");
   return el("section", "panel overlap", title, callLine(call, true),
-    el("p", "quiet", `${who}${before.length} ended before it was asked: in any order first.`),
+    el("p", "quiet", `${who}: ${firstLine(before.length)}`),
     el("h3", "", "These may come before or after it"), list);
 }
 

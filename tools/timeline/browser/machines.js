@@ -29,10 +29,16 @@ function registers(text) {
   return [...Array(16).keys()].map((n) => values[n] || "0");
 }
 
+// Registers are in columns, of which a long value takes two or three.
+function registerKind(value, old) {
+  const width = value.length > 14 ? "wide3" : value.length > 4 ? "wide2" : "";
+  return (value === old ? "" : "fresh ") + width;
+}
+
 function registersPanel(now, before) {
   const old = before ? registers(before[2]) : registers("");
   return el("div", "registers mono", ...registers(now[2]).map((value, n) =>
-    el("span", value === old[n] ? "" : "fresh", el("i", "", `r${n} `), el("b", "", value))));
+    el("span", registerKind(value, old[n]), el("i", "", `r${n} `), el("b", "", value))));
 }
 
 // The last look at the same call before this step.

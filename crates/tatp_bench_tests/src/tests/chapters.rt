@@ -10,7 +10,7 @@ use tatp_extents::Chapter;
 use tatp_settle_tests::events::{are_few, readings};
 use tatp_settle_tests::rows::clean_rows;
 use tatp_settle_tests::sites::module;
-use tatp_threads::{Moves, NoGate, run_calls};
+use tatp_threads::{NoGate, RunPlan, run_calls};
 
 /// Whom three clients ask, of 130 subscribers: one who isn't there, and then five times one of
 /// extent 1, three times one of extent 2, and one of extent 3.
@@ -45,19 +45,20 @@ fn handed_out<R: Threads + Wait + Sync>(
     let population = clean_rows(alloc, 130, &[])?;
     let rows = clean_rows(alloc, 130, &[])?;
     let lists = readings(alloc, &ASKED)?;
-    let at_rest = Moves {
-        moves: Vec::new(alloc),
-        stops: Vec::new(alloc),
-    };
     if !are_few(&lists) || !audit(alloc, &population)?.is_clean() {
         return Err("no population".into());
     }
     if lists.is_empty() || lists.len() > 64 {
         return Err("no clients".into());
     }
-    match run_calls(
-        rt, alloc, &loaded, rows, 2, &lists, &at_rest, &NoGate, chapter,
-    ) {
+    let plan = RunPlan {
+        partitions: 2,
+        lists: lists.as_slice(),
+        moves: &[],
+        stops: &[],
+        chapter,
+    };
+    match run_calls(rt, alloc, &loaded, rows, plan, &NoGate) {
         Err(_) => Err("no run".into()),
         Ok(ran) => {
             let parts = ran.parts();

@@ -1,4 +1,4 @@
-//! Runs that `bench` doesn't settle, each told with its own cause.
+//! Runs that `bench` doesn't settle, each with its own cause.
 
 use std::alloc::{AllocError, Global};
 use std::test::*;
@@ -45,7 +45,6 @@ fn told_of<R: Threads + Sync>(
             let parts = RanParts {
                 sites,
                 parcels,
-                landings: Vec::new(alloc),
                 receipts: Vec::new(alloc),
                 chapters: lists,
             };

@@ -5,13 +5,13 @@ use std::alloc::Global;
 use std::sync::Wait;
 use std::test::*;
 use std::thread::Threads;
-use tatp_bench::{BenchPlan, Work, draw, run_work, settle_run};
+use tatp_bench::{BenchPlan, Drawn, Work, draw, run_work, settle_run};
 use tatp_driver::Distribution;
 use tatp_logs::{ReceiptRef, Receipts};
 use tatp_partition::Site;
 use tatp_procs::standard;
 use tatp_settle_tests::events::are_few;
-use tatp_threads::{NoGate, RanParts};
+use tatp_threads::{NoGate, RanParts, RunPlan};
 
 /// One call on 100 extents, beside which extents are moved and partitions stopped.
 const MOVED: BenchPlan = BenchPlan {
@@ -94,17 +94,26 @@ fn seen_of<R: Threads + Wait + Sync>(rt: &R, alloc: Global, plan: &BenchPlan) ->
     requires { IsPlan plan.now }
 {
     let loaded = standard(alloc)?;
-    let (population, rows, lists, moves) = draw(rt, alloc, plan)?.parts();
+    let Drawn {
+        population,
+        rows,
+        lists,
+        moves,
+        stops,
+    } = draw(rt, alloc, plan)?;
     if !are_few(&lists) {
         return Err("too many calls".into());
     }
     let work = Work {
         loaded: &loaded,
         rows,
-        partitions: plan.partitions,
-        lists: lists.as_slice(),
-        moves: &moves,
-        chapter: plan.chapter,
+        run: RunPlan {
+            partitions: plan.partitions,
+            lists: lists.as_slice(),
+            moves: moves.as_slice(),
+            stops: stops.as_slice(),
+            chapter: plan.chapter,
+        },
     };
     match run_work(rt, alloc, plan, work, &NoGate) {
         Err(_) => Err("no run".into()),
@@ -113,7 +122,7 @@ fn seen_of<R: Threads + Wait + Sync>(rt: &R, alloc: Global, plan: &BenchPlan) ->
             let stops = stops_made(&parts.sites);
             let chapters = chapters_kept(&parts, plan.chapter as usize);
             let asked = first_asked(&parts.receipts);
-            let may_be_held = moves.moves.iter().any(|step| Some(step.0) == asked);
+            let may_be_held = moves.iter().any(|step| Some(step.0) == asked);
             match settle_run(rt, alloc, &population, parts, lists.as_slice()) {
                 Err(_) => Err("not settled".into()),
                 Ok(run) => Ok(Seen {

@@ -9,8 +9,8 @@ impl<'m> World<'m> {
     ghost use Rattle.tatp_dispatch.specs.Events.{Happens};
     ghost use Rattle.tatp_dispatch.specs.Serving.{Tells};
 
-    /// One event. The events of a call, of which most runs consist, are made here, and any other in
-    /// a function of its own, as [`tatp_partition::CompletionPlace`] says.
+    /// One event. The events of a call, of which most runs consist, are inlined here, and any other
+    /// has a function of its own; [`tatp_partition::CompletionPlace`] says why.
     #[inline(always)]
     pub fn apply(&mut self, event: Event) -> Result<Answer, Refusal>
         ensures happens { Happens self.old event result self.new }

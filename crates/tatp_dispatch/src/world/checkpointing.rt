@@ -8,8 +8,8 @@ use std::alloc::Global;
 use tatp_extents::Chapter;
 use tatp_partition::{Site, SiteRefusal};
 
-/// The number of an extent as a site takes it, which says what comes first where there is no such
-/// extent: every number past the extents becomes the first of these.
+/// The number of an extent as a site takes it. Every number past the extents becomes the first past
+/// them, for which the site gives the refusal that comes first.
 fn number_at_site(e: u64, slots: u64) -> u32
     requires few { slots < 2 ^ 32 }
     ensures within { e < slots → result ≡ e }
@@ -45,7 +45,7 @@ impl<'m> World<'m> {
     ghost use Rattle.tatp_dispatch.specs.Events.{CheckpointsAt};
     ghost use Rattle.tatp_dispatch.specs.Serving.{Tells};
 
-    /// An extent hands out a chapter, for which memory is there before.
+    /// An extent hands out a chapter. Memory to keep the chapter is reserved first.
     pub(crate) fn checkpoint(&mut self, p: u64, e: u64) -> Result<Answer, Refusal>
         ensures happens { CheckpointsAt self.old p e result self.new }
         ensures tells { Tells self.old result self.new }
@@ -57,13 +57,13 @@ impl<'m> World<'m> {
         }
         let number = number_at_site(e, self.parcels.len());
         match checkpoint_at(&mut self.sites, alloc, p as usize, number) {
-            Err(refusal) => return Err(refusal_told(refusal)),
+            Err(refusal) => Err(refusal_told(refusal)),
             Ok(chapter) => {
                 let extent = chapter.extent();
                 let index = chapter.index();
                 let entries = chapter.entries().len() as u64;
                 self.chapters.push_reserved(chapter);
-                return Ok(Answer::Chapter(extent, index, entries));
+                Ok(Answer::Chapter(extent, index, entries))
             }
         }
     }

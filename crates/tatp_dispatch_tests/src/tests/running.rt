@@ -2,7 +2,6 @@
 use std::alloc::{AllocError, Global};
 use std::test::Fail;
 use tatp_dispatch::{Answer, Event, Refusal, World, run};
-use tatp_procs::{Ask, read_call};
 use tatp_settle_tests::rows::clean_rows;
 use tatp_settle_tests::sites::module;
 use tatp_tables::{Row, Rows};
@@ -88,14 +87,6 @@ static TOLD: [Told; 54] = [
     (1, "take 0 1", "REFUSED 33 NotHere"),
 ];
 
-/// The calls that end, in the order of their ends.
-static ENDED: [&str; 4] = [
-    "UPDATE_LOCATION 000000000000129 2",
-    "UPDATE_SUBSCRIBER_DATA 2 1 4 9",
-    "GET_ACCESS_DATA 129 1",
-    "INSERT_CALL_FORWARDING 000000000000002 1 16 24 000000000000555",
-];
-
 /// Appends the event of a line, `times` times.
 fn push_times(events: &mut Vec<Event>, line: &str, times: usize) -> Result<(), AllocError> {
     for _ in 0..times {
@@ -116,40 +107,29 @@ fn events(alloc: Global) -> Result<Vec<Event>, AllocError> {
     Ok(events)
 }
 
-/// What the call asks that ends in this place, counted from 0.
-fn ask_of(place: usize) -> Option<Ask> {
-    let line = ENDED.get(place)?;
-    Some(Ask::Txn(read_call(line)?))
-}
-
-/// Whether the line of an answer is this; a call that ended asked `last`.
+/// Whether the line of an answer is this.
 fn is_line(
     alloc: Global,
-    last: Option<Ask>,
     answered: &Result<Answer, Refusal>,
     wanted: &str,
 ) -> Result<bool, AllocError> {
     let mut text = String::new(alloc);
-    push_answer(&mut text, last, answered)?;
+    push_answer(&mut text, answered)?;
     Ok(text.as_str() == wanted)
 }
 
 /// How many answers are those of the table, one for each event, in their order.
 fn as_told(alloc: Global, answers: &[Result<Answer, Refusal>]) -> Result<usize, AllocError> {
     let mut place = 0;
-    let mut ended = 0;
     for (times, _, wanted) in &TOLD {
         for _ in 0..*times {
             let Some(answered) = answers.get(place) else {
                 return Ok(place);
             };
-            if !is_line(alloc, ask_of(ended), answered, wanted)? {
+            if !is_line(alloc, answered, wanted)? {
                 return Ok(place);
             }
             place = place.saturating_add(1);
-            if matches!(answered, Ok(Answer::Ended(_, _))) {
-                ended = ended.saturating_add(1);
-            }
         }
     }
     Ok(place)

@@ -116,7 +116,7 @@ fn is_answered(alloc: Global, world: &mut World<'_>, told: Told) -> bool {
         None => told.1 == "none",
         Some(call) => {
             let ask = Ask::Txn(call);
-            let reply = world.call(0, ask);
+            let reply = world.call(0, ask).ok();
             is_line(alloc, &ask, reply, told.1)
         }
     }
@@ -148,7 +148,7 @@ fn stepped(world: &mut World<'_>) -> (usize, Option<Reply>) {
     for moved in 0..5000 {
         match world.apply(Event::Step(0)) {
             Ok(Answer::Moved) => {}
-            Ok(Answer::Ended(_, reply)) => return (moved, Some(reply)),
+            Ok(Answer::Ended(_, _, reply)) => return (moved, Some(reply)),
             _ => return (moved, None),
         }
     }

@@ -69,6 +69,14 @@ fn verdict(
     Ok(Some(judge.finish(alloc)?))
 }
 
+/// The first lines are illegal, by the calls on this subscriber.
+fn illegal_at(line: u64, s_id: u64) -> Verdict {
+    Verdict::Illegal {
+        line,
+        s_id: Some(s_id),
+    }
+}
+
 const GET: Call = Call::GetSubscriberData { s_id: 1 };
 
 #[test]
@@ -93,7 +101,7 @@ fn an_update_succeeds(rt: HostRuntime) -> Result<(), Fail> {
     ];
     assert_eq!(rt;
         verdict(rt.alloc(), &rows, 100, &illegal)?,
-        Some(Verdict::Illegal(4))
+        Some(illegal_at(4, 1))
     );
     Ok(())
 }
@@ -113,7 +121,7 @@ fn the_first_line_is_of_another_window(rt: HostRuntime) -> Result<(), Fail> {
     ];
     assert_eq!(rt;
         verdict(rt.alloc(), &rows, 100, &lines)?,
-        Some(Verdict::Illegal(4))
+        Some(illegal_at(4, 2))
     );
     Ok(())
 }
@@ -147,7 +155,7 @@ fn reads_are_of_their_time(rt: HostRuntime) -> Result<(), Fail> {
     ];
     assert_eq!(rt;
         verdict(rt.alloc(), &rows, 100, &stale)?,
-        Some(Verdict::Illegal(4))
+        Some(illegal_at(4, 1))
     );
     Ok(())
 }
@@ -166,7 +174,7 @@ fn an_aborted_write_is_not_seen(rt: HostRuntime) -> Result<(), Fail> {
     ];
     assert_eq!(rt;
         verdict(rt.alloc(), &rows, 100, &seen)?,
-        Some(Verdict::Illegal(4))
+        Some(illegal_at(4, 1))
     );
     Ok(())
 }
@@ -202,7 +210,7 @@ fn a_call_without_an_answer_may_take_effect_later(rt: HostRuntime) -> Result<(),
     ];
     assert_eq!(rt;
         verdict(rt.alloc(), &rows, 100, &asked_again)?,
-        Some(Verdict::Illegal(7))
+        Some(illegal_at(7, 1))
     );
     Ok(())
 }
@@ -228,7 +236,10 @@ fn a_call_that_names_none_fails(rt: HostRuntime) -> Result<(), Fail> {
     ];
     assert_eq!(rt;
         verdict(rt.alloc(), &rows, 100, &succeeds)?,
-        Some(Verdict::Illegal(2))
+        Some(Verdict::Illegal {
+            line: 2,
+            s_id: None,
+        })
     );
     Ok(())
 }

@@ -17,7 +17,7 @@ fn judged(alloc: Global, rows: &Rows, most: usize, mut input: &[u8]) -> Result<J
 {
     let mut judge = Judge::new(alloc, rows, most)?;
     let mut lines = LineReader::new(alloc, MAX_INPUT_LIMIT);
-    judge_history(alloc, &mut judge, &mut lines, &mut input)
+    Ok(judge_history(alloc, &mut judge, &mut lines, &mut input)?.judged)
 }
 
 #[test]
@@ -33,7 +33,10 @@ fn the_line_of_the_input_is_told(rt: HostRuntime) -> Result<(), Fail> {
         "# nobody has it\nask 0 GET_SUBSCRIBER_DATA 9\n\nend 0 OK ?\nask 0 GET_SUBSCRIBER_DATA 9\n";
     assert_eq!(rt;
         judged(alloc, &rows, 1, illegal.as_bytes()),
-        Ok(Judged::Illegal(4))
+        Ok(Judged::Illegal {
+            line: 4,
+            s_id: None,
+        })
     );
     Ok(())
 }
@@ -46,7 +49,10 @@ fn later_lines_are_not_read(rt: HostRuntime) -> Result<(), Fail> {
     let input = "ask 0 GET_SUBSCRIBER_DATA 9\nend 0 OK ?\nno line\n";
     assert_eq!(rt;
         judged(alloc, &rows, 1, input.as_bytes()),
-        Ok(Judged::Illegal(2))
+        Ok(Judged::Illegal {
+            line: 2,
+            s_id: None,
+        })
     );
     Ok(())
 }

@@ -1,17 +1,20 @@
 //! What can be read of a site.
-ghost use Rattle.std.specs.Prelude.{◌≡◌, ◌-◌, length};
+ghost use Rattle.std.specs.Prelude.{◌≡◌, ◌-◌, length, IfSome, IfNone, OnOk};
 ghost use Rattle.std.specs.Option.{option_copied, option_map};
 
 use super::Site;
 use crate::runner::{is_pinned, pinned_extent};
+use std::alloc::AllocError;
 use tatp_extents::{Extent, extent_of};
 use tatp_homes::Home;
 use tatp_loader::Loaded;
 use tatp_machine::Machine;
+use tatp_tables::Rows;
 
 impl<'m> Site<'m> {
     ghost use Rattle.tatp_machine.specs.Machines.{MachineState};
-    ghost use Rattle.tatp_partition.specs.Sites.{RunningCall, home_here};
+    ghost use Rattle.tatp_extents.specs.HomeRows.{with_homes};
+    ghost use Rattle.tatp_partition.specs.Sites.{RunningCall, slot, home_here};
     ghost use Rattle.tatp_partition.specs.Obstacles.{extent_at_rest};
 
     /// Which partition's site it is.
@@ -82,5 +85,22 @@ impl<'m> Site<'m> {
             Some(extent) => return extent.home(s_id),
             None => return None,
         }
+    }
+
+    /// Appends the rows of the homes of the extent of this number as they are now, home by home;
+    /// nothing where the extent isn't here. An error may leave some.
+    pub fn add_rows(&self, e: u32, rows: &mut Rows) -> Result<(), AllocError>
+        ensures here { OnOk result (IfSome (slot self.now.slots e)
+            (λ extent. rows.new ≡ with_homes rows.old extent.homes)) }
+        ensures elsewhere { OnOk result
+            (IfNone (slot self.now.slots e) (rows.new ≡ rows.old)) }
+    {
+        if let Some(pinned) = pinned_extent(&self.running, e as u64) {
+            return pinned.add_rows(rows);
+        }
+        if let Some(extent) = self.slots.get(e as u64) {
+            return extent.add_rows(rows);
+        }
+        Ok(())
     }
 }

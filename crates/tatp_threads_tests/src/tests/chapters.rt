@@ -1,5 +1,4 @@
 //! The chapters that a run leaves, under the executors that kept them.
-ghost use Rattle.std.specs.Prelude.{◌≡◌, vec_len};
 
 use super::threads::spend;
 use std::alloc::{AllocError, Global};
@@ -8,7 +7,7 @@ use tatp_extents::Chapter;
 use tatp_procs::{Ask, Call};
 use tatp_settle_tests::rows::clean_rows;
 use tatp_settle_tests::sites::module;
-use tatp_threads::{Moves, NoGate, Ran, run_calls};
+use tatp_threads::{NoGate, Ran, RunPlan, run_calls};
 
 /// Whom the one client asks: two subscribers of extent 1, two of extent 2, two of extent 3, and
 /// again two of extent 1.
@@ -29,9 +28,7 @@ fn kept(alloc: Global, lists: &[Vec<Chapter>]) -> Result<Vec<Kept>, AllocError> 
 }
 
 /// The chapters of what a run leaves, which is spent.
-fn kept_by(alloc: Global, ran: Ran<'_>) -> Result<Vec<Kept>, AllocError>
-    requires { vec_len ran.parts.landings ≡ 0 }
-{
+fn kept_by(alloc: Global, ran: Ran<'_>) -> Result<Vec<Kept>, AllocError> {
     let parts = ran.parts();
     let chapters = kept(alloc, &parts.chapters);
     spend(parts);
@@ -47,23 +44,16 @@ fn chapters_stand_under_the_executors_that_kept_them(rt: HostRuntime) -> Result<
         asks.push(Ask::Txn(Call::GetSubscriberData { s_id: *s_id }))?;
     }
     let lists = vec![in alloc; asks]?;
-    let at_rest = Moves {
-        moves: Vec::new(alloc),
-        stops: Vec::new(alloc),
+    let plan = RunPlan {
+        partitions: 2,
+        lists: lists.as_slice(),
+        moves: &[],
+        stops: &[],
+        chapter: 2,
     };
     let loaded = module(alloc)?;
     let rows = clean_rows(alloc, 130, &[])?;
-    let chapters = match run_calls(
-        &rt,
-        alloc,
-        &loaded,
-        rows,
-        2,
-        lists.as_slice(),
-        &at_rest,
-        &NoGate,
-        2,
-    ) {
+    let chapters = match run_calls(&rt, alloc, &loaded, rows, plan, &NoGate) {
         Err(_) => return Err("no run".into()),
         Ok(ran) => kept_by(alloc, ran)?,
     };

@@ -1,6 +1,6 @@
 //! The order in time of the calls' last steps is a serial order of a run: its calls, made again one
 //! after another in that order, get the same replies and leave the same rows.
-ghost use Rattle.std.specs.Prelude.{◌≡◌, ◌≤◌, length, vec_len};
+ghost use Rattle.std.specs.Prelude.{◌≤◌, length};
 
 use super::threads::unpack;
 use std::alloc::{AllocError, Global};
@@ -17,7 +17,7 @@ use tatp_procs::{Ask, Call, ReplyRef};
 use tatp_settle_tests::rows::clean_rows;
 use tatp_settle_tests::sites::module;
 use tatp_tables::Rows;
-use tatp_threads::{Gate, Moves, Ran, run_calls};
+use tatp_threads::{Gate, Ran, RunPlan, run_calls};
 
 /// How many subscribers there are, in three extents.
 const SUBSCRIBERS: u64 = 130;
@@ -163,7 +163,7 @@ fn lists_by(alloc: Global, seed: u64) -> Result<Vec<Vec<Ask>>, AllocError> {
 }
 
 /// Moves of the three extents, and stops, by a seed.
-fn moves_by(alloc: Global, seed: u64) -> Result<Moves, AllocError> {
+fn moves_by(alloc: Global, seed: u64) -> Result<(Vec<(u32, u8)>, Vec<u8>), AllocError> {
     let mut word = !seed;
     let mut moves = Vec::new(alloc);
     let mut stops = Vec::new(alloc);
@@ -172,7 +172,7 @@ fn moves_by(alloc: Global, seed: u64) -> Result<Moves, AllocError> {
         moves.push((1 + ((word >> 8) % 3) as u32, ((word >> 40) % 3) as u8))?;
         stops.push(((word >> 50) % 3) as u8)?;
     }
-    Ok(Moves { moves, stops })
+    Ok((moves, stops))
 }
 
 /// The rows at sites, extent by extent.
@@ -196,9 +196,7 @@ struct Left {
 }
 
 /// The rows and the receipts of what a run leaves. None where a parcel is left.
-fn left_of(alloc: Global, ran: Ran<'_>) -> Result<Option<Left>, AllocError>
-    requires { vec_len ran.parts.landings ≡ 0 }
-{
+fn left_of(alloc: Global, ran: Ran<'_>) -> Result<Option<Left>, AllocError> {
     let (sites, parcels, receipts) = unpack(ran);
     let rows = rows_at(alloc, &sites);
     close_sites(sites);
@@ -224,9 +222,15 @@ fn left_by<R: Threads + Wait + Sync>(
 {
     let loaded = module(alloc)?;
     let rows = clean_rows(alloc, SUBSCRIBERS, &[])?;
-    let moves = moves_by(alloc, seed)?;
-    let chapter = 1 + seed % 8;
-    match run_calls(rt, alloc, &loaded, rows, 3, lists, &moves, clock, chapter) {
+    let (moves, stops) = moves_by(alloc, seed)?;
+    let plan = RunPlan {
+        partitions: 3,
+        lists,
+        moves: moves.as_slice(),
+        stops: stops.as_slice(),
+        chapter: 1 + seed % 8,
+    };
+    match run_calls(rt, alloc, &loaded, rows, plan, clock) {
         Err(_) => Err("no run".into()),
         Ok(ran) => match left_of(alloc, ran)? {
             None => Err("a parcel is left".into()),
@@ -269,8 +273,8 @@ fn is_same(
     match (ask, receipt) {
         (Some(ask), Some(ReceiptRef::Done { reply, .. })) => {
             match world.call(client as u64, *ask) {
-                Some(again) => is_reply(again, reply),
-                None => false,
+                Ok(again) => is_reply(again, reply),
+                Err(_) => false,
             }
         }
         _ => false,

@@ -1,7 +1,5 @@
 //! Why runs are refused.
-ghost use Rattle.std.specs.Prelude.{◌≤◌, length};
-
-use super::threads::unpack;
+use super::threads::{plan_of, unpack};
 use std::alloc::{AllocError, Global};
 use std::sync::Wait;
 use std::test::*;
@@ -12,7 +10,7 @@ use tatp_procs::{Ask, Call, Raw};
 use tatp_settle_tests::rows::clean_rows;
 use tatp_settle_tests::sites::module;
 use tatp_tables::{Row, Rows};
-use tatp_threads::{Moves, NoGate, run_calls};
+use tatp_threads::{NoGate, run_calls};
 
 /// Why a run of these calls on these rows is refused.
 fn told<R: Threads + Wait + Sync>(
@@ -22,22 +20,9 @@ fn told<R: Threads + Wait + Sync>(
     ask: Ask,
 ) -> Result<String, Fail> {
     let lists = vec![in alloc; vec![in alloc; ask]?]?;
-    let at_rest = Moves {
-        moves: Vec::new(alloc),
-        stops: Vec::new(alloc),
-    };
     let loaded = module(alloc)?;
-    match run_calls(
-        rt,
-        alloc,
-        &loaded,
-        rows,
-        1,
-        lists.as_slice(),
-        &at_rest,
-        &NoGate,
-        1000,
-    ) {
+    let plan = plan_of(lists.as_slice(), &[], &[]);
+    match run_calls(rt, alloc, &loaded, rows, plan, &NoGate) {
         Err(refusal) => Ok(format!(in alloc; "{refusal}")?),
         Ok(ran) => {
             let (sites, _parcels, _receipts) = unpack(ran);

@@ -2,7 +2,7 @@
 //! not the debugger's, but what the debugger sees of a call before it has it make a step.
 
 use super::real_time::counters;
-use super::threads::receipts_and_stops;
+use super::threads::{plan_of, receipts_and_stops};
 use std::alloc::{AllocError, Global};
 use std::process::Abort;
 use std::sync::Wait;
@@ -14,7 +14,7 @@ use std::time::{Clock, Duration};
 use tatp_debug::Snapshot;
 use tatp_partition::SiteRefusal;
 use tatp_procs::{Ask, Call};
-use tatp_threads::{Gate, Moves};
+use tatp_threads::Gate;
 
 /// How many steps a call makes that reads a subscriber: one from each position, in order.
 const STEPS: u64 = 72;
@@ -94,7 +94,7 @@ impl<R: Clock> Gate for SlowSteps<'_, R> {
 }
 
 /// `in_second` stops of partition 1, and then `in_first` of partition 0.
-fn stops_of(alloc: Global, in_second: u64, in_first: u64) -> Result<Moves, AllocError> {
+fn stops_of(alloc: Global, in_second: u64, in_first: u64) -> Result<Vec<u8>, AllocError> {
     let mut stops = Vec::new(alloc);
     for _ in 0..in_second {
         stops.push(1)?;
@@ -102,10 +102,7 @@ fn stops_of(alloc: Global, in_second: u64, in_first: u64) -> Result<Moves, Alloc
     for _ in 0..in_first {
         stops.push(0)?;
     }
-    Ok(Moves {
-        moves: Vec::new(alloc),
-        stops,
-    })
+    Ok(stops)
 }
 
 /// At how many stops of its partition a slow call runs. There is one look at each stop. From each
@@ -113,8 +110,9 @@ fn stops_of(alloc: Global, in_second: u64, in_first: u64) -> Result<Moves, Alloc
 fn stops_met<R: Threads + Wait + Clock + Sync>(rt: &R, alloc: Global) -> Result<u64, Fail> {
     let gate = SlowSteps::new(rt, alloc)?;
     let lists = vec![in alloc; vec![in alloc; Ask::Txn(Call::GetSubscriberData { s_id: 1 })]?]?;
-    let moves = stops_of(alloc, BEFORE, STOPS)?;
-    let (receipts, stops) = receipts_and_stops(rt, alloc, lists.as_slice(), &moves, &gate)?;
+    let asked = stops_of(alloc, BEFORE, STOPS)?;
+    let plan = plan_of(lists.as_slice(), &[], asked.as_slice());
+    let (receipts, stops) = receipts_and_stops(rt, alloc, plan, &gate)?;
     if receipts.as_slice() != [1].as_slice() || stops.as_slice() != [BEFORE, STOPS].as_slice() {
         return Err("other receipts or stops".into());
     }
@@ -210,7 +208,7 @@ fn calls_by_turns(alloc: Global) -> Result<Vec<Ask>, AllocError> {
     Ok(asks)
 }
 
-/// Each call has ended, none was told before its answer, and the debugger made last steps.
+/// Each call has ended, no gate call came before its answer, and the debugger made last steps.
 fn expect_ends<R: Clock>(rt: &impl Abort, gate: &HoldAnswers<'_, R>) {
     let ends = gate.ends.load(Ordering::SeqCst);
     let in_first = gate.ends_in_first.load(Ordering::SeqCst);
@@ -221,7 +219,7 @@ fn expect_ends<R: Clock>(rt: &impl Abort, gate: &HoldAnswers<'_, R>) {
 }
 
 // Where the debugger makes the last step of a call, its client is answered, and then the gate is
-// told.
+// called.
 #[test]
 fn ends_by_the_debugger_are_told_once_the_reply_can_be_taken(rt: HostRuntime) -> Result<(), Fail> {
     let alloc = rt.alloc();
@@ -234,8 +232,9 @@ fn ends_by_the_debugger_are_told_once_the_reply_can_be_taken(rt: HostRuntime) ->
         late: AtomicU64::new(0),
     };
     let lists = vec![in alloc; calls_by_turns(alloc)?]?;
-    let moves = stops_of(alloc, 0, 20_000)?;
-    let (receipts, stops) = receipts_and_stops(&rt, alloc, lists.as_slice(), &moves, &gate)?;
+    let asked = stops_of(alloc, 0, 20_000)?;
+    let plan = plan_of(lists.as_slice(), &[], asked.as_slice());
+    let (receipts, stops) = receipts_and_stops(&rt, alloc, plan, &gate)?;
     assert_eq!(rt; receipts.as_slice(), [TURNS as usize * 2].as_slice());
     assert_eq!(rt; stops.as_slice(), [0, 20_000].as_slice());
     expect_ends(&rt, &gate);

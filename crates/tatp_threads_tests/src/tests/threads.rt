@@ -1,6 +1,7 @@
 //! What a run of threads leaves: sites that were stopped, extents that were moved, and what is
 //! copied out of locked sites.
-ghost use Rattle.std.specs.Prelude.{◌≡◌, ◌≤◌, length, vec_len};
+ghost use Rattle.std.specs.Prelude.{◌≤◌, length};
+ghost use Rattle.tatp_threads.specs.RunPlans.{IsRunPlan};
 
 use std::alloc::{AllocError, Global};
 use std::process::Abort;
@@ -13,21 +14,19 @@ use tatp_partition::{Site, close_sites};
 use tatp_procs::{Ask, Call, ReplyRef};
 use tatp_settle_tests::rows::clean_rows;
 use tatp_settle_tests::sites::{module, spend_parcels};
-use tatp_threads::{Gate, Moves, NoGate, Ran, RanParts, copy_extent, discard_chapters, run_calls};
+use tatp_threads::{
+    Gate, NoGate, Ran, RanParts, RunPlan, copy_extent, discard_chapters, run_calls,
+};
 
 /// What a run of threads leaves: its sites, how many parcels, which are spent with its chapters,
 /// and its receipts.
-pub fn unpack<'m>(ran: Ran<'m>) -> (Vec<Site<'m>>, usize, Vec<Receipts>)
-    requires { vec_len ran.parts.landings ≡ 0 }
-{
+pub fn unpack<'m>(ran: Ran<'m>) -> (Vec<Site<'m>>, usize, Vec<Receipts>) {
     let RanParts {
         sites,
         parcels,
-        landings,
         chapters,
         receipts,
     } = ran.parts();
-    landings.destroy_empty();
     discard_chapters(chapters);
     let parcels_left = parcels.len();
     spend_parcels(parcels);
@@ -35,28 +34,31 @@ pub fn unpack<'m>(ran: Ran<'m>) -> (Vec<Site<'m>>, usize, Vec<Receipts>)
 }
 
 /// Spends what a run leaves.
-pub fn spend(parts: RanParts<'_>)
-    requires { vec_len parts.landings ≡ 0 }
-{
+pub fn spend(parts: RanParts<'_>) {
     let RanParts {
         sites,
         parcels,
-        landings,
         chapters,
         receipts: _,
     } = parts;
-    landings.destroy_empty();
     discard_chapters(chapters);
     spend_parcels(parcels);
     close_sites(sites);
 }
 
-/// Moves to both partitions and to none, and stops of each.
-fn moves_and_stops(alloc: Global) -> Result<Moves, AllocError> {
-    Ok(Moves {
-        moves: vec![in alloc; (3u32, 1u8), (3, 0), (0, 1), (3, 2), (4, 1), (3, 1)]?,
-        stops: vec![in alloc; 0u8, 1, 2, 0]?,
-    })
+/// A plan over two partitions, where no log is long enough for a chapter.
+pub fn plan_of<'w>(lists: &'w [Vec<Ask>], moves: &'w [(u32, u8)], stops: &'w [u8]) -> RunPlan<'w>
+    requires some_clients { 1 ≤ length lists.now }
+    requires few_clients { length lists.now ≤ 64 }
+    ensures { IsRunPlan result }
+{
+    RunPlan {
+        partitions: 2,
+        lists,
+        moves,
+        stops,
+        chapter: 1000,
+    }
 }
 
 /// The call of the one client.
@@ -123,9 +125,7 @@ fn look<R: Wait>(rt: &R, alloc: Global, sites: Vec<Site<'_>>, left: &mut Left) {
 }
 
 /// What a run leaves.
-fn left_by<R: Wait>(rt: &R, alloc: Global, ran: Ran<'_>) -> Left
-    requires { vec_len ran.parts.landings ≡ 0 }
-{
+fn left_by<R: Wait>(rt: &R, alloc: Global, ran: Ran<'_>) -> Left {
     let (sites, parcels, receipts) = unpack(ran);
     let mut left = Left {
         stops: Vec::new(alloc),
@@ -138,20 +138,18 @@ fn left_by<R: Wait>(rt: &R, alloc: Global, ran: Ran<'_>) -> Left
     left
 }
 
-/// What a run of clients' calls over two partitions of 130 subscribers leaves.
+/// What a run of clients' calls on 130 subscribers leaves.
 fn left_by_run<R: Threads + Wait + Sync, G: Gate + Sync>(
     rt: &R,
     alloc: Global,
-    lists: &[Vec<Ask>],
-    moves: &Moves,
+    plan: RunPlan<'_>,
     gate: &G,
 ) -> Result<Left, Fail>
-    requires some_clients { 1 ≤ length lists.now }
-    requires few_clients { length lists.now ≤ 64 }
+    requires { IsRunPlan plan }
 {
     let loaded = module(alloc)?;
     let rows = clean_rows(alloc, 130, &[])?;
-    match run_calls(rt, alloc, &loaded, rows, 2, lists, moves, gate, 1000) {
+    match run_calls(rt, alloc, &loaded, rows, plan, gate) {
         Err(_) => Err("no run".into()),
         Ok(ran) => Ok(left_by(rt, alloc, ran)),
     }
@@ -162,14 +160,12 @@ fn left_by_run<R: Threads + Wait + Sync, G: Gate + Sync>(
 pub fn receipts_and_stops<R: Threads + Wait + Sync, G: Gate + Sync>(
     rt: &R,
     alloc: Global,
-    lists: &[Vec<Ask>],
-    moves: &Moves,
+    plan: RunPlan<'_>,
     gate: &G,
 ) -> Result<(Vec<usize>, Vec<u64>), Fail>
-    requires some_clients { 1 ≤ length lists.now }
-    requires few_clients { length lists.now ≤ 64 }
+    requires { IsRunPlan plan }
 {
-    let left = left_by_run(rt, alloc, lists, moves, gate)?;
+    let left = left_by_run(rt, alloc, plan, gate)?;
     let mut counts = Vec::new(alloc);
     for receipts in &left.receipts {
         counts.push(receipts.len())?;
@@ -188,11 +184,7 @@ pub fn receipts_of_run<R: Threads + Wait + Sync, G: Gate + Sync>(
     requires some_clients { 1 ≤ length lists.now }
     requires few_clients { length lists.now ≤ 64 }
 {
-    let at_rest = Moves {
-        moves: Vec::new(alloc),
-        stops: Vec::new(alloc),
-    };
-    let (counts, _stops) = receipts_and_stops(rt, alloc, lists, &at_rest, gate)?;
+    let (counts, _stops) = receipts_and_stops(rt, alloc, plan_of(lists, &[], &[]), gate)?;
     Ok(counts)
 }
 
@@ -249,13 +241,19 @@ fn expect_first(rt: &impl Abort, parts: &ExtentParts) {
     assert_eq!(rt; (before, after), (Some(1), Some(7)));
 }
 
+/// Moves to both partitions and to none.
+static MOVES: [(u32, u8); 6] = [(3, 1), (3, 0), (0, 1), (3, 2), (4, 1), (3, 1)];
+
+/// Stops of both partitions and of none.
+static STOPS: [u8; 4] = [0, 1, 2, 0];
+
 // A mover that moves nothing, or a debugger that stops nothing, leaves other numbers.
 #[test]
 fn extents_are_moved_and_copied_and_sites_stopped(rt: HostRuntime) -> Result<(), Fail> {
     let alloc = rt.alloc();
     let lists = vec![in alloc; vec![in alloc; Ask::Txn(ASK)]?]?;
-    let moves = moves_and_stops(alloc)?;
-    let left = left_by_run(&rt, alloc, lists.as_slice(), &moves, &NoGate)?;
+    let plan = plan_of(lists.as_slice(), &MOVES, &STOPS);
+    let left = left_by_run(&rt, alloc, plan, &NoGate)?;
     expect_left(&rt, &left);
     let [None, Some(third), Some(first), None] = left.copies.as_slice() else {
         return Err("other copies".into());

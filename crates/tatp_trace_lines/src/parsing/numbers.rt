@@ -7,7 +7,7 @@ use tatp_limits::MAX_ARGUMENTS;
 use tatp_lines::read_number;
 use tatp_texts::Fields;
 
-/// Exactly one.
+/// The number that the fields are, which have to be exactly one.
 pub(super) fn one_number(fields: &mut Fields) -> Option<u64>
     ensures { result ≡ one_number fields.old }
 {
@@ -18,7 +18,7 @@ pub(super) fn one_number(fields: &mut Fields) -> Option<u64>
     }
 }
 
-/// Exactly two.
+/// The numbers that the fields are, which have to be exactly two.
 pub(super) fn two_numbers(fields: &mut Fields) -> Option<(u64, u64)>
     ensures { result ≡ two_numbers fields.old }
 {
@@ -27,7 +27,7 @@ pub(super) fn two_numbers(fields: &mut Fields) -> Option<(u64, u64)>
     Some((first, second))
 }
 
-/// Exactly three.
+/// The numbers that the fields are, which have to be exactly three.
 pub(super) fn three_numbers(fields: &mut Fields) -> Option<(u64, u64, u64)>
     ensures { result ≡ three_numbers fields.old }
 {
@@ -36,7 +36,7 @@ pub(super) fn three_numbers(fields: &mut Fields) -> Option<(u64, u64, u64)>
     Some((first, second, third))
 }
 
-/// As many as a call can have arguments, at most.
+/// The numbers that the fields are, of which there may be as many as a call can have arguments.
 #[tactic(auto, using(crate::proofs::NumberLaws::none_read, crate::proofs::NumberLaws::none_left, crate::proofs::NumberLaws::bad_left, crate::proofs::NumberLaws::too_many_left, crate::proofs::NumberLaws::one_read))]
 pub(super) fn eight_numbers(fields: &mut Fields) -> Option<ArrayVec<u64, MAX_ARGUMENTS>>
     ensures { MatchOption result (numbers_within MAX_ARGUMENTS fields.old ≡ None)

@@ -20,18 +20,18 @@ returns-in-Err-clause-refusal g c = elim c.in-Err.ensures.refusal as (λ _. Refu
 
 pub settle_run-requires-clause-few : goal.settle_run-requires-clause-few
 settle_run-requires-clause-few g c κs within =
-    let same : lists_of c.args.work.lists.now ≡ calls_drawn c.args.plan.now = c.requires.work.calls in
+    let same : lists_of c.args.work.run.lists.now ≡ calls_drawn c.args.plan.now = c.requires.work.calls in
     subst (λ lists. length (joined lists) < 2 ^ 64) (sym same) (few_calls c.args.plan.now c.requires.plan)
 
 -- what the threads left
 abbrev left : (g : given.Over) (c : After-settle_run g) → Run
-left g c = run_left c.args.population.now c.parts-parts.result c.args.work.lists.now
+left g c = run_left c.args.population.now c.parts-parts.result c.args.work.run.lists.now
 
 -- it is a run of the plan
 of_plan : (g : given.Over) (c : After-settle_run g) → IsRunOf c.args.plan.now (left g c)
 of_plan g c =
     let plan = c.args.plan.now in
-    let lists = c.args.work.lists.now in
+    let lists = c.args.work.run.lists.now in
     let parts = c.parts-parts.result in
     let same : lists_of lists ≡ calls_drawn plan = c.requires.work.calls in
     let population : c.args.population.now ≡ rows_drawn plan = c.requires.population in

@@ -6,21 +6,14 @@ use Rattle.tatp_bench.proofs.PlanLaws.{calls_are_run, rows_are_opened, clients_l
 use Rattle.tatp_bench.proofs.work.run_work.Given as given
 use Rattle.tatp_bench.proofs.work.run_work.Goals as goal
 
-pub run_clean_calls-requires-clause-some_partitions : goal.run_clean_calls-requires-clause-some_partitions
-run_clean_calls-requires-clause-some_partitions g c κs within = omega (arith, c.requires.work.partitions, c.requires.plan.partitions.0)
-
-pub run_clean_calls-requires-clause-few_partitions : goal.run_clean_calls-requires-clause-few_partitions
-run_clean_calls-requires-clause-few_partitions g c κs within = omega (arith, c.requires.work.partitions, c.requires.plan.partitions.1)
-
-pub run_clean_calls-requires-clause-some_clients : goal.run_clean_calls-requires-clause-some_clients
-run_clean_calls-requires-clause-some_clients g c κs within =
-    let same : lists_of c.args.work.lists.now ≡ calls_drawn c.args.plan.now = c.requires.work.calls in
-    omega (arith, clients_listed c.args.plan.now c.args.work.lists.now same, c.requires.plan.clients.0)
-
-pub run_clean_calls-requires-clause-few_clients : goal.run_clean_calls-requires-clause-few_clients
-run_clean_calls-requires-clause-few_clients g c κs within =
-    let same : lists_of c.args.work.lists.now ≡ calls_drawn c.args.plan.now = c.requires.work.calls in
-    omega (arith, clients_listed c.args.plan.now c.args.work.lists.now same, c.requires.plan.clients.1)
+pub run_clean_calls-requires-clause-plan : goal.run_clean_calls-requires-clause-plan
+run_clean_calls-requires-clause-plan g c κs within =
+    let same : lists_of c.args.work.run.lists.now ≡ calls_drawn c.args.plan.now = c.requires.work.calls in
+    let listed = clients_listed c.args.plan.now c.args.work.run.lists.now same in
+    record {
+      partitions = (omega (arith, c.requires.work.partitions, c.requires.plan.partitions.0), omega (arith, c.requires.work.partitions, c.requires.plan.partitions.1));
+      clients = (omega (arith, listed, c.requires.plan.clients.0), omega (arith, listed, c.requires.plan.clients.1));
+    }
 
 pub run_clean_calls-requires-clause-rows : goal.run_clean_calls-requires-clause-rows
 run_clean_calls-requires-clause-rows g c κs within =
@@ -29,7 +22,7 @@ run_clean_calls-requires-clause-rows g c κs within =
 pub run_clean_calls-requires-clause-calls : goal.run_clean_calls-requires-clause-calls
 run_clean_calls-requires-clause-calls g c κs within =
     let plan = c.args.plan.now in
-    let lists = c.args.work.lists.now in
+    let lists = c.args.work.run.lists.now in
     let same : lists_of lists ≡ calls_drawn plan = c.requires.work.calls in
     subst (λ modul. obstacle_among modul lists ≡ None) (sym c.requires.work.standard) (calls_are_run plan lists c.requires.plan same)
 
@@ -38,8 +31,8 @@ returns-in-Ok-clause-sites g c = c.in-Ok.ensures.sites ∙ c.requires.work.parti
 
 pub returns-in-Ok-clause-receipts : goal.returns-in-Ok-clause-receipts
 returns-in-Ok-clause-receipts g c =
-    let same : lists_of c.args.work.lists.now ≡ calls_drawn c.args.plan.now = c.requires.work.calls in
-    c.in-Ok.ensures.receipts ∙ clients_listed c.args.plan.now c.args.work.lists.now same
+    let same : lists_of c.args.work.run.lists.now ≡ calls_drawn c.args.plan.now = c.requires.work.calls in
+    c.in-Ok.ensures.receipts ∙ clients_listed c.args.plan.now c.args.work.run.lists.now same
 
 pub returns-in-Err-clause-refusal : goal.returns-in-Err-clause-refusal
 returns-in-Err-clause-refusal g c = elim c.fault_of.ensures [

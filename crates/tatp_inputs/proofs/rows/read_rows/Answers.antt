@@ -1,15 +1,14 @@
-use Rattle.std.proofs.lemmas.Result.{err_from_is_err_and}
-use Rattle.tatp_inputs.proofs.DotLaws.{rows_of_input, dot_refused, input_refused}
+use Rattle.std.specs.Prelude.{◌≡◌, Ok}
+use Rattle.std.proofs.lemmas.Result.{IfErr-weaker, IfOk-weaker, on_ok_weaker}
+use Rattle.tatp_inputs.specs.Refusing.{RefusesReading}
+use Rattle.tatp_inputs.proofs.DotLaws.{input_within, of_rows}
 use Rattle.tatp_inputs.proofs.rows.read_rows.Goals as goal
 
-pub returns-in_err-rows-clause-faults : goal.returns-in_err-rows-clause-faults
-returns-in_err-rows-clause-faults g c =
-    let p = err_from_is_err_and c.from_residual.result c.from_residual.ensures.1 in
-    rw (p.1, p.2) (input_refused _ _ (g.R.Read.remaining c.args.reader.now) _ c.new-lines.ensures c.in_err-rows.ensures.faults)
-
-pub returns-then-dot-clause-faults : goal.returns-then-dot-clause-faults
-returns-then-dot-clause-faults g c =
-    rw c.number.ensures.number (dot_refused _ _ (g.R.Read.remaining c.args.reader.now) _ _ _ c.new-lines.ensures (rw c.if-dot.true at c.in_ok-rows.ensures.front))
-
 pub returns-clause-rows : goal.returns-clause-rows
-returns-clause-rows g c = rows_of_input _ _ (g.R.Read.remaining c.args.reader.now) _ _ _ c.new-lines.ensures (rw c.if-dot.false at c.in_ok-rows.ensures.front)
+returns-clause-rows g c = IfOk-weaker c.read_rows_to_end.result _ _ (λ rows h. of_rows _ c.args.input_limit (g.R.Read.remaining c.args.reader.now) (λ r. r ≡ Ok rows) c.new-lines.ensures h) c.read_rows_to_end.ensures.rows
+
+pub returns-clause-limit : goal.returns-clause-limit
+returns-clause-limit g c = on_ok_weaker c.read_rows_to_end.result (λ h. input_within _ c.args.input_limit (g.R.Read.remaining c.args.reader.now) c.new-lines.ensures h) c.read_rows_to_end.ensures.limit
+
+pub returns-clause-faults : goal.returns-clause-faults
+returns-clause-faults g c = IfErr-weaker c.read_rows_to_end.result _ _ (λ fault h. of_rows _ c.args.input_limit (g.R.Read.remaining c.args.reader.now) (λ r. RefusesReading r fault) c.new-lines.ensures h) c.read_rows_to_end.ensures.faults

@@ -8,9 +8,9 @@ use Rattle.tatp_history.specs.declared.line.Line.{Line}
 use Rattle.tatp_streams.specs.LineReading.{lines_left, Stays, with_line}
 use Rattle.tatp_judge.specs.declared.judge.Verdict.{Verdict}
 use Rattle.tatp_judge.specs.Followed.{HasFollowed}
-use Rattle.tatp_judged_inputs.specs.Judged.{IsJudged, IsTold}
+use Rattle.tatp_judged_inputs.specs.Judged.{IsJudgement, IsTold}
 use Rattle.tatp_judged_inputs.specs.Reading.{Decides, IsNumbered, told_by, told_of, RefusesHistory}
-use Rattle.tatp_judged_inputs.proofs.FrontLaws.{is_judged}
+use Rattle.tatp_judged_inputs.proofs.FrontLaws.{is_judgement}
 use Rattle.tatp_judged_inputs.proofs.HistoryLaws.{ReadSoFar, by_all, one_numbered, read_all, read_decided, read_one, read_to_end, reading_goes_on, reading_refused, reading_starts}
 use Rattle.tatp_judged_inputs.proofs.judging.judge_history.Goals as goal
 
@@ -22,8 +22,11 @@ lines-init g c = λ u most is.
 pub finish-requires : goal.finish-requires
 finish-requires g c = let q = c.requires in let s = c.lines.invariant q.0 q.1 q.2 in (q.0, q.1, s.past, s.followed)
 
-pub judged-requires : goal.judged-requires
-judged-requires g c = let q = c.requires in let s = c.lines.invariant q.0 q.1 q.2 in (q.0, q.1, s.past, s.numbered, c.in_ok-verdict.ensures q.0 q.1 s.past s.followed)
+pub judgement-requires : goal.judgement-requires
+judgement-requires g c =
+    let q = c.requires in
+    let s = c.lines.invariant q.0 q.1 q.2 in
+    (q.0, q.1, s.past, s.numbered, c.in_ok-verdict.ensures.verdict q.0 q.1 s.past s.followed, λ line s_id e. c.finish.ensures.kept q.0 q.1 s.past s.followed)
 
 pub take-requires : goal.take-requires
 take-requires g c = let q = c.requires in let s = c.lines.invariant q.0 q.1 q.2 in (q.0, q.1, s.past, s.followed, s.numbered)
@@ -35,13 +38,14 @@ returns-then-not-branch-clause-judged g c =
     let left = lines_left c.lines.lines (g.R.Read.remaining c.lines.reader) in
     let left' = lines_left c.advance.new.self (g.R.Read.remaining c.advance.new.reader) in
     let met = c.in_ok-advance.ensures.end c.if-not-branch.true in
-    by_all all (λ a. (u : Database) (most : ℕ) → HasFollowed u most [] c.args.judge.now → IsJudged u most taken a.lines c.judged.result) (λ a e. λ u most is.
+    by_all all (λ a. (u : Database) (most : ℕ) → HasFollowed u most [] c.args.judge.now → IsJudgement u most taken a.lines c.in_ok-judgement.field-0.judged c.in_ok-judgement.field-0.window.items) (λ a e. λ u most is.
     let s = c.lines.invariant u most is in
     let read = read_to_end u most c.lines.judge c.lines.reading taken c.lines.lines.number all left left' a s e met.left met.none met.within in
-    subst (λ texts. IsJudged u most taken texts c.judged.result) (append-nil s.read ∙ sym read)
-    (is_judged u most taken c.lines.lines.number s.read [] (told_of c.lines.reading s.past) c.in_ok-verdict.verdict c.judged.result (read_all c.lines.reading s.past taken c.lines.lines.number s.read s.to) (λ _. refl)
-    (c.in_ok-verdict.ensures u most s.past s.followed)
-    (subst (λ n. IsTold c.lines.reading.numbers.items n c.in_ok-verdict.verdict c.judged.result) (c.number.ensures.number ∙ met.number) c.judged.ensures)))
+    subst (λ texts. IsJudgement u most taken texts c.in_ok-judgement.field-0.judged c.in_ok-judgement.field-0.window.items) (append-nil s.read ∙ sym read)
+    (is_judgement u most taken c.lines.lines.number s.read [] (told_of c.lines.reading s.past) c.in_ok-verdict.verdict c.in_ok-judgement.field-0.judged c.in_ok-judgement.field-0.window.items (read_all c.lines.reading s.past taken c.lines.lines.number s.read s.to) (λ _. refl)
+    (c.in_ok-verdict.ensures.verdict u most s.past s.followed)
+    (subst (λ n. IsTold c.lines.reading.numbers.items n c.in_ok-verdict.verdict c.in_ok-judgement.field-0.judged) (c.number.ensures.number ∙ met.number) c.in_ok-judgement.ensures.judged)
+    (c.in_ok-judgement.ensures.window u most s.past s.numbered (c.in_ok-verdict.ensures.verdict u most s.past s.followed) (λ line s_id e. c.finish.ensures.kept u most s.past s.followed))))
 
 pub returns-in_err-verdict-2-clause-faults : goal.returns-in_err-verdict-2-clause-faults
 returns-in_err-verdict-2-clause-faults g c =
@@ -57,14 +61,14 @@ returns-in_err-verdict-2-clause-faults g c =
     (c.number-in-lines.ensures.number ∙ advanced.number) advanced.left
     (subst (λ text. (past : List Line) (more : List (List ℕ)) → RefusesHistory (told_by c.lines.reading past c.number-in-lines.result (text ∷ more)) f) c.line.ensures c.in_err-verdict-2.ensures.faults))
 
-pub judged-requires-in-Some : goal.judged-requires-in-Some
-judged-requires-in-Some g c =
+pub judgement-requires-in-Some : goal.judgement-requires-in-Some
+judgement-requires-in-Some g c =
     let q = c.requires in
     let s = c.lines.invariant q.0 q.1 q.2 in
     let verdict = c.in-Some.verdict in
-    let d = subst (λ found. IfSome found (λ v. (u : Database) (most : ℕ) (past : List Line) → HasFollowed u most past c.lines.judge → IsNumbered c.lines.reading past → Decides u most past c.number-in-lines.result c.line.result.now v c.lines.reading c.take.new.self))
+    let d = subst (λ found. IfSome found (λ v. (u : Database) (most : ℕ) (past : List Line) → HasFollowed u most past c.lines.judge → IsNumbered c.lines.reading past → Decides u most past c.number-in-lines.result c.line.result.now v c.take.new.judge c.lines.reading c.take.new.self))
     c.in-Some.is c.in_ok-verdict-2.ensures.decided q.0 q.1 s.past s.followed s.numbered in
-    (q.0, q.1, s.past ++ d.line ∷ [], one_numbered c.lines.reading c.take.new.self s.past c.number-in-lines.result d.line d.numbers_are s.numbered, d.decided)
+    (q.0, q.1, s.past ++ d.line ∷ [], one_numbered c.lines.reading c.take.new.self s.past c.number-in-lines.result d.line d.numbers_are s.numbered, d.decided, d.kept)
 
 pub returns-in-Some-clause-judged : goal.returns-in-Some-clause-judged
 returns-in-Some-clause-judged g c =
@@ -76,19 +80,20 @@ returns-in-Some-clause-judged g c =
     let verdict = c.in-Some.verdict in
     let number = c.number-in-lines.result in
     let next = c.number-in-lines.ensures.number ∙ advanced.number in
-    let decides = subst (λ found. IfSome found (λ v. (u : Database) (most : ℕ) (past : List Line) → HasFollowed u most past c.lines.judge → IsNumbered c.lines.reading past → Decides u most past number c.line.result.now v c.lines.reading c.take.new.self))
+    let decides = subst (λ found. IfSome found (λ v. (u : Database) (most : ℕ) (past : List Line) → HasFollowed u most past c.lines.judge → IsNumbered c.lines.reading past → Decides u most past number c.line.result.now v c.take.new.judge c.lines.reading c.take.new.self))
     c.in-Some.is c.in_ok-verdict-2.ensures.decided in
-    by_all all (λ a. (u : Database) (most : ℕ) → HasFollowed u most [] c.args.judge.now → IsJudged u most taken a.lines c.judged-in-Some.result) (λ a e. λ u most is.
+    by_all all (λ a. (u : Database) (most : ℕ) → HasFollowed u most [] c.args.judge.now → IsJudgement u most taken a.lines c.in_ok-judgement-2.field-0.judged c.in_ok-judgement-2.field-0.window.items) (λ a e. λ u most is.
     let s = c.lines.invariant u most is in
     let text = c.line.result.now in
     let d = decides u most s.past s.followed s.numbered in
     let stays = subst (λ t. Stays left (option_map (with_line t) left')) (sym c.line.ensures) advanced.left in
     let one = read_one u most c.lines.judge c.lines.reading taken c.lines.lines.number text all left left' a s e stays in
-    subst (λ texts. IsJudged u most taken texts c.judged-in-Some.result) (sym one.1)
-    (is_judged u most taken number (s.read ++ text ∷ []) one.0 (record { numbers = c.take.new.self.numbers.items; lines = s.past ++ d.line ∷ [] }) verdict c.judged-in-Some.result
-    (read_decided u most verdict c.lines.reading c.take.new.self s.past taken c.lines.lines.number number s.read text s.to next d)
+    subst (λ texts. IsJudgement u most taken texts c.in_ok-judgement-2.field-0.judged c.in_ok-judgement-2.field-0.window.items) (sym one.1)
+    (is_judgement u most taken number (s.read ++ text ∷ []) one.0 (record { numbers = c.take.new.self.numbers.items; lines = s.past ++ d.line ∷ [] }) verdict c.in_ok-judgement-2.field-0.judged c.in_ok-judgement-2.field-0.window.items
+    (read_decided u most verdict c.take.new.judge c.lines.reading c.take.new.self s.past taken c.lines.lines.number number s.read text s.to next d)
     (λ legal. absurd (c.in_ok-verdict-2.ensures.never (ap Ok (c.in-Some.is ∙ ap Some legal)))) d.decided
-    (subst (λ n. IsTold c.take.new.self.numbers.items n verdict c.judged-in-Some.result) (c.number-in-Some.ensures.number ∙ sym c.number-in-lines.ensures.number) c.judged-in-Some.ensures)))
+    (subst (λ n. IsTold c.take.new.self.numbers.items n verdict c.in_ok-judgement-2.field-0.judged) (c.number-in-Some.ensures.number ∙ sym c.number-in-lines.ensures.number) c.in_ok-judgement-2.ensures.judged)
+    (c.in_ok-judgement-2.ensures.window u most (s.past ++ d.line ∷ []) (one_numbered c.lines.reading c.take.new.self s.past number d.line d.numbers_are s.numbered) d.decided d.kept)))
 
 none_is : (found : Option Verdict) → ((verdict : Verdict) → found ≡ Some verdict → ⊥) → found ≡ None
 none_is None h = refl

@@ -6,16 +6,16 @@ use Rattle.tatp_threads.proofs.run.run_calls.Goals as goal
 
 pub returns-in-Err-clause-refusal : goal.returns-in-Err-clause-refusal
 returns-in-Err-clause-refusal g c =
-    subst (RefusesRun c.args.loaded.now c.args.rows c.args.lists.now) (sym c.refusal_of.ensures)
-    (opening_refused c.args.loaded.now c.args.rows c.args.lists.now c.in-Err.error (search rules))
+    subst (RefusesRun c.args.loaded.now c.args.rows c.args.plan.lists.now) (sym c.refusal_of.ensures)
+    (opening_refused c.args.loaded.now c.args.rows c.args.plan.lists.now c.in-Err.error (search rules))
 
 pub returns-in-Some-clause-refusal : goal.returns-in-Some-clause-refusal
 returns-in-Some-clause-refusal g c =
     let opened : AreOpened c.args.rows = search rules in
-    call_refused c.args.loaded.now c.args.rows c.args.lists.now c.in-Some.refusal opened (sym c.obstacle_among.ensures ∙ c.in-Some.is)
+    call_refused c.args.loaded.now c.args.rows c.args.plan.lists.now c.in-Some.refusal opened (sym c.obstacle_among.ensures ∙ c.in-Some.is)
 
 pub returns-clause-refusal : goal.returns-clause-refusal
 returns-clause-refusal g c =
     let opened : AreOpened c.args.rows = search rules in
-    let none : obstacle_among c.args.loaded.now c.args.lists.now ≡ None = search rules in
-    IfErr-weaker c.run_clean_calls.result _ (RefusesRun c.args.loaded.now c.args.rows c.args.lists.now) (end_refused c.args.loaded.now c.args.rows c.args.lists.now opened none) c.run_clean_calls.ensures.refusal
+    let none : obstacle_among c.args.loaded.now c.args.plan.lists.now ≡ None = search rules in
+    IfErr-weaker c.run_clean_calls.result _ (RefusesRun c.args.loaded.now c.args.rows c.args.plan.lists.now) (end_refused c.args.loaded.now c.args.rows c.args.plan.lists.now opened none) c.run_clean_calls.ensures.refusal

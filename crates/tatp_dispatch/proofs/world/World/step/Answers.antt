@@ -59,8 +59,8 @@ returns-in-None c =
 -- ---- it ends
 pub complete_ended-client-requires-clause-room : goal.complete_ended-client-requires-clause-room
 complete_ended-client-requires-clause-room c =
-    let x = end_told_of c.self.inside.sites c.args.p (obstacle_to c.args.kind) c.step_into.new.self c.step_into.new.ended c.in-Some.field-0.now (sym c.get.ensures ∙ ap option_copied c.in-Some.is) (site_steps c.self.inside.sites c.args.p (obstacle_to c.args.kind) c.index_mut.result.now c.step_into.new.self _ (slice_get_read c.self.inside.sites.items (length c.self.inside.sites.items) c.args.p c.index_mut.result.now refl (omega arith) c.index_mut.ensures.value) c.in-Ok.ensures.steps c.in-Ok.ensures.site) in
-    room_to_end c.self.inside c.args.p x.before x.after_it c.in-Some.field-0.now c.self.invariant x.site x.steps.1
+    let x = end_told_of c.self.inside.sites c.args.p (obstacle_to c.args.kind) c.step_into.new.self c.step_into.new.ended c.in-Some.completion.now (sym c.get.ensures ∙ ap option_copied c.in-Some.is) (site_steps c.self.inside.sites c.args.p (obstacle_to c.args.kind) c.index_mut.result.now c.step_into.new.self _ (slice_get_read c.self.inside.sites.items (length c.self.inside.sites.items) c.args.p c.index_mut.result.now refl (omega arith) c.index_mut.ensures.value) c.in-Ok.ensures.steps c.in-Ok.ensures.site) in
+    room_to_end c.self.inside c.args.p x.before x.after_it c.in-Some.completion.now c.self.invariant x.site x.steps.1
 
 pub complete_ended-client-requires-clause-client : goal.complete_ended-client-requires-clause-client
 complete_ended-client-requires-clause-client c = λ completion is.
@@ -69,37 +69,37 @@ complete_ended-client-requires-clause-client c = λ completion is.
     slice_get_within c.self.inside.clients.items completion.entry.client k.0 k.1
 
 pub last_reply-requires : goal.last_reply-requires
-last_reply-requires c = some_completed c.complete_ended-client.new.completions.entries c.self.inside.completions.entries c.in-Some.field-0.now.entry (c.complete_ended-client.ensures.entries c.in-Some.field-0.now (sym c.get.ensures ∙ ap option_copied c.in-Some.is))
+last_reply-requires c = some_completed c.complete_ended-client.new.completions.entries c.self.inside.completions.entries c.in-Some.completion.now.entry (c.complete_ended-client.ensures.entries c.in-Some.completion.now (sym c.get.ensures ∙ ap option_copied c.in-Some.is))
 
-ended : (c : goal.After-last_reply) → StepsAt (obstacle_to c.args.kind) c.self.inside.sites.items c.args.p (Ok (Did_end c.in-Some.field-0.now)) (with_item c.self.inside.sites c.args.p c.step_into.new.self).items
-ended c = end_told_of c.self.inside.sites c.args.p (obstacle_to c.args.kind) c.step_into.new.self c.step_into.new.ended c.in-Some.field-0.now (sym c.get.ensures ∙ ap option_copied c.in-Some.is) (site_steps c.self.inside.sites c.args.p (obstacle_to c.args.kind) c.index_mut.result.now c.step_into.new.self _ (slice_get_read c.self.inside.sites.items (length c.self.inside.sites.items) c.args.p c.index_mut.result.now refl (omega arith) c.index_mut.ensures.value) c.in-Ok.ensures.steps c.in-Ok.ensures.site)
+ended : (c : goal.After-last_reply) → StepsAt (obstacle_to c.args.kind) c.self.inside.sites.items c.args.p (Ok (Did_end c.in-Some.completion.now)) (with_item c.self.inside.sites c.args.p c.step_into.new.self).items
+ended c = end_told_of c.self.inside.sites c.args.p (obstacle_to c.args.kind) c.step_into.new.self c.step_into.new.ended c.in-Some.completion.now (sym c.get.ensures ∙ ap option_copied c.in-Some.is) (site_steps c.self.inside.sites c.args.p (obstacle_to c.args.kind) c.index_mut.result.now c.step_into.new.self _ (slice_get_read c.self.inside.sites.items (length c.self.inside.sites.items) c.args.p c.index_mut.result.now refl (omega arith) c.index_mut.ensures.value) c.in-Ok.ensures.steps c.in-Ok.ensures.site)
 
-fields : (c : goal.After-last_reply) → EndedFields c.self.inside (with_item c.self.inside.sites c.args.p c.step_into.new.self) c.complete_ended-client.new.completions c.complete_ended-client.new.clients c.args.p (ended c).before (ended c).after_it c.in-Some.field-0.now
+fields : (c : goal.After-last_reply) → EndedFields c.self.inside (with_item c.self.inside.sites c.args.p c.step_into.new.self) c.complete_ended-client.new.completions c.complete_ended-client.new.clients c.args.p (ended c).before (ended c).after_it c.in-Some.completion.now
 fields c =
     let e = c.complete_ended-client.ensures in
     let is = sym c.get.ensures ∙ ap option_copied c.in-Some.is in
-    record { sites = (ended c).after; pushed = e.entries c.in-Some.field-0.now is; taken = e.room; freed = λ k at. e.clients c.in-Some.field-0.now k is at }
+    record { sites = (ended c).after; pushed = e.entries c.in-Some.completion.now is; taken = e.room; freed = λ k at. e.clients c.in-Some.completion.now k is at }
 
 pub invariant_of-self-in-Some : goal.invariant_of-self-in-Some
 invariant_of-self-in-Some c =
     let x = ended c in
     sound_with_place (after_end c.self.inside (with_item c.self.inside.sites c.args.p c.step_into.new.self) c.complete_ended-client.new.completions c.complete_ended-client.new.clients) c.complete_ended-client.new.ended
-    (end_told c.self.inside (with_item c.self.inside.sites c.args.p c.step_into.new.self) c.complete_ended-client.new.completions c.complete_ended-client.new.clients c.args.p x.before x.after_it c.in-Some.field-0.now c.self.invariant (fields c) x.site x.whole x.steps.1).0 c.complete_ended-client.ensures.empty
+    (end_told c.self.inside (with_item c.self.inside.sites c.args.p c.step_into.new.self) c.complete_ended-client.new.completions c.complete_ended-client.new.clients c.args.p x.before x.after_it c.in-Some.completion.now c.self.invariant (fields c) x.site x.whole x.steps.1).0 c.complete_ended-client.ensures.empty
 
 -- the reply is that of the last completion
-reply_is : (c : goal.After-last_reply) → c.last_reply.result ≡ c.in-Some.field-0.now.entry.reply
-reply_is c = c.last_reply.ensures c.self.inside.completions.entries c.in-Some.field-0.now.entry (c.complete_ended-client.ensures.entries c.in-Some.field-0.now (sym c.get.ensures ∙ ap option_copied c.in-Some.is))
+reply_is : (c : goal.After-last_reply) → c.last_reply.result ≡ c.in-Some.completion.now.entry.reply
+reply_is c = c.last_reply.ensures c.self.inside.completions.entries c.in-Some.completion.now.entry (c.complete_ended-client.ensures.entries c.in-Some.completion.now (sym c.get.ensures ∙ ap option_copied c.in-Some.is))
 
 pub returns-in-Some : goal.returns-in-Some
 returns-in-Some c =
     let x = ended c in
-    let client = c.complete_ended-client.ensures.client c.in-Some.field-0.now (sym c.get.ensures ∙ ap option_copied c.in-Some.is) in
-    let told = (end_told c.self.inside (with_item c.self.inside.sites c.args.p c.step_into.new.self) c.complete_ended-client.new.completions c.complete_ended-client.new.clients c.args.p x.before x.after_it c.in-Some.field-0.now c.self.invariant (fields c) x.site x.whole x.steps.1).1 in
-    let happens = end_happens c.self.inside (with_item c.self.inside.sites c.args.p c.step_into.new.self) c.complete_ended-client.new.completions c.complete_ended-client.new.clients c.args.p x.before x.after_it c.in-Some.field-0.now c.self.invariant (fields c) x.site x.steps.1 in
+    let client = c.complete_ended-client.ensures.client c.in-Some.completion.now (sym c.get.ensures ∙ ap option_copied c.in-Some.is) in
+    let told = (end_told c.self.inside (with_item c.self.inside.sites c.args.p c.step_into.new.self) c.complete_ended-client.new.completions c.complete_ended-client.new.clients c.args.p x.before x.after_it c.in-Some.completion.now c.self.invariant (fields c) x.site x.whole x.steps.1).1 in
+    let happens = end_happens c.self.inside (with_item c.self.inside.sites c.args.p c.step_into.new.self) c.complete_ended-client.new.completions c.complete_ended-client.new.clients c.args.p x.before x.after_it c.in-Some.completion.now c.self.invariant (fields c) x.site x.steps.1 in
     let after : WorldState = world_of (after_end c.self.inside (with_item c.self.inside.sites c.args.p c.step_into.new.self) c.complete_ended-client.new.completions c.complete_ended-client.new.clients) in
-    let told_client = subst (λ k. Tells (world_of c.self.inside) (Ok (Is_ended k c.in-Some.field-0.now.entry.reply)) after) (sym client) told in
-    let told_so = subst (λ reply. Tells (world_of c.self.inside) (Ok (Is_ended c.complete_ended-client.result reply)) after) (sym (reply_is c)) told_client in
+    let told_client = subst (λ k. Tells (world_of c.self.inside) (Ok (Is_ended k c.in-Some.completion.now.entry.ask c.in-Some.completion.now.entry.reply)) after) (sym client) told in
+    let told_so = subst (λ reply. Tells (world_of c.self.inside) (Ok (Is_ended c.complete_ended-client.result c.in-Some.completion.now.entry.ask reply)) after) (sym (reply_is c)) told_client in
     rw (← c.self.view_is) (
-      (end_at (world_of c.self.inside) c.args.p (obstacle_to c.args.kind) c.in-Some.field-0.now (with_item c.self.inside.sites c.args.p c.step_into.new.self).items x, (c.in-Some.field-0.now, client, reply_is c, happens)),
+      (end_at (world_of c.self.inside) c.args.p (obstacle_to c.args.kind) c.in-Some.completion.now (with_item c.self.inside.sites c.args.p c.step_into.new.self).items x, (c.in-Some.completion.now, client, refl, reply_is c, happens)),
       told_so,
     )

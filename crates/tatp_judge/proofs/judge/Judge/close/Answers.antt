@@ -1,5 +1,5 @@
 use Rattle.std.specs.Prelude.{IfSome}
-use Rattle.std.proofs.Common.{◌≡◌, ◌≤◌, length, refl, ◌∙◌, sym, subst}
+use Rattle.std.proofs.Common.{◌≡◌, ◌≤◌, length, refl, ◌∙◌, sym, subst, true, None, Some}
 use Rattle.std.proofs.lemmas.Bool.{false≢true}
 use Rattle.tatp_history.specs.HistoryLines.{end_at}
 use Rattle.tatp_judge.specs.Steps.{AreEach, ClosesAt}
@@ -77,3 +77,26 @@ returns-in_ok-search-in-None-clause-never c = λ e.
     let searched = unfailed q.0 q.1 q.2 0 self c.args.asked.now (end_at self.number c.args.line.now) q.3 q.4 c.in-None.is (λ may. false≢true (sym c.if-may_fail.false ∙ c.may_fail.ensures.1 may)) in
     let legal : c.in_ok-search-in-None.field-0 ≡ Legal = cc in
     searched.known refl (subst (IsVerdictOn q.0 q.1 q.2) legal (c.in_ok-search-in-None.ensures q.0 q.1 q.2 searched))
+
+pub returns-in_ok-search-in-Unexplained-clause-kept : goal.returns-in_ok-search-in-Unexplained-clause-kept
+returns-in_ok-search-in-Unexplained-clause-kept c = λ first named e u most lines noted ends.
+    let self = c.args.self.now in
+    let s_id = c.in-Some.s_id in
+    let within = subst (λ o. IfSome o (λ s. (1 ≤ s) × (s ≤ length self.windows.items))) c.in-Some.is c.requires.within in
+    let closes = subst (λ standing. AreEach (ClosesAt s_id self.number standing) self.windows.items c.close_in.new.windows.items) c.in-Unexplained.is c.in_ok-close_in-in-Some.ensures in
+    record {
+      most = most;
+      illegal = true;
+      s_id = Some s_id;
+      searchable = unexplained u most lines s_id self c.args.asked.now (end_at self.number c.args.line.now) noted ends (record { directory = self.directory; windows = c.close_in.new.windows; asked = self.asked; number = self.number }) refl refl c.in-Some.is within.0 within.1 closes;
+    }
+
+pub returns-in_ok-search-in-None-clause-kept : goal.returns-in_ok-search-in-None-clause-kept
+returns-in_ok-search-in-None-clause-kept c = λ first named e u most lines noted ends.
+    let self = c.args.self.now in
+    record {
+      most = most;
+      illegal = true;
+      s_id = None;
+      searchable = unfailed u most lines 0 self c.args.asked.now (end_at self.number c.args.line.now) noted ends c.in-None.is (λ may. false≢true (sym c.if-may_fail.false ∙ c.may_fail.ensures.1 may));
+    }

@@ -5,7 +5,7 @@ use Rattle.indexmap.specs.IndexMap.{get}
 use Rattle.tatp_history.specs.HistoryLines.{client_of}
 use Rattle.tatp_judge.specs.declared.asked.Asked.{Asked}
 use Rattle.tatp_judge.specs.declared.judge.Judge.{Judge}
-use Rattle.tatp_judge.proofs.JudgeLaws.{ended_was, ends_as, ends_within, has_noted, none_ended, room_there, waits_there}
+use Rattle.tatp_judge.proofs.JudgeLaws.{ended_was, ends_as, ends_within, has_noted, none_ended, rise_there, room_there, waits_there}
 use Rattle.tatp_judge.proofs.StepLaws.{explained_where_closed, if_ok_weaker, if_some_weaker, still_forgets}
 use Rattle.tatp_judge.proofs.judge.Judge.follow.Goals as goal
 
@@ -19,6 +19,9 @@ note-requires-clause-some c = let q = c.requires.followed in
 
 pub note-requires-clause-few : goal.note-requires-clause-few
 note-requires-clause-few c = let q = c.requires.followed in room_there q.0 q.1 q.2 c.args.line.now (get nat_eq c.args.self.now.asked (client_of c.args.line.now)) c.args.self.now q.3 refl
+
+pub note-requires-clause-rise : goal.note-requires-clause-rise
+note-requires-clause-rise c = let q = c.requires.followed in rise_there q.0 q.1 q.2 c.args.line.now (get nat_eq c.args.self.now.asked (client_of c.args.line.now)) c.args.self.now q.3 refl
 
 pub close-requires-clause-noted : goal.close-requires-clause-noted
 close-requires-clause-noted c =
@@ -131,3 +134,16 @@ returns-in-None-clause-explained c = λ _ u most lines is.
           (λ asked e. absurd (none-some asked (sym c.in-None.is ∙ e)));
       none = none_ended u lines line is.none (sym (ended_was u most lines line c.swap_remove-ended.result old is ended) ∙ c.in-None.is);
     })
+
+pub returns-in-Some-clause-kept : goal.returns-in-Some-clause-kept
+returns-in-Some-clause-kept c = λ first s_id e u most lines is.
+    let q = c.requires.followed in
+    let line = c.args.line.now in
+    let old = c.args.self.now in
+    let number = old.number + 1 in
+    let ended : c.swap_remove-ended.result ≡ get nat_eq old.asked (client_of line) = c.swap_remove-ended.ensures.value ∙ ap (get nat_eq old.asked) c.client_of.ensures in
+    let mid : Judge = record { directory = old.directory; windows = old.windows; asked = c.swap_remove-ended.new.self; number = old.number } in
+    let after : Judge = record { directory = c.note.new.self.directory; windows = c.note.new.self.windows; asked = c.note.new.self.asked; number = number } in
+    c.close.ensures.kept first s_id e u most (lines ++ line ∷ []) (has_noted u most lines line number c.swap_remove-ended.result old mid c.note.new.self after is c.requires.accepted (omega (arith, is.noted.read.number_is, q.3.noted.read.number_is, q.4)) refl ended
+    (λ other. c.swap_remove-ended.ensures.updates.0 other ∙ ap (λ k. cond (eqb k other) None (get nat_eq old.asked other)) c.client_of.ensures) refl refl (c.in_ok-note.ensures u is.noted.read.directory_is) refl refl (λ other. refl) refl)
+    (ends_as u lines line number c.in-Some.asked is.none (omega (arith, is.noted.read.number_is)) (sym (ended_was u most lines line c.swap_remove-ended.result old is ended) ∙ c.in-Some.is))

@@ -3,7 +3,7 @@ use Rattle.tatp_linearization.specs.declared.first.First.TheVariants.{At}
 use Rattle.tatp_judge.specs.Windows.{IsFirstOf}
 use Rattle.tatp_judge.specs.Verdicts.{NeedMoreBy}
 use Rattle.tatp_judge.proofs.PlaceLaws.{found_at}
-use Rattle.tatp_judge.proofs.SearchLaws.{IsLeast, least_illegal, least_later, least_never, least_none, least_sooner}
+use Rattle.tatp_judge.proofs.SearchLaws.{least_illegal, least_later, least_moved, least_never, least_none, least_sooner}
 use Rattle.tatp_judge.proofs.judge.Judge.search.Goals.{in-Never, in-At+then-line-least, in-At+else-line-least}
 use Rattle.tatp_judge.proofs.judge.Judge.search.Goals as goal
 
@@ -43,30 +43,30 @@ windows-preserved c = λ u most lines is.
     let so_far = c.windows.invariant u most lines is in
     let kept = is.windows_are i c.index.result.now (found_at ws.items i c.index.result.now lt c.index.ensures) in
     elim c.match-branch-2.branch [
-      | in-Never w ↦ subst (IsLeast u lines illegal (i + 1)) (sym w.least-is) (least_never u most lines illegal i c.windows.least c.index.result.now so_far kept
+      | in-Never w ↦ least_moved w.least-is w.whose-is (least_never u most lines illegal i c.windows.least c.windows.whose c.index.result.now so_far kept
           (λ window. subst (IsFirstOf u most (suc i) lines) w.in-Never.is (c.in_ok-first_unexplained.ensures.first u most (suc i) lines window is.read.number_is)))
       | in-At+then-line-least w ↦
           let told : IsFirstOf u most (suc i) lines (At w.in-At.line) = elim kept [
             | inl window ↦ subst (IsFirstOf u most (suc i) lines) w.in-At.is (c.in_ok-first_unexplained.ensures.first u most (suc i) lines window is.read.number_is)
             | inr spent ↦ let never = c.in_ok-first_unexplained.ensures.spent spent.1.none in let at = w.in-At.is in absurd cc
           ] in
-          subst (IsLeast u lines illegal (i + 1)) (sym w.least-is) (least_sooner u most lines illegal judge i c.windows.least w.in-At.line is.read so_far told w.if-line-least.true)
+          least_moved w.least-is w.whose-is (least_sooner u most lines illegal judge i c.windows.least w.in-At.line c.windows.whose is.read so_far told w.if-line-least.true)
       | in-At+else-line-least w ↦
           let told : IsFirstOf u most (suc i) lines (At w.in-At.line) = elim kept [
             | inl window ↦ subst (IsFirstOf u most (suc i) lines) w.in-At.is (c.in_ok-first_unexplained.ensures.first u most (suc i) lines window is.read.number_is)
             | inr spent ↦ let never = c.in_ok-first_unexplained.ensures.spent spent.1.none in let at = w.in-At.is in absurd cc
           ] in
-          subst (IsLeast u lines illegal (i + 1)) (sym w.least-is) (least_later u most lines illegal i c.windows.least w.in-At.line so_far told w.if-line-least.false)
+          least_moved w.least-is w.whose-is (least_later u most lines illegal i c.windows.least w.in-At.line c.windows.whose so_far told w.if-line-least.false)
     ]
 
 pub returns-then-least-number : goal.returns-then-least-number
 returns-then-least-number c = λ u most lines is.
     let ws = c.args.self.now.windows in
     let all : length ws.items ≤ c.windows.i = omega (arith, c.windows-test.false, c.len-i-end.ensures, ws.ok.0) in
-    least_none u lines c.args.illegal c.args.self.now c.windows.i c.windows.least is.read (c.windows.invariant u most lines is) all c.if-least-number.true
+    least_none u lines c.args.illegal c.args.self.now c.windows.i c.windows.least c.windows.whose is.read (c.windows.invariant u most lines is) all c.if-least-number.true
 
 pub returns-else-least-number : goal.returns-else-least-number
 returns-else-least-number c = λ u most lines is.
     let ws = c.args.self.now.windows in
     let all : length ws.items ≤ c.windows.i = omega (arith, c.windows-test.false, c.len-i-end.ensures, ws.ok.0) in
-    least_illegal u lines c.args.illegal c.args.self.now c.windows.i c.windows.least is.read (c.windows.invariant u most lines is) all c.if-least-number.false
+    least_illegal u most lines c.args.illegal c.args.self.now c.windows.i c.windows.least c.windows.whose is.read (c.windows.invariant u most lines is) all c.if-least-number.false

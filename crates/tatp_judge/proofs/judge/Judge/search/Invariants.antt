@@ -6,4 +6,4 @@ use Rattle.tatp_judge.proofs.SearchLaws.{IsLeast}
 use Rattle.tatp_judge.proofs.judge.Judge.search.Given as goal
 
 abbrev pub invariant-windows : goal.invariant-windows
-invariant-windows l = (u : Database) (most : ℕ) (lines : List Line) → IsSearchable u most lines l.illegal l.self → IsLeast u lines l.illegal l.i l.least
+invariant-windows l = (u : Database) (most : ℕ) (lines : List Line) → IsSearchable u most lines l.illegal l.fn.s_id l.self → IsLeast u lines l.illegal l.i l.least l.whose

@@ -1,18 +1,14 @@
-use Rattle.std.proofs.Common.{◌≡◌, ◌==◌, ℕ, Bool, false, vec_len, List, [], ◌∷◌, length, refl, sym, ap, ◌∙◌, arith, eqb-true, eq-eqb, true≢false, inl, inr}
+use Rattle.std.proofs.Common.{◌≡◌, ◌==◌, ℕ, Bool, false, vec_len, List, [], length, sym, ap, ◌∙◌, arith, eqb-true, eq-eqb, true≢false, inl, inr}
 use Rattle.tatp_tables.specs.Database.{of_subscriber}
 use Rattle.tatp_history.specs.declared.event.Event.{Event}
-use Rattle.tatp_judge.proofs.ClosingLaws.{all_explained, begins_before, first_told}
+use Rattle.tatp_judge.proofs.ClosingLaws.{all_explained, begins_before, first_told, none_left}
 use Rattle.tatp_judge.proofs.window.Window.first_unexplained.Goals as goal
-
-nothing : (es : List Event) → length es ≡ 0 → es ≡ []
-nothing [] e = refl
-nothing (x ∷ es) e = absurd (omega (arith, e))
 
 pub returns-then-is_empty-clause-first : goal.returns-then-is_empty-clause-first
 returns-then-is_empty-clause-first c = λ u most s lines is now.
     let w = c.args.self.now in
     all_explained u most s lines w is
-    (nothing w.events.items (sym w.events.ok.0 ∙ eqb-true (vec_len w.events) 0 (sym c.is_empty.ensures ∙ c.if-is_empty.true)))
+    (none_left w.events.items (sym w.events.ok.0 ∙ eqb-true (vec_len w.events) 0 (sym c.is_empty.ensures ∙ c.if-is_empty.true)))
 
 -- a list that isn't empty
 some : (es : List Event) (b : Bool) (n : ℕ) → n ≡ length es → b ≡ (n == 0) → b ≡ false → es ≡ [] → ⊥

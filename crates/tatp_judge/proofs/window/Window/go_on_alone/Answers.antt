@@ -1,30 +1,39 @@
-use Rattle.std.proofs.Common.{◌≡◌, refl, subst, sym, inr, ◌++◌, ◌∙◌}
+use Rattle.std.proofs.Common.{◌≡◌, ap, subst, sym, inr, ◌++◌, ◌∙◌}
 use Rattle.std.proofs.lemmas.Bool.{false≢true}
 use Rattle.tatp_tables.specs.Database.{of_subscriber}
 use Rattle.tatp_history.specs.Histories.{IsStrictlySerializable}
 use Rattle.tatp_history.specs.Events.{asked_in, TimesRise, HaveEnds}
-use Rattle.tatp_linearization.specs.Reached.{AreReached}
+use Rattle.tatp_linearization.specs.declared.explanations.Explanations.{Explanations}
+use Rattle.tatp_linearization.specs.Reached.{AreOfSubscriber, AreReached}
 use Rattle.tatp_linearization.specs.Single.{events_alone}
-use Rattle.tatp_judge.proofs.ClosingLaws.{closed, rise_both, end_both, unsaid, spent}
+use Rattle.tatp_judge.proofs.ClosingLaws.{alone_began, closed, rise_both, end_both, unsaid, spent}
 use Rattle.tatp_judge.proofs.window.Window.go_on_alone.Goals as goal
 
 pub returns-then-fits : goal.returns-then-fits
 returns-then-fits c = λ u most s lines is now.
     let w = c.args.self.now in (
-      closed u most s lines w is (record { explanations = c.follow_alone-fits.new.self; from = c.args.number; events = c.new.result; waiting = w.waiting }) c.requires.none
-          (subst (λ es. AreReached (of_subscriber u s) (is.before ++ es) c.follow_alone-fits.new.self) (sym c.requires.alone) (c.follow_alone-fits.ensures.reached c.if-fits.true c.args.number (of_subscriber u s) is.before is.reached))
-          c.follow_alone-fits.ensures.most c.new.ensures.items now refl,
-      λ _. c.new.ensures.items,
+      closed u most s lines w is c.forget.new.self c.requires.none
+          (subst (AreReached (of_subscriber u s) (is.before ++ w.events.items)) (sym c.forget.ensures.explanations)
+          (subst (λ es. AreReached (of_subscriber u s) (is.before ++ es) c.follow_alone-fits.new.self) (sym c.requires.alone) (c.follow_alone-fits.ensures.reached c.if-fits.true c.args.number (of_subscriber u s) is.before is.reached)))
+          (subst (AreOfSubscriber s) (sym c.forget.ensures.explanations) (c.follow_alone-fits.ensures.own s is.own))
+          (ap (λ (e : Explanations). e.most) c.forget.ensures.explanations ∙ c.follow_alone-fits.ensures.most) c.forget.ensures.forgotten (c.forget.ensures.from ∙ now) c.forget.ensures.waiting,
+      λ _. c.forget.ensures.forgotten,
     )
 
 pub returns-else-fits : goal.returns-else-fits
 returns-else-fits c = λ u most s lines is now.
     let w = c.args.self.now in
     let x = c.args.x.now in
-    let alone = c.requires.alone in (
+    let alone = c.requires.alone in
+    let here = subst (λ k. w.events.items ≡ events_alone x k) now alone in (
       λ explained. false≢true (sym c.if-fits.false ∙ (c.follow_alone-fits.ensures.explained c.args.number (of_subscriber u s) is.before is.reached
           (subst (λ es. TimesRise (is.before ++ es)) alone (rise_both u most s lines w is))
           (subst (λ es. HaveEnds (is.before ++ es)) alone (end_both u most s lines w is))).1
           (subst (λ es. IsStrictlySerializable (of_subscriber u s) (asked_in (is.before ++ es))) alone (unsaid u most s lines w is explained))),
-      inr (record { none = c.new.ensures.items; before = spent u most s lines w x is (subst (λ k. w.events.items ≡ events_alone x k) now alone) }),
+      inr (record {
+        none = c.new.ensures.items;
+        began = alone_began u most s lines w x is here;
+        numbers = record { numbers_are = is.numbers.numbers_are; none = is.numbers.none; last = is.numbers.last };
+        before = spent u most s lines w x is here;
+      }),
     )

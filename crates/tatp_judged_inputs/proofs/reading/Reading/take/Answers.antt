@@ -1,10 +1,9 @@
-use Rattle.std.proofs.Common.{◌≡◌, Ok, None, Some, [], ◌∷◌, ◌++◌, ap, subst, arith}
+use Rattle.std.proofs.Common.{◌≡◌, Ok, None, Some, [], ◌∷◌, ◌++◌, ◌∙◌, ap, subst, arith}
 use Rattle.std.proofs.lemmas.List.{append-nil}
 use Rattle.tatp_history_lines.specs.Open.{open_call}
 use Rattle.tatp_judge.specs.declared.judge.Verdict.TheVariants.{Legal}
 use Rattle.tatp_judge.specs.Verdicts.{IsVerdictOn}
-use Rattle.tatp_judge.proofs.StepLaws.{if_some_weaker}
-use Rattle.tatp_judged_inputs.proofs.HistoryLaws.{line_taken, said_accepted}
+use Rattle.tatp_judged_inputs.proofs.HistoryLaws.{if_some_is, line_taken, said_accepted}
 use Rattle.tatp_judged_inputs.proofs.reading.Reading.take.Goals as goal
 
 pub follow-requires-clause-followed : goal.follow-requires-clause-followed
@@ -25,11 +24,12 @@ returns-in_ok-follow-in-Ok-Some-clause-goes_on c = λ e u most past followed num
 pub returns-in_ok-follow-in-Ok-Some-clause-decided : goal.returns-in_ok-follow-in-Ok-Some-clause-decided
 returns-in_ok-follow-in-Ok-Some-clause-decided c =
     let line = c.in-Ok-Some.line in
-    if_some_weaker c.in_ok-found-in-Ok-Some.found (λ verdict h. λ u most past followed numbered. record {
+    if_some_is c.in_ok-found-in-Ok-Some.found (λ verdict is h. λ u most past followed numbered. record {
       line = line;
       said = (let a = c.in-Ok-Some.ensures in let b = c.in-Ok-Some.is in let d = c.in-Ok-Some.field-0-is in let e = c.in-Ok-Some.line-is in cc);
       numbers_are = c.in_ok-push-in-Ok-Some.ensures.items;
       decided = subst (λ ls. IsVerdictOn u most ls verdict) (append-nil (past ++ line ∷ [])) (h u most past [] followed);
+      kept = λ first s_id e. c.in_ok-found-in-Ok-Some.ensures.kept first s_id (ap Ok (is ∙ ap Some e)) u most past followed;
     }) c.in_ok-found-in-Ok-Some.ensures.decided
 
 pub returns-in_ok-follow-in-Ok-Some-clause-never : goal.returns-in_ok-follow-in-Ok-Some-clause-never

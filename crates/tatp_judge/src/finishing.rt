@@ -1,0 +1,89 @@
+//! Whether some order of a history's calls leads to the rows at its end.
+ghost use Rattle.std.specs.Prelude.{ℕ, IfOk, List};
+ghost use Rattle.tatp_tables.specs.Clean.{IsClean};
+ghost use Rattle.tatp_tables.specs.Database.{Database, database_of};
+ghost use Rattle.tatp_history.specs.declared.line.Line.{Line as ALine};
+ghost use Rattle.tatp_judge.specs.Finishing.{IsFinalVerdictOn};
+ghost use Rattle.tatp_judge.specs.Followed.{HasFollowed};
+ghost use Rattle.tatp_judge.specs.Leaving.{GoesToEnd, SaysLeft};
+ghost use Rattle.tatp_judge.specs.Windows.{IsWindowAfter};
+
+use crate::judge::Judge;
+use crate::window::Window;
+use std::alloc::{AllocError, Global};
+use tatp_homes::{Home, homes};
+use tatp_linearization::Standing;
+use tatp_tables::Rows;
+
+/// What is said of a history and the rows at its end.
+#[derive(Clone, Copy, Debug, PartialEq, Eq)]
+pub enum FinalVerdict {
+    /// Some order of its calls leads to them.
+    Reached,
+    /// None does. This subscriber is the first of whose calls no order leaves its rows.
+    Unreached(u64),
+    /// It isn't known, since more configurations of this subscriber are possible than may be kept.
+    Undecided(u64),
+}
+
+impl Window {
+    /// Goes on over all events, if an order explains the subscriber's calls.
+    fn go_to_end(&mut self, alloc: Global) -> Result<Standing, AllocError>
+        requires { (u : Database) × (most : ℕ) × (s : ℕ) × (lines : List ALine)
+            × IsWindowAfter u most s lines self.old }
+        ensures { IfOk result (λ standing. (u : Database) (most s : ℕ) (lines : List ALine)
+            → IsWindowAfter u most s lines self.old
+            → GoesToEnd u most s lines standing self.new) }
+    {
+        if self.events.is_empty() {
+            return Ok(Standing::Explained);
+        }
+        self.explanations.follow(alloc, self.events.as_slice())
+    }
+
+    /// Whether some order of the subscriber's calls leaves these rows. Calls that are open at the
+    /// end may have taken effect.
+    fn leads_to(&mut self, alloc: Global, rows: &Home) -> Result<Standing, AllocError>
+        requires { (u : Database) × (most : ℕ) × (lines : List ALine)
+            × IsWindowAfter u most rows.now.s_id lines self.old }
+        ensures { IfOk result (λ standing. (u : Database) (most : ℕ) (lines : List ALine)
+            → IsWindowAfter u most rows.now.s_id lines self.old
+            → SaysLeft u most rows.now.s_id lines rows.now.tables standing) }
+    {
+        match self.go_to_end(alloc)? {
+            Standing::Explained => self.explanations.leads_to(alloc, rows),
+            Standing::Unexplained => Ok(Standing::Unexplained),
+            Standing::Undecided => Ok(Standing::Undecided),
+        }
+    }
+}
+
+impl Judge {
+    /// Whether some order of the calls that were followed leads to these rows. After this the judge
+    /// follows no more lines.
+    pub fn finish_to(&mut self, alloc: Global, rows: &Rows) -> Result<FinalVerdict, AllocError>
+        requires followed { (u : Database) × (most : ℕ) × (lines : List ALine)
+            × HasFollowed u most lines self.old }
+        requires clean { IsClean rows.now }
+        ensures { IfOk result (λ verdict. (u : Database) (most : ℕ) (lines : List ALine)
+            → HasFollowed u most lines self.old
+            → IsFinalVerdictOn u most lines (database_of rows.now) verdict) }
+    {
+        let homes = homes(alloc, rows)?;
+        'homes: for i in 0..homes.len() {
+            let s_id = i as u64 + 1;
+            if i >= self.windows.len() {
+                return Ok(FinalVerdict::Unreached(s_id));
+            }
+            match self.windows[i].leads_to(alloc, &homes[i])? {
+                Standing::Explained => {}
+                Standing::Unexplained => return Ok(FinalVerdict::Unreached(s_id)),
+                Standing::Undecided => return Ok(FinalVerdict::Undecided(s_id)),
+            }
+        }
+        if homes.len() < self.windows.len() {
+            return Ok(FinalVerdict::Unreached(homes.len() as u64 + 1));
+        }
+        Ok(FinalVerdict::Reached)
+    }
+}

@@ -1,0 +1,249 @@
+-- A history up to a line `.`, and the rows after it.
+use Rattle.std.specs.Prelude.{◌≡◌, ℕ, ◌+◌, ◌-◌, List, [], ◌∷◌, ◌++◌, length, Option, Some, None, Ok, Err, IfSome}
+use Rattle.std.specs.List.{AllByRecursion}
+use Rattle.std.specs.Option.{option_map}
+use Rattle.std.proofs.Common.{refl, sym, ap, subst, ◌∙◌, append_assoc, cond, true, false, arith, inl, inr}
+use Rattle.std.proofs.lemmas.List.{append-nil, take_all}
+use Rattle.tatp_tables.specs.Database.{Database, database_of}
+use Rattle.tatp_tables.specs.declared.row.Rows.{Rows}
+use Rattle.tatp_extents.specs.Opening.{RefusesRows}
+use Rattle.tatp_extents.specs.declared.open_error.OpenError.{OpenError}
+use Rattle.tatp_history.specs.declared.line.Line.{Line}
+use Rattle.tatp_history_lines.specs.Open.{open_call}
+use Rattle.tatp_streams.specs.declared.fault.StreamFault.TheVariants.{NoMemory, ReadFault, WriteFault}
+use Rattle.tatp_streams.specs.LineReading.{LinesLeft, IsWithinLimit, Relates, Stays, with_line}
+use Rattle.tatp_streams.proofs.LineReadingLaws.{relates_as, relates_known}
+use Rattle.tatp_inputs.specs.declared.fault.InputFault.{InputFault}
+use Rattle.tatp_inputs.specs.declared.fault.InputFault.TheVariants as input
+use Rattle.tatp_inputs.specs.Parts.{is_dot, before_dot, after_dot}
+use Rattle.tatp_inputs.specs.Refusing.{RefusesReading}
+use Rattle.tatp_inputs.specs.RowLines.{rows_of_lines}
+use Rattle.tatp_judge.specs.declared.finishing.FinalVerdict.{FinalVerdict}
+use Rattle.tatp_judge.specs.declared.finishing.FinalVerdict.TheVariants as final
+use Rattle.tatp_judge.specs.declared.judge.Judge.{Judge}
+use Rattle.tatp_judge.specs.declared.judge.Verdict.{Verdict}
+use Rattle.tatp_judge.specs.declared.judge.Verdict.TheVariants as verdicts
+use Rattle.tatp_judge.specs.Finishing.{IsFinalVerdictOn, IsFirstUnreached, LeadsTo}
+use Rattle.tatp_judge.specs.Followed.{HasFollowed}
+use Rattle.tatp_judge.specs.Verdicts.{IsVerdictOn, NeedMoreBy}
+use Rattle.tatp_judged_inputs.specs.HistoryTexts.{history_from, none_open}
+use Rattle.tatp_judged_inputs.specs.Judged.{Tell, TellLegal, IsJudged, IsJudgement, IsTold, IsUndecidedAt, IsWindowBy, IsWindowOf}
+use Rattle.tatp_judged_inputs.specs.Judging.{RefusesTexts, history_fault, input_fault}
+use Rattle.tatp_judged_inputs.specs.Reading.{Decides, GoesOn, ReadsToDot, RefusesHistory, told_by, told_of}
+use Rattle.tatp_judged_inputs.specs.RowsAtEnd.{AreAdmitted, Bring, IsJudgedTo, IsJudgementTo, dot_number, rows_after, rows_at_end, told_by_rows}
+use Rattle.tatp_judged_inputs.specs.declared.fault.JudgeFault.TheVariants.{BadLine, Unopened}
+use Rattle.tatp_judged_inputs.specs.declared.history_fault.HistoryFault.{HistoryFault}
+use Rattle.tatp_judged_inputs.specs.declared.history_fault.HistoryFault.TheVariants as history
+use Rattle.tatp_judged_inputs.specs.declared.judging.Judged.{Judged}
+use Rattle.tatp_judged_inputs.specs.declared.judging.Judged.TheVariants.{Legal, Illegal, Undecided, Unreached}
+use Rattle.tatp_judged_inputs.specs.declared.reading.Reading.{Reading}
+use Rattle.tatp_judged_inputs.proofs.FrontLaws.{is_judgement}
+use Rattle.tatp_judged_inputs.proofs.HistoryLaws.{ReadSoFar, by_all, read_all, read_decided, read_one, read_to_end, reading_goes_on, reading_starts, none_read, one_more_read, split_next}
+
+-- ---- the line `.`
+-- none of these is one
+abbrev pub NoDots : List (List ℕ) → Type 0
+NoDots texts = AllByRecursion (λ text. is_dot text ≡ false) texts
+
+before_front : (read more : List (List ℕ)) → NoDots read → before_dot (read ++ more) ≡ read ++ before_dot more
+before_front [] more none = refl
+before_front (text ∷ read) more none = ap (λ b. cond b [] (text ∷ before_dot (read ++ more))) none.0 ∙ ap (λ texts. text ∷ texts) (before_front read more none.1)
+
+after_front : (read more : List (List ℕ)) → NoDots read → after_dot (read ++ more) ≡ after_dot more
+after_front [] more none = refl
+after_front (text ∷ read) more none = ap (λ b. cond b (Some (read ++ more)) (after_dot (read ++ more))) none.0 ∙ after_front read more none.1
+
+no_dots_more : (read : List (List ℕ)) (text : List ℕ) → NoDots read → is_dot text ≡ false → NoDots (read ++ text ∷ [])
+no_dots_more [] text none is = (is, tt)
+no_dots_more (first ∷ read) text none is = (none.0, no_dots_more read text none.1 is)
+
+-- it is the next of the texts
+before_it : (texts read : List (List ℕ)) (text : List ℕ) (rest : List (List ℕ)) → texts ≡ (read ++ text ∷ []) ++ rest → NoDots read → is_dot text ≡ true → before_dot texts ≡ read
+before_it texts read text rest e none is =
+    ap before_dot (e ∙ append_assoc read (text ∷ []) rest) ∙ (before_front read (text ∷ rest) none ∙ (ap (λ b. read ++ cond b [] (text ∷ before_dot rest)) is ∙ append-nil read))
+
+after_it : (texts read : List (List ℕ)) (text : List ℕ) (rest : List (List ℕ)) → texts ≡ (read ++ text ∷ []) ++ rest → NoDots read → is_dot text ≡ true → after_dot texts ≡ Some rest
+after_it texts read text rest e none is =
+    ap after_dot (e ∙ append_assoc read (text ∷ []) rest) ∙ (after_front read (text ∷ rest) none ∙ ap (λ b. cond b (Some rest) (after_dot rest)) is)
+
+-- another text is the next
+before_later : (texts read : List (List ℕ)) (text : List ℕ) (rest : List (List ℕ)) → texts ≡ (read ++ text ∷ []) ++ rest → NoDots read → is_dot text ≡ false → before_dot texts ≡ (read ++ text ∷ []) ++ before_dot rest
+before_later texts read text rest e none is = ap before_dot e ∙ before_front (read ++ text ∷ []) rest (no_dots_more read text none is)
+
+-- there is none
+missing : (taken now n : ℕ) (texts read : List (List ℕ)) → texts ≡ read → NoDots read → taken + length read ≡ now → n ≡ now + 1 → rows_at_end taken texts ≡ Err n
+missing taken now n texts read e none count next =
+    let without : after_dot texts ≡ None = ap after_dot (e ∙ sym (append-nil read)) ∙ after_front read [] none in
+    let number : taken + length texts + 1 ≡ n = omega (arith, ap length e, count, next) in
+    ap (rows_after (taken + length texts + 1) (dot_number taken texts + 1)) without ∙ ap Err number
+
+-- ---- the loop
+pub record ToDotSoFar (u : Database) (most : ℕ) (judge : Judge) (r : Reading) (taken now : ℕ) (all left : Option LinesLeft) : Type 0 where
+  pub so_far : ReadSoFar u most judge r taken now all left
+  pub no_dots : NoDots so_far.read
+
+pub to_dot_starts : (u : Database) (most : ℕ) (judge : Judge) (r : Reading) (n : ℕ) (left : Option LinesLeft) → HasFollowed u most [] judge → r.numbers.items ≡ [] → ((client : ℕ) → open_call r.opened client ≡ None) → ToDotSoFar u most judge r n n left left
+to_dot_starts u most judge r n left followed h o = record {
+  so_far = reading_starts u most judge r n left followed h o;
+  no_dots = subst NoDots (sym (none_read u most judge r n left followed h o)) tt;
+}
+
+pub to_dot_goes_on : (u : Database) (most : ℕ) (judge judge' : Judge) (r r' : Reading) (taken now number : ℕ) (text : List ℕ) (all left left' : Option LinesLeft) (s : ToDotSoFar u most judge r taken now all left) → is_dot text ≡ false → number ≡ now + 1
+    → Stays left (option_map (with_line text) left') → GoesOn u most s.so_far.past number text judge' r r' → ToDotSoFar u most judge' r' taken number all left'
+to_dot_goes_on u most judge judge' r r' taken now number text all left left' s is next stays on = record {
+  so_far = reading_goes_on u most judge judge' r r' taken now number text all left left' s.so_far next stays on;
+  no_dots = subst NoDots (sym (one_more_read u most judge judge' r r' taken now number text all left left' s.so_far next stays on)) (no_dots_more s.so_far.read text s.no_dots is);
+}
+
+-- ---- at the line `.`
+pub judged_at_dot : (u : Database) (most : ℕ) (judge : Judge) (r : Reading) (taken now number : ℕ) (text : List ℕ) (all left left' : Option LinesLeft) (a : LinesLeft) (verdict : Verdict) (judged : Judged) (window : List ℕ) (s : ToDotSoFar u most judge r taken now all left) → all ≡ Some a
+    → is_dot text ≡ true → Stays left (option_map (with_line text) left') → number ≡ now → IsVerdictOn u most s.so_far.past verdict → IsTold r.numbers.items number verdict judged → IsWindowBy u (told_of r s.so_far.past) verdict window
+    → IsJudgement u most taken (before_dot a.lines) judged window
+judged_at_dot u most judge r taken now number text all left left' a verdict judged window s e is stays same on told by =
+    let read = s.so_far.read in
+    let one = read_one u most judge r taken now text all left left' a s.so_far e stays in
+    subst (λ texts. IsJudgement u most taken texts judged window) (append-nil read ∙ sym (before_it a.lines read text one.0 one.1 s.no_dots is))
+    (is_judgement u most taken now read [] (told_of r s.so_far.past) verdict judged window (read_all r s.so_far.past taken now read s.so_far.to) (λ _. refl) on (subst (λ n. IsTold r.numbers.items n verdict judged) same told) by)
+
+pub reads_to_dot : (u : Database) (most : ℕ) (judge : Judge) (r : Reading) (taken now number : ℕ) (text : List ℕ) (all left left' : Option LinesLeft) (s : ToDotSoFar u most judge r taken now all left) → is_dot text ≡ true → number ≡ now + 1
+    → Stays left (option_map (with_line text) left') → Relates all left' (ReadsToDot s.so_far.past taken number)
+reads_to_dot u most judge r taken now number text all left left' s is next stays =
+    let read = s.so_far.read in
+    let whole = read_all r s.so_far.past taken now read s.so_far.to in
+    relates_as all left' (λ a l. a.lines ≡ (read ++ text ∷ []) ++ l.lines) (ReadsToDot s.so_far.past taken number) (split_next read text all left left' s.so_far.split stays)
+    (λ a l e.
+    let before = before_it a.lines read text l.lines e s.no_dots is in
+    record {
+      told = told_of r s.so_far.past;
+      tell = ap (history_from none_open (taken + 1)) before ∙ whole.told;
+      lines_are = refl;
+      later = after_it a.lines read text l.lines e s.no_dots is;
+      counted = omega (arith, next, whole.count, ap length before);
+    })
+
+-- ---- why nothing is said
+pub by_history_fault : (taken : ℕ) (texts : List (List ℕ)) (fault : HistoryFault) → RefusesHistory (history_from none_open (taken + 1) (before_dot texts)) fault → RefusesTexts true taken texts (history_fault fault)
+by_history_fault taken texts (history.BadLine n) h = inl h
+by_history_fault taken texts (history.BadArgument n bad) h = h
+by_history_fault taken texts (history.Stream NoMemory) h = tt
+by_history_fault taken texts (history.Stream ReadFault) h = tt
+by_history_fault taken texts (history.Stream WriteFault) h = h
+
+pub all_by_history_fault : (taken : ℕ) (texts : List (List ℕ)) (fault : HistoryFault) → RefusesHistory (history_from none_open (taken + 1) texts) fault → RefusesTexts false taken texts (history_fault fault)
+all_by_history_fault taken texts (history.BadLine n) h = inl h
+all_by_history_fault taken texts (history.BadArgument n bad) h = h
+all_by_history_fault taken texts (history.Stream NoMemory) h = tt
+all_by_history_fault taken texts (history.Stream ReadFault) h = tt
+all_by_history_fault taken texts (history.Stream WriteFault) h = h
+
+-- a text before the line `.`
+pub refused_to_dot : (u : Database) (most : ℕ) (judge : Judge) (r : Reading) (taken now number : ℕ) (text : List ℕ) (fault : HistoryFault) (all left left' : Option LinesLeft) → ToDotSoFar u most judge r taken now all left → is_dot text ≡ false → number ≡ now + 1
+    → Stays left (option_map (with_line text) left') → ((past : List Line) (more : List (List ℕ)) → RefusesHistory (told_by r past number (text ∷ more)) fault) → IfSome all (λ a. RefusesTexts true taken a.lines (history_fault fault))
+refused_to_dot u most judge r taken now number text fault all left left' s is next stays refused =
+    by_all all (λ a. RefusesTexts true taken a.lines (history_fault fault)) (λ a e.
+    let read = s.so_far.read in
+    let one = read_one u most judge r taken now text all left left' a s.so_far e stays in
+    let rest = before_dot one.0 in
+    by_history_fault taken a.lines fault
+    (subst (λ told. RefusesHistory told fault)
+    (sym (ap (history_from none_open (taken + 1)) (before_later a.lines read text one.0 one.1 s.no_dots is ∙ append_assoc read (text ∷ []) rest) ∙ (s.so_far.to.told (text ∷ rest) ∙ ap (λ k. told_by r s.so_far.past k (text ∷ rest)) (sym next))))
+    (refused s.so_far.past rest)))
+
+-- the line `.` itself
+pub refused_without_dot : (u : Database) (most : ℕ) (judge : Judge) (r : Reading) (taken now n : ℕ) (all left left' : Option LinesLeft) → ToDotSoFar u most judge r taken now all left → n ≡ now + 1 → Stays left left' → IfSome left' (λ l. l.lines ≡ [])
+    → IfSome left' (λ l. IsWithinLimit l.input) → IfSome all (λ a. RefusesTexts true taken a.lines (history_fault (history.BadLine n)))
+refused_without_dot u most judge r taken now n all left left' s next stays none within =
+    by_all all (λ a. RefusesTexts true taken a.lines (BadLine n)) (λ a e.
+    inr (refl, missing taken now n a.lines s.so_far.read (read_to_end u most judge r taken now all left left' a s.so_far e stays none within) s.no_dots s.so_far.to.count next))
+
+-- ---- what is decided before the rows
+pub told_legal : (numbers : List ℕ) (read : ℕ) (verdict : Verdict) (judged : Judged) → IsTold numbers read verdict judged → (verdict ≡ verdicts.Legal → ⊥) → judged ≡ Legal → ⊥
+told_legal numbers read verdicts.Legal judged told never e = never refl
+told_legal numbers read (verdicts.Illegal first s_id) judged told never e = let is = told.2 in cc
+told_legal numbers read (verdicts.Undecided line s) judged told never e = cc
+
+decided_before : (u : Database) (most taken : ℕ) (texts : List (List ℕ)) (judged : Judged) → (judged ≡ Legal → ⊥) → IsJudged u most taken (before_dot texts) judged → IsJudgedTo u most taken texts judged
+decided_before u most taken texts Legal never h = absurd (never refl)
+decided_before u most taken texts (Illegal number s_id) never h = h
+decided_before u most taken texts (Undecided number s) never h = h
+decided_before u most taken texts (Unreached number s) never h = absurd h
+
+pub judgement_before : (u : Database) (most taken : ℕ) (texts : List (List ℕ)) (judged : Judged) (window : List ℕ) → (judged ≡ Legal → ⊥) → IsJudgement u most taken (before_dot texts) judged window → IsJudgementTo u most taken texts judged window
+judgement_before u most taken texts judged window never h = record {
+  judged_is = decided_before u most taken texts judged never h.judged_is;
+  window_is = h.window_is;
+}
+
+-- a text decides, and the judge isn't asked again
+pub judged_before_dot : (u : Database) (most : ℕ) (judge judge' : Judge) (r r' : Reading) (taken now number : ℕ) (text : List ℕ) (all left left' : Option LinesLeft) (a : LinesLeft) (verdict : Verdict) (judged : Judged) (window : List ℕ) (s : ToDotSoFar u most judge r taken now all left)
+    → all ≡ Some a → is_dot text ≡ false → number ≡ now + 1 → Stays left (option_map (with_line text) left') → (verdict ≡ verdicts.Legal → ⊥) → (d : Decides u most s.so_far.past number text verdict judge' r r') → IsTold r'.numbers.items number verdict judged
+    → IsWindowBy u (told_of r' (s.so_far.past ++ d.line ∷ [])) verdict window → IsJudgement u most taken (before_dot a.lines) judged window
+judged_before_dot u most judge judge' r r' taken now number text all left left' a verdict judged window s e is next stays never d told by =
+    let read = s.so_far.read in
+    let one = read_one u most judge r taken now text all left left' a s.so_far e stays in
+    subst (λ texts. IsJudgement u most taken texts judged window) (sym (before_later a.lines read text one.0 one.1 s.no_dots is))
+    (is_judgement u most taken number (read ++ text ∷ []) (before_dot one.0) (told_of r' (s.so_far.past ++ d.line ∷ [])) verdict judged window (read_decided u most verdict judge' r r' s.so_far.past taken now number read text s.so_far.to next d)
+    (λ legal. absurd (never legal)) d.decided told by)
+
+-- ---- the rows
+brings : (taken dot : ℕ) (past : List Line) (a l : LinesLeft) (rows : Rows) (Holds : List Line → Database → Type 0) → ReadsToDot past taken dot a l → rows_of_lines (dot + 1) l.lines ≡ Ok rows → AreAdmitted rows → Holds past (database_of rows) → Bring taken a.lines Holds
+brings taken dot past a l rows Holds reads read admitted holds = record {
+  rows = rows;
+  read = ap (rows_after (taken + length a.lines + 1) (dot_number taken a.lines + 1)) reads.later ∙ (ap (λ n. rows_of_lines (n + 1) l.lines) (sym reads.counted) ∙ read);
+  admitted = admitted;
+  holds = (reads.told, reads.tell, subst (λ lines. Holds lines (database_of rows)) (sym reads.lines_are) holds);
+}
+
+undecided_by_rows : (u : Database) (most taken dot s : ℕ) (past : List Line) (a l : LinesLeft) → ReadsToDot past taken dot a l → NeedMoreBy u most past (length past) s → IsUndecidedAt u most taken (before_dot a.lines) (dot - 1) s
+undecided_by_rows u most taken dot s past a l reads many = record {
+  later = omega (arith, reads.counted);
+  within = omega (arith, reads.counted);
+  many = subst (λ texts. Tell taken texts (λ told. NeedMoreBy u most told.lines (length told.lines) s)) (sym (take_all (dot - 1 - taken) (before_dot a.lines) (omega (arith, reads.counted))))
+      (reads.told, reads.tell, subst (λ lines. NeedMoreBy u most lines (length lines) s) (sym reads.lines_are) many);
+}
+
+said_by_rows : (u : Database) (most taken dot : ℕ) (past : List Line) (a l : LinesLeft) (rows : Rows) (verdict : FinalVerdict) → ReadsToDot past taken dot a l → rows_of_lines (dot + 1) l.lines ≡ Ok rows → AreAdmitted rows → TellLegal u taken (before_dot a.lines)
+    → IsFinalVerdictOn u most past (database_of rows) verdict → IsJudgedTo u most taken a.lines (told_by_rows verdict dot)
+said_by_rows u most taken dot past a l rows final.Reached reads read admitted legal is = brings taken dot past a l rows (LeadsTo u) reads read admitted is
+said_by_rows u most taken dot past a l rows (final.Unreached s) reads read admitted legal is =
+    record { number_is = reads.counted; legal = legal; unreached = brings taken dot past a l rows (λ lines after. IsFirstUnreached u lines after s) reads read admitted is }
+said_by_rows u most taken dot past a l rows (final.Undecided s) reads read admitted legal is = undecided_by_rows u most taken dot s past a l reads is
+
+-- no lines are told with it
+window_by_rows : (u : Database) (taken dot : ℕ) (texts : List (List ℕ)) (verdict : FinalVerdict) (window : List ℕ) → window ≡ [] → IsWindowOf u taken texts (told_by_rows verdict dot) window
+window_by_rows u taken dot texts final.Reached window none = none
+window_by_rows u taken dot texts (final.Unreached s) window none = none
+window_by_rows u taken dot texts (final.Undecided s) window none = none
+
+both_known : (all left : Option LinesLeft) (P : LinesLeft → LinesLeft → Type 0) (Q R S : LinesLeft → Type 0) → Relates all left P → IfSome left Q → IfSome all R → ((a l : LinesLeft) → P a l → Q l → R a → S a) → IfSome all S
+both_known None left P Q R S h q r f = tt
+both_known (Some a) None P Q R S h q r f = absurd h
+both_known (Some a) (Some l) P Q R S h q r f = f a l h q r
+
+pub judged_by_rows : (u : Database) (most taken dot : ℕ) (past : List Line) (all left : Option LinesLeft) (rows : Rows) (verdict : FinalVerdict) (window : List ℕ) → Relates all left (ReadsToDot past taken dot) → IfSome left (λ l. rows_of_lines (dot + 1) l.lines ≡ Ok rows)
+    → AreAdmitted rows → IfSome all (λ a. IsJudgement u most taken (before_dot a.lines) Legal window) → IsFinalVerdictOn u most past (database_of rows) verdict → IfSome all (λ a. IsJudgementTo u most taken a.lines (told_by_rows verdict dot) window)
+judged_by_rows u most taken dot past all left rows verdict window reads read admitted legal is =
+    both_known all left (ReadsToDot past taken dot) (λ l. rows_of_lines (dot + 1) l.lines ≡ Ok rows) (λ a. IsJudgement u most taken (before_dot a.lines) Legal window) (λ a. IsJudgementTo u most taken a.lines (told_by_rows verdict dot) window) reads read legal
+    (λ a l to r known. record {
+      judged_is = said_by_rows u most taken dot past a l rows verdict to r admitted known.judged_is is;
+      window_is = window_by_rows u taken dot (before_dot a.lines) verdict window known.window_is;
+    })
+
+-- they are refused
+no_rows : (taken dot : ℕ) (past : List Line) (a l : LinesLeft) (fault : InputFault) → ReadsToDot past taken dot a l → RefusesReading (rows_of_lines (dot + 1) l.lines) fault → RefusesTexts true taken a.lines (input_fault fault)
+no_rows taken dot past a l (input.BadLine n) reads h =
+    inr (refl, ap (rows_after (taken + length a.lines + 1) (dot_number taken a.lines + 1)) reads.later ∙ (ap (λ n. rows_of_lines (n + 1) l.lines) (sym reads.counted) ∙ h))
+no_rows taken dot past a l (input.Stream NoMemory) reads h = tt
+no_rows taken dot past a l (input.Stream ReadFault) reads h = tt
+no_rows taken dot past a l (input.Stream WriteFault) reads h = h
+
+pub rows_not_read : (taken dot : ℕ) (past : List Line) (all left : Option LinesLeft) (fault : InputFault) → Relates all left (ReadsToDot past taken dot) → IfSome left (λ l. RefusesReading (rows_of_lines (dot + 1) l.lines) fault)
+    → IfSome all (λ a. RefusesTexts true taken a.lines (input_fault fault))
+rows_not_read taken dot past all left fault reads h =
+    relates_known all left (ReadsToDot past taken dot) (λ l. RefusesReading (rows_of_lines (dot + 1) l.lines) fault) (λ a. RefusesTexts true taken a.lines (input_fault fault)) reads h (λ a l to refused. no_rows taken dot past a l fault to refused)
+
+pub rows_not_admitted : (taken dot : ℕ) (past : List Line) (all left : Option LinesLeft) (rows : Rows) (error : OpenError) → Relates all left (ReadsToDot past taken dot) → IfSome left (λ l. rows_of_lines (dot + 1) l.lines ≡ Ok rows) → RefusesRows rows error
+    → IfSome all (λ a. RefusesTexts true taken a.lines (Unopened error))
+rows_not_admitted taken dot past all left rows error reads read refused =
+    relates_known all left (ReadsToDot past taken dot) (λ l. rows_of_lines (dot + 1) l.lines ≡ Ok rows) (λ a. RefusesTexts true taken a.lines (Unopened error)) reads read
+    (λ a l to r. (refl, (rows, ap (rows_after (taken + length a.lines + 1) (dot_number taken a.lines + 1)) to.later ∙ (ap (λ n. rows_of_lines (n + 1) l.lines) (sym to.counted) ∙ r), refused)))

@@ -1,0 +1,137 @@
+//! The verdict on a history that is followed by the rows at its end.
+ghost use Rattle.std.specs.Prelude.{◌≡◌, ◌≤◌, [], ℕ, true, Ok, IfOk, IfErr, IfSome, List};
+ghost use Rattle.tatp_tables.specs.Database.{Database};
+ghost use Rattle.tatp_history.specs.declared.line.Line.{Line as ALine};
+ghost use Rattle.tatp_streams.specs.LineReading.{lines_left, Relates};
+ghost use Rattle.tatp_inputs.specs.Parts.{before_dot};
+ghost use Rattle.tatp_judge.specs.Followed.{HasFollowed};
+ghost use Rattle.tatp_judged_inputs.specs.Judged.{IsJudgement};
+ghost use Rattle.tatp_judged_inputs.specs.Judging.{IsJudgedWith, RefusesTexts, history_fault};
+ghost use Rattle.tatp_judged_inputs.specs.Reading.{ReadsToDot};
+ghost use Rattle.tatp_judged_inputs.specs.RowsAtEnd.{IsJudgementTo, told_by_rows};
+
+use crate::reading::Reading;
+use crate::{HistoryFault, JudgeFault, Judged, Judgement, judge_history};
+use std::alloc::Global;
+use std::io::Read;
+use tatp_extents::admit;
+use tatp_history_lines::OpenCalls;
+use tatp_inputs::{is_dot, read_rows_to_end};
+use tatp_judge::{FinalVerdict, Judge};
+use tatp_streams::LineReader;
+
+/// The verdict on the history that the lines up to a line `.` are. Where it is legal, the lines
+/// after that are left; else lines after that which decides it aren't read.
+fn judge_to_dot<R: Read>(
+    alloc: Global,
+    judge: &mut Judge,
+    lines: &mut LineReader,
+    reader: &mut R,
+) -> Result<Judgement, HistoryFault>
+    requires { (u : Database) × (most : ℕ) × HasFollowed u most [] judge.old }
+    ensures judged { IfOk result (λ judgement.
+        IfSome (lines_left lines.old (R.remaining reader.old)) (λ all.
+        (u : Database) (most : ℕ) → HasFollowed u most [] judge.old → IsJudgement u most
+        lines.old.number (before_dot all.lines) judgement.judged judgement.window.items)) }
+    ensures followed { IfOk result (λ judgement. judgement.judged ≡ Judged.Legal
+        → (u : Database) (most : ℕ) → HasFollowed u most [] judge.old
+        → (past : List ALine) × HasFollowed u most past judge.new
+        × Relates (lines_left lines.old (R.remaining reader.old))
+        (lines_left lines.new (R.remaining reader.new))
+        (ReadsToDot past lines.old.number lines.new.number)) }
+    ensures some { IfOk result (λ judgement.
+        judgement.judged ≡ Judged.Legal → 1 ≤ lines.new.number) }
+    ensures faults { IfErr result (λ fault.
+        IfSome (lines_left lines.old (R.remaining reader.old)) (λ all.
+        RefusesTexts true lines.old.number all.lines (history_fault fault))) }
+{
+    let mut reading = Reading {
+        opened: OpenCalls::new(alloc),
+        numbers: Vec::new(alloc),
+    };
+    'lines: loop {
+        if !lines.advance(reader)? {
+            return Err(HistoryFault::BadLine(lines.number() + 1));
+        }
+        if is_dot(lines.line()) {
+            let verdict = judge.finish(alloc)?;
+            return Ok(reading.judgement(alloc, judge, &verdict, lines.number() - 1)?);
+        }
+        if let Some(verdict) = reading.take(alloc, judge, lines.number(), lines.line())? {
+            return Ok(reading.judgement(alloc, judge, &verdict, lines.number())?);
+        }
+    }
+}
+
+/// What is said of a legal history by the rows at its end, where the line `.` has this number.
+fn judged_to(verdict: FinalVerdict, dot: u64) -> Judged
+    requires { 1 ≤ dot }
+    ensures { result ≡ told_by_rows verdict dot }
+{
+    match verdict {
+        FinalVerdict::Reached => Judged::Legal,
+        FinalVerdict::Unreached(s_id) => Judged::Unreached { line: dot, s_id },
+        FinalVerdict::Undecided(s_id) => Judged::Undecided {
+            line: dot - 1,
+            s_id,
+        },
+    }
+}
+
+/// The verdict on the history that the lines left of an input are, up to a line `.`, and on the
+/// rows after it. These aren't read where the history decides.
+fn judge_to_rows<R: Read>(
+    alloc: Global,
+    judge: &mut Judge,
+    lines: &mut LineReader,
+    reader: &mut R,
+) -> Result<Judgement, JudgeFault>
+    requires { (u : Database) × (most : ℕ) × HasFollowed u most [] judge.old }
+    ensures judged { IfOk result (λ judgement.
+        IfSome (lines_left lines.old (R.remaining reader.old)) (λ all.
+        (u : Database) (most : ℕ) → HasFollowed u most [] judge.old → IsJudgementTo u most
+        lines.old.number all.lines judgement.judged judgement.window.items)) }
+    ensures faults { IfErr result (λ fault.
+        IfSome (lines_left lines.old (R.remaining reader.old)) (λ all.
+        RefusesTexts true lines.old.number all.lines fault)) }
+{
+    let judgement = judge_to_dot(alloc, judge, lines, reader)?;
+    match judgement.judged {
+        Judged::Legal => {
+            let dot = lines.number();
+            let rows = read_rows_to_end(alloc, lines, reader)?;
+            admit(alloc, &rows)?;
+            let judged = judged_to(judge.finish_to(alloc, &rows)?, dot);
+            Ok(Judgement {
+                judged,
+                window: judgement.window,
+            })
+        }
+        _ => Ok(judgement),
+    }
+}
+
+/// The verdict on the history that the lines left of an input are, with the rows at its end where
+/// these follow it.
+pub(crate) fn judge_lines<R: Read>(
+    alloc: Global,
+    final_rows: bool,
+    judge: &mut Judge,
+    lines: &mut LineReader,
+    reader: &mut R,
+) -> Result<Judgement, JudgeFault>
+    requires { (u : Database) × (most : ℕ) × HasFollowed u most [] judge.old }
+    ensures judged { IfOk result (λ judgement.
+        IfSome (lines_left lines.old (R.remaining reader.old)) (λ all.
+        (u : Database) (most : ℕ) → HasFollowed u most [] judge.old → IsJudgedWith final_rows u
+        most lines.old.number all.lines judgement.judged judgement.window.items)) }
+    ensures faults { IfErr result (λ fault.
+        IfSome (lines_left lines.old (R.remaining reader.old)) (λ all.
+        RefusesTexts final_rows lines.old.number all.lines fault)) }
+{
+    if final_rows {
+        judge_to_rows(alloc, judge, lines, reader)
+    } else {
+        Ok(judge_history(alloc, judge, lines, reader)?)
+    }
+}

@@ -1,6 +1,6 @@
 -- What follows on configurations at an event, and after all events.
-use Rattle.std.proofs.Common.{◌≡◌, ℕ, zero, suc, ◌+◌, ◌<◌, ◌==◌, ◌↔◌, false, List, [], ◌∷◌, ◌++◌, take, drop, length, Some, slice_get, refl, sym, ◌∙◌, ap, subst, arith, true≢false, inl, inr}
-use Rattle.std.proofs.lemmas.List.{append-nil, append_assoc}
+use Rattle.std.proofs.Common.{◌≡◌, ℕ, zero, suc, ◌+◌, ◌<◌, ◌==◌, ◌↔◌, false, List, [], ◌∷◌, ◌++◌, take, drop, length, Some, slice_get, refl, sym, ◌∙◌, ap, subst, arith, true≢false, inl, inr, ◌⊎◌, ◌≤◌}
+use Rattle.std.proofs.lemmas.List.{append-nil, append_assoc, take_all}
 use Rattle.tatp_tables.specs.Database.{Database}
 use Rattle.tatp_history.specs.declared.observed.Observed.{Observed}
 use Rattle.tatp_history.specs.declared.event.Event.{Event}
@@ -11,13 +11,15 @@ use Rattle.tatp_history.specs.JustInTime.{NoneAskedAt}
 use Rattle.tatp_history.specs.Histories.{IsStrictlySerializable}
 use Rattle.tatp_history.specs.Configurations.{Configuration, starting}
 use Rattle.tatp_linearization.specs.declared.configuration.Configuration.{Configuration as Held}
-use Rattle.tatp_linearization.specs.AtOnce.{TakeUntil, FollowsAtOnce}
+use Rattle.tatp_linearization.specs.AtOnce.{TakeUntil, FollowsAtOnce, LeadAtOnce}
+use Rattle.tatp_linearization.specs.Doomed.{IsDoomed}
 use Rattle.tatp_linearization.specs.Possible.{AreMoreThan, NeedMore}
 use Rattle.tatp_linearization.specs.Held.{seen, Has, AreReady, AreApart, Adds, HoldsOfOne, IsTried, FollowAll}
 use Rattle.tatp_linearization.specs.Reached.{AreKept}
 use Rattle.tatp_linearization.proofs.AtOnceLaws.{lead_on, lead_by, at_once_exact}
-use Rattle.tatp_linearization.proofs.PossibleLaws.{need_more}
-use Rattle.tatp_linearization.proofs.PlaceLaws.{take_more}
+use Rattle.tatp_linearization.proofs.PossibleLaws.{AreLed, need_more}
+use Rattle.tatp_linearization.proofs.DoomedLaws.{none_doomed, doomed_on}
+use Rattle.tatp_linearization.proofs.PlaceLaws.{take_more, drop_at}
 use Rattle.tatp_linearization.proofs.TurnLaws.{until_some}
 
 -- ---- one configuration
@@ -67,16 +69,39 @@ kept_none u cs c is rows none =
       apart = (c.home.s_id, subst (AreApart c.home.s_id) (sym is) (record { own = (refl, tt); distinct = (tt, tt) }));
     }
 
-pub kept_more : (u : Database) (past : List Event) (event : Event) (before after : List Held) → FollowAll event before after → AreReady after → ((s : ℕ) → AreApart s before → AreApart s after) → AreKept u past before → AreKept u (past ++ event ∷ []) after
-kept_more u past event before after all ready apart kept = record {
-  exact = λ d. (
-    λ h. let k = (all d).0 h in lead_on past (event ∷ []) (starting u) k.0 d ((kept.exact k.0).0 k.1) (d, k.2, refl),
-    λ h.
-        let parts = lead_by past (event ∷ []) (starting u) d h in
-        let last : FollowsAtOnce event parts.0 d = subst (λ (b : Configuration). FollowsAtOnce event parts.0 b) (sym parts.2.2) parts.2.1 in
-        (all d).1 (parts.0, (kept.exact parts.0).1 parts.1, last),
-  );
+-- these are the configurations to which the events lead, but for some that are doomed by the rest
+pub record AreKeptBut (u : Database) (past rest : List Event) (cs : List Held) : Type 0 where
+  pub sound : AreLed u past cs
+  pub found : (d : Configuration) → LeadAtOnce past (starting u) d → Has cs d ⊎ IsDoomed rest d
+  pub ready : AreReady cs
+  pub apart : (s : ℕ) × AreApart s cs
+
+pub but_none : (u : Database) (past rest : List Event) (cs : List Held) → AreKept u past cs → AreKeptBut u past rest cs
+but_none u past rest cs kept = record { sound = λ d h. (kept.exact d).0 h; found = λ d h. inl ((kept.exact d).1 h); ready = kept.ready; apart = kept.apart }
+
+pub none_but : (u : Database) (past : List Event) (cs : List Held) → AreKeptBut u past [] cs → AreKept u past cs
+none_but u past cs kept = record { exact = λ d. (kept.sound d, λ h. elim (kept.found d h) [ inl k ↦ k | inr doomed ↦ absurd (none_doomed d doomed) ]); ready = kept.ready; apart = kept.apart }
+
+pub kept_more : (u : Database) (past : List Event) (event : Event) (rest : List Event) (before after : List Held) → FollowAll event before after → AreReady after → ((s : ℕ) → AreApart s before → AreApart s after) → AreKeptBut u past (event ∷ rest) before → AreKeptBut u (past ++ event ∷ []) rest after
+kept_more u past event rest before after all ready apart kept = record {
+  sound = λ d h. let k = (all d).0 h in lead_on past (event ∷ []) (starting u) k.0 d (kept.sound k.0 k.1) (d, k.2, refl);
+  found = λ d h.
+      let parts = lead_by past (event ∷ []) (starting u) d h in
+      let last : FollowsAtOnce event parts.0 d = subst (λ (b : Configuration). FollowsAtOnce event parts.0 b) (sym parts.2.2) parts.2.1 in
+      elim (kept.found parts.0 parts.1) [
+        | inl k ↦ inl ((all d).1 (parts.0, k, last))
+        | inr doomed ↦ inr (doomed_on event rest parts.0 d doomed last)
+      ];
   ready = ready;
+  apart = (kept.apart.0, apart kept.apart.0 kept.apart.1);
+}
+
+pub kept_less : (u : Database) (past rest : List Event) (before after : List Held) → ((d : Configuration) → Has after d → Has before d) → ((d : Configuration) → Has before d → Has after d ⊎ IsDoomed rest d) → (AreReady before → AreReady after)
+    → ((s : ℕ) → AreApart s before → AreApart s after) → AreKeptBut u past rest before → AreKeptBut u past rest after
+kept_less u past rest before after less found ready apart kept = record {
+  sound = λ d h. kept.sound d (less d h);
+  found = λ d h. elim (kept.found d h) [ inl k ↦ found d k | inr doomed ↦ inr doomed ];
+  ready = ready kept.ready;
   apart = (kept.apart.0, apart kept.apart.0 kept.apart.1);
 }
 
@@ -112,26 +137,51 @@ window_whole past events i event at = ap (λ es. past ++ es) (both events i even
     both (d ∷ es) zero e h = let is : d ≡ e = cc in ap (λ v. v ∷ es) is
     both (d ∷ es) (suc j) e h = ap (λ vs. d ∷ vs) (both es j e h)
 
--- the configurations after the first of a window's events
+-- the configurations after the first of a window's events, but for some that are doomed
 pub record IsFollowed (set : List Held) (events : List Event) (i : ℕ) (after : List Held) : Type 0 where
-  pub kept : (u : Database) (past : List Event) → AreKept u past set → AreKept u (past ++ take i events) after
+  pub kept : (u : Database) (past : List Event) → AreKept u past set → AreKeptBut u (past ++ take i events) (drop i events) after
   pub ready : AreReady after
   pub apart : (s : ℕ) → AreApart s set → AreApart s after
 
 pub followed_none : (set : List Held) (events : List Event) → AreReady set → IsFollowed set events 0 set
-followed_none set events ready = record { kept = λ u past k. subst (λ es. AreKept u es set) (sym (append-nil past)) k; ready = ready; apart = λ s h. h }
+followed_none set events ready = record { kept = λ u past k. subst (λ es. AreKeptBut u es events set) (sym (append-nil past)) (but_none u past events set k); ready = ready; apart = λ s h. h }
 
 pub followed_more : (set : List Held) (events : List Event) (i : ℕ) (event : Event) (before after : List Held) → slice_get events i ≡ Some event → IsFollowed set events i before
     → FollowAll event before after → AreReady after → ((s : ℕ) → AreApart s before → AreApart s after) → IsFollowed set events (i + 1) after
 followed_more set events i event before after at f all ready apart = record {
-  kept = λ u past k. subst (λ es. AreKept u es after) (sym (window_more past events i event at)) (kept_more u (past ++ take i events) event before after all ready apart (f.kept u past k));
+  kept = λ u past k. subst (λ es. AreKeptBut u es (drop (i + 1) events) after) (sym (window_more past events i event at))
+      (kept_more u (past ++ take i events) event (drop (i + 1) events) before after all ready apart
+      (subst (λ es. AreKeptBut u (past ++ take i events) es before) (drop_at events i event at ∙ ap (λ n. event ∷ drop n events) (next i)) (f.kept u past k)));
   ready = ready;
   apart = λ s h. apart s (f.apart s h);
 }
+  where
+    next : (n : ℕ) → suc n ≡ n + 1
+    next n = omega arith
+
+-- without some that are doomed
+pub followed_less : (set : List Held) (events : List Event) (i : ℕ) (before after : List Held) → IsFollowed set events i before → ((d : Configuration) → Has after d → Has before d)
+    → ((d : Configuration) → Has before d → Has after d ⊎ IsDoomed (drop i events) d) → (AreReady before → AreReady after) → ((s : ℕ) → AreApart s before → AreApart s after) → IsFollowed set events i after
+followed_less set events i before after f less found ready apart = record {
+  kept = λ u past k. kept_less u (past ++ take i events) (drop i events) before after less found ready apart (f.kept u past k);
+  ready = ready f.ready;
+  apart = λ s h. apart s (f.apart s h);
+}
+
+pub followed_all : (set : List Held) (events : List Event) (i : ℕ) (after : List Held) → IsFollowed set events i after → length events ≤ i → (u : Database) (past : List Event) → AreKept u past set → AreKept u (past ++ events) after
+followed_all set events i after f all u past k =
+    subst (λ es. AreKept u (past ++ es) after) (take_all i events all)
+    (none_but u (past ++ take i events) after (subst (λ es. AreKeptBut u (past ++ take i events) es after) (nothing_left events i all) (f.kept u past k)))
+  where
+    nothing_left : (es : List Event) (n : ℕ) → length es ≤ n → drop n es ≡ []
+    nothing_left [] zero le = refl
+    nothing_left [] (suc n) le = refl
+    nothing_left (e ∷ es) zero le = absurd (omega (arith, le))
+    nothing_left (e ∷ es) (suc n) le = nothing_left es n (omega (arith, le))
 
 pub followed_many : (most : ℕ) (set : List Held) (events : List Event) (i : ℕ) (event : Event) (before : List Held) → slice_get events i ≡ Some event → IsFollowed set events i before
     → ((s : ℕ) → AreApart s before → AreMoreThan most (HoldsOfOne (IsTried event) before)) → (u : Database) (past : List Event) → AreKept u past set → NeedMore most u (past ++ events)
 followed_many most set events i event before at f many u past k =
     let own = f.kept u past k in
     subst (NeedMore most u) (sym (window_whole past events i event at))
-    (need_more u (past ++ take i events) event (drop (suc i) events) most before own (many own.apart.0 own.apart.1))
+    (need_more u (past ++ take i events) event (drop (suc i) events) most before own.sound (many own.apart.0 own.apart.1))

@@ -17,7 +17,6 @@ use Rattle.tatp_linearization.specs.declared.configuration.Configuration.{Config
 use Rattle.tatp_linearization.specs.AtOnce.{FitsAtOnce, AreLeft, IsSettled, TakesOne, TakeUntil, FollowsAtOnce, LeadAtOnce}
 use Rattle.tatp_linearization.specs.Possible.{CallTakesEffect, CallsTakeEffect, Passes, MayBecome, AreMoreThan, IsPossible, NeedMore}
 use Rattle.tatp_linearization.specs.Held.{Has, HoldsOfOne, TakeMany, TakeSome, IsTried}
-use Rattle.tatp_linearization.specs.Reached.{AreKept}
 use Rattle.tatp_linearization.proofs.SettlingLaws.{chooses_mid, shift, reads_leave}
 use Rattle.tatp_linearization.proofs.AtOnceLaws.{one_settled, event_settled, lead_settled}
 
@@ -122,32 +121,36 @@ lead_becomes past (event ∷ more) s c d may h =
     subst (λ es. MayBecome es s d) (sym (shift past event more))
     (lead_becomes (past ++ event ∷ []) more s h.0 d (event_becomes past event s c h.0 may h.1) h.2)
 
-pub kept_possible : (u : Database) (past : List Event) (cs : List Held) → AreKept u past cs → (d : Configuration) → Has cs d → IsPossible u past d
-kept_possible u past cs kept d h =
-    let led = (kept.exact d).0 h in
+-- each configuration is one to which the events lead
+abbrev pub AreLed : Database → List Event → List Held → Type 0
+AreLed u past cs = (d : Configuration) → Has cs d → LeadAtOnce past (starting u) d
+
+pub led_possible : (u : Database) (past : List Event) (cs : List Held) → AreLed u past cs → (d : Configuration) → Has cs d → IsPossible u past d
+led_possible u past cs all d h =
+    let led = all d h in
     (lead_becomes [] past (starting u) (starting u) d (0, refl) led, lead_settled past (starting u) d tt led)
 
 -- so is what open calls make of it
-pub tried_possible : (u : Database) (past : List Event) (cs : List Held) → AreKept u past cs → (d : Configuration) → HoldsOfOne TakeSome cs d → IsPossible u past d
-tried_possible u past cs kept d h =
-    let own = kept_possible u past cs kept h.0 h.1 in
+pub tried_possible : (u : Database) (past : List Event) (cs : List Held) → AreLed u past cs → (d : Configuration) → HoldsOfOne TakeSome cs d → IsPossible u past d
+tried_possible u past cs all d h =
+    let own = led_possible u past cs all h.0 h.1 in
     let takes = many_take h.2.0 h.0 d own.1 h.2.1 in
     (becomes_on past (starting u) h.0 d own.0 takes.0, takes.1)
 
-pub need_more : (u : Database) (past : List Event) (event : Event) (rest : List Event) (most : ℕ) (cs : List Held) → AreKept u past cs → AreMoreThan most (HoldsOfOne (IsTried event) cs) → NeedMore most u (past ++ event ∷ rest)
-need_more u past (Asks x) rest most cs kept p = (
+pub need_more : (u : Database) (past : List Event) (event : Event) (rest : List Event) (most : ℕ) (cs : List Held) → AreLed u past cs → AreMoreThan most (HoldsOfOne (IsTried event) cs) → NeedMore most u (past ++ event ∷ rest)
+need_more u past (Asks x) rest most cs all p = (
   past ++ Asks x ∷ [],
   rest,
   shift past (Asks x) rest,
   more_than most (HoldsOfOne (IsTried (Asks x)) cs) (IsPossible u (past ++ Asks x ∷ [])) (λ d h.
-      let own = kept_possible u past cs kept h.0 h.1 in
+      let own = led_possible u past cs all h.0 h.1 in
       (event_becomes past (Asks x) (starting u) h.0 d own.0 h.2, event_settled (Asks x) h.0 d own.1 h.2)) p,
 )
-need_more u past (Ends asked at) rest most cs kept p = (
+need_more u past (Ends asked at) rest most cs all p = (
   past,
   Ends asked at ∷ rest,
   refl,
-  more_than most (HoldsOfOne (IsTried (Ends asked at)) cs) (IsPossible u past) (tried_possible u past cs kept) p,
+  more_than most (HoldsOfOne (IsTried (Ends asked at)) cs) (IsPossible u past) (tried_possible u past cs all) p,
 )
 
 -- where more than so many are needed by some of the first events, they are by all

@@ -186,4 +186,4 @@ module _ (u : Database) (past : List Event) (cs : List Held) (kept : AreKept u p
       )
 
   pub kept_many : (most : ℕ) → AreMoreThan most (HoldsOfOne TakeSome cs) → NeedMore most u past
-  kept_many most many = (past, [], sym (append-nil past), more_than most (HoldsOfOne TakeSome cs) (IsPossible u past) (tried_possible u past cs kept) many)
+  kept_many most many = (past, [], sym (append-nil past), more_than most (HoldsOfOne TakeSome cs) (IsPossible u past) (tried_possible u past cs (λ d h. (kept.exact d).0 h)) many)

@@ -7,3 +7,4 @@ pub mod Cut
 pub mod Legal
 pub mod Leaving
 pub mod Listed
+pub mod Doomed

@@ -37,6 +37,22 @@ fn is_same_call(x: &Observed, y: &Observed) -> bool
     x.asked == y.asked && x.call == y.call && is_same_outcome(&x.outcome, &y.outcome)
 }
 
+/// Whether these were asked at the same times, one after another. That tells most lists of calls
+/// apart, and is quick.
+pub(crate) fn are_asked_alike(xs: &[Observed], ys: &[Observed]) -> bool
+    ensures { xs.now ≡ ys.now → IsTrue result }
+{
+    if xs.len() != ys.len() {
+        return false;
+    }
+    for i in 0..xs.len() {
+        if xs[i].asked != ys[i].asked {
+            return false;
+        }
+    }
+    true
+}
+
 /// Whether these are the same calls, in the same order.
 pub(crate) fn are_same(xs: &[Observed], ys: &[Observed]) -> bool
     ensures { IsTrue result ↔ (xs.now ≡ ys.now) }

@@ -6,7 +6,7 @@ ghost use Rattle.tatp_history.specs.Locality.{AreAccepted};
 ghost use Rattle.tatp_linearization.specs.Possible.{AreMoreThan};
 ghost use Rattle.tatp_linearization.specs.Held.{Adds, AreApart, AreReady, Has, IsAsked, IsOldOr, StandFirst, Takes, seen};
 
-use crate::comparing::are_same;
+use crate::comparing::{are_asked_alike, are_same};
 use crate::reading::{needs_no_place, only_reads, settle};
 use crate::stopped::Stopped;
 use std::alloc::{AllocError, Global};
@@ -57,7 +57,9 @@ fn is_same(c: &Configuration, d: &Configuration) -> bool
     ensures same { IsTrue result → seen c.now ≡ seen d.now }
     ensures other { c.now.home.s_id ≡ d.now.home.s_id → seen c.now ≡ seen d.now → IsTrue result }
 {
-    c.home == d.home && are_same(c.opened.as_slice(), d.opened.as_slice())
+    are_asked_alike(c.opened.as_slice(), d.opened.as_slice())
+        && c.home == d.home
+        && are_same(c.opened.as_slice(), d.opened.as_slice())
 }
 
 /// Whether the configuration is one of these.

@@ -10,6 +10,7 @@ ghost use Rattle.tatp_linearization.specs.Held.{IsAcceptedEvent, AreApart, AreRe
 ghost use Rattle.tatp_linearization.specs.Reached.{AreKept, AreOfSubscriber, AreReached};
 
 use crate::configuration::Configuration;
+use crate::doomed::drop_doomed;
 use crate::following::{after_event, leaves_all};
 use crate::stopped::Stopped;
 use std::alloc::{AllocError, Global};
@@ -59,6 +60,7 @@ fn after_events(
         if !leaves_all(after.as_slice(), event) {
             let next = after_event(alloc, after.as_slice(), event, most)?;
             after = next;
+            drop_doomed(&mut after, events, i + 1);
         }
     }
     Ok(after)

@@ -4,6 +4,7 @@
 mod comparing;
 mod configuration;
 mod cut;
+mod doomed;
 mod effects;
 mod explanations;
 mod first;

@@ -1,12 +1,11 @@
 use Rattle.std.proofs.Common.{◌≡◌, ◌<◌, ◌≤◌, ◌+◌, ℕ, List, length, Some, Vec, Global, slice_get, sym, subst, arith, ◌++◌}
-use Rattle.std.proofs.lemmas.List.{take_all}
 use Rattle.std.proofs.lemmas.Result.{err_from_is_err_and}
 use Rattle.tatp_linearization.specs.declared.configuration.Configuration.{Configuration as Held}
 use Rattle.tatp_linearization.specs.Held.{AreApart, HoldsOfOne, IsTried, FollowAll}
 use Rattle.tatp_linearization.specs.Possible.{AreMoreThan}
 use Rattle.tatp_linearization.specs.Reached.{AreKept}
 use Rattle.tatp_linearization.proofs.PlaceLaws.{get_at}
-use Rattle.tatp_linearization.proofs.FollowLaws.{IsFollowed, followed_none, followed_more, followed_many}
+use Rattle.tatp_linearization.proofs.FollowLaws.{IsFollowed, followed_none, followed_more, followed_less, followed_all, followed_many}
 use Rattle.tatp_linearization.proofs.explanations.after_events.Goals as goal
 use Rattle.tatp_linearization.proofs.explanations.after_events.Goals.{then-not-leaves_all+in_ok-next, else-not-leaves_all}
 
@@ -28,9 +27,9 @@ events-preserved c =
     elim c.if-not-leaves_all.branch [
       | then-not-leaves_all+in_ok-next w ↦
           subst (λ (v : Vec Held Global). IsFollowed set events (i + 1) v.items) (sym w.after-is)
-          (followed_more set events i event before w.in_ok-next.next.items at inv
+          (followed_less set events (i + 1) w.in_ok-next.next.items w.drop_doomed.new.set.items (followed_more set events i event before w.in_ok-next.next.items at inv
           (subst (λ cs. FollowAll event cs w.in_ok-next.next.items) w.as_slice-then-not-leaves_all.ensures.value w.in_ok-next.ensures.followed) w.in_ok-next.ensures.ready
-          (subst (λ (cs : List Held). (s : ℕ) → AreApart s cs → AreApart s w.in_ok-next.next.items) w.as_slice-then-not-leaves_all.ensures.value w.in_ok-next.ensures.apart))
+          (subst (λ (cs : List Held). (s : ℕ) → AreApart s cs → AreApart s w.in_ok-next.next.items) w.as_slice-then-not-leaves_all.ensures.value w.in_ok-next.ensures.apart)) w.drop_doomed.ensures.kept w.drop_doomed.ensures.found w.drop_doomed.ensures.ready w.drop_doomed.ensures.apart)
       | else-not-leaves_all w ↦
           subst (λ (v : Vec Held Global). IsFollowed set events (i + 1) v.items) (sym w.after-is)
           (followed_more set events i event before before at inv (subst (λ cs. FollowAll event cs cs) c.as_slice.ensures.value (c.leaves_all.ensures w.if-not-leaves_all.false)) inv.ready (λ s h. h))
@@ -39,7 +38,7 @@ events-preserved c =
 pub returns-clause-kept : goal.returns-clause-kept
 returns-clause-kept c = λ u past kept.
     let all : length c.args.events.now ≤ c.events.i = omega (arith, c.events-test.false) in
-    subst (λ es. AreKept u (past ++ es) c.events.after.items) (take_all c.events.i c.args.events.now all) (c.events.invariant.kept u past kept)
+    followed_all c.args.set.now c.args.events.now c.events.i c.events.after.items c.events.invariant all u past kept
 
 pub returns-in_err-after-clause-many : goal.returns-in_err-after-clause-many
 returns-in_err-after-clause-many c =

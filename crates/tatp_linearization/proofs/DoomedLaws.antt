@@ -1,0 +1,246 @@
+-- No configuration follows on a doomed one up to the end of its window.
+use Rattle.std.proofs.Common.{◌≡◌, ℕ, zero, suc, ◌⊎◌, ◌≤◌, Bool, true, false, ◌==◌, List, [], ◌∷◌, length, Option, Some, None, set, get_or, slice_index, slice_get, refl, sym, ◌∙◌, ap, subst, arith, eq-eqb, true≢false, inl, inr}
+use Rattle.std.specs.List.{AllByRecursion, items_where_true}
+use Rattle.std.specs.List.Retain.{IsFiltered, ReturnsInTurn}
+use Rattle.std.specs.Option.{option_map}
+use Rattle.std.proofs.lemmas.List.{get_or-set_other}
+use Rattle.tatp_tables.specs.Tuples.{Tuple, Tuples, has, replace_row, remove_row}
+use Rattle.tatp_tables.specs.Keys.{row_at, row_with_number, has_number, has_key}
+use Rattle.tatp_tables.specs.Database.{Database}
+use Rattle.tatp_tables.specs.declared.table.Table.TheVariants.{Subscriber}
+use Rattle.tatp_tables.proofs.FindLaws.{found_in}
+use Rattle.tatp_tables.proofs.KeyLaws.{key_is, each-insert_row, has-from_remove_row, row_at-has, has-found}
+use Rattle.tatp_homes.specs.Home.{SubscriberRows, IsHome}
+use Rattle.tatp_homes.specs.Changes.{cell}
+use Rattle.tatp_numbers.specs.declared.key.Key.TheVariants.{Number}
+use Rattle.tatp_numbers.specs.Homes.{home_of_key}
+use Rattle.tatp_procs.specs.declared.call.Call.{Call}
+use Rattle.tatp_procs.specs.declared.call.Call.TheVariants.{GetSubscriberData, GetNewDestination, GetAccessData, UpdateSubscriberData, UpdateLocation, InsertCallForwarding, DeleteCallForwarding}
+use Rattle.tatp_procs.specs.declared.reply.Reply.{Reply}
+use Rattle.tatp_procs.specs.declared.reply.Reply.TheVariants.{Values, Failed}
+use Rattle.tatp_procs.specs.Transactions.{transaction, reads, updates_both, moves, with_bit_1, with_vlr_location, inserts_under, inserts_for, deletes, deletes_for}
+use Rattle.tatp_history.specs.declared.event.Event.{Event}
+use Rattle.tatp_history.specs.declared.event.Event.TheVariants.{Asks, Ends}
+use Rattle.tatp_history.specs.declared.observed.Observed.{Observed}
+use Rattle.tatp_history.specs.declared.observed.Recorded.TheVariants.{Exactly}
+use Rattle.tatp_history.specs.declared.observed.Outcome.TheVariants.{Answered}
+use Rattle.tatp_history.specs.Histories.{IsIn, MayHaveReply}
+use Rattle.tatp_history.specs.JustInTime.{Chooses, NoneAskedAt}
+use Rattle.tatp_history.specs.Configurations.{Configuration, IsRead}
+use Rattle.tatp_history.proofs.OrderLaws.{in_all}
+use Rattle.tatp_history.proofs.ChoiceLaws.{chosen_in, rest_in, in_cases}
+use Rattle.tatp_history.specs.Locality.{AreAccepted}
+use Rattle.tatp_linearization.specs.declared.configuration.Configuration.{Configuration as Held}
+use Rattle.tatp_linearization.specs.Possible.{AreDistinct}
+use Rattle.tatp_linearization.specs.Held.{seen, all_seen, Has, AreReady, AreApart}
+use Rattle.tatp_linearization.specs.AtOnce.{only_reads, FitsAtOnce, AreLeft, TakesOne, TakeUntil, FollowsAtOnce}
+use Rattle.tatp_linearization.specs.Doomed.{NoneHasLocation, sets_location, SawLocation, NoneSetsUntil, NoneSets, IsStuck, IsDoomed}
+use Rattle.tatp_linearization.proofs.SettlingLaws.{left_all, reads_leave}
+
+-- ---- locations
+set_cases : (xs : List ℕ) (i w d : ℕ) → (get_or (set xs i w) i d ≡ w) ⊎ (get_or (set xs i w) i d ≡ get_or xs i d)
+set_cases [] i w d = inr refl
+set_cases (x ∷ xs) zero w d = inl refl
+set_cases (x ∷ xs) (suc i) w d = set_cases xs i w d
+
+-- another row in the place of one
+none_replaced : (v : ℕ) (u : Database) (row new : Tuple) → (slice_index new 33 ≡ v → ⊥) → NoneHasLocation v u → (q : Tuple) → has (replace_row u.subscribers row new) q ≡ true → slice_index q 33 ≡ v → ⊥
+none_replaced v u row new other none = each-insert_row (λ q. slice_index q 33 ≡ v → ⊥) (remove_row u.subscribers row) new other (λ q h. none q (has-from_remove_row u.subscribers row q h))
+
+keeps_both : (v : ℕ) (u : Database) (x y : ℕ) (row facility : Option Tuple) → ((q : Tuple) → row ≡ Some q → has u.subscribers q ≡ true) → NoneHasLocation v u → NoneHasLocation v (updates_both u x y row facility).database
+keeps_both v u x y None facility there none = none
+keeps_both v u x y (Some row) None there none = none
+keeps_both v u x y (Some row) (Some facility) there none = none_replaced v u row (with_bit_1 row x) (λ e. none row (there row refl) (sym (get_or-set_other row 2 33 x 0 (λ d. omega (arith, d))) ∙ e)) none
+
+keeps_moves : (v : ℕ) (u : Database) (w : ℕ) (row : Option Tuple) → (w == v) ≡ false → ((q : Tuple) → row ≡ Some q → has u.subscribers q ≡ true) → NoneHasLocation v u → NoneHasLocation v (moves u w row).database
+keeps_moves v u w None other there none = none
+keeps_moves v u w (Some row) other there none = none_replaced v u row (with_vlr_location row w) (λ e. elim (set_cases row 33 w 0) [
+  | inl is ↦ true≢false (sym (eq-eqb w v (sym is ∙ e)) ∙ other)
+  | inr is ↦ none row (there row refl) (sym is ∙ e)
+]) none
+
+inserts_keep : (u : Database) (row : Tuple) (facility there : Option Tuple) → (inserts_under u row facility there).database.subscribers ≡ u.subscribers
+inserts_keep u row None there = refl
+inserts_keep u row (Some facility) (Some there) = refl
+inserts_keep u row (Some facility) None = refl
+
+inserts_for_keep : (u : Database) (t b e x : ℕ) (s : Option ℕ) → (inserts_for u t b e x s).database.subscribers ≡ u.subscribers
+inserts_for_keep u t b e x None = refl
+inserts_for_keep u t b e x (Some s) = inserts_keep u (s ∷ t ∷ b ∷ e ∷ x ∷ []) (row_at u.facilities (s ∷ t ∷ [])) (row_at u.forwardings (s ∷ t ∷ b ∷ []))
+
+deletes_keep : (u : Database) (row : Option Tuple) → (deletes u row).database.subscribers ≡ u.subscribers
+deletes_keep u None = refl
+deletes_keep u (Some row) = refl
+
+deletes_for_keep : (u : Database) (t b : ℕ) (s : Option ℕ) → (deletes_for u t b s).database.subscribers ≡ u.subscribers
+deletes_for_keep u t b None = refl
+deletes_for_keep u t b (Some s) = deletes_keep u (row_at u.forwardings (s ∷ t ∷ b ∷ []))
+
+abbrev NoRowHas : ℕ → Tuples → Type 0
+NoRowHas v rows = (row : Tuple) → has rows row ≡ true → slice_index row 33 ≡ v → ⊥
+
+-- a transaction that doesn't set the location leaves no row with it, where there was none
+pub none_after : (call : Call) (v : ℕ) (u : Database) → sets_location v call ≡ false → NoneHasLocation v u → NoneHasLocation v (transaction call u).database
+none_after (GetSubscriberData s) v u other none = subst (NoneHasLocation v) (sym (reads_leave (GetSubscriberData s) refl u)) none
+none_after (GetNewDestination s t b e) v u other none = subst (NoneHasLocation v) (sym (reads_leave (GetNewDestination s t b e) refl u)) none
+none_after (GetAccessData s t) v u other none = subst (NoneHasLocation v) (sym (reads_leave (GetAccessData s t) refl u)) none
+none_after (UpdateSubscriberData s x t y) v u other none = keeps_both v u x y (row_at u.subscribers (s ∷ [])) (row_at u.facilities (s ∷ t ∷ [])) (λ q e. row_at-has u.subscribers (s ∷ []) q e) none
+none_after (UpdateLocation n w) v u other none = keeps_moves v u w (row_with_number u.subscribers n) other (λ q e. has-found (has_number n) u.subscribers q e) none
+none_after (InsertCallForwarding n t b e x) v u other none = subst (NoRowHas v) (sym (inserts_for_keep u t b e x (home_of_key u.subscribers (Number n)))) none
+none_after (DeleteCallForwarding n t b) v u other none = subst (NoRowHas v) (sym (deletes_for_keep u t b (home_of_key u.subscribers (Number n)))) none
+
+-- ---- the read stays open
+-- it doesn't fit where no row has the location that it saw
+row_read : (u : Database) (row : Option Tuple) (values : List ℕ) → (reads u (λ q. q) row).reply ≡ Values values → row ≡ Some values
+row_read u None values e = absurd cc
+row_read u (Some row) values e = let is : row ≡ values = cc in ap Some is
+
+pub misfits : (v : ℕ) (x : Observed) (u : Database) → SawLocation v x → NoneHasLocation v u → FitsAtOnce u x → ⊥
+misfits v x u saw none fits =
+    let may : MayHaveReply (Answered saw.at (Exactly (Values saw.values))) (transaction (GetSubscriberData saw.s_id) u).reply
+    = subst (λ o. MayHaveReply o (transaction (GetSubscriberData saw.s_id) u).reply) saw.answered (subst (λ (call : Call). MayHaveReply x.outcome (transaction call u).reply) saw.reads fits.1) in
+    let found : row_at u.subscribers (saw.s_id ∷ []) ≡ Some saw.values = row_read u (row_at u.subscribers (saw.s_id ∷ [])) saw.values (sym may) in
+    none saw.values (row_at-has u.subscribers (saw.s_id ∷ []) saw.values found) saw.column
+
+left_in : (u : Database) (xs left : List Observed) → AreLeft u xs left → (z : Observed) → (FitsAtOnce u z → ⊥) → IsIn z xs → IsIn z left
+left_in u [] left a z none h = absurd h
+left_in u (x ∷ xs) left a z none h = elim a [
+  | inl k ↦ elim h [
+    | inl e ↦ absurd (none (subst (FitsAtOnce u) (sym e) k.0))
+    | inr q ↦ left_in u xs left k.1 z none q
+  ]
+  | inr k ↦ subst (IsIn z) (sym k.1.1) (elim h [ inl e ↦ inl e | inr q ↦ inr (left_in u xs k.1.0 k.1.2 z none q) ])
+]
+
+sets_chosen : (v : ℕ) (xs : List Observed) (x : Observed) (rest : List Observed) → Chooses xs x rest → NoneSets v xs → (sets_location v x.call ≡ false) × NoneSets v rest
+sets_chosen v [] x rest c h = absurd c
+sets_chosen v (y ∷ ys) x rest c h = elim c [
+  | inl p ↦ (subst (λ (z : Observed). sets_location v z.call ≡ false) (sym p.0) h.0, subst (NoneSets v) (sym p.1) h.1)
+  | inr p ↦ let more = sets_chosen v ys x p.0 p.2 h.1 in (more.0, subst (NoneSets v) (sym p.1) (h.0, more.1))
+]
+
+one_stuck : (events : List Event) (c d : Configuration) (r : Observed) (v : ℕ) → TakesOne c d → IsStuck events c r v → IsStuck events d r v
+one_stuck events c d r v h stuck =
+    let u : Database = (transaction h.0.call c.rows).database in
+    let sets = sets_chosen v c.opened h.0 h.1 h.2.chosen stuck.opened in
+    let none : NoneHasLocation v u = none_after h.0.call v c.rows sets.0 stuck.rows in
+    let stays : IsIn r h.1 = elim (in_cases c.opened h.0 h.1 h.2.chosen r stuck.there) [
+      | inl e ↦
+          let reads : only_reads r.call ≡ true = ap only_reads stuck.saw.reads in
+          let writes : only_reads r.call ≡ false = ap (λ (z : Observed). only_reads z.call) e ∙ h.2.writes in
+          absurd (true≢false (sym reads ∙ writes))
+      | inr k ↦ k
+    ] in
+    record {
+      there = left_in u h.1 d.opened h.2.settled r (misfits v r u stuck.saw none) stays;
+      saw = stuck.saw;
+      rows = subst (NoneHasLocation v) (sym h.2.rows) none;
+      opened = left_all (λ (z : Observed). sets_location v z.call ≡ false) u h.1 d.opened h.2.settled sets.1;
+      later = stuck.later;
+    }
+
+until_stuck : (n asked : ℕ) (events : List Event) (c d : Configuration) (r : Observed) (v : ℕ) → TakeUntil n asked c d → IsStuck events c r v → IsStuck events d r v × NoneAskedAt asked d.opened
+until_stuck zero asked events c d r v h stuck = absurd h
+until_stuck (suc n) asked events c d r v h stuck =
+    let on = one_stuck events c h.0 r v h.1 stuck in
+    elim h.2 [
+      | inl k ↦ (subst (λ (e : Configuration). IsStuck events e r v) (sym k.1) on, subst (λ (e : Configuration). NoneAskedAt asked e.opened) (sym k.1) k.0)
+      | inr k ↦ until_stuck n asked events h.0 d r v k.1 on
+    ]
+
+-- it isn't the call that ends
+goes_on : (asked at : ℕ) (more : List Event) (d : Configuration) (r : Observed) (v : ℕ) → IsStuck (Ends asked at ∷ more) d r v → NoneAskedAt asked d.opened → IsDoomed more d
+goes_on asked at more d r v stuck none = elim stuck.later [
+  | inl e ↦ absurd (in_all (λ (z : Observed). z.asked ≡ asked → ⊥) r d.opened none stuck.there (sym e))
+  | inr later ↦ (r, v, record { there = stuck.there; saw = stuck.saw; rows = stuck.rows; opened = stuck.opened; later = later })
+]
+
+-- what follows on a doomed configuration is doomed
+pub doomed_on : (event : Event) (more : List Event) (c d : Configuration) → IsDoomed (event ∷ more) c → FollowsAtOnce event c d → IsDoomed more d
+doomed_on (Asks x) more c d doomed h =
+    let r = doomed.0 in
+    let v = doomed.1 in
+    let stuck = doomed.2 in
+    elim h [
+      | inl k ↦ subst (IsDoomed more) (sym k.1) (r, v, record { there = stuck.there; saw = stuck.saw; rows = stuck.rows; opened = stuck.opened; later = stuck.later.1 })
+      | inr k ↦ subst (IsDoomed more) (sym k.1) (r, v, record { there = inr stuck.there; saw = stuck.saw; rows = stuck.rows; opened = (stuck.later.0, stuck.opened); later = stuck.later.1 })
+    ]
+doomed_on (Ends asked at) more c d doomed h =
+    let r = doomed.0 in
+    let v = doomed.1 in
+    elim h [
+      | inl k ↦ subst (IsDoomed more) (sym k.1) (goes_on asked at more c r v doomed.2 k.0)
+      | inr k ↦ let on = until_stuck (length c.opened) asked (Ends asked at ∷ more) c d r v k.1 doomed.2 in goes_on asked at more d r v on.0 on.1
+    ]
+
+pub none_doomed : (c : Configuration) → IsDoomed [] c → ⊥
+none_doomed c doomed = doomed.2.later
+
+-- ---- what the code looks at
+-- the location of a home's subscriber
+location_cell : (home : SubscriberRows) → IsHome home → (row : Tuple) → has home.tables.subscribers row ≡ true → cell home.tables 33 (home.s_id ∷ 0 ∷ 0 ∷ []) ≡ Some (slice_index row 33)
+location_cell home is row there =
+    let key : List ℕ = home.s_id ∷ [] in
+    ap (option_map (λ (q : Tuple). slice_index q 33))
+    (found_in (has_key key) home.tables.subscribers row there (is.own Subscriber row there)
+    (λ q hq keyed. is.keys Subscriber q row hq there (key_is key q keyed ∙ sym (key_is key row (is.own Subscriber row there)))))
+
+pub none_located : (home : SubscriberRows) (v : ℕ) → IsHome home → (cell home.tables 33 (home.s_id ∷ 0 ∷ 0 ∷ []) ≡ Some v → ⊥) → NoneHasLocation v home.tables
+none_located home v is none row there e = none (location_cell home is row there ∙ ap Some e)
+
+-- ---- lists without some
+module _ {F : Type 0} (R : F → Held → Bool → F → Type 0) (events : List Event) (f : F) (tells : (c : Held) (b : Bool) (g : F) → R f c b g → (b ≡ false → IsDoomed events (seen c)) × (g ≡ f)) where
+  kept_there : (bs : List Bool) (cs : List Held) (d : Configuration) → Has (items_where_true bs cs) d → Has cs d
+  kept_there [] cs d h = absurd h
+  kept_there (b ∷ bs) [] d h = absurd h
+  kept_there (true ∷ bs) (c ∷ cs) d h = elim h [ inl e ↦ inl e | inr k ↦ inr (kept_there bs cs d k) ]
+  kept_there (false ∷ bs) (c ∷ cs) d h = inr (kept_there bs cs d h)
+
+  others_doomed : (bs : List Bool) (cs : List Held) (q : F) → length bs ≡ length cs → ReturnsInTurn R f bs cs q → (d : Configuration) → Has cs d → Has (items_where_true bs cs) d ⊎ IsDoomed events d
+  others_doomed bs [] q same t d h = absurd h
+  others_doomed [] (c ∷ cs) q same t d h = absurd (omega (arith, same))
+  others_doomed (true ∷ bs) (c ∷ cs) q same t d h = let one = tells c true t.0 t.1 in elim h [
+    | inl e ↦ inl (inl e)
+    | inr k ↦ elim (others_doomed bs cs q (omega (arith, same)) (subst (λ (g : F). ReturnsInTurn R g bs cs q) one.1 t.2) d k) [ inl p ↦ inl (inr p) | inr p ↦ inr p ]
+  ]
+  others_doomed (false ∷ bs) (c ∷ cs) q same t d h = let one = tells c false t.0 t.1 in elim h [
+    | inl e ↦ inr (subst (IsDoomed events) (sym e) (one.0 refl))
+    | inr k ↦ others_doomed bs cs q (omega (arith, same)) (subst (λ (g : F). ReturnsInTurn R g bs cs q) one.1 t.2) d k
+  ]
+
+  all_kept : (P : Held → Type 0) (bs : List Bool) (cs : List Held) → AllByRecursion P cs → AllByRecursion P (items_where_true bs cs)
+  all_kept P [] cs h = tt
+  all_kept P (b ∷ bs) [] h = tt
+  all_kept P (true ∷ bs) (c ∷ cs) h = (h.0, all_kept P bs cs h.1)
+  all_kept P (false ∷ bs) (c ∷ cs) h = all_kept P bs cs h.1
+
+  all_seen_kept : (P : Configuration → Type 0) (bs : List Bool) (cs : List Held) → AllByRecursion P (all_seen cs) → AllByRecursion P (all_seen (items_where_true bs cs))
+  all_seen_kept P [] cs h = tt
+  all_seen_kept P (b ∷ bs) [] h = tt
+  all_seen_kept P (true ∷ bs) (c ∷ cs) h = (h.0, all_seen_kept P bs cs h.1)
+  all_seen_kept P (false ∷ bs) (c ∷ cs) h = all_seen_kept P bs cs h.1
+
+  distinct_kept : (bs : List Bool) (cs : List Held) → AreDistinct (all_seen cs) → AreDistinct (all_seen (items_where_true bs cs))
+  distinct_kept [] cs h = tt
+  distinct_kept (b ∷ bs) [] h = tt
+  distinct_kept (true ∷ bs) (c ∷ cs) h = (all_seen_kept (λ (d : Configuration). seen c ≡ d → ⊥) bs cs h.0, distinct_kept bs cs h.1)
+  distinct_kept (false ∷ bs) (c ∷ cs) h = distinct_kept bs cs h.1
+
+  pub record AreLess (old new : List Held) : Type 0 where
+    pub kept : (d : Configuration) → Has new d → Has old d
+    pub found : (d : Configuration) → Has old d → Has new d ⊎ IsDoomed events d
+    pub ready : AreReady old → AreReady new
+    pub apart : (s : ℕ) → AreApart s old → AreApart s new
+
+  pub retained : (old new : List Held) → IsFiltered R f old new → AreLess old new
+  retained old new k = subst (AreLess old) (sym k.4) (record {
+    kept = kept_there k.0 old;
+    found = others_doomed k.0 old k.1 k.2 k.3;
+    ready = all_kept (λ (c : Held). AreAccepted c.opened.items) k.0 old;
+    apart = λ s h. record { own = all_kept (λ (c : Held). c.home.s_id ≡ s) k.0 old h.own; distinct = distinct_kept k.0 old h.distinct };
+  })
+
+pub get_in : (xs : List Observed) (i : ℕ) (x : Observed) → slice_get xs i ≡ Some x → IsIn x xs
+get_in [] i x e = absurd cc
+get_in (y ∷ ys) zero x e = let is : y ≡ x = cc in inl (sym is)
+get_in (y ∷ ys) (suc i) x e = inr (get_in ys i x e)

@@ -1,0 +1,138 @@
+//! Configurations from which no order explains the rest of a window.
+ghost use Rattle.std.specs.Prelude.{◌≡◌, ℕ, ◌⊎◌, ◌<◌, IsTrue, IfSome, false, drop, length};
+ghost use Rattle.tatp_history.specs.Configurations.{Configuration as Seen};
+ghost use Rattle.tatp_linearization.specs.Held.{AreApart, AreReady, Has, seen};
+ghost use Rattle.tatp_linearization.specs.Doomed.{IsDoomed, NoneHasLocation, NoneSets, NoneSetsUntil, SawLocation, sets_location as sets};
+
+use crate::configuration::Configuration;
+use tatp_history::{Event, Observed, Outcome, Recorded};
+use tatp_homes::{Home, what_holds_of_every_home};
+use tatp_procs::{Call, Reply};
+
+/// The column of a Subscriber row.
+const VLR_LOCATION: u8 = 33;
+
+/// Where no more configurations are kept, to go on with each costs less than to look at it.
+const FEW: usize = 4;
+
+/// The location with which a read of the subscriber was answered.
+fn location_seen(x: &Observed) -> Option<u64>
+    ensures { IfSome result (λ location. SawLocation location x.now) }
+{
+    if !matches!(x.call, Call::GetSubscriberData { .. }) {
+        return None;
+    }
+    match &x.outcome {
+        Outcome::Answered {
+            recorded: Recorded::Exactly(Reply::Values(values)),
+            ..
+        } => {
+            let values = values.as_slice();
+            if values.len() <= VLR_LOCATION as usize {
+                return None;
+            }
+            Some(values[VLR_LOCATION as usize])
+        }
+        _ => None,
+    }
+}
+
+/// Whether a call sets this location.
+fn sets_location(call: &Call, location: u64) -> bool
+    ensures { result ≡ sets location call.now }
+{
+    match call {
+        Call::GetSubscriberData { .. } => false,
+        Call::GetNewDestination { .. } => false,
+        Call::GetAccessData { .. } => false,
+        Call::UpdateSubscriberData { .. } => false,
+        Call::UpdateLocation { vlr_location, .. } => *vlr_location == location,
+        Call::InsertCallForwarding { .. } => false,
+        Call::DeleteCallForwarding { .. } => false,
+    }
+}
+
+/// Whether the subscriber has this location.
+fn has_location(home: &Home, location: u64) -> bool
+    ensures { result ≡ false → NoneHasLocation location home.now.tables }
+{
+    what_holds_of_every_home(home);
+    home.get(VLR_LOCATION, [home.s_id(), 0, 0]) == Some(location)
+}
+
+/// Whether none of these calls sets the location.
+fn none_sets(opened: &[Observed], location: u64) -> bool
+    ensures { IsTrue result → NoneSets location opened.now }
+{
+    for i in 0..opened.len() {
+        if sets_location(&opened[i].call, location) {
+            return false;
+        }
+    }
+    true
+}
+
+/// Whether none that does is asked, from a place in the events on, before the call ends that was
+/// asked at the time `asked`.
+fn none_sets_until(events: &[Event], from: usize, location: u64, asked: u64) -> bool
+    ensures { IsTrue result → NoneSetsUntil location asked (drop from events.now) }
+{
+    for i in from..events.len() {
+        match &events[i] {
+            Event::Asks(x) => {
+                if sets_location(&x.call, location) {
+                    return false;
+                }
+            }
+            Event::Ends { asked: other, .. } => {
+                if *other == asked {
+                    return true;
+                }
+            }
+        }
+    }
+    false
+}
+
+/// Whether an open call of the configuration is a read that can't be answered as it was.
+fn is_stuck(c: &Configuration, place: usize, events: &[Event], from: usize) -> bool
+    requires inside { place < length c.now.opened.items }
+    ensures { IsTrue result → IsDoomed (drop from events.now) (seen c.now) }
+{
+    let x = &c.opened[place];
+    match location_seen(x) {
+        Some(location) => {
+            if has_location(&c.home, location) || !none_sets(c.opened.as_slice(), location) {
+                return false;
+            }
+            none_sets_until(events, from, location, x.asked)
+        }
+        None => false,
+    }
+}
+
+/// Whether no order explains the events from a place on, from the configuration on.
+fn is_doomed(c: &Configuration, events: &[Event], from: usize) -> bool
+    ensures { IsTrue result → IsDoomed (drop from events.now) (seen c.now) }
+{
+    for i in 0..c.opened.len() {
+        if is_stuck(c, i, events, from) {
+            return true;
+        }
+    }
+    false
+}
+
+/// Lets configurations go from which no order explains the events from a place on, where many are
+/// kept.
+pub(crate) fn drop_doomed(set: &mut Vec<Configuration>, events: &[Event], from: usize)
+    ensures kept { (d : Seen) → Has set.new.items d → Has set.old.items d }
+    ensures found { (d : Seen) → Has set.old.items d
+        → Has set.new.items d ⊎ IsDoomed (drop from events.now) d }
+    ensures ready { AreReady set.old.items → AreReady set.new.items }
+    ensures apart { (s : ℕ) → AreApart s set.old.items → AreApart s set.new.items }
+{
+    if set.len() > FEW {
+        set.retain(|c| !is_doomed(c, events, from));
+    }
+}

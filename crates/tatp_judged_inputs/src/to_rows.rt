@@ -35,7 +35,8 @@ fn judge_to_dot<R: Read>(
         (u : Database) (most : ℕ) → HasFollowed u most [] judge.old → IsJudgement u most
         lines.old.number (before_dot all.lines) judgement.judged judgement.window.items)) }
     ensures followed { IfOk result (λ judgement. (stakes : AStakes)
-        → judgement.judged ≡ Judged.Legal stakes → (u : Database) (most : ℕ) → HasFollowed u most [] judge.old
+        → judgement.judged ≡ Judged.Legal stakes
+        → (u : Database) (most : ℕ) → HasFollowed u most [] judge.old
         → (past : List ALine) × HasFollowed u most past judge.new
         × Relates (lines_left lines.old (R.remaining reader.old))
         (lines_left lines.new (R.remaining reader.new))

@@ -250,12 +250,18 @@ def of_calls(tally):
 
 # ---- verdicts
 # Histories on the one subscriber of seed 1, how many configurations the judge may keep, and what it says.
+def at_stake(answered, overlapped, widest):
+    """What is told behind LEGAL, of answered calls on one subscriber."""
+    return ["ANSWERED %d" % answered, "ABORTED 0", "UNANSWERED 0", "SUBSCRIBERS 1", "OVERLAPPED %d" % overlapped,
+            "WIDEST %d" % widest]
+
+
 UPDATES = "".join("ask %d UPDATE_LOCATION 000000000000001 %d\n" % (client, client + 1) for client in range(2))
 JUDGED = {
-    "legal": ("ask 0 UPDATE_LOCATION 000000000000001 7\nend 0 OK\n", 65536, ("LEGAL", 0, [])),
+    "legal": ("ask 0 UPDATE_LOCATION 000000000000001 7\nend 0 OK\n", 65536, ("LEGAL", 0, at_stake(1, 0, 1))),
     "illegal": ("ask 0 UPDATE_LOCATION 000000000000002 7\nend 0 OK\n", 65536, ("ILLEGAL 2", 1, [])),
     "not known": (UPDATES + "end 0 OK\nend 1 OK\n", 1, ("UNDECIDED 4", 3, ["SUBSCRIBER 1"])),
-    "known with more": (UPDATES + "end 0 OK\nend 1 OK\n", 65536, ("LEGAL", 0, [])),
+    "known with more": (UPDATES + "end 0 OK\nend 1 OK\n", 65536, ("LEGAL", 0, at_stake(2, 1, 2))),
 }
 
 

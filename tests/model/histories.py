@@ -167,6 +167,21 @@ def most_open(rows, texts, subscriber):
     return max([count for _, _, count in lines_on(rows, texts, subscriber)], default=0)
 
 
+def stakes(rows, texts):
+    """What was at stake in a history: the lines that tell how many calls ended in each way, how many subscribers they
+    are on, how many met another call there, and how many were open there at once at most."""
+    calls = calls_of(texts)
+    ended = [sum(call.outcome.kind == kind for call in calls) for kind in (ANSWERED, ABORTED, UNKNOWN)]
+    called = {rows.subscriber_of(call.ask) for call in calls} - {None}
+    met = widest = 0
+    for subscriber in called:
+        lines = list(lines_on(rows, texts, subscriber))
+        met += sum(is_own and texts[number - 1].startswith("ask ") and count > 1 for number, is_own, count in lines)
+        widest = max([widest] + [count for _, _, count in lines])
+    words = "ANSWERED", "ABORTED", "UNANSWERED", "SUBSCRIBERS", "OVERLAPPED", "WIDEST"
+    return ["%s %d" % told for told in zip(words, (*ended, len(called), met, widest))]
+
+
 def window(rows, texts, subscriber):
     """The numbers of the lines of calls on a subscriber since the last moment, before the last line, at which none of
     its calls was open."""

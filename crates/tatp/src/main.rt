@@ -162,7 +162,7 @@ fn run<R: Input + Print + Eprint + Threads + Wait + Sync>(
             Err(fault) => tell(rt, &fault),
         },
         Task::Judge(plan) => match run_judge(alloc, reader, writer, &plan) {
-            Ok(Judged::Legal) => ExitCode::SUCCESS,
+            Ok(Judged::Legal(_)) => ExitCode::SUCCESS,
             Ok(Judged::Illegal { .. }) => ExitCode::from(STOPPED),
             Ok(Judged::Unreached { .. }) => ExitCode::from(STOPPED),
             Ok(Judged::Undecided { .. }) => ExitCode::from(UNDECIDED),

@@ -128,7 +128,11 @@ line of it on each line. Its lines are in the order of time:
 A client has one call open. Where it asks again, the call before has no answer either. Write the ask
 before the call is sent, and the end when its reply has come.
 
-Prints LEGAL where the calls have an order that keeps the order of time and gives every answer.
+Prints LEGAL where the calls have an order that keeps the order of time and gives every answer. Then
+lines tell what was at stake: how many calls were ANSWERED, ABORTED and UNANSWERED, how many
+SUBSCRIBERS they are on, how many OVERLAPPED another one there when they were asked, and with WIDEST
+how many were open there at once.
+
 Otherwise prints ILLEGAL L: up to line L of the input they have none, and up to the line before they
 have one; then the status is 1. A line SUBSCRIBER S names the subscriber whose calls have none, and
 lines LINE N are those of these calls since none of them was open. Prints UNDECIDED L and a line

@@ -13,3 +13,6 @@ pub mod ExplainingLaws
 pub mod PopulationLaws
 pub mod FinishingLaws
 pub mod LeavingLaws
+pub mod CountLaws
+pub mod StakeLaws
+pub mod CountedLaws

@@ -16,14 +16,14 @@ use Rattle.tatp_judge.specs.Asked.{AskedCalls, none_asked, with_asked, asked_by,
 use Rattle.tatp_judge.proofs.NextLineLaws.{own_end, other_end}
 
 -- ---- open calls
-asked_same : (asked : AskedCalls) (client : ℕ) (one : Option Asked) → with_asked asked client one client ≡ one
+pub asked_same : (asked : AskedCalls) (client : ℕ) (one : Option Asked) → with_asked asked client one client ≡ one
 asked_same asked client one = ap (λ b. cond b one (asked client)) (eq-eqb client client refl)
 
 asked_other : (asked : AskedCalls) (client other : ℕ) (one : Option Asked) → other ≢ client → with_asked asked client one other ≡ asked other
 asked_other asked client other one n = ap (λ b. cond b one (asked other)) (ne_eqb other client n)
 
 module _ (u : Database) where
-  by_other : (number : ℕ) (asked : AskedCalls) (line : Line) (client : ℕ) → client_of line ≢ client → asked_by u number asked line client ≡ asked client
+  pub by_other : (number : ℕ) (asked : AskedCalls) (line : Line) (client : ℕ) → client_of line ≢ client → asked_by u number asked line client ≡ asked client
   by_other number asked (Ask other call) client n = asked_other asked other client (Some (record { s_id = subscriber_of u call; number = number })) (λ e. n (sym e))
   by_other number asked (End other recorded) client n = asked_other asked other client None (λ e. n (sym e))
   by_other number asked (Abort other) client n = asked_other asked other client None (λ e. n (sym e))

@@ -87,14 +87,14 @@ later_asks u s from number (Lost client) lt = tt
 
 -- ---- open calls, counted
 -- one of them less
-record IsLess (client : ℕ) (clients less : List ℕ) : Type 0 where
-  count : suc (length less) ≡ length clients
-  others : (other : ℕ) → other ≢ client → IsAmong other clients → IsAmong other less
-  among : (other : ℕ) → IsAmong other less → IsAmong other clients
-  once : AreEachOnce clients → AreEachOnce less
-  gone : AreEachOnce clients → IsAmong client less → ⊥
+pub record IsLess (client : ℕ) (clients less : List ℕ) : Type 0 where
+  pub count : suc (length less) ≡ length clients
+  pub others : (other : ℕ) → other ≢ client → IsAmong other clients → IsAmong other less
+  pub among : (other : ℕ) → IsAmong other less → IsAmong other clients
+  pub once : AreEachOnce clients → AreEachOnce less
+  pub gone : AreEachOnce clients → IsAmong client less → ⊥
 
-one_less : (client : ℕ) (clients : List ℕ) → IsAmong client clients → (less : List ℕ) × IsLess client clients less
+pub one_less : (client : ℕ) (clients : List ℕ) → IsAmong client clients → (less : List ℕ) × IsLess client clients less
 one_less client [] h = absurd h
 one_less client (first ∷ more) h = elim h [
   | inl e ↦ (
@@ -121,15 +121,15 @@ one_less client (first ∷ more) h = elim h [
 ]
 
 -- the clients of the other open calls
-record AreOthers (client n : ℕ) (opened : OpenCalls) : Type 0 where
-  clients : List ℕ
-  count : length clients ≡ fewer (opened client) n
-  once : AreEachOnce clients
-  all : (other : ℕ) → other ≢ client → (opened other ≡ None) ⊎ IsAmong other clients
-  still : (other : ℕ) → IsAmong other clients → opened other ≡ None → ⊥
-  apart : (other : ℕ) → IsAmong other clients → other ≢ client
+pub record AreOthers (client n : ℕ) (opened : OpenCalls) : Type 0 where
+  pub clients : List ℕ
+  pub count : length clients ≡ fewer (opened client) n
+  pub once : AreEachOnce clients
+  pub all : (other : ℕ) → other ≢ client → (opened other ≡ None) ⊎ IsAmong other clients
+  pub still : (other : ℕ) → IsAmong other clients → opened other ≡ None → ⊥
+  pub apart : (other : ℕ) → IsAmong other clients → other ≢ client
 
-others_of : (client n : ℕ) (opened : OpenCalls) (one : Option ℕ) → AreCounted opened n → opened client ≡ one → AreOthers client n opened
+pub others_of : (client n : ℕ) (opened : OpenCalls) (one : Option ℕ) → AreCounted opened n → opened client ≡ one → AreOthers client n opened
 others_of client n opened None c has = record {
   clients = c.clients;
   count = c.count ∙ sym (ap (λ o. fewer o n) has);
@@ -150,7 +150,7 @@ others_of client n opened (Some asked) c has =
       apart = λ other k e. less.1.gone c.once (subst (λ d. IsAmong d less.0) e k);
     }
 
-counted_closed : (client n : ℕ) (opened : OpenCalls) → AreCounted opened n → AreCounted (with_call opened client None) (fewer (opened client) n + 0)
+pub counted_closed : (client n : ℕ) (opened : OpenCalls) → AreCounted opened n → AreCounted (with_call opened client None) (fewer (opened client) n + 0)
 counted_closed client n opened c =
     let rest = others_of client n opened (opened client) c refl in
     record {
@@ -164,7 +164,7 @@ counted_closed client n opened c =
       still = λ other k none. rest.still other k (sym (with_other opened client None other (rest.apart other k)) ∙ none);
     }
 
-counted_asked : (client n number : ℕ) (opened : OpenCalls) → AreCounted opened n → AreCounted (with_call opened client (Some number)) (fewer (opened client) n + 1)
+pub counted_asked : (client n number : ℕ) (opened : OpenCalls) → AreCounted opened n → AreCounted (with_call opened client (Some number)) (fewer (opened client) n + 1)
 counted_asked client n number opened c =
     let rest = others_of client n opened (opened client) c refl in
     record {
@@ -190,7 +190,7 @@ counted_next u s number n opened (End client recorded) c = counted_closed client
 counted_next u s number n opened (Abort client) c = counted_closed client n opened c
 counted_next u s number n opened (Lost client) c = counted_closed client n opened c
 
-fewer_at_most : (one : Option ℕ) (n : ℕ) → fewer one n ≤ n
+pub fewer_at_most : (one : Option ℕ) (n : ℕ) → fewer one n ≤ n
 fewer_at_most None n = omega arith
 fewer_at_most (Some asked) n = omega arith
 

@@ -10,3 +10,5 @@ pub mod Steps
 pub mod Finishing
 pub mod Leaving
 pub mod Explained
+pub mod Stakes
+pub mod Counted

@@ -9,9 +9,11 @@ mod finishing;
 mod judge;
 mod outcome;
 mod searching;
+mod stakes;
 mod window;
 mod windows;
 
 pub use accepted::is_accepted;
 pub use finishing::FinalVerdict;
 pub use judge::{Judge, Verdict};
+pub use stakes::{Counts, Stakes};

@@ -182,9 +182,10 @@ undecided_there u most taken number line s read more t all h =
     }
 
 is_judged : (u : Database) (most taken number : ℕ) (read more : List (List ℕ)) (t : Told) (verdict : Verdict) (judged : Judged) → ReadAll taken number read t → (verdict ≡ verdicts.Legal → more ≡ []) → IsVerdictOn u most t.lines verdict
-    → IsTold t.numbers number verdict judged → IsJudged u most taken (read ++ more) judged
+    → IsTold u t number verdict judged → IsJudged u most taken (read ++ more) judged
 is_judged u most taken number read more t verdicts.Legal judged all last legal told =
-    subst (IsJudged u most taken (read ++ more)) (sym told) (t, ap (history_from none_open (taken + 1)) (ap (λ ts. read ++ ts) (last refl) ∙ append-nil read) ∙ all.told, legal)
+    let tell = ap (history_from none_open (taken + 1)) (ap (λ ts. read ++ ts) (last refl) ∙ append-nil read) ∙ all.told in
+    subst (IsJudged u most taken (read ++ more)) (sym told.2) ((t, tell, legal), (t, tell, told.1))
 is_judged u most taken number read more t (verdicts.Illegal first s_id) judged all last illegal told =
     subst (IsJudged u most taken (read ++ more)) (sym told.2) (
       illegal_stays u taken read more told.0 (told_illegal u taken read t first told.0 all.told illegal.0 told.1),
@@ -199,15 +200,15 @@ window_there : (u : Database) (taken number : ℕ) (read more : List (List ℕ))
 window_there u taken number read more t first None window h some at by = by
 window_there u taken number read more t first (Some s) window h some at by = front_told taken read more t first number (λ t. AreWindowTold u s t window) h some at by
 
-window_told : (u : Database) (most taken number : ℕ) (read more : List (List ℕ)) (t : Told) (verdict : Verdict) (judged : Judged) (window : List ℕ) → ReadAll taken number read t → IsVerdictOn u most t.lines verdict → IsTold t.numbers number verdict judged → IsWindowBy u t verdict window
+window_told : (u : Database) (most taken number : ℕ) (read more : List (List ℕ)) (t : Told) (verdict : Verdict) (judged : Judged) (window : List ℕ) → ReadAll taken number read t → IsVerdictOn u most t.lines verdict → IsTold u t number verdict judged → IsWindowBy u t verdict window
     → IsWindowOf u taken (read ++ more) judged window
-window_told u most taken number read more t verdicts.Legal judged window all is told by = subst (λ j. IsWindowOf u taken (read ++ more) j window) (sym told) by
+window_told u most taken number read more t verdicts.Legal judged window all is told by = subst (λ j. IsWindowOf u taken (read ++ more) j window) (sym told.2) by
 window_told u most taken number read more t (verdicts.Illegal first s_id) judged window all is told by =
     subst (λ j. IsWindowOf u taken (read ++ more) j window) (sym told.2) (window_there u taken told.0 read more t first s_id window all.told is.0.first told.1 by)
 window_told u most taken number read more t (verdicts.Undecided line s) judged window all is told by = subst (λ j. IsWindowOf u taken (read ++ more) j window) (sym told) by
 
 pub is_judgement : (u : Database) (most taken number : ℕ) (read more : List (List ℕ)) (t : Told) (verdict : Verdict) (judged : Judged) (window : List ℕ) → ReadAll taken number read t → (verdict ≡ verdicts.Legal → more ≡ []) → IsVerdictOn u most t.lines verdict
-    → IsTold t.numbers number verdict judged → IsWindowBy u t verdict window → IsJudgement u most taken (read ++ more) judged window
+    → IsTold u t number verdict judged → IsWindowBy u t verdict window → IsJudgement u most taken (read ++ more) judged window
 is_judgement u most taken number read more t verdict judged window all last is told by = record {
   judged_is = is_judged u most taken number read more t verdict judged all last is told;
   window_is = window_told u most taken number read more t verdict judged window all is told by;

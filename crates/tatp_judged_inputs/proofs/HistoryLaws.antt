@@ -19,6 +19,7 @@ use Rattle.tatp_history_lines.specs.Open.{CallsOpen, open_call, opened_by}
 use Rattle.tatp_judge.specs.declared.judge.Judge.{Judge}
 use Rattle.tatp_judge.specs.declared.judge.Verdict.{Verdict}
 use Rattle.tatp_judge.specs.Accepted.{IsAcceptedLine}
+use Rattle.tatp_judge.specs.Counted.{HasCounted}
 use Rattle.tatp_judge.specs.Followed.{HasFollowed}
 use Rattle.tatp_judged_inputs.specs.declared.history_fault.HistoryFault.{HistoryFault}
 use Rattle.tatp_judged_inputs.specs.declared.reading.Reading.{Reading}
@@ -40,11 +41,12 @@ told_more : (r : Reading) (past : List Line) (n : ℕ) (text : List ℕ) (more :
     → told_by r past n (text ∷ more) ≡ before (told_of r past) (tell_on n (open_call r.opened) said (λ after. history_from after (n + 1) more))
 told_more r past n text more said e = ap (λ s. before (told_of r past) (tell_on n (open_call r.opened) s (λ after. history_from after (n + 1) more))) e
 
-pub none_taken : (u : Database) (most : ℕ) (past : List Line) (n : ℕ) (text : List ℕ) (judge : Judge) (r : Reading) → said_in (open_call r.opened) text ≡ Ok None → HasFollowed u most past judge → IsNumbered r past → GoesOn u most past n text judge r r
-none_taken u most past n text judge r e followed numbered = record {
+pub none_taken : (u : Database) (most : ℕ) (past : List Line) (n : ℕ) (text : List ℕ) (judge : Judge) (r : Reading) → said_in (open_call r.opened) text ≡ Ok None → HasFollowed u most past judge → IsNumbered r past → HasCounted u past r.counts → GoesOn u most past n text judge r r
+none_taken u most past n text judge r e followed numbered counted = record {
   now = past;
   followed = followed;
   numbered = numbered;
+  counted = counted;
   told = λ more. sym (told_more r past n text more (Ok None) e);
 }
 
@@ -53,11 +55,12 @@ one_numbered old new past n line numbers numbered =
     ap length numbers ∙ (length-append old.numbers.items (n ∷ []) ∙ (ap (λ k. k + 1) numbered ∙ sym (length-append past (line ∷ []))))
 
 pub line_taken : (u : Database) (most : ℕ) (past : List Line) (n : ℕ) (text : List ℕ) (judge : Judge) (old new : Reading) (line : Line) → said_in (open_call old.opened) text ≡ Ok (Some line) → HasFollowed u most (past ++ line ∷ []) judge → IsNumbered old past
-    → new.numbers.items ≡ old.numbers.items ++ n ∷ [] → ((client : ℕ) → open_call new.opened client ≡ opened_by (open_call old.opened) line client) → GoesOn u most past n text judge old new
-line_taken u most past n text judge old new line e followed numbered numbers opened = record {
+    → HasCounted u (past ++ line ∷ []) new.counts → new.numbers.items ≡ old.numbers.items ++ n ∷ [] → ((client : ℕ) → open_call new.opened client ≡ opened_by (open_call old.opened) line client) → GoesOn u most past n text judge old new
+line_taken u most past n text judge old new line e followed numbered counted numbers opened = record {
   now = past ++ line ∷ [];
   followed = followed;
   numbered = one_numbered old new past n line numbers numbered;
+  counted = counted;
   told = λ more.
       (λ i. before (record { numbers = numbers i; lines = past ++ line ∷ [] }) (history_from (λ client. opened client i) (n + 1) more))
       ∙ (sym (before_more (told_of old past) n line (history_from (opened_by (open_call old.opened) line) (n + 1) more)) ∙ sym (told_more old past n text more (Ok (Some line)) e));
@@ -81,6 +84,7 @@ pub record ReadSoFar (u : Database) (most : ℕ) (judge : Judge) (r : Reading) (
   pub read : List (List ℕ)
   pub followed : HasFollowed u most past judge
   pub numbered : IsNumbered r past
+  pub counted : HasCounted u past r.counts
   pub to : ReadTo r past taken now read
   pub split : Relates all left (λ a l. a.lines ≡ read ++ l.lines)
 
@@ -88,12 +92,13 @@ before_nothing : (r : Result Told BadText) → before (record { numbers = []; li
 before_nothing (Ok told) = refl
 before_nothing (Err bad) = refl
 
-pub reading_starts : (u : Database) (most : ℕ) (judge : Judge) (r : Reading) (n : ℕ) (left : Option LinesLeft) → HasFollowed u most [] judge → r.numbers.items ≡ [] → ((client : ℕ) → open_call r.opened client ≡ None) → ReadSoFar u most judge r n n left left
-reading_starts u most judge r n left followed h o = record {
+pub reading_starts : (u : Database) (most : ℕ) (judge : Judge) (r : Reading) (n : ℕ) (left : Option LinesLeft) → HasFollowed u most [] judge → r.numbers.items ≡ [] → ((client : ℕ) → open_call r.opened client ≡ None) → HasCounted u [] r.counts → ReadSoFar u most judge r n n left left
+reading_starts u most judge r n left followed h o counted = record {
   past = [];
   read = [];
   followed = followed;
   numbered = ap length h;
+  counted = counted;
   to = record {
     told = λ more. sym ((λ i. before (record { numbers = h i; lines = [] }) (history_from (λ client. o client i) (n + 1) more)) ∙ before_nothing (history_from none_open (n + 1) more));
     count = omega arith;
@@ -118,6 +123,7 @@ reading_goes_on u most judge judge' r r' taken now number text all left left' s 
       read = s.read ++ text ∷ [];
       followed = on.followed;
       numbered = on.numbered;
+      counted = on.counted;
       to = record {
         told = λ more. ap (history_from none_open (taken + 1)) (append_assoc s.read (text ∷ []) more)
             ∙ (s.to.told (text ∷ more) ∙ (ap (λ k. told_by r s.past k (text ∷ more)) (sym next) ∙ sym (on.told more)));
@@ -127,9 +133,9 @@ reading_goes_on u most judge judge' r r' taken now number text all left left' s 
     }
 
 -- what was read then
-pub none_read : (u : Database) (most : ℕ) (judge : Judge) (r : Reading) (n : ℕ) (left : Option LinesLeft) (followed : HasFollowed u most [] judge) (h : r.numbers.items ≡ []) (o : (client : ℕ) → open_call r.opened client ≡ None) → (reading_starts u most judge r n left followed h o).read ≡ []
+pub none_read : (u : Database) (most : ℕ) (judge : Judge) (r : Reading) (n : ℕ) (left : Option LinesLeft) (followed : HasFollowed u most [] judge) (h : r.numbers.items ≡ []) (o : (client : ℕ) → open_call r.opened client ≡ None) (counted : HasCounted u [] r.counts) → (reading_starts u most judge r n left followed h o counted).read ≡ []
 unfolding reading_starts
-none_read u most judge r n left followed h o = refl
+none_read u most judge r n left followed h o counted = refl
 
 pub one_more_read : (u : Database) (most : ℕ) (judge judge' : Judge) (r r' : Reading) (taken now number : ℕ) (text : List ℕ) (all left left' : Option LinesLeft) (s : ReadSoFar u most judge r taken now all left) (next : number ≡ now + 1)
     (stays : Stays left (option_map (with_line text) left')) (on : GoesOn u most s.past number text judge' r r') → (reading_goes_on u most judge judge' r r' taken now number text all left left' s next stays on).read ≡ s.read ++ text ∷ []

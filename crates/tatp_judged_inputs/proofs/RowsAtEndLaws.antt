@@ -23,11 +23,13 @@ use Rattle.tatp_judge.specs.declared.finishing.FinalVerdict.TheVariants as final
 use Rattle.tatp_judge.specs.declared.judge.Judge.{Judge}
 use Rattle.tatp_judge.specs.declared.judge.Verdict.{Verdict}
 use Rattle.tatp_judge.specs.declared.judge.Verdict.TheVariants as verdicts
+use Rattle.tatp_judge.specs.declared.stakes.Stakes.{Stakes}
+use Rattle.tatp_judge.specs.Counted.{HasCounted}
 use Rattle.tatp_judge.specs.Finishing.{IsFinalVerdictOn, IsFirstUnreached, LeadsTo}
 use Rattle.tatp_judge.specs.Followed.{HasFollowed}
 use Rattle.tatp_judge.specs.Verdicts.{IsVerdictOn, NeedMoreBy}
-use Rattle.tatp_judged_inputs.specs.HistoryTexts.{history_from, none_open}
-use Rattle.tatp_judged_inputs.specs.Judged.{Tell, TellLegal, IsJudged, IsJudgement, IsTold, IsUndecidedAt, IsWindowBy, IsWindowOf}
+use Rattle.tatp_judged_inputs.specs.HistoryTexts.{Told, history_from, none_open}
+use Rattle.tatp_judged_inputs.specs.Judged.{Tell, IsJudged, IsJudgement, IsTold, IsUndecidedAt, IsWindowBy, IsWindowOf}
 use Rattle.tatp_judged_inputs.specs.Judging.{RefusesTexts, history_fault, input_fault}
 use Rattle.tatp_judged_inputs.specs.Reading.{Decides, GoesOn, ReadsToDot, RefusesHistory, told_by, told_of}
 use Rattle.tatp_judged_inputs.specs.RowsAtEnd.{AreAdmitted, Bring, IsJudgedTo, IsJudgementTo, dot_number, rows_after, rows_at_end, told_by_rows}
@@ -82,10 +84,10 @@ pub record ToDotSoFar (u : Database) (most : ℕ) (judge : Judge) (r : Reading) 
   pub so_far : ReadSoFar u most judge r taken now all left
   pub no_dots : NoDots so_far.read
 
-pub to_dot_starts : (u : Database) (most : ℕ) (judge : Judge) (r : Reading) (n : ℕ) (left : Option LinesLeft) → HasFollowed u most [] judge → r.numbers.items ≡ [] → ((client : ℕ) → open_call r.opened client ≡ None) → ToDotSoFar u most judge r n n left left
-to_dot_starts u most judge r n left followed h o = record {
-  so_far = reading_starts u most judge r n left followed h o;
-  no_dots = subst NoDots (sym (none_read u most judge r n left followed h o)) tt;
+pub to_dot_starts : (u : Database) (most : ℕ) (judge : Judge) (r : Reading) (n : ℕ) (left : Option LinesLeft) → HasFollowed u most [] judge → r.numbers.items ≡ [] → ((client : ℕ) → open_call r.opened client ≡ None) → HasCounted u [] r.counts → ToDotSoFar u most judge r n n left left
+to_dot_starts u most judge r n left followed h o counted = record {
+  so_far = reading_starts u most judge r n left followed h o counted;
+  no_dots = subst NoDots (sym (none_read u most judge r n left followed h o counted)) tt;
 }
 
 pub to_dot_goes_on : (u : Database) (most : ℕ) (judge judge' : Judge) (r r' : Reading) (taken now number : ℕ) (text : List ℕ) (all left left' : Option LinesLeft) (s : ToDotSoFar u most judge r taken now all left) → is_dot text ≡ false → number ≡ now + 1
@@ -97,13 +99,13 @@ to_dot_goes_on u most judge judge' r r' taken now number text all left left' s i
 
 -- ---- at the line `.`
 pub judged_at_dot : (u : Database) (most : ℕ) (judge : Judge) (r : Reading) (taken now number : ℕ) (text : List ℕ) (all left left' : Option LinesLeft) (a : LinesLeft) (verdict : Verdict) (judged : Judged) (window : List ℕ) (s : ToDotSoFar u most judge r taken now all left) → all ≡ Some a
-    → is_dot text ≡ true → Stays left (option_map (with_line text) left') → number ≡ now → IsVerdictOn u most s.so_far.past verdict → IsTold r.numbers.items number verdict judged → IsWindowBy u (told_of r s.so_far.past) verdict window
+    → is_dot text ≡ true → Stays left (option_map (with_line text) left') → number ≡ now → IsVerdictOn u most s.so_far.past verdict → IsTold u (told_of r s.so_far.past) number verdict judged → IsWindowBy u (told_of r s.so_far.past) verdict window
     → IsJudgement u most taken (before_dot a.lines) judged window
 judged_at_dot u most judge r taken now number text all left left' a verdict judged window s e is stays same on told by =
     let read = s.so_far.read in
     let one = read_one u most judge r taken now text all left left' a s.so_far e stays in
     subst (λ texts. IsJudgement u most taken texts judged window) (append-nil read ∙ sym (before_it a.lines read text one.0 one.1 s.no_dots is))
-    (is_judgement u most taken now read [] (told_of r s.so_far.past) verdict judged window (read_all r s.so_far.past taken now read s.so_far.to) (λ _. refl) on (subst (λ n. IsTold r.numbers.items n verdict judged) same told) by)
+    (is_judgement u most taken now read [] (told_of r s.so_far.past) verdict judged window (read_all r s.so_far.past taken now read s.so_far.to) (λ _. refl) on (subst (λ n. IsTold u (told_of r s.so_far.past) n verdict judged) same told) by)
 
 pub reads_to_dot : (u : Database) (most : ℕ) (judge : Judge) (r : Reading) (taken now number : ℕ) (text : List ℕ) (all left left' : Option LinesLeft) (s : ToDotSoFar u most judge r taken now all left) → is_dot text ≡ true → number ≡ now + 1
     → Stays left (option_map (with_line text) left') → Relates all left' (ReadsToDot s.so_far.past taken number)
@@ -157,18 +159,18 @@ refused_without_dot u most judge r taken now n all left left' s next stays none 
     inr (refl, missing taken now n a.lines s.so_far.read (read_to_end u most judge r taken now all left left' a s.so_far e stays none within) s.no_dots s.so_far.to.count next))
 
 -- ---- what is decided before the rows
-pub told_legal : (numbers : List ℕ) (read : ℕ) (verdict : Verdict) (judged : Judged) → IsTold numbers read verdict judged → (verdict ≡ verdicts.Legal → ⊥) → judged ≡ Legal → ⊥
-told_legal numbers read verdicts.Legal judged told never e = never refl
-told_legal numbers read (verdicts.Illegal first s_id) judged told never e = let is = told.2 in cc
-told_legal numbers read (verdicts.Undecided line s) judged told never e = cc
+pub told_legal : (u : Database) (t : Told) (read : ℕ) (verdict : Verdict) (judged : Judged) (stakes : Stakes) → IsTold u t read verdict judged → (verdict ≡ verdicts.Legal → ⊥) → judged ≡ Legal stakes → ⊥
+told_legal u t read verdicts.Legal judged stakes told never e = never refl
+told_legal u t read (verdicts.Illegal first s_id) judged stakes told never e = let is = told.2 in cc
+told_legal u t read (verdicts.Undecided line s) judged stakes told never e = cc
 
-decided_before : (u : Database) (most taken : ℕ) (texts : List (List ℕ)) (judged : Judged) → (judged ≡ Legal → ⊥) → IsJudged u most taken (before_dot texts) judged → IsJudgedTo u most taken texts judged
-decided_before u most taken texts Legal never h = absurd (never refl)
+decided_before : (u : Database) (most taken : ℕ) (texts : List (List ℕ)) (judged : Judged) → ((stakes : Stakes) → judged ≡ Legal stakes → ⊥) → IsJudged u most taken (before_dot texts) judged → IsJudgedTo u most taken texts judged
+decided_before u most taken texts (Legal stakes) never h = absurd (never stakes refl)
 decided_before u most taken texts (Illegal number s_id) never h = h
 decided_before u most taken texts (Undecided number s) never h = h
 decided_before u most taken texts (Unreached number s) never h = absurd h
 
-pub judgement_before : (u : Database) (most taken : ℕ) (texts : List (List ℕ)) (judged : Judged) (window : List ℕ) → (judged ≡ Legal → ⊥) → IsJudgement u most taken (before_dot texts) judged window → IsJudgementTo u most taken texts judged window
+pub judgement_before : (u : Database) (most taken : ℕ) (texts : List (List ℕ)) (judged : Judged) (window : List ℕ) → ((stakes : Stakes) → judged ≡ Legal stakes → ⊥) → IsJudgement u most taken (before_dot texts) judged window → IsJudgementTo u most taken texts judged window
 judgement_before u most taken texts judged window never h = record {
   judged_is = decided_before u most taken texts judged never h.judged_is;
   window_is = h.window_is;
@@ -176,7 +178,7 @@ judgement_before u most taken texts judged window never h = record {
 
 -- a text decides, and the judge isn't asked again
 pub judged_before_dot : (u : Database) (most : ℕ) (judge judge' : Judge) (r r' : Reading) (taken now number : ℕ) (text : List ℕ) (all left left' : Option LinesLeft) (a : LinesLeft) (verdict : Verdict) (judged : Judged) (window : List ℕ) (s : ToDotSoFar u most judge r taken now all left)
-    → all ≡ Some a → is_dot text ≡ false → number ≡ now + 1 → Stays left (option_map (with_line text) left') → (verdict ≡ verdicts.Legal → ⊥) → (d : Decides u most s.so_far.past number text verdict judge' r r') → IsTold r'.numbers.items number verdict judged
+    → all ≡ Some a → is_dot text ≡ false → number ≡ now + 1 → Stays left (option_map (with_line text) left') → (verdict ≡ verdicts.Legal → ⊥) → (d : Decides u most s.so_far.past number text verdict judge' r r') → IsTold u (told_of r' (s.so_far.past ++ d.line ∷ [])) number verdict judged
     → IsWindowBy u (told_of r' (s.so_far.past ++ d.line ∷ [])) verdict window → IsJudgement u most taken (before_dot a.lines) judged window
 judged_before_dot u most judge judge' r r' taken now number text all left left' a verdict judged window s e is next stays never d told by =
     let read = s.so_far.read in
@@ -202,31 +204,31 @@ undecided_by_rows u most taken dot s past a l reads many = record {
       (reads.told, reads.tell, subst (λ lines. NeedMoreBy u most lines (length lines) s) (sym reads.lines_are) many);
 }
 
-said_by_rows : (u : Database) (most taken dot : ℕ) (past : List Line) (a l : LinesLeft) (rows : Rows) (verdict : FinalVerdict) → ReadsToDot past taken dot a l → rows_of_lines (dot + 1) l.lines ≡ Ok rows → AreAdmitted rows → TellLegal u taken (before_dot a.lines)
-    → IsFinalVerdictOn u most past (database_of rows) verdict → IsJudgedTo u most taken a.lines (told_by_rows verdict dot)
-said_by_rows u most taken dot past a l rows final.Reached reads read admitted legal is = brings taken dot past a l rows (LeadsTo u) reads read admitted is
-said_by_rows u most taken dot past a l rows (final.Unreached s) reads read admitted legal is =
-    record { number_is = reads.counted; legal = legal; unreached = brings taken dot past a l rows (λ lines after. IsFirstUnreached u lines after s) reads read admitted is }
-said_by_rows u most taken dot past a l rows (final.Undecided s) reads read admitted legal is = undecided_by_rows u most taken dot s past a l reads is
+said_by_rows : (u : Database) (most taken dot : ℕ) (past : List Line) (a l : LinesLeft) (rows : Rows) (stakes : Stakes) (verdict : FinalVerdict) → ReadsToDot past taken dot a l → rows_of_lines (dot + 1) l.lines ≡ Ok rows → AreAdmitted rows → IsJudged u most taken (before_dot a.lines) (Legal stakes)
+    → IsFinalVerdictOn u most past (database_of rows) verdict → IsJudgedTo u most taken a.lines (told_by_rows stakes verdict dot)
+said_by_rows u most taken dot past a l rows stakes final.Reached reads read admitted legal is = (brings taken dot past a l rows (LeadsTo u) reads read admitted is, legal.1)
+said_by_rows u most taken dot past a l rows stakes (final.Unreached s) reads read admitted legal is =
+    record { number_is = reads.counted; legal = legal.0; unreached = brings taken dot past a l rows (λ lines after. IsFirstUnreached u lines after s) reads read admitted is }
+said_by_rows u most taken dot past a l rows stakes (final.Undecided s) reads read admitted legal is = undecided_by_rows u most taken dot s past a l reads is
 
 -- no lines are told with it
-window_by_rows : (u : Database) (taken dot : ℕ) (texts : List (List ℕ)) (verdict : FinalVerdict) (window : List ℕ) → window ≡ [] → IsWindowOf u taken texts (told_by_rows verdict dot) window
-window_by_rows u taken dot texts final.Reached window none = none
-window_by_rows u taken dot texts (final.Unreached s) window none = none
-window_by_rows u taken dot texts (final.Undecided s) window none = none
+window_by_rows : (u : Database) (taken dot : ℕ) (texts : List (List ℕ)) (stakes : Stakes) (verdict : FinalVerdict) (window : List ℕ) → window ≡ [] → IsWindowOf u taken texts (told_by_rows stakes verdict dot) window
+window_by_rows u taken dot texts stakes final.Reached window none = none
+window_by_rows u taken dot texts stakes (final.Unreached s) window none = none
+window_by_rows u taken dot texts stakes (final.Undecided s) window none = none
 
 both_known : (all left : Option LinesLeft) (P : LinesLeft → LinesLeft → Type 0) (Q R S : LinesLeft → Type 0) → Relates all left P → IfSome left Q → IfSome all R → ((a l : LinesLeft) → P a l → Q l → R a → S a) → IfSome all S
 both_known None left P Q R S h q r f = tt
 both_known (Some a) None P Q R S h q r f = absurd h
 both_known (Some a) (Some l) P Q R S h q r f = f a l h q r
 
-pub judged_by_rows : (u : Database) (most taken dot : ℕ) (past : List Line) (all left : Option LinesLeft) (rows : Rows) (verdict : FinalVerdict) (window : List ℕ) → Relates all left (ReadsToDot past taken dot) → IfSome left (λ l. rows_of_lines (dot + 1) l.lines ≡ Ok rows)
-    → AreAdmitted rows → IfSome all (λ a. IsJudgement u most taken (before_dot a.lines) Legal window) → IsFinalVerdictOn u most past (database_of rows) verdict → IfSome all (λ a. IsJudgementTo u most taken a.lines (told_by_rows verdict dot) window)
-judged_by_rows u most taken dot past all left rows verdict window reads read admitted legal is =
-    both_known all left (ReadsToDot past taken dot) (λ l. rows_of_lines (dot + 1) l.lines ≡ Ok rows) (λ a. IsJudgement u most taken (before_dot a.lines) Legal window) (λ a. IsJudgementTo u most taken a.lines (told_by_rows verdict dot) window) reads read legal
+pub judged_by_rows : (u : Database) (most taken dot : ℕ) (past : List Line) (all left : Option LinesLeft) (rows : Rows) (stakes : Stakes) (verdict : FinalVerdict) (window : List ℕ) → Relates all left (ReadsToDot past taken dot) → IfSome left (λ l. rows_of_lines (dot + 1) l.lines ≡ Ok rows)
+    → AreAdmitted rows → IfSome all (λ a. IsJudgement u most taken (before_dot a.lines) (Legal stakes) window) → IsFinalVerdictOn u most past (database_of rows) verdict → IfSome all (λ a. IsJudgementTo u most taken a.lines (told_by_rows stakes verdict dot) window)
+judged_by_rows u most taken dot past all left rows stakes verdict window reads read admitted legal is =
+    both_known all left (ReadsToDot past taken dot) (λ l. rows_of_lines (dot + 1) l.lines ≡ Ok rows) (λ a. IsJudgement u most taken (before_dot a.lines) (Legal stakes) window) (λ a. IsJudgementTo u most taken a.lines (told_by_rows stakes verdict dot) window) reads read legal
     (λ a l to r known. record {
-      judged_is = said_by_rows u most taken dot past a l rows verdict to r admitted known.judged_is is;
-      window_is = window_by_rows u taken dot (before_dot a.lines) verdict window known.window_is;
+      judged_is = said_by_rows u most taken dot past a l rows stakes verdict to r admitted known.judged_is is;
+      window_is = window_by_rows u taken dot (before_dot a.lines) stakes verdict window known.window_is;
     })
 
 -- they are refused

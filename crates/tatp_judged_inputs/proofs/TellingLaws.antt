@@ -66,3 +66,7 @@ one_line window i old now longer so lt is =
     is ∙ (ap (λ text. text ++ line) so ∙ (append_assoc old (window_lines (take i window)) line
     ∙ ap (λ text. old ++ text) (ap (λ text. window_lines (take i window) ++ text) (sym (append-nil line))
     ∙ (sym (lines_both (take i window) (slice_index window i ∷ [])) ∙ ap window_lines (sym (take_more window i 0 lt))))))
+
+-- a text appended to one that was appended
+pub both_told : (old now longer first second : List ℕ) → now ≡ old ++ first → longer ≡ now ++ second → longer ≡ old ++ (first ++ second)
+both_told old now longer first second so is = is ∙ (ap (λ text. text ++ second) so ∙ append_assoc old first second)

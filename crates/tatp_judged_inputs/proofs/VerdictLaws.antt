@@ -13,6 +13,7 @@ use Rattle.tatp_history_lines.specs.declared.fault.LineFault.{LineFault}
 use Rattle.tatp_history_lines.specs.Open.{CallsOpen, opened_by}
 use Rattle.tatp_judged_inputs.specs.HistoryTexts.{Told, BadText, said_in, onto, tell_on, history_from, none_open}
 use Rattle.tatp_inputs.specs.Parts.{before_dot}
+use Rattle.tatp_judge.specs.declared.stakes.Stakes.{Stakes}
 use Rattle.tatp_judge.specs.Finishing.{LeadsTo, IsFirstUnreached}
 use Rattle.tatp_judge.specs.Verdicts.{IsLegal}
 use Rattle.tatp_judged_inputs.specs.declared.judging.Judged.TheVariants.{Legal}
@@ -85,9 +86,9 @@ brought_once taken texts P Q a b =
     subst (λ r. P b.holds.0.lines (database_of r)) (same_rows (rows_at_end taken texts) a.rows b.rows a.read b.read)
     (subst (λ (t : Told). P t.lines (database_of a.rows)) (same_told (history_from none_open (taken + 1) (before_dot texts)) a.holds.0 b.holds.0 a.holds.1 b.holds.1) a.holds.2)
 
-pub legal_nowhere_unreached : (u : Database) (most taken : ℕ) (texts : List (List ℕ)) (number s : ℕ) → IsJudgedTo u most taken texts Legal → IsUnreachedAt u taken texts number s → ⊥
-legal_nowhere_unreached u most taken texts number s legal is =
-    is.unreached.holds.2.none (brought_once taken texts (LeadsTo u) (λ lines after. IsFirstUnreached u lines after s) legal is.unreached)
+pub legal_nowhere_unreached : (u : Database) (most taken : ℕ) (texts : List (List ℕ)) (stakes : Stakes) (number s : ℕ) → IsJudgedTo u most taken texts (Legal stakes) → IsUnreachedAt u taken texts number s → ⊥
+legal_nowhere_unreached u most taken texts stakes number s legal is =
+    is.unreached.holds.2.none (brought_once taken texts (LeadsTo u) (λ lines after. IsFirstUnreached u lines after s) legal.0 is.unreached)
 
 not_earlier : (u : Database) (taken : ℕ) (texts : List (List ℕ)) (n m s t : ℕ) → IsUnreachedAt u taken texts n s → IsUnreachedAt u taken texts m t → s < t → ⊥
 not_earlier u taken texts n m s t a b lt =

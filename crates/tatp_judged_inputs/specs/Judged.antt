@@ -4,7 +4,9 @@ use Rattle.tatp_tables.specs.Database.{Database}
 use Rattle.tatp_judged_inputs.specs.HistoryTexts.{Told, history_from, none_open}
 use Rattle.tatp_judge.specs.declared.judge.Verdict.{Verdict}
 use Rattle.tatp_judge.specs.declared.judge.Verdict.TheVariants as verdicts
+use Rattle.tatp_judge.specs.declared.stakes.Stakes.{Stakes}
 use Rattle.tatp_judge.specs.Explained.{AreWindowNumbers}
+use Rattle.tatp_judge.specs.Stakes.{AreStakes}
 use Rattle.tatp_judge.specs.Verdicts.{IsLegal, IsUnexplained, NeedMoreBy}
 use Rattle.tatp_judged_inputs.specs.declared.judging.Judged.{Judged}
 use Rattle.tatp_judged_inputs.specs.declared.judging.Judged.TheVariants.{Legal, Illegal, Undecided, Unreached}
@@ -20,6 +22,10 @@ TellLegal u taken texts = Tell taken texts (λ told. IsLegal u told.lines)
 
 abbrev pub TellIllegal : Database → ℕ → List (List ℕ) → Type 0
 TellIllegal u taken texts = Tell taken texts (λ told. IsLegal u told.lines → ⊥)
+
+-- this was at stake in it
+abbrev pub TellStakes : Database → ℕ → List (List ℕ) → Stakes → Type 0
+TellStakes u taken texts stakes = Tell taken texts (λ told. AreStakes u told.lines stakes)
 
 -- the lines up to the one with this number in the input tell an illegal history, and those up to
 -- the one before a legal one
@@ -46,19 +52,21 @@ AreUnexplainedAt u taken texts number s_id = Tell taken (take (number - taken) t
     (λ told. IsUnexplained u told.lines (length told.lines) s_id)
 
 abbrev pub IsJudged : Database → ℕ → ℕ → List (List ℕ) → Judged → Type 0
-IsJudged u most taken texts Legal = TellLegal u taken texts
+IsJudged u most taken texts (Legal stakes) =
+    TellLegal u taken texts × TellStakes u taken texts stakes
 IsJudged u most taken texts (Illegal number s_id) =
     IsIllegalAt u taken texts number × AreUnexplainedAt u taken texts number s_id
 IsJudged u most taken texts (Undecided number s) = IsUndecidedAt u most taken texts number s
 IsJudged u most taken texts (Unreached number s) = ⊥
 
--- it says what a verdict says, by these numbers of lines, where so many lines of the input were
--- read
-abbrev pub IsTold : List ℕ → ℕ → Verdict → Judged → Type 0
-IsTold numbers read verdicts.Legal judged = judged ≡ Legal
-IsTold numbers read (verdicts.Illegal first s_id) judged =
-    (number : ℕ) × (slice_get numbers (first - 1) ≡ Some number) × (judged ≡ Illegal number s_id)
-IsTold numbers read (verdicts.Undecided line s) judged = judged ≡ Undecided read s
+-- it says what a verdict on the lines says, by their numbers in the input, of which so many lines
+-- were read
+abbrev pub IsTold : Database → Told → ℕ → Verdict → Judged → Type 0
+IsTold u told read verdicts.Legal judged =
+    (stakes : Stakes) × AreStakes u told.lines stakes × (judged ≡ Legal stakes)
+IsTold u told read (verdicts.Illegal first s_id) judged = (number : ℕ)
+    × (slice_get told.numbers (first - 1) ≡ Some number) × (judged ≡ Illegal number s_id)
+IsTold u told read (verdicts.Undecided line s) judged = judged ≡ Undecided read s
 
 -- ---- the lines of an unexplained window
 -- the numbers that lines of the history have in the input
@@ -74,7 +82,7 @@ AreWindowTold u s told window =
 -- those that are told with what is said of the texts, where this names a subscriber whose calls are
 -- unexplained
 abbrev pub IsWindowOf : Database → ℕ → List (List ℕ) → Judged → List ℕ → Type 0
-IsWindowOf u taken texts Legal window = window ≡ []
+IsWindowOf u taken texts (Legal stakes) window = window ≡ []
 IsWindowOf u taken texts (Illegal number None) window = window ≡ []
 IsWindowOf u taken texts (Illegal number (Some s)) window =
     Tell taken (take (number - taken) texts) (λ told. AreWindowTold u s told window)

@@ -14,6 +14,7 @@ use Rattle.tatp_inputs.specs.Parts.{before_dot}
 use Rattle.tatp_inputs.specs.Work.{Work, work_of, lines_before}
 use Rattle.tatp_inputs.specs.declared.fault.InputFault.{InputFault}
 use Rattle.tatp_inputs.specs.declared.fault.InputFault.TheVariants as input
+use Rattle.tatp_judge.specs.declared.stakes.Stakes.{Stakes}
 use Rattle.tatp_judged_inputs.specs.HistoryTexts.{history_from, none_open}
 use Rattle.tatp_judged_inputs.specs.Reading.{RefusesHistory}
 use Rattle.tatp_judged_inputs.specs.declared.history_fault.HistoryFault.{HistoryFault}
@@ -100,9 +101,19 @@ abbrev pub window_lines : List ℕ → List ℕ
 window_lines [] = []
 window_lines (number ∷ more) = number_line (codes "LINE ") number ++ window_lines more
 
+-- the lines that tell what was at stake
+abbrev pub stakes_lines : Stakes → List ℕ
+stakes_lines stakes =
+    number_line (codes "ANSWERED ") stakes.answered
+    ++ (number_line (codes "ABORTED ") stakes.aborted
+    ++ (number_line (codes "UNANSWERED ") stakes.unanswered
+    ++ (number_line (codes "SUBSCRIBERS ") stakes.subscribers
+    ++ (number_line (codes "OVERLAPPED ") stakes.overlapped
+    ++ number_line (codes "WIDEST ") stakes.widest))))
+
 -- the lines that say it, each with its line feed
 abbrev pub judged_lines : Judged → List ℕ → List ℕ
-judged_lines Legal window = codes "LEGAL" ++ 10 ∷ []
+judged_lines (Legal stakes) window = codes "LEGAL" ++ (10 ∷ stakes_lines stakes)
 judged_lines (Illegal number s_id) window =
     number_line (codes "ILLEGAL ") number ++ (subscriber_line s_id ++ window_lines window)
 judged_lines (Unreached number s) window =

@@ -13,6 +13,7 @@ use Rattle.tatp_inputs.specs.Parts.{before_dot, after_dot}
 use Rattle.tatp_judge.specs.declared.judge.Judge.{Judge}
 use Rattle.tatp_judge.specs.declared.judge.Verdict.{Verdict}
 use Rattle.tatp_judge.specs.declared.judge.Verdict.TheVariants.{Illegal}
+use Rattle.tatp_judge.specs.Counted.{HasCounted}
 use Rattle.tatp_judge.specs.Followed.{HasFollowed, HasKept}
 use Rattle.tatp_judge.specs.Verdicts.{IsVerdictOn}
 use Rattle.tatp_judged_inputs.specs.declared.reading.Reading.{Reading}
@@ -45,13 +46,14 @@ RefusesText number (lines.BadArgument bad) fault = fault ≡ BadArgument number 
 abbrev pub RefusesAt : BadText → HistoryFault → Type 0
 RefusesAt bad fault = RefusesText bad.number bad.fault fault
 
--- after the text with this number the judge has followed these lines, and those that follow tell
--- the rest
+-- after the text with this number the judge has followed these lines, which are counted, and those
+-- that follow tell the rest
 pub record GoesOn (u : Database) (most : ℕ) (past : List Line) (number : ℕ) (text : List ℕ)
     (judge : Judge) (old new : Reading) : Type 0 where
   pub now : List Line
   pub followed : HasFollowed u most now judge
   pub numbered : IsNumbered new now
+  pub counted : HasCounted u now new.counts
   pub told : (more : List (List ℕ))
       → told_by new now (number + 1) more ≡ told_by old past number (text ∷ more)
 
@@ -66,6 +68,7 @@ pub record Decides (u : Database) (most : ℕ) (past : List Line) (number : ℕ)
   pub line : Line
   pub said : said_in (open_call old.opened) text ≡ Ok (Some line)
   pub numbers_are : new.numbers.items ≡ old.numbers.items ++ number ∷ []
+  pub counted : HasCounted u (past ++ line ∷ []) new.counts
   pub decided : IsVerdictOn u most (past ++ line ∷ []) verdict
   pub kept : IsKeptFor u (past ++ line ∷ []) verdict judge
 

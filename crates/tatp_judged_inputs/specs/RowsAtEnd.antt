@@ -9,8 +9,9 @@ use Rattle.tatp_inputs.specs.Parts.{before_dot, after_dot}
 use Rattle.tatp_inputs.specs.RowLines.{rows_of_lines}
 use Rattle.tatp_judge.specs.declared.finishing.FinalVerdict.{FinalVerdict}
 use Rattle.tatp_judge.specs.declared.finishing.FinalVerdict.TheVariants as final
+use Rattle.tatp_judge.specs.declared.stakes.Stakes.{Stakes}
 use Rattle.tatp_judge.specs.Finishing.{LeadsTo, IsFirstUnreached}
-use Rattle.tatp_judged_inputs.specs.Judged.{Tell, TellLegal, AreUnexplainedAt, IsIllegalAt, IsUndecidedAt, IsWindowOf}
+use Rattle.tatp_judged_inputs.specs.Judged.{Tell, TellLegal, TellStakes, AreUnexplainedAt, IsIllegalAt, IsUndecidedAt, IsWindowOf}
 use Rattle.tatp_judged_inputs.specs.declared.judging.Judged.{Judged}
 use Rattle.tatp_judged_inputs.specs.declared.judging.Judged.TheVariants.{Legal, Illegal, Undecided, Unreached}
 
@@ -54,7 +55,8 @@ pub record IsUnreachedAt (u : Database) (taken : ℕ) (texts : List (List ℕ)) 
 
 -- it is legal where some order leads to the rows. They aren't read where the history decides
 abbrev pub IsJudgedTo : Database → ℕ → ℕ → List (List ℕ) → Judged → Type 0
-IsJudgedTo u most taken texts Legal = Bring taken texts (LeadsTo u)
+IsJudgedTo u most taken texts (Legal stakes) =
+    Bring taken texts (LeadsTo u) × TellStakes u taken (before_dot texts) stakes
 IsJudgedTo u most taken texts (Illegal number s_id) =
     IsIllegalAt u taken (before_dot texts) number
     × AreUnexplainedAt u taken (before_dot texts) number s_id
@@ -68,8 +70,8 @@ pub record IsJudgementTo (u : Database) (most taken : ℕ) (texts : List (List �
   pub judged_is : IsJudgedTo u most taken texts judged
   pub window_is : IsWindowOf u taken (before_dot texts) judged window
 
--- what is said of a legal history, where the line `.` has this number
-abbrev pub told_by_rows : FinalVerdict → ℕ → Judged
-told_by_rows final.Reached dot = Legal
-told_by_rows (final.Unreached s) dot = Unreached dot s
-told_by_rows (final.Undecided s) dot = Undecided (dot - 1) s
+-- what is said of a legal history in which this was at stake, where the line `.` has this number
+abbrev pub told_by_rows : Stakes → FinalVerdict → ℕ → Judged
+told_by_rows stakes final.Reached dot = Legal stakes
+told_by_rows stakes (final.Unreached s) dot = Unreached dot s
+told_by_rows stakes (final.Undecided s) dot = Undecided (dot - 1) s

@@ -9,7 +9,7 @@ ghost use Rattle.tatp_tasks.specs.Judging.{IsJudgePlan};
 ghost use Rattle.tatp_inputs.specs.Work.{AreCleanWhereDrawn};
 ghost use Rattle.tatp_judged_inputs.specs.declared.fault.JudgeFault.TheVariants.{Stream, Unopened};
 ghost use Rattle.tatp_judged_inputs.specs.RowsAtEnd.{AreAdmitted};
-ghost use Rattle.tatp_judged_inputs.specs.Judging.{JudgesInput, RefusesInput, number_line, subscriber_line, window_lines, judged_lines, WritesJudged, LeavesJudged};
+ghost use Rattle.tatp_judged_inputs.specs.Judging.{JudgesInput, RefusesInput, number_line, stakes_lines, subscriber_line, window_lines, judged_lines, WritesJudged, LeavesJudged};
 
 use crate::to_rows::judge_lines;
 use crate::{JudgeFault, Judged, Judgement};
@@ -17,7 +17,7 @@ use std::alloc::{AllocError, Global};
 use std::io::{Read, Write};
 use tatp_extents::{OpenError, admit};
 use tatp_inputs::work_of;
-use tatp_judge::Judge;
+use tatp_judge::{Judge, Stakes};
 use tatp_lines::push_decimal;
 use tatp_streams::{LineReader, MAX_INPUT_LIMIT, write_last};
 use tatp_tables::Rows;
@@ -77,6 +77,19 @@ fn push_with_subscriber(
     push_number_line(text, "SUBSCRIBER ", s_id)
 }
 
+/// Appends the lines that tell what was at stake.
+fn push_stakes(text: &mut String, stakes: &Stakes) -> Result<(), AllocError>
+    ensures { OnOk result
+        (string_bytes text.new ≡ string_bytes text.old ++ stakes_lines stakes.now) }
+{
+    push_number_line(text, "ANSWERED ", stakes.answered)?;
+    push_number_line(text, "ABORTED ", stakes.aborted)?;
+    push_number_line(text, "UNANSWERED ", stakes.unanswered)?;
+    push_number_line(text, "SUBSCRIBERS ", stakes.subscribers)?;
+    push_number_line(text, "OVERLAPPED ", stakes.overlapped)?;
+    push_number_line(text, "WIDEST ", stakes.widest)
+}
+
 /// Appends a line for each line of a window.
 fn push_window(text: &mut String, window: &[u64]) -> Result<(), AllocError>
     ensures { OnOk result
@@ -106,7 +119,10 @@ fn lines_that_tell(alloc: Global, judgement: &Judgement) -> Result<String, Alloc
 {
     let mut text = String::new(alloc);
     match judgement.judged {
-        Judged::Legal => text.push_str("LEGAL\n")?,
+        Judged::Legal(stakes) => {
+            text.push_str("LEGAL\n")?;
+            push_stakes(&mut text, &stakes)?;
+        }
         Judged::Illegal { line, s_id } => {
             push_number_line(&mut text, "ILLEGAL ", line)?;
             push_explanation(&mut text, s_id, judgement.window.as_slice())?;

@@ -3,6 +3,7 @@ ghost use Rattle.std.specs.Prelude.{[], ℕ, ◌+◌, IfOk, IfErr, IfSome, List}
 ghost use Rattle.tatp_tables.specs.Database.{Database};
 ghost use Rattle.tatp_history.specs.declared.line.Line.{Line as ALine};
 ghost use Rattle.tatp_streams.specs.LineReading.{lines_left};
+ghost use Rattle.tatp_judge.specs.Counted.{HasCounted};
 ghost use Rattle.tatp_judge.specs.Followed.{HasFollowed};
 ghost use Rattle.tatp_judge.specs.Verdicts.{IsVerdictOn};
 ghost use Rattle.tatp_judged_inputs.specs.HistoryTexts.{history_from, none_open};
@@ -14,14 +15,14 @@ use crate::reading::Reading;
 use std::alloc::{AllocError, Global};
 use std::io::Read;
 use tatp_history_lines::OpenCalls;
-use tatp_judge::{Judge, Verdict};
+use tatp_judge::{Counts, Judge, Stakes, Verdict};
 use tatp_streams::LineReader;
 
 /// What is said of a history in an input.
 #[derive(Clone, Copy, Debug, PartialEq, Eq)]
 pub enum Judged {
-    /// It is strictly serializable.
-    Legal,
+    /// It is strictly serializable, and this was at stake.
+    Legal(Stakes),
     /// Up to a line of the input it isn't, and up to the one before it is.
     Illegal {
         /// The number of that line, counted from 1.
@@ -58,12 +59,13 @@ pub struct Judgement {
 impl Reading {
     /// A verdict by the numbers of the lines in the input, of which so many were read.
     pub(crate) fn judged(&self, verdict: &Verdict, number: u64) -> Judged
-        requires { (u : Database) × (most : ℕ) × (past : List ALine)
-            × IsNumbered self.now past × IsVerdictOn u most past verdict.now }
-        ensures { IsTold self.now.numbers.items number verdict.now result }
+        requires { (u : Database) × (most : ℕ) × (past : List ALine) × IsNumbered self.now past
+            × IsVerdictOn u most past verdict.now × HasCounted u past self.now.counts }
+        ensures { (u : Database) (past : List ALine) → HasCounted u past self.now.counts
+            → IsTold u (told_of self.now past) number verdict.now result }
     {
         match *verdict {
-            Verdict::Legal => Judged::Legal,
+            Verdict::Legal => Judged::Legal(self.counts.stakes()),
             Verdict::Illegal { line, s_id } => {
                 let line = self.numbers[line as usize - 1];
                 Judged::Illegal { line, s_id }
@@ -82,9 +84,11 @@ impl Reading {
         number: u64,
     ) -> Result<Judgement, AllocError>
         requires { (u : Database) × (most : ℕ) × (past : List ALine) × IsNumbered self.now past
-            × IsVerdictOn u most past verdict.now × IsKeptFor u past verdict.now judge.now }
-        ensures judged { IfOk result (λ judgement.
-            IsTold self.now.numbers.items number verdict.now judgement.judged) }
+            × IsVerdictOn u most past verdict.now × IsKeptFor u past verdict.now judge.now
+            × HasCounted u past self.now.counts }
+        ensures judged { IfOk result (λ judgement. (u : Database) (past : List ALine)
+            → HasCounted u past self.now.counts
+            → IsTold u (told_of self.now past) number verdict.now judgement.judged) }
         ensures window { IfOk result (λ judgement. (u : Database) (most : ℕ) (past : List ALine)
             → IsNumbered self.now past → IsVerdictOn u most past verdict.now
             → IsKeptFor u past verdict.now judge.now
@@ -114,9 +118,11 @@ pub fn judge_history<R: Read>(
         IfSome (lines_left lines.old (R.remaining reader.old)) (λ all.
         RefusesHistory (history_from none_open (lines.old.number + 1) all.lines) fault)) }
 {
+    let counts = Counts::new(alloc, judge)?;
     let mut reading = Reading {
         opened: OpenCalls::new(alloc),
         numbers: Vec::new(alloc),
+        counts,
     };
     'lines: loop {
         if !lines.advance(reader)? {

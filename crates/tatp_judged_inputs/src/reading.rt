@@ -3,6 +3,7 @@ ghost use Rattle.std.specs.Prelude.{◌≡◌, ◌++◌, ◌∷◌, [], ◌+◌,
 ghost use Rattle.tatp_tables.specs.Database.{Database};
 ghost use Rattle.tatp_history.specs.declared.line.Line.{Line as ALine};
 ghost use Rattle.tatp_history_lines.specs.Open.{open_call};
+ghost use Rattle.tatp_judge.specs.Counted.{HasCounted};
 ghost use Rattle.tatp_judge.specs.Followed.{HasFollowed};
 ghost use Rattle.tatp_judge.specs.Verdicts.{IsVerdictOn};
 ghost use Rattle.tatp_judged_inputs.specs.HistoryTexts.{said_in};
@@ -12,7 +13,7 @@ use crate::HistoryFault;
 use std::alloc::Global;
 use tatp_history::Line;
 use tatp_history_lines::{LineFault, OpenCalls};
-use tatp_judge::{Judge, Verdict};
+use tatp_judge::{Counts, Judge, Verdict};
 use tatp_streams::text_of;
 
 /// What was read of a history.
@@ -22,6 +23,8 @@ pub(crate) struct Reading {
     pub(crate) opened: OpenCalls,
     /// The numbers that its lines have in the input.
     pub(crate) numbers: Vec<u64>,
+    /// What was at stake in them.
+    pub(crate) counts: Counts,
 }
 
 /// What a text says, which has to be UTF-8.
@@ -57,13 +60,16 @@ impl Reading {
         text: &[u8],
     ) -> Result<Option<Verdict>, HistoryFault>
         requires { (u : Database) × (most : ℕ) × (past : List ALine)
-            × HasFollowed u most past judge.old × IsNumbered self.old past }
+            × HasFollowed u most past judge.old × IsNumbered self.old past
+            × HasCounted u past self.old.counts }
         ensures goes_on { result ≡ Ok None → (u : Database) (most : ℕ) (past : List ALine)
             → HasFollowed u most past judge.old → IsNumbered self.old past
+            → HasCounted u past self.old.counts
             → GoesOn u most past number text.now judge.new self.old self.new }
         ensures decided { IfOk result (λ found. IfSome found (λ verdict.
             (u : Database) (most : ℕ) (past : List ALine)
             → HasFollowed u most past judge.old → IsNumbered self.old past
+            → HasCounted u past self.old.counts
             → Decides u most past number text.now verdict judge.new self.old self.new)) }
         ensures never { result ≡ Ok (Some Verdict.Legal) → ⊥ }
         ensures faults { IfErr result (λ fault. (past : List ALine) (more : List (List ℕ))
@@ -73,6 +79,7 @@ impl Reading {
             Ok(None) => Ok(None),
             Ok(Some(line)) => {
                 self.numbers.push(number)?;
+                self.counts.count(judge, &line);
                 let found = judge.follow(alloc, &line)?;
                 self.opened.follow(&line)?;
                 Ok(found)

@@ -2,6 +2,7 @@
 ghost use Rattle.std.specs.Prelude.{◌≡◌, ℕ, List};
 ghost use Rattle.tatp_tables.specs.Database.{Database};
 ghost use Rattle.tatp_inputs.specs.Parts.{before_dot};
+ghost use Rattle.tatp_judge.specs.declared.stakes.Stakes.{Stakes};
 ghost use Rattle.tatp_judged_inputs.specs.declared.judging.Judged.TheVariants.{Legal};
 ghost use Rattle.tatp_judged_inputs.specs.Judged.{TellLegal, IsIllegalAt};
 ghost use Rattle.tatp_judged_inputs.specs.RowsAtEnd.{IsJudgedTo, IsUnreachedAt};
@@ -19,8 +20,9 @@ pub fn histories_have_one_verdict()
 /// So have a history and the rows at its end: an order leads to them, or none does, and then one
 /// subscriber is the first of whose calls none leaves its rows.
 pub fn histories_and_rows_have_one_verdict()
-    ensures legal { (u : Database) (most taken : ℕ) (texts : List (List ℕ)) (number s : ℕ)
-        → IsJudgedTo u most taken texts Legal → IsUnreachedAt u taken texts number s → ⊥ }
+    ensures legal { (u : Database) (most taken : ℕ) (texts : List (List ℕ)) (stakes : Stakes)
+        (number s : ℕ) → IsJudgedTo u most taken texts (Legal stakes)
+        → IsUnreachedAt u taken texts number s → ⊥ }
     ensures illegal { (u : Database) (taken : ℕ) (texts : List (List ℕ)) (number other s : ℕ)
         → IsIllegalAt u taken (before_dot texts) number
         → IsUnreachedAt u taken texts other s → ⊥ }

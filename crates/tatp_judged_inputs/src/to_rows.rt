@@ -4,6 +4,7 @@ ghost use Rattle.tatp_tables.specs.Database.{Database};
 ghost use Rattle.tatp_history.specs.declared.line.Line.{Line as ALine};
 ghost use Rattle.tatp_streams.specs.LineReading.{lines_left, Relates};
 ghost use Rattle.tatp_inputs.specs.Parts.{before_dot};
+ghost use Rattle.tatp_judge.specs.declared.stakes.Stakes.{Stakes as AStakes};
 ghost use Rattle.tatp_judge.specs.Followed.{HasFollowed};
 ghost use Rattle.tatp_judged_inputs.specs.Judged.{IsJudgement};
 ghost use Rattle.tatp_judged_inputs.specs.Judging.{IsJudgedWith, RefusesTexts, history_fault};
@@ -17,7 +18,7 @@ use std::io::Read;
 use tatp_extents::admit;
 use tatp_history_lines::OpenCalls;
 use tatp_inputs::{is_dot, read_rows_to_end};
-use tatp_judge::{FinalVerdict, Judge};
+use tatp_judge::{Counts, FinalVerdict, Judge, Stakes};
 use tatp_streams::LineReader;
 
 /// The verdict on the history that the lines up to a line `.` are. Where it is legal, the lines
@@ -33,21 +34,24 @@ fn judge_to_dot<R: Read>(
         IfSome (lines_left lines.old (R.remaining reader.old)) (λ all.
         (u : Database) (most : ℕ) → HasFollowed u most [] judge.old → IsJudgement u most
         lines.old.number (before_dot all.lines) judgement.judged judgement.window.items)) }
-    ensures followed { IfOk result (λ judgement. judgement.judged ≡ Judged.Legal
+    ensures followed { IfOk result (λ judgement. (stakes : AStakes)
+        → judgement.judged ≡ Judged.Legal stakes
         → (u : Database) (most : ℕ) → HasFollowed u most [] judge.old
         → (past : List ALine) × HasFollowed u most past judge.new
         × Relates (lines_left lines.old (R.remaining reader.old))
         (lines_left lines.new (R.remaining reader.new))
         (ReadsToDot past lines.old.number lines.new.number)) }
-    ensures some { IfOk result (λ judgement.
-        judgement.judged ≡ Judged.Legal → 1 ≤ lines.new.number) }
+    ensures some { IfOk result (λ judgement. (stakes : AStakes)
+        → judgement.judged ≡ Judged.Legal stakes → 1 ≤ lines.new.number) }
     ensures faults { IfErr result (λ fault.
         IfSome (lines_left lines.old (R.remaining reader.old)) (λ all.
         RefusesTexts true lines.old.number all.lines (history_fault fault))) }
 {
+    let counts = Counts::new(alloc, judge)?;
     let mut reading = Reading {
         opened: OpenCalls::new(alloc),
         numbers: Vec::new(alloc),
+        counts,
     };
     'lines: loop {
         if !lines.advance(reader)? {
@@ -64,12 +68,12 @@ fn judge_to_dot<R: Read>(
 }
 
 /// What is said of a legal history by the rows at its end, where the line `.` has this number.
-fn judged_to(verdict: FinalVerdict, dot: u64) -> Judged
+fn judged_to(stakes: Stakes, verdict: FinalVerdict, dot: u64) -> Judged
     requires { 1 ≤ dot }
-    ensures { result ≡ told_by_rows verdict dot }
+    ensures { result ≡ told_by_rows stakes verdict dot }
 {
     match verdict {
-        FinalVerdict::Reached => Judged::Legal,
+        FinalVerdict::Reached => Judged::Legal(stakes),
         FinalVerdict::Unreached(s_id) => Judged::Unreached { line: dot, s_id },
         FinalVerdict::Undecided(s_id) => Judged::Undecided {
             line: dot - 1,
@@ -97,11 +101,11 @@ fn judge_to_rows<R: Read>(
 {
     let judgement = judge_to_dot(alloc, judge, lines, reader)?;
     match judgement.judged {
-        Judged::Legal => {
+        Judged::Legal(stakes) => {
             let dot = lines.number();
             let rows = read_rows_to_end(alloc, lines, reader)?;
             admit(alloc, &rows)?;
-            let judged = judged_to(judge.finish_to(alloc, &rows)?, dot);
+            let judged = judged_to(stakes, judge.finish_to(alloc, &rows)?, dot);
             Ok(Judgement {
                 judged,
                 window: judgement.window,

@@ -16,7 +16,7 @@ pub returns-in_err-rows-in-Legal-clause-faults : goal.returns-in_err-rows-in-Leg
 returns-in_err-rows-in-Legal-clause-faults g c =
     let p = err_from_is_err_and c.from_residual-in_err-rows-in-Legal.result c.from_residual-in_err-rows-in-Legal.ensures.1 in
     let q = c.requires in
-    let to = c.in_ok-judgement.ensures.followed c.in-Legal.is q.0 q.1 q.2 in
+    let to = c.in_ok-judgement.ensures.followed c.in-Legal.stakes c.in-Legal.is q.0 q.1 q.2 in
     rw (p.1, p.2) (rows_not_read c.args.lines.now.number c.judge_to_dot.new.lines.number to.0 (lines_left c.args.lines.now (g.R.Read.remaining c.args.reader.now)) (lines_left c.judge_to_dot.new.lines (g.R.Read.remaining c.judge_to_dot.new.reader))
     c.in_err-rows-in-Legal.field-0.0 to.2 c.in_err-rows-in-Legal.ensures.faults)
 
@@ -24,14 +24,14 @@ pub returns-in_err-admit-in-Legal-clause-faults : goal.returns-in_err-admit-in-L
 returns-in_err-admit-in-Legal-clause-faults g c =
     let p = err_from_is_err_and c.from_residual-in_err-admit-in-Legal.result c.from_residual-in_err-admit-in-Legal.ensures.1 in
     let q = c.requires in
-    let to = c.in_ok-judgement.ensures.followed c.in-Legal.is q.0 q.1 q.2 in
+    let to = c.in_ok-judgement.ensures.followed c.in-Legal.stakes c.in-Legal.is q.0 q.1 q.2 in
     rw (p.1, p.2) (rows_not_admitted c.args.lines.now.number c.judge_to_dot.new.lines.number to.0 (lines_left c.args.lines.now (g.R.Read.remaining c.args.reader.now)) (lines_left c.judge_to_dot.new.lines (g.R.Read.remaining c.judge_to_dot.new.reader))
     c.in_ok-rows-in-Legal.rows c.in_err-admit-in-Legal.field-0.0 to.2 c.in_ok-rows-in-Legal.ensures.rows c.in_err-admit-in-Legal.ensures.refusal)
 
 pub finish_to-requires-clause-followed : goal.finish_to-requires-clause-followed
 finish_to-requires-clause-followed g c =
     let q = c.requires in
-    let to = c.in_ok-judgement.ensures.followed c.in-Legal.is q.0 q.1 q.2 in
+    let to = c.in_ok-judgement.ensures.followed c.in-Legal.stakes c.in-Legal.is q.0 q.1 q.2 in
     (q.0, q.1, to.0, to.1)
 
 pub returns-in_ok-finish_to-in-Legal-clause-judged : goal.returns-in_ok-finish_to-in-Legal-clause-judged
@@ -42,13 +42,13 @@ returns-in_ok-finish_to-in-Legal-clause-judged g c =
     let dot = c.judge_to_dot.new.lines.number in
     let verdict = c.in_ok-finish_to-in-Legal.field-0 in
     let window = c.in_ok-judgement.judgement.window.items in
-    let said = c.judged_to-judged.ensures ∙ ap (told_by_rows verdict) c.number-dot.ensures.number in
+    let said = c.judged_to-judged.ensures ∙ ap (told_by_rows c.in-Legal.stakes verdict) c.number-dot.ensures.number in
     by_all all (λ a. (u : Database) (most : ℕ) → HasFollowed u most [] c.args.judge.now → IsJudgementTo u most taken a.lines c.judged_to-judged.result window) (λ a e. λ u most is.
-    let to = c.in_ok-judgement.ensures.followed c.in-Legal.is u most is in
+    let to = c.in_ok-judgement.ensures.followed c.in-Legal.stakes c.in-Legal.is u most is in
     let legal = IfSome_then all c.in_ok-judgement.ensures.judged (λ b h. subst (λ j. IsJudgement u most taken (before_dot b.lines) j window) c.in-Legal.is (h u most is)) in
     subst (λ j. IsJudgementTo u most taken a.lines j window) (sym said)
-    (at_all all a (λ b. IsJudgementTo u most taken b.lines (told_by_rows verdict dot) window) e
-    (judged_by_rows u most taken dot to.0 all left c.in_ok-rows-in-Legal.rows verdict window to.2 c.in_ok-rows-in-Legal.ensures.rows (record { few = c.in_ok-admit-in-Legal.ensures.few; clean = c.in_ok-admit-in-Legal.ensures.clean }) legal
+    (at_all all a (λ b. IsJudgementTo u most taken b.lines (told_by_rows c.in-Legal.stakes verdict dot) window) e
+    (judged_by_rows u most taken dot to.0 all left c.in_ok-rows-in-Legal.rows c.in-Legal.stakes verdict window to.2 c.in_ok-rows-in-Legal.ensures.rows (record { few = c.in_ok-admit-in-Legal.ensures.few; clean = c.in_ok-admit-in-Legal.ensures.clean }) legal
     (c.in_ok-finish_to-in-Legal.ensures u most to.0 to.1))))
 
 pub returns-in_default-clause-judged : goal.returns-in_default-clause-judged

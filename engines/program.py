@@ -45,8 +45,8 @@ def calls(program, plan, client):
 
 
 class Verdict:
-    """What the judge says of a history: its first line, and the lines that explain it. Where it doesn't know, these are
-    the subscriber of whom too many configurations are possible."""
+    """What the judge says of a history: its first line, and the lines that explain it. Of a legal one these tell what
+    was at stake; where it isn't known, the subscriber of whom too many configurations are possible."""
 
     STATUS = {"LEGAL": 0, "ILLEGAL": 1, "UNDECIDED": 3}
 
@@ -55,11 +55,16 @@ class Verdict:
         self.word = self.line.partition(" ")[0]
         self.status = self.STATUS[self.word]
 
+    def told(self, word):
+        """The number that is told behind a word, or nothing."""
+        found = [line.split(" ")[1] for line in self.explanation if line.startswith(word + " ")]
+        return "{:,}".format(int(found[0])) if found else ""
+
 
 def judge(plan, path):
-    """The verdict on the history in this file, on the rows of the run's population. A line number in it is one of the
-    file's."""
-    words = ["judge", "--gen", str(plan.subscribers), "--seed", str(plan.seed), "--most", str(plan.most)]
+    """The verdict on the history in this file, which the rows at the end follow behind a line `.`, on the rows of the
+    run's population. A line number in it is one of the file's."""
+    words = ["judge", "--final", "--gen", str(plan.subscribers), "--seed", str(plan.seed), "--most", str(plan.most)]
     with open(path, "rb") as file:
         done = subprocess.run([plan.program, *words], stdin=file, capture_output=True, text=True)
     lines = done.stdout.splitlines()

@@ -18,10 +18,10 @@ from interpreter import go_on_with
 from plan import ENGINES
 
 COLUMNS = ("database", "isolation", "mode", "disk", "subscribers", "clients", "calls", "aborted", "lost",
-           "load s", "run s", "judge s", "verdict")
+           "overlapped", "widest", "load s", "run s", "judge s", "verdict")
 
-# A run that isn't judged yet: the engine's name, the file of the history, what is counted in it, and the seconds that
-# it took to make the database with its rows.
+# A run that isn't judged yet: the engine's name, the file of the history with the rows at its end, what is counted in
+# it, and the seconds that it took to make the database with its rows.
 Recorded = collections.namedtuple("Recorded", "name path counts loading")
 
 
@@ -36,7 +36,8 @@ class Result:
         plan, words = self.plan, self.run.counts.words
         return (self.run.name, plan.isolation, plan.mode_name, "waits" if plan.is_durable else "no wait",
                 counted(plan.subscribers), str(plan.clients), counted(words["ask"]), counted(words["abort"]),
-                counted(words["lost"]), "%.1f" % self.run.loading, "%.1f" % self.run.counts.seconds,
+                counted(words["lost"]), self.verdict.told("OVERLAPPED"), self.verdict.told("WIDEST"),
+                "%.1f" % self.run.loading, "%.1f" % self.run.counts.seconds,
                 "%.1f" % self.judging, self.verdict.line)
 
 
@@ -99,11 +100,19 @@ def recorded(plan, folder):
     streams = [program.calls(plan.program, plan, client) for client in range(plan.clients)]
     rows = program.rows(plan.program, plan.subscribers, plan.seed)
     began = time.monotonic()
+    path = os.path.join(folder, "history")
     with engine.opened(rows):
         loading = time.monotonic() - began
-        events = run_clients(engine, streams, folder)
-    path = os.path.join(folder, "history")
-    return Recorded(engine.name, path, write_history(events, path), loading)
+        counts = write_history(run_clients(engine, streams, folder), path)
+        add_rows(engine, path)
+    return Recorded(engine.name, path, counts, loading)
+
+
+def add_rows(engine, path):
+    """Adds a line `.` and the rows at the end to the file of a history. All clients have ended, so no call is open."""
+    with contextlib.closing(engine.session()) as session, open(path, "a", encoding="ascii") as file:
+        file.write(".\n")
+        file.writelines(row + "\n" for row in session.rows())
 
 
 def made(plan):

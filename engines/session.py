@@ -5,7 +5,7 @@ import sys
 
 SQL = os.path.join(os.path.dirname(os.path.abspath(__file__)), "..", "examples", "sql")
 sys.path.append(os.path.join(SQL, "sqlite"))
-from tatp_sqlite import Failed
+from tatp_sqlite import TABLES, Failed
 
 
 class Aborted(Exception):
@@ -63,6 +63,16 @@ class Session:
 
     def undo(self):
         """Ends the transaction that is open, if one is, and takes back what was done in it."""
+
+    def rows(self):
+        """The lines of all rows that are there."""
+        for letter, (table, _, _) in TABLES.items():
+            for row in self.execute("SELECT * FROM " + table, {})[0]:
+                yield " ".join([letter] + [str(value) for value in row])
+
+    def close(self):
+        """Ends the connection."""
+        self.connection.close()
 
     def outcome_of(self, error):
         """What an error of the engine says of the call: Failed with a number, Aborted, Lost; or the error itself."""

@@ -249,29 +249,41 @@ def of_calls(tally):
 
 
 # ---- verdicts
-# Histories on the one subscriber of seed 1, how many configurations the judge may keep, and what it says.
+# Histories on the one subscriber of seed 1, the location that the subscriber has at the end, where that is another, how
+# many configurations the judge may keep, and what it says.
 def at_stake(answered, overlapped, widest):
     """What is told behind LEGAL, of answered calls on one subscriber."""
     return ["ANSWERED %d" % answered, "ABORTED 0", "UNANSWERED 0", "SUBSCRIBERS 1", "OVERLAPPED %d" % overlapped,
             "WIDEST %d" % widest]
 
 
+UPDATE = "ask 0 UPDATE_LOCATION 000000000000001 7\n"
 UPDATES = "".join("ask %d UPDATE_LOCATION 000000000000001 %d\n" % (client, client + 1) for client in range(2))
 JUDGED = {
-    "legal": ("ask 0 UPDATE_LOCATION 000000000000001 7\nend 0 OK\n", 65536, ("LEGAL", 0, at_stake(1, 0, 1))),
-    "illegal": ("ask 0 UPDATE_LOCATION 000000000000002 7\nend 0 OK\n", 65536, ("ILLEGAL 2", 1, [])),
-    "not known": (UPDATES + "end 0 OK\nend 1 OK\n", 1, ("UNDECIDED 4", 3, ["SUBSCRIBER 1"])),
-    "known with more": (UPDATES + "end 0 OK\nend 1 OK\n", 65536, ("LEGAL", 0, at_stake(2, 1, 2))),
+    "legal": (UPDATE + "end 0 OK\n", 7, 65536, ("LEGAL", 0, at_stake(1, 0, 1))),
+    "illegal": ("ask 0 UPDATE_LOCATION 000000000000002 7\nend 0 OK\n", None, 65536, ("ILLEGAL 2", 1, [])),
+    "a write that is lost": (UPDATE + "end 0 OK\n", None, 65536, ("ILLEGAL 3", 1, ["SUBSCRIBER 1"])),
+    "a write without an answer": (UPDATE, 7, 65536, ("LEGAL", 0, ["ANSWERED 0", "ABORTED 0", "UNANSWERED 1",
+                                                                 *at_stake(0, 0, 1)[3:]])),
+    "not known": (UPDATES + "end 0 OK\nend 1 OK\n", 1, 1, ("UNDECIDED 4", 3, ["SUBSCRIBER 1"])),
+    "known with more": (UPDATES + "end 0 OK\nend 1 OK\n", 1, 65536, ("LEGAL", 0, at_stake(2, 1, 2))),
 }
+
+
+def rows_at_end(judging, location):
+    """The rows of that subscriber, with this location or the own one."""
+    for row in program.rows(judging, 1, 1):
+        yield row if location is None or row[0] != "S" else "%s %d" % (row.rpartition(" ")[0], location)
 
 
 def of_verdicts(tally, judging):
     """What the program says of a history; and where its word and its status differ, that it isn't a verdict."""
     with tempfile.TemporaryDirectory(prefix="engines.") as room:
         path, other = os.path.join(room, "history"), os.path.join(room, "program")
-        for name, (lines, most, wanted) in JUDGED.items():
+        for name, (lines, location, most, wanted) in JUDGED.items():
             with open(path, "w", encoding="ascii") as file:
-                file.write(lines)
+                file.write(lines + ".\n")
+                file.writelines(row + "\n" for row in rows_at_end(judging, location))
             one = plan.plan_of("sqlite", subscribers=1, seed=1, most=most, program=judging)
             verdict = program.judge(one, path)
             tally.count("verdicts: " + name, told(wanted, (verdict.line, verdict.status, verdict.explanation)))

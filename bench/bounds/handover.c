@@ -1,7 +1,8 @@
 /* What threads take that only hand calls over, as those of the command bench do: clients put an ask into the inbox of
    a partition, whose executor puts an answer into the client's slot. Inboxes and slots stand under mutexes, and who
    waits yields between two looks. In place of a call is a loop of so many nanoseconds, a sixth of it at the client.
-   Words: partitions (1 to 8), clients (1 to 64), calls of each client, nanoseconds. Prints calls a second. */
+   Words: partitions (1 to 8), clients (1 to 64), calls of each client, nanoseconds, which threads stay on one processor
+   each, dealt in turn (none, executors or all), and how many clients a thread has. Prints calls a second. */
 #define _GNU_SOURCE
 #include <pthread.h>
 #include <sched.h>
@@ -11,6 +12,7 @@
 #include <stdlib.h>
 #include <string.h>
 #include <time.h>
+#include <unistd.h>
 
 enum { MOST_PARTITIONS = 8, MOST_CLIENTS = 64 };
 
@@ -41,8 +43,11 @@ static struct inbox inboxes[MOST_PARTITIONS];
 static struct slot slots[MOST_CLIENTS];
 static int partitions;
 static int calls;
+static int of_a_thread;
 static uint64_t turns_of_executor;
 static uint64_t turns_of_client;
+static int executors_stay;
+static int clients_stay;
 static atomic_int ended;
 
 static double seconds(void) {
@@ -70,6 +75,16 @@ static double turns_per_nanosecond(void) {
         most = made > most ? made : most;
     }
     return most;
+}
+
+/* Keeps the thread on the processor of this number, counted round. */
+static void stay_on(uint64_t number) {
+    cpu_set_t set;
+    CPU_ZERO(&set);
+    CPU_SET(number % sysconf(_SC_NPROCESSORS_ONLN), &set);
+    if (sched_setaffinity(0, sizeof set, &set) != 0) {
+        exit(1);
+    }
 }
 
 static void put_ask(struct inbox *inbox, const struct ask *ask) {
@@ -111,6 +126,9 @@ static void *run_executor(void *inbox) {
     struct ask asks[MOST_CLIENTS];
     struct answer answer;
     memset(&answer, 1, sizeof answer);
+    if (executors_stay) {
+        stay_on((struct inbox *)inbox - inboxes);
+    }
     while (!atomic_load(&ended)) {
         int count = take_asks(inbox, asks);
         for (int i = 0; i < count; i++) {
@@ -124,17 +142,53 @@ static void *run_executor(void *inbox) {
     return NULL;
 }
 
-static void *run_client(void *number) {
+/* A client and where it is: how many calls it has yet to make, and whether it waits for an answer. */
+struct client {
+    uint64_t number;
+    int left;
+    int waits;
+    uint64_t random;
+};
+
+/* Goes on with a client, if it can: whether it could. */
+static int go_on(struct client *client) {
     struct ask ask;
     struct answer answer;
-    uint64_t random = (uintptr_t)number;
+    if (client->waits) {
+        client->waits = !take_answer(&slots[client->number], &answer);
+        return !client->waits;
+    }
+    if (client->left == 0) {
+        return 0;
+    }
+    client->left--;
+    work(turns_of_client);
+    client->random = client->random * 6364136223846793005u + 1442695040888963407u;
     memset(&ask, 1, sizeof ask);
-    ask.client = (uintptr_t)number;
-    for (int i = 0; i < calls; i++) {
-        work(turns_of_client);
-        random = random * 6364136223846793005u + 1442695040888963407u;
-        put_ask(&inboxes[(random >> 33) % partitions], &ask);
-        while (!take_answer(&slots[ask.client], &answer)) {
+    ask.client = client->number;
+    put_ask(&inboxes[(client->random >> 33) % partitions], &ask);
+    client->waits = 1;
+    return 1;
+}
+
+/* Makes the calls of the clients from this number on that are one thread's. */
+static void *run_clients(void *number) {
+    struct client own[MOST_CLIENTS];
+    uint64_t first = (uintptr_t)number;
+    if (clients_stay) {
+        stay_on(first / of_a_thread);
+    }
+    for (int i = 0; i < of_a_thread; i++) {
+        own[i] = (struct client){first + i, calls, 0, first + i};
+    }
+    for (int busy = 1; busy > 0;) {
+        int went_on = 0;
+        busy = 0;
+        for (int i = 0; i < of_a_thread; i++) {
+            went_on += go_on(&own[i]);
+            busy += own[i].waits || own[i].left > 0;
+        }
+        if (went_on == 0) {
             sched_yield();
         }
     }
@@ -151,16 +205,20 @@ static pthread_t start(void *(*run)(void *), void *with) {
 }
 
 int main(int count, char **words) {
-    if (count != 5) {
+    if (count != 7) {
         return 2;
     }
     partitions = atoi(words[1]);
     int clients = atoi(words[2]);
     calls = atoi(words[3]);
     double turns = atof(words[4]) * turns_per_nanosecond();
-    if (partitions < 1 || partitions > MOST_PARTITIONS || clients < 1 || clients > MOST_CLIENTS) {
+    of_a_thread = atoi(words[6]);
+    if (partitions < 1 || partitions > MOST_PARTITIONS || clients < 1 || clients > MOST_CLIENTS || of_a_thread < 1 ||
+        clients % of_a_thread != 0) {
         return 2;
     }
+    clients_stay = strcmp(words[5], "all") == 0;
+    executors_stay = clients_stay || strcmp(words[5], "executors") == 0;
     turns_of_executor = turns * 5 / 6;
     turns_of_client = turns / 6;
 
@@ -176,10 +234,10 @@ int main(int count, char **words) {
     for (int i = 0; i < partitions; i++) {
         executors[i] = start(run_executor, &inboxes[i]);
     }
-    for (int i = 0; i < clients; i++) {
-        threads[i] = start(run_client, (void *)(uintptr_t)i);
+    for (int i = 0; i < clients; i += of_a_thread) {
+        threads[i] = start(run_clients, (void *)(uintptr_t)i);
     }
-    for (int i = 0; i < clients; i++) {
+    for (int i = 0; i < clients; i += of_a_thread) {
         pthread_join(threads[i], NULL);
     }
     double ran = seconds() - began;

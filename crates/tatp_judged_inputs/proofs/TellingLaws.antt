@@ -1,7 +1,7 @@
 -- The lines that are told, by their numbers in the input.
-use Rattle.std.proofs.Common.{◌≡◌, ℕ, ◌+◌, ◌-◌, ◌<◌, ◌≤◌, ◌∙◌, suc, sym, ap, subst, Option, Some, List, [], ◌∷◌, ◌++◌, length, take, get_or, get_or-take, slice_index, refl, arith, append_assoc, codes}
+use Rattle.std.proofs.Common.{◌≡◌, ℕ, ◌+◌, ◌-◌, ◌<◌, ◌≤◌, ◌∙◌, suc, sym, ap, subst, Option, Some, List, [], ◌∷◌, ◌++◌, length, take, get_or-take, slice_index, refl, arith, append_assoc, codes}
 use Rattle.std.specs.List.{All}
-use Rattle.std.proofs.lemmas.List.{append-nil, get_or_default, take_more}
+use Rattle.std.proofs.lemmas.List.{append-nil, take_more}
 use Rattle.tatp_tables.specs.Database.{Database}
 use Rattle.tatp_history.specs.declared.line.Line.{Line}
 use Rattle.tatp_judge.specs.declared.judge.Judge.{Judge}
@@ -20,11 +20,11 @@ input_both : (numbers xs ys : List ℕ) → in_input numbers (xs ++ ys) ≡ in_i
 input_both numbers [] ys = refl
 input_both numbers (x ∷ xs) ys = ap (λ zs. slice_index numbers (x - 1) ∷ zs) (input_both numbers xs ys)
 
-pub one_told : (numbers lines told : List ℕ) (i number : ℕ) → told ≡ in_input numbers (take i lines) → i < length lines → slice_index lines i - 1 < length numbers → number ≡ get_or numbers (slice_index lines i - 1) number
+pub one_told : (numbers lines told : List ℕ) (i number : ℕ) → told ≡ in_input numbers (take i lines) → i < length lines → number ≡ slice_index numbers (slice_index lines i - 1)
     → told ++ number ∷ [] ≡ in_input numbers (take (i + 1) lines)
-one_told numbers lines told i number so lt within is =
+one_told numbers lines told i number so lt is =
     let line = slice_index lines i in
-    let last : number ≡ slice_index numbers (line - 1) = is ∙ get_or_default numbers (line - 1) number 0 within in
+    let last : number ≡ slice_index numbers (line - 1) = is in
     (λ j. so j ++ last j ∷ [])
     ∙ (sym (input_both numbers (take i lines) (line ∷ [])) ∙ ap (in_input numbers) (sym (take_more lines i 0 lt)))
 

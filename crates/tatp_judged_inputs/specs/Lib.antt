@@ -1,5 +1,6 @@
 pub mod HistoryTexts
 pub mod Reading
+pub mod LineNumbers
 pub mod Judged
 pub mod RowsAtEnd
 pub mod Judging

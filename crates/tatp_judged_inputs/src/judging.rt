@@ -11,6 +11,7 @@ ghost use Rattle.tatp_judged_inputs.specs.Judged.{IsJudgement, IsTold, IsWindowB
 ghost use Rattle.tatp_judged_inputs.specs.Reading.{IsKeptFor, IsNumbered, RefusesHistory, told_of};
 
 use crate::HistoryFault;
+use crate::line_numbers::LineNumbers;
 use crate::reading::Reading;
 use std::alloc::{AllocError, Global};
 use std::io::Read;
@@ -67,7 +68,7 @@ impl Reading {
         match *verdict {
             Verdict::Legal => Judged::Legal(self.counts.stakes()),
             Verdict::Illegal { line, s_id } => {
-                let line = self.numbers[line as usize - 1];
+                let line = self.numbers.at(line - 1);
                 Judged::Illegal { line, s_id }
             }
             Verdict::Undecided { s_id, .. } => Judged::Undecided { line: number, s_id },
@@ -121,7 +122,7 @@ pub fn judge_history<R: Read>(
     let counts = Counts::new(alloc, judge)?;
     let mut reading = Reading {
         opened: OpenCalls::new(alloc),
-        numbers: Vec::new(alloc),
+        numbers: LineNumbers::new(alloc),
         counts,
     };
     'lines: loop {

@@ -6,6 +6,7 @@ mod command;
 mod fault;
 mod history_fault;
 mod judging;
+mod line_numbers;
 mod reading;
 mod telling;
 mod theorems;

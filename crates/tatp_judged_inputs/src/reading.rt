@@ -10,6 +10,7 @@ ghost use Rattle.tatp_judged_inputs.specs.HistoryTexts.{said_in};
 ghost use Rattle.tatp_judged_inputs.specs.Reading.{RefusesText, RefusesHistory, Decides, GoesOn, IsNumbered, told_by};
 
 use crate::HistoryFault;
+use crate::line_numbers::LineNumbers;
 use std::alloc::Global;
 use tatp_history::Line;
 use tatp_history_lines::{LineFault, OpenCalls};
@@ -22,7 +23,7 @@ pub(crate) struct Reading {
     /// The calls that are open.
     pub(crate) opened: OpenCalls,
     /// The numbers that its lines have in the input.
-    pub(crate) numbers: Vec<u64>,
+    pub(crate) numbers: LineNumbers,
     /// What was at stake in them.
     pub(crate) counts: Counts,
 }

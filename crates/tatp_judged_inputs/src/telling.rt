@@ -19,7 +19,7 @@ impl Reading {
         let mut told = Vec::new(alloc);
         'lines: for i in 0..lines.len() {
             let line = lines[i];
-            let number = self.numbers[line as usize - 1];
+            let number = self.numbers.at(line - 1);
             told.push(number)?;
         }
         Ok(told)

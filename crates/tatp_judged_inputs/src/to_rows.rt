@@ -11,6 +11,7 @@ ghost use Rattle.tatp_judged_inputs.specs.Judging.{IsJudgedWith, RefusesTexts, h
 ghost use Rattle.tatp_judged_inputs.specs.Reading.{ReadsToDot};
 ghost use Rattle.tatp_judged_inputs.specs.RowsAtEnd.{IsJudgementTo, told_by_rows};
 
+use crate::line_numbers::LineNumbers;
 use crate::reading::Reading;
 use crate::{HistoryFault, JudgeFault, Judged, Judgement, judge_history};
 use std::alloc::Global;
@@ -50,7 +51,7 @@ fn judge_to_dot<R: Read>(
     let counts = Counts::new(alloc, judge)?;
     let mut reading = Reading {
         opened: OpenCalls::new(alloc),
-        numbers: Vec::new(alloc),
+        numbers: LineNumbers::new(alloc),
         counts,
     };
     'lines: loop {

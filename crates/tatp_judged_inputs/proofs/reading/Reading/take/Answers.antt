@@ -9,8 +9,8 @@ use Rattle.tatp_judged_inputs.proofs.reading.Reading.take.Goals as goal
 pub follow-requires-clause-followed : goal.follow-requires-clause-followed
 follow-requires-clause-followed c =
     let q = c.requires in
-    let numbers = c.args.self.now.numbers in
-    (q.0, q.1, q.2, q.3, omega (arith, numbers.ok.0, numbers.ok.1, numbers.small, q.4))
+    let few = c.in_ok-push-in-Ok-Some.ensures.few in
+    (q.0, q.1, q.2, q.3, omega (arith, few, q.4))
 
 pub follow-requires-clause-accepted : goal.follow-requires-clause-accepted
 follow-requires-clause-accepted c = said_accepted (open_call c.args.self.now.opened) c.args.text.now c.in-Ok-Some.line (let a = c.in-Ok-Some.ensures in let b = c.in-Ok-Some.is in let d = c.in-Ok-Some.field-0-is in let e = c.in-Ok-Some.line-is in cc)

@@ -5,7 +5,7 @@ import math
 from picture import STYLE, text
 
 LABEL = "Microseconds that the command judge takes for a call, by the clients that never pause on one subscriber."
-TITLE = "Microseconds for a call, by clients that never pause on one subscriber"
+TITLE = "Microseconds for a call, by clients on one subscriber"
 LEFT, TOP, WIDTH, HEIGHT = 70, 50, 420, 200
 # What is drawn where less was measured.
 LEAST = 0.01
@@ -42,7 +42,7 @@ def picture(costs, calls, note):
     the cost is None."""
     costs = [(clients, each if each is None else max(each, LEAST)) for clients, each in costs]
     scale = Scale([each for _, each in costs if each is not None] or [1.0])
-    lines = ['<svg xmlns="http://www.w3.org/2000/svg" viewBox="0 0 520 330" role="img" aria-label="%s">' % LABEL]
+    lines = ['<svg xmlns="http://www.w3.org/2000/svg" viewBox="0 0 540 330" role="img" aria-label="%s">' % LABEL]
     lines += ["  <style>", STYLE.rstrip("\n"), "  </style>"]
     lines.append(text("title", 20, 24, "start", TITLE))
     lines += scale.grid()

@@ -18,7 +18,7 @@ use Rattle.tatp_settle.specs.Runs.{joined, lists_of}
 use Rattle.tatp_threads.specs.Calls.{obstacle_among, AreOpened}
 use Rattle.tatp_tasks.specs.declared.plan.BenchPlan.{BenchPlan}
 use Rattle.tatp_tasks.specs.Plans.{IsPlan}
-use Rattle.tatp_drawing.specs.Drawing.{stream_numbered, rows_drawn, client_calls, calls_drawn}
+use Rattle.tatp_workload.specs.Drawn.{stream_numbered, rows_drawn, client_calls, calls_drawn}
 use Rattle.tatp_bench.proofs.CallLaws.{count_of_calls, count_joined, has_standard, calls_run, lists_run}
 
 -- ---- the calls

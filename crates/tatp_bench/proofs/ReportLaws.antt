@@ -14,7 +14,7 @@ use Rattle.tatp_streams.specs.Writing.{AppendsFront, WritesText, WritesFrontOfTe
 use Rattle.tatp_streams.proofs.WritingLaws.{cut}
 use Rattle.tatp_tasks.specs.declared.plan.BenchPlan.{BenchPlan}
 use Rattle.tatp_bench.specs.declared.report_fault.ReportFault.TheVariants.{Stream}
-use Rattle.tatp_drawing.specs.Drawing.{calls_drawn}
+use Rattle.tatp_workload.specs.Drawn.{calls_drawn}
 use Rattle.tatp_bench.specs.Benching.{SettlesPlan, ReceivesPlan, kinds_drawn}
 use Rattle.tatp_bench.specs.Reports.{settled_text, TellsSettled, LeavesSettled}
 use Rattle.tatp_bench.specs.RunHistories.{TellsHistory, LeavesHistory}

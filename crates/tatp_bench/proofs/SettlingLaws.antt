@@ -16,10 +16,10 @@ use Rattle.tatp_settle.specs.Runs.{Run, joined, lists_of}
 use Rattle.tatp_settle.specs.Settlements.{IsSettled}
 use Rattle.tatp_settle.proofs.JudgeLaws.{as_many_receipts}
 use Rattle.tatp_tasks.specs.declared.plan.BenchPlan.{BenchPlan}
-use Rattle.tatp_threads.specs.declared.outcome.RanParts.{RanParts}
+use Rattle.tatp_threads.specs.declared.outcome.RunOutcomeParts.{RunOutcomeParts}
 use Rattle.tatp_bench.specs.declared.fault.BenchFault.{BenchFault}
 use Rattle.tatp_bench.specs.declared.fault.BenchFault.TheVariants.{ExtentMissing, Unsettled, NoMemory, NoThread}
-use Rattle.tatp_drawing.specs.Drawing.{rows_drawn, calls_drawn}
+use Rattle.tatp_workload.specs.Drawn.{rows_drawn, calls_drawn}
 use Rattle.tatp_bench.specs.SettledRuns.{run_left, SettlesRun, RefusesToSettleRun}
 use Rattle.tatp_bench.specs.declared.closing.SettledRun.{SettledRun}
 use Rattle.tatp_bench.specs.Benching.{IsRunOf, SettlesPlan, ReceivesPlan, RefusesBench, kinds_drawn}
@@ -54,7 +54,7 @@ plan_kinds plan settled is = is.settles.settles.kinds ∙ ap kinds_of is.of_plan
 
 -- ---- the run of a plan is forgotten
 -- what threads left of the plan's calls on its population is a run of the plan
-pub left_of_plan : (plan : BenchPlan) (population : Rows) (parts : RanParts) (lists : List (Vec Ask Global))
+pub left_of_plan : (plan : BenchPlan) (population : Rows) (parts : RunOutcomeParts) (lists : List (Vec Ask Global))
     → population ≡ rows_drawn plan → lists_of lists ≡ calls_drawn plan → vec_len parts.sites ≡ plan.partitions → vec_len parts.receipts ≡ plan.clients
     → IsRunOf plan (run_left population parts lists)
 left_of_plan plan population parts lists same asked sites clients = record {

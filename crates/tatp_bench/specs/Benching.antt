@@ -9,7 +9,7 @@ use Rattle.tatp_settle.specs.Runs.{Run, joined}
 use Rattle.tatp_bench.specs.declared.fault.BenchFault.{BenchFault}
 use Rattle.tatp_bench.specs.declared.fault.BenchFault.TheVariants.{ExtentMissing, Unsettled, NoMemory, NoThread}
 use Rattle.tatp_tasks.specs.declared.plan.BenchPlan.{BenchPlan}
-use Rattle.tatp_drawing.specs.Drawing.{rows_drawn, calls_drawn}
+use Rattle.tatp_workload.specs.Drawn.{rows_drawn, calls_drawn}
 use Rattle.tatp_bench.specs.SettledRuns.{SettlesRun, RefusesToSettleRun}
 
 -- a run of the plan: its calls on its population, which left a site for each partition, and a list

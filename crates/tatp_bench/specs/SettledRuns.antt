@@ -17,12 +17,12 @@ use Rattle.tatp_logs.specs.Receipts.{receipts_of}
 use Rattle.tatp_settle.specs.Runs.{Run, joined, lists_of}
 use Rattle.tatp_settle.specs.Settlements.{IsSettled, IsLeastMissing}
 use Rattle.tatp_settle.specs.Interleaving.{IsOneHistoryInAnyOrder}
-use Rattle.tatp_threads.specs.declared.outcome.RanParts.{RanParts}
+use Rattle.tatp_threads.specs.declared.outcome.RunOutcomeParts.{RunOutcomeParts}
 use Rattle.tatp_bench.specs.declared.fault.BenchFault.{BenchFault}
 use Rattle.tatp_bench.specs.declared.fault.BenchFault.TheVariants.{ExtentMissing, Unsettled, NoMemory, NoThread}
 
 -- the run of these calls on this population that left these parts
-abbrev pub run_left : Rows → RanParts → List (Vec Ask Global) → Run
+abbrev pub run_left : Rows → RunOutcomeParts → List (Vec Ask Global) → Run
 run_left population parts calls = record {
   population = population;
   closed = closed_of parts.sites.items parts.parcels.items

@@ -3,8 +3,8 @@ ghost use Rattle.std.specs.Prelude.{◌≡◌, ◌+◌, ◌*◌, IfOk, IfErr};
 ghost use Rattle.tatp_tables.specs.Clean.{IsClean};
 ghost use Rattle.tatp_tasks.specs.Plans.{IsPlan};
 ghost use Rattle.tatp_settle.specs.Runs.{lists_of};
-ghost use Rattle.tatp_drawing.specs.Drawing.{rows_drawn, calls_drawn};
-ghost use Rattle.tatp_drawing.specs.DrawnRuns.{IsDrawn};
+ghost use Rattle.tatp_workload.specs.Drawn.{rows_drawn, calls_drawn};
+ghost use Rattle.tatp_workload.specs.Workloads.{IsWorkload};
 ghost use Rattle.tatp_bench.specs.Benching.{SettlesPlan, ReceivesPlan, RefusesBench, kinds_drawn};
 ghost use Rattle.tatp_bench.specs.Works.{IsWorkOf};
 
@@ -13,12 +13,12 @@ use crate::{BenchFault, BenchPlan, Progress, SettledRun, Work, run_work, settle_
 use std::alloc::Global;
 use std::sync::Wait;
 use std::thread::Threads;
-use tatp_drawing::{Drawn, draw};
 use tatp_logs::Receipts;
 use tatp_procs::{Ask, standard};
 use tatp_settle::Settled;
 use tatp_tables::Rows;
 use tatp_threads::RunPlan;
+use tatp_workload::{Workload, generate_workload};
 
 /// Runs the work of a plan, and settles beside its population what the run left.
 fn run_and_settle<R: Threads + Wait + Sync, P: Progress + Sync>(
@@ -82,11 +82,11 @@ pub fn run_drawn<R: Threads + Wait + Sync, P: Progress + Sync>(
     rt: &R,
     alloc: Global,
     plan: &BenchPlan,
-    drawn: Drawn,
+    drawn: Workload,
     progress: &P,
 ) -> Result<BenchRun, BenchFault>
     requires plan { IsPlan plan.now }
-    requires drawn { IsDrawn plan.now drawn }
+    requires drawn { IsWorkload plan.now drawn }
     ensures settled { IfOk result
         (λ run. ReceivesPlan plan.now run.receipts.items run.settled) }
     ensures asked { IfOk result (λ run. lists_of run.lists.items ≡ calls_drawn plan.now) }
@@ -96,7 +96,7 @@ pub fn run_drawn<R: Threads + Wait + Sync, P: Progress + Sync>(
     ensures refusal { IfErr result (RefusesBench plan.now) }
 {
     let loaded = standard(alloc)?;
-    let Drawn {
+    let Workload {
         population,
         rows,
         lists,
@@ -143,7 +143,7 @@ pub fn run_bench<R: Threads + Wait + Sync, P: Progress + Sync>(
         (λ settled. settled.completed + settled.refused ≡ plan.now.clients * plan.now.calls) }
     ensures refusal { IfErr result (RefusesBench plan.now) }
 {
-    let drawn = draw(rt, alloc, plan)?;
+    let drawn = generate_workload(rt, alloc, plan)?;
     let run = run_drawn(rt, alloc, plan, drawn, progress)?;
     Ok(run.settled(rt, alloc))
 }

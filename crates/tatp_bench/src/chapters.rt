@@ -3,9 +3,7 @@ ghost use Rattle.std.specs.Prelude.{◌≡◌, ◌++◌, IfOk};
 ghost use Rattle.tatp_settle.specs.Runs.{joined, lists_of};
 
 use std::alloc::{AllocError, Global};
-use tatp_extents::Chapter;
-use tatp_partition::discard_all;
-use tatp_threads::discard_chapters;
+use tatp_extents::{Chapter, discard_all};
 
 /// Two lists in one. Without memory for it they are spent.
 fn join_two(first: Vec<Chapter>, second: Vec<Chapter>) -> Result<Vec<Chapter>, AllocError>
@@ -39,7 +37,7 @@ pub(crate) fn join_chapters(
         match join_two(last, all) {
             Ok(both) => all = both,
             Err(error) => {
-                discard_chapters(rest);
+                discard_all(rest);
                 return Err(error);
             }
         }

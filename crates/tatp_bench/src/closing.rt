@@ -9,12 +9,12 @@ use crate::chapters::join_chapters;
 use crate::freeing::free_receipts;
 use std::alloc::Global;
 use std::thread::Threads;
+use tatp_extents::discard_all;
 use tatp_logs::Receipts;
-use tatp_partition::{close_sites, discard_all, discard_parcels};
 use tatp_procs::Ask;
 use tatp_settle::{NotGathered, NotSettled, Settled, gather, settle};
 use tatp_tables::Rows;
-use tatp_threads::RanParts;
+use tatp_threads::RunOutcomeParts;
 
 /// What a settled run counts, and the receipts of its clients.
 #[derive(Drop)]
@@ -31,7 +31,7 @@ pub fn settle_run<R: Threads + Sync>(
     rt: &R,
     alloc: Global,
     population: &Rows,
-    parts: RanParts<'_>,
+    parts: RunOutcomeParts<'_>,
     lists: &[Vec<Ask>],
 ) -> Result<SettledRun, BenchFault>
     requires clean { IsClean population.now }
@@ -42,7 +42,7 @@ pub fn settle_run<R: Threads + Sync>(
     ensures refusal { IfErr result
         (RefusesToSettleRun (run_left population.now parts.entry lists.now)) }
 {
-    let RanParts {
+    let RunOutcomeParts {
         sites,
         parcels,
         chapters,
@@ -51,8 +51,8 @@ pub fn settle_run<R: Threads + Sync>(
     let chapters = match join_chapters(alloc, chapters) {
         Ok(chapters) => chapters,
         Err(error) => {
-            close_sites(sites);
-            discard_parcels(parcels);
+            discard_all(sites);
+            discard_all(parcels);
             return Err(BenchFault::from(error));
         }
     };
@@ -66,8 +66,8 @@ pub fn settle_run<R: Threads + Sync>(
                 chapters,
             },
         ) => {
-            close_sites(sites);
-            discard_parcels(parcels);
+            discard_all(sites);
+            discard_all(parcels);
             discard_all(chapters);
             return Err(BenchFault::from(error));
         }

@@ -18,7 +18,7 @@ pub use fault::BenchFault;
 pub use report::{report_bench, report_history};
 pub use report_fault::ReportFault;
 pub use reporter::{Progress, Reporter};
-pub use tatp_drawing::{Drawn, draw};
 pub use tatp_tasks::BenchPlan;
 pub use tatp_threads::NoGate;
+pub use tatp_workload::{Workload, generate_workload};
 pub use work::{Work, run_work};

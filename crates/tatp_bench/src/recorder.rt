@@ -6,7 +6,7 @@ use std::alloc::{AllocError, Global};
 use tatp_debug::Snapshot;
 use tatp_partition::SiteRefusal;
 use tatp_run_history::Numbers;
-use tatp_threads::{Gate, RanParts};
+use tatp_threads::{Gate, RunOutcomeParts};
 
 /// Numbers what clients ask and are answered, and passes all else on to another gate.
 #[derive(Drop)]
@@ -61,7 +61,7 @@ impl<P: Progress> Progress for Recorder<'_, P> {
         self.progress.tell(line);
     }
 
-    fn after_run(&self, parts: &RanParts<'_>) {
+    fn after_run(&self, parts: &RunOutcomeParts<'_>) {
         self.progress.after_run(parts);
     }
 }

@@ -9,7 +9,7 @@ ghost use Rattle.tatp_bench.specs.Reports.{settled_text, TellsSettled, LeavesSet
 ghost use Rattle.tatp_bench.specs.RunHistories.{TellsHistory, LeavesHistory};
 
 use crate::recorder::Recorder;
-use crate::{Progress, ReportFault, draw, run_drawn};
+use crate::{Progress, ReportFault, generate_workload, run_drawn};
 use std::alloc::{AllocError, Global};
 use std::fmt;
 use std::io::Write;
@@ -65,7 +65,7 @@ pub fn report_bench<R: Threads + Wait + Sync, P: Progress + Sync, W: Write>(
     ensures faults { IfErr result
         (LeavesSettled plan.now (W.contents writer.old) (W.contents writer.new)) }
 {
-    let drawn = draw(rt, alloc, plan)?;
+    let drawn = generate_workload(rt, alloc, plan)?;
     progress.tell("rows drawn");
     let run = run_drawn(rt, alloc, plan, drawn, progress)?;
     let settled = run.settled(rt, alloc);
@@ -96,7 +96,7 @@ pub fn report_history<R: Threads + Wait + Sync, P: Progress + Sync, W: Write>(
         (LeavesHistory plan.now (W.contents writer.old) (W.contents writer.new)) }
 {
     let recorder = Recorder::new(alloc, plan, progress)?;
-    let drawn = draw(rt, alloc, plan)?;
+    let drawn = generate_workload(rt, alloc, plan)?;
     progress.tell("rows drawn");
     let run = run_drawn(rt, alloc, plan, drawn, &recorder)?;
     progress.tell("settled");

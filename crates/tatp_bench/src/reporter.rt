@@ -6,7 +6,7 @@ use tatp_debug::Snapshot;
 use tatp_extents::Chapter;
 use tatp_partition::{Site, SiteRefusal};
 use tatp_tasks::BenchPlan;
-use tatp_threads::{Gate, NoGate, RanParts};
+use tatp_threads::{Gate, NoGate, RunOutcomeParts};
 
 /// A gate that also gets what is done before and after the calls.
 pub trait Progress: Gate {
@@ -14,13 +14,13 @@ pub trait Progress: Gate {
     fn tell(&self, line: &str);
 
     /// Gets what the threads of the run left, once they have ended.
-    fn after_run(&self, parts: &RanParts<'_>);
+    fn after_run(&self, parts: &RunOutcomeParts<'_>);
 }
 
 impl Progress for NoGate {
     fn tell(&self, _line: &str) {}
 
-    fn after_run(&self, _parts: &RanParts<'_>) {}
+    fn after_run(&self, _parts: &RunOutcomeParts<'_>) {}
 }
 
 /// In how many parts the ends of calls are reported.
@@ -127,7 +127,7 @@ impl<R: Eprint> Progress for Reporter<'_, R> {
         say(self.rt, line);
     }
 
-    fn after_run(&self, parts: &RanParts<'_>) {
+    fn after_run(&self, parts: &RunOutcomeParts<'_>) {
         let moves = moves_made(&parts.sites);
         let stops = stops_made(&parts.sites);
         let chapters = chapters_kept(&parts.chapters);

@@ -1,7 +1,7 @@
 //! What was drawn for a plan is run by threads.
 ghost use Rattle.std.specs.Prelude.{◌≡◌, ◌⊎◌, IfOk, IfErr, vec_len};
 ghost use Rattle.tatp_tables.specs.Clean.{IsClean};
-ghost use Rattle.tatp_drawing.specs.Drawing.{rows_drawn};
+ghost use Rattle.tatp_workload.specs.Drawn.{rows_drawn};
 ghost use Rattle.tatp_tasks.specs.Plans.{IsPlan};
 ghost use Rattle.tatp_bench.specs.Works.{IsWorkOf};
 
@@ -11,7 +11,7 @@ use std::sync::Wait;
 use std::thread::Threads;
 use tatp_loader::Loaded;
 use tatp_tables::Rows;
-use tatp_threads::{Gate, Ran, RunPlan, RunRefusal, run_clean_calls};
+use tatp_threads::{Gate, RunOutcome, RunPlan, RunRefusal, run_clean_calls};
 
 /// What the threads of a run are handed.
 pub struct Work<'m, 'w> {
@@ -46,7 +46,7 @@ pub fn run_work<'m, R: Threads + Wait + Sync, G: Gate + Sync>(
     plan: &BenchPlan,
     work: Work<'m, '_>,
     gate: &G,
-) -> Result<Ran<'m>, BenchFault>
+) -> Result<RunOutcome<'m>, BenchFault>
     requires plan { IsPlan plan.now }
     requires work { IsWorkOf plan.now work }
     requires clean { IsClean (rows_drawn plan.now) }

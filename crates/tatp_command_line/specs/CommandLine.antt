@@ -7,7 +7,7 @@ use Rattle.clap.specs.declared.builder.action.ArgAction.TheVariants.{SetTrue}
 use Rattle.clap.specs.declared.builder.command.Command.{Command}
 use Rattle.clap.specs.declared.builder.command.Command.TheViews.{out-Command}
 use Rattle.tatp_command_line.specs.Numbers.{Ranged}
-use Rattle.tatp_command_line.specs.Options.{gen, subscribers, seed, partitions, clients, calls, moves, stops, chapter, input_limit, rows_gen, drawn_calls, client, most}
+use Rattle.tatp_command_line.specs.Options.{gen, subscribers, seed, partitions, clients, calls, moves, stops, chapter, input_limit, rows_gen, drawn_calls, client, most, any_part, parts}
 
 -- ---- the rules by which words are parsed
 -- an option that takes a number: any text, which is read afterwards
@@ -48,6 +48,9 @@ abbrev pub judge_rules : List Rule
 judge_rules = number_rule gen ∷ number_rule seed ∷ number_rule most
     ∷ switch_rule (codes "final") ∷ []
 
+abbrev pub part_rules : List Rule
+part_rules = number_rule any_part ∷ number_rule (parts false) ∷ []
+
 abbrev pub bench_rules : List Rule
 bench_rules = number_rule subscribers ∷ number_rule partitions ∷ number_rule clients
     ∷ number_rule calls ∷ number_rule seed ∷ []
@@ -71,7 +74,7 @@ commands =
     ∷ command_with [] (codes "dis")
     ∷ command_with [] (codes "check")
     ∷ command_with audit_rules (codes "audit")
-    ∷ command_with judge_rules (codes "judge")
+    ∷ command_with (judge_rules ++ part_rules) (codes "judge")
     ∷ command_with (bench_rules ++ meanwhile_rules) (codes "bench")
     ∷ command_with drawn_rows_rules (codes "rows")
     ∷ command_with drawn_calls_rules (codes "calls")

@@ -1,5 +1,5 @@
 -- What the options of a command ask for, among what its words give.
-use Rattle.std.specs.Prelude.{ℕ, ◌^◌, ◌-◌, Bool, true, false, List, Option, Some, None, codes, bytes_eq, if◌then◌else◌}
+use Rattle.std.specs.Prelude.{ℕ, ◌^◌, ◌-◌, ◌==◌, Bool, true, false, List, Option, Some, None, codes, bytes_eq, if◌then◌else◌}
 use Rattle.std.specs.Option.{option_map_or}
 use Rattle.clap.specs.Walk.{Row, first_of}
 use Rattle.tatp_limits.specs.declared.limits.TheConstants.{MAX_BENCH_CALLS, MAX_BENCH_CHAPTER, MAX_BENCH_MOVES, MAX_BENCH_STOPS, MAX_CLIENTS, MAX_PARTITIONS, MAX_SUBSCRIBERS}
@@ -7,7 +7,7 @@ use Rattle.tatp_streams.specs.declared.limit.TheConstants.{MAX_INPUT_LIMIT}
 use Rattle.tatp_driver.specs.declared.distribution.Distribution.{Distribution}
 use Rattle.tatp_driver.specs.declared.distribution.Distribution.TheVariants.{Skewed, Uniform}
 use Rattle.tatp_tasks.specs.declared.judging.JudgePlan.{JudgePlan}
-use Rattle.tatp_tasks.specs.declared.judging.TheConstants.{MAX_CONFIGURATIONS}
+use Rattle.tatp_tasks.specs.declared.judging.TheConstants.{MAX_CONFIGURATIONS, MAX_PARTS}
 use Rattle.tatp_tasks.specs.declared.load.CallsPlan.{CallsPlan}
 use Rattle.tatp_tasks.specs.declared.load.RowsPlan.{RowsPlan}
 use Rattle.tatp_tasks.specs.declared.load.TheConstants.{MAX_DRAWN_CALLS}
@@ -86,6 +86,20 @@ input_limit = optional_from 1 MAX_INPUT_LIMIT (Some (codes "134217728")) (codes 
 abbrev pub most : Ranged
 most = optional_from 1 MAX_CONFIGURATIONS (Some (codes "65536")) (codes "most")
 
+-- how many parts a history has: one where the rows at its end follow it
+abbrev pub parts : Bool → Ranged
+parts final =
+    optional_from 1 (if final then 1 else MAX_PARTS) (Some (codes "1")) (codes "parts")
+
+-- one of so many parts, which has to be named where there are several
+abbrev pub part : ℕ → Ranged
+part parts =
+    optional_from 1 parts (if parts == 1 then Some (codes "1") else None) (codes "part")
+
+-- ... as the parse of the words looks for it
+abbrev pub any_part : Ranged
+any_part = optional_from 1 MAX_PARTS None (codes "part")
+
 -- ---- the switches
 -- the switch of this name is given
 abbrev pub is_given : List ℕ → List Row → Bool
@@ -158,15 +172,22 @@ plan_asked given = record {
 }
 
 -- ---- a history that is judged
+abbrev pub parts_asked : List Row → ℕ
+parts_asked given = number_asked (parts (is_given (codes "final") given)) given
+
 pub record HasJudgePlan (given : List Row) : Type 0 where
   pub population : HasPopulation given
   pub most : HasNumber most given
+  pub parts : HasNumber (parts (is_given (codes "final") given)) given
+  pub part : HasNumber (part (parts_asked given)) given
 
 abbrev pub judge_plan_asked : List Row → JudgePlan
 judge_plan_asked given = record {
   population = population_asked given;
   most = number_asked most given;
   final_rows = is_given (codes "final") given;
+  part = number_asked (part (parts_asked given)) given;
+  parts = parts_asked given;
 }
 
 -- ---- rows that are drawn and written

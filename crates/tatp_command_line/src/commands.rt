@@ -1,15 +1,15 @@
 //! The commands of the command line, with their options.
 ghost use Rattle.std.specs.Prelude.{◌≡◌, ◌++◌, [], ◌∷◌, true, false, IfOk, codes};
 ghost use Rattle.clap.specs.Walk.{rule_of};
-ghost use Rattle.tatp_command_line.specs.CommandLine.{number_rule, switch_rule, word_rule, command_with, rows_rules, call_rules, trace_rules, audit_rules, bench_rules, meanwhile_rules, drawn_rows_rules, drawn_calls_rules, judge_rules, program, command_line, IsApp, IsLeaf};
+ghost use Rattle.tatp_command_line.specs.CommandLine.{number_rule, switch_rule, word_rule, command_with, rows_rules, call_rules, trace_rules, audit_rules, bench_rules, meanwhile_rules, drawn_rows_rules, drawn_calls_rules, judge_rules, part_rules, program, command_line, IsApp, IsLeaf};
 
 use crate::help::{
     ABOUT, ASM, AUDIT, BENCH, CALL, CALLS_HELP, CHECK, DIS, EXPLAIN, JUDGE, PROGRAM, ROWS, TRACE,
     USAGE,
 };
 use crate::options::{
-    CALLS, CHAPTER, CLIENT, CLIENTS, DRAWN_CALLS, GEN, INPUT_LIMIT, MOST, MOVES, PARTITIONS,
-    ROWS_GEN, SEED, STOPS, SUBSCRIBERS,
+    CALLS, CHAPTER, CLIENT, CLIENTS, DRAWN_CALLS, GEN, INPUT_LIMIT, MOST, MOVES, PART, PARTITIONS,
+    PARTS, ROWS_GEN, SEED, STOPS, SUBSCRIBERS,
 };
 use clap::{Arg, ArgAction, Command};
 use std::alloc::{AllocError, Global};
@@ -95,6 +95,7 @@ fn audit<'a>(alloc: Global) -> Result<Command<'a>, AllocError>
         .arg(INPUT_LIMIT.arg(alloc))
 }
 
+/// The command `judge`, with the options for the whole of a history.
 fn judge<'a>(alloc: Global) -> Result<Command<'a>, AllocError>
     ensures { IfOk result (IsLeaf (command_with judge_rules (codes "judge"))) }
 {
@@ -109,6 +110,13 @@ fn judge<'a>(alloc: Global) -> Result<Command<'a>, AllocError>
             "final",
             "After the history read a line with a dot and the rows at its end",
         ))
+}
+
+/// The same command, with the options for a part of it.
+fn judge_with_parts<'a>(alloc: Global) -> Result<Command<'a>, AllocError>
+    ensures { IfOk result (IsLeaf (command_with (judge_rules ++ part_rules) (codes "judge"))) }
+{
+    judge(alloc)?.arg(PART.arg(alloc))?.arg(PARTS.arg(alloc))
 }
 
 /// The command `bench`, with the options for its database and its clients.
@@ -230,7 +238,7 @@ pub(crate) fn command<'a>(alloc: Global) -> Result<Command<'a>, AllocError>
         .subcommand(plain(alloc, "dis", "Print a module as assembly text", DIS))?
         .subcommand(plain(alloc, "check", "Test whether a module may be run", CHECK))?
         .subcommand(audit(alloc)?)?
-        .subcommand(judge(alloc)?)?
+        .subcommand(judge_with_parts(alloc)?)?
         .subcommand(bench_with_moves(alloc)?)?
         .subcommand(rows(alloc)?)?
         .subcommand(calls(alloc)?)?
@@ -244,7 +252,7 @@ pub(crate) fn command_named<'a>(alloc: Global, name: &str) -> Result<Command<'a>
         "call" => call(alloc)?,
         "trace" => trace(alloc)?,
         "audit" => audit(alloc)?,
-        "judge" => judge(alloc)?,
+        "judge" => judge_with_parts(alloc)?,
         "bench" => bench_with_moves(alloc)?,
         "rows" => rows(alloc)?,
         "calls" => calls(alloc)?,

@@ -135,10 +135,17 @@ how many were open there at once.
 
 Otherwise prints ILLEGAL L: up to line L of the input they have none, and up to the line before they
 have one; then the status is 1. A line SUBSCRIBER S names the subscriber whose calls have none, and
-lines LINE N are those of these calls since none of them was open. Prints UNDECIDED L and a line
-SUBSCRIBER S where it doesn't know: by line L more than M configurations of subscriber S are
-possible, each of them rows that it may have and open calls that may still take effect. Then the
-status is 3, and a larger --most may help.
+lines LINE N are those of these calls since none of them was open. Lines COULD REPLY tell with which
+replies line L could have answered its call, eight at most, and MORE K that there are K more. None
+come where line L is no answer, or where too many rows are possible there.
+
+Prints UNDECIDED L and a line SUBSCRIBER S where it doesn't know: by line L more than M
+configurations of subscriber S are possible, each of them rows that it may have and open calls that
+may still take effect. Then the status is 3, and a larger --most may help.
+
+With --part I --parts K only the calls on the subscribers S are judged of which S mod K is I - 1;
+those that name no subscriber are of part 1. A history is LEGAL where each of its K parts is, and
+ILLEGAL where one is. So several processes or machines can judge it.
 
 With --final a line with a dot and the rows at the end follow the history, and the order has to lead
 to these rows. Where the calls have an order and none leads to the rows, prints ILLEGAL L, of which
@@ -147,6 +154,7 @@ L is that line, and SUBSCRIBER S: the first subscriber whose rows no order of it
 Examples:
   tatp judge < examples/history.txt
   tatp judge --gen 1000 --seed 7 < history.txt
+  tatp judge --part 1 --parts 4 --gen 1000 < history.txt
   tatp judge --final --gen 1 < examples/judge/final/unread-write.txt";
 
 /// Below the options of `bench`.

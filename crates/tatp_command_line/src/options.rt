@@ -6,7 +6,7 @@ ghost use Rattle.clap.specs.Matches.{found_of};
 ghost use Rattle.clap.specs.Walk.{rows_of, rule_of, first_of};
 ghost use Rattle.tatp_command_line.specs.CommandLine.{number_rule};
 ghost use Rattle.tatp_command_line.specs.Numbers.{IsNumberIn, asked_by, text_asked, HasNumber, number_asked, HasNumberIfGiven, number_if_given};
-ghost use Rattle.tatp_command_line.specs.Options.{is_given};
+ghost use Rattle.tatp_command_line.specs.Options.{is_given, part, parts};
 
 use clap::{Arg, ArgMatches};
 use std::alloc::Global;
@@ -121,6 +121,48 @@ pub(crate) const MOST: NumberOption = number_option!(
     "Keep at most M configurations of one subscriber"
 );
 
+/// Which of the parts of a history is judged.
+pub(crate) const PART: NumberOption = number_option!(
+    "part" "I" in 1 to 4294967295, None, false,
+    "Judge the part I of K: the subscribers S of which S mod K is I - 1; at most K"
+);
+
+/// How many parts there are.
+pub(crate) const PARTS: NumberOption = number_option!(
+    "parts" "K" in 1 to 4294967295, Some("1"), false,
+    "Let a history have K parts; with --final 1"
+);
+
+/// The option for how many parts there are. Rows at the end are those of all parts.
+pub(crate) fn parts_with(final_rows: bool) -> NumberOption
+    ensures { asked_by result ≡ parts final_rows }
+{
+    NumberOption {
+        name: PARTS.name,
+        value: PARTS.value,
+        least: PARTS.least,
+        most: if final_rows { 1 } else { PARTS.most },
+        default: PARTS.default,
+        required: PARTS.required,
+        help: PARTS.help,
+    }
+}
+
+/// The option for one of so many parts. Where there are several it has to be given.
+pub(crate) fn part_of(parts: u64) -> NumberOption
+    ensures { asked_by result ≡ part parts }
+{
+    NumberOption {
+        name: PART.name,
+        value: PART.value,
+        least: PART.least,
+        most: parts,
+        default: if parts == 1 { Some("1") } else { PART.default },
+        required: PART.required,
+        help: PART.help,
+    }
+}
+
 /// What is wrong with an option: its text is no number in its range.
 #[derive(Clone, Copy, Debug, PartialEq, Eq)]
 pub(crate) struct BadNumber<'a> {
@@ -141,6 +183,8 @@ impl fmt::Display for BadNumber<'_> {
         write!(f, "invalid value '{text}' for '--{name} <{value}>': ")?;
         if is_digits(text) {
             write!(f, "{text} is not in {least}..={most}")
+        } else if text.is_empty() {
+            f.write_str("it has to be given")
         } else {
             f.write_str("a number is written in digits alone, without a sign")
         }
@@ -247,7 +291,7 @@ impl NumberOption {
     {
         match self.text(options) {
             Some(text) => self.read(text),
-            // The parse has tested that what is required is given.
+            // The parse has tested that what is always required is given.
             None => Err(BadNumber {
                 option: *self,
                 text: "",

@@ -41,4 +41,4 @@ pub record HasRoom (a : Inside) : Type 0 where
 pub record IsSound (a : Inside) : Type 0 where
   pub world : IsWorld (world_of a)
   pub room : HasRoom a
-  pub empty : a.ended ≡ None
+  pub empty : a.buffer ≡ None

@@ -26,7 +26,7 @@ use tatp_loader::Loaded;
 use tatp_logs::Completions;
 use tatp_move::Routes;
 use tatp_numbers::Directory;
-use tatp_partition::{CompletionPlace, Landed, Parcel, Site, Slots};
+use tatp_partition::{CompletionBuffer, Landed, Parcel, Site, Slots};
 
 /// All sites, with what is under way between them. It can be neither copied nor dropped.
 pub struct World<'m> {
@@ -40,9 +40,9 @@ pub struct World<'m> {
     clients: Vec<Client>,
     completions: Completions,
     chapters: Vec<Chapter>,
-    /// Where a site leaves the completion of a call that ends: empty between events.
-    /// [`CompletionPlace`] says why.
-    ended: CompletionPlace,
+    /// To which a site writes the completion of a call that ends: empty between events.
+    /// [`CompletionBuffer`] says why.
+    buffer: CompletionBuffer,
 }
 
 impl<'m> Model for World<'m> {

@@ -15,7 +15,7 @@ use Rattle.tatp_homes.specs.declared.refusal.Refusal.{Refusal}
 use Rattle.tatp_numbers.specs.Homes.{s_id_of}
 use Rattle.tatp_procs.specs.declared.reply.Reply.{Reply}
 use Rattle.tatp_procs.specs.declared.reply.Reply.TheVariants.{Values, Failed}
-use Rattle.tatp_procs.specs.Transactions.{moves, updates_both, inserts_under, inserts_for, deletes, deletes_for, update_location, update_subscriber_data, insert_call_forwarding, delete_call_forwarding}
+use Rattle.tatp_procs.specs.Transactions.{updates_location, updates_both, inserts_under, inserts_for, deletes, deletes_for, update_location, update_subscriber_data, insert_call_forwarding, delete_call_forwarding}
 use Rattle.tatp_procs.specs.Consistent.{IsConsistent}
 use Rattle.tatp_procs.proofs.ConsistentLaws.{IsConsistent-home}
 use Rattle.tatp_procs.proofs.ForwardingLaws.{s_id_fits, row_fits}
@@ -67,7 +67,7 @@ module _ (home : SubscriberRows) (is : IsHome home) where
   -- ---- UPDATE_LOCATION
   pub location_leaves : (n v : ℕ) → is_some (row_with_number home.tables.subscribers n) ≡ true → is_in_domain 33 v ≡ true
       → put_tables home.tables 33 (home.s_id ∷ 0 ∷ 0 ∷ []) v ≡ (update_location home.tables n v).database
-  location_leaves n v there fits = elim (row_with_number home.tables.subscribers n) as (λ o. row_with_number home.tables.subscribers n ≡ o → is_some o ≡ true → put_tables home.tables 33 (home.s_id ∷ 0 ∷ 0 ∷ []) v ≡ (moves home.tables v o).database) [
+  location_leaves n v there fits = elim (row_with_number home.tables.subscribers n) as (λ o. row_with_number home.tables.subscribers n ≡ o → is_some o ≡ true → put_tables home.tables 33 (home.s_id ∷ 0 ∷ 0 ∷ []) v ≡ (updates_location home.tables v o).database) [
     | None ↦ λ e h. absurd (true≢false (sym h))
     | Some row ↦ λ e h i. record home.tables { subscribers = put_rows 33 (fits i) v home.tables.subscribers (number_found n row e i) }
   ] refl there

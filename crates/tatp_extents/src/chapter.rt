@@ -4,7 +4,7 @@ ghost use Rattle.tatp_extents.specs.declared.chapter.CheckpointError.TheVariants
 ghost use Rattle.tatp_extents.specs.Chapters.{IsChapter};
 ghost use Rattle.tatp_extents.specs.ChapterParts.{chapter_of_parts};
 
-use crate::SharedHomes;
+use crate::{Discard, SharedHomes};
 use std::alloc::AllocError;
 use std::marker::Model;
 use tatp_homes::Home;
@@ -106,9 +106,10 @@ impl Chapter {
     {
         self.parts.after.as_slice()
     }
+}
 
-    /// Spends it.
-    pub fn discard(self) {
+impl Discard for Chapter {
+    fn discard(self) {
         let Chapter { parts: _ } = self;
     }
 }

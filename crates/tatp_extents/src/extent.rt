@@ -85,7 +85,7 @@ impl Extent {
 
     /// Whether a call that is no standard transaction has ended on it. Then its log has ended, and
     /// says nothing of its homes.
-    pub fn mixed(&self) -> bool
+    pub fn is_mixed(&self) -> bool
         ensures { result ≡ self.now.mixed }
     {
         self.parts.mixed

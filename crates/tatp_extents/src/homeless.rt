@@ -53,7 +53,7 @@ impl Homeless {
     }
 
     /// Whether a call that is no standard transaction has ended. Then the log has ended.
-    pub fn mixed(&self) -> bool
+    pub fn is_mixed(&self) -> bool
         ensures { result ≡ self.now.mixed }
     {
         self.mixed

@@ -3,6 +3,7 @@
 #![tactic(auto)]
 
 mod chapter;
+mod discard;
 mod extent;
 mod extent_numbers;
 mod homeless;
@@ -15,11 +16,12 @@ mod shared_homes;
 mod theorems;
 
 pub use chapter::{Chapter, CheckpointError, what_holds_of_every_chapter};
+pub use discard::{Discard, discard_all};
 pub use extent::{Extent, what_holds_of_every_extent};
 pub use extent_numbers::{extent_count, extent_of, first_subscriber};
 pub use homeless::{Homeless, what_holds_of_every_homeless_log};
 pub use open_error::OpenError;
-pub use opening::{admit, discard, open, open_clean, reserve_logs};
+pub use opening::{admit, open, open_clean, reserve_logs};
 pub use parts::{ExtentParts, HomelessParts};
 pub use pinned::{Pinned, what_holds_of_every_pinned_extent};
 pub use shared_homes::SharedHomes;

@@ -10,22 +10,13 @@ ghost use Rattle.tatp_numbers.specs.Listing.{answer};
 ghost use Rattle.tatp_numbers.specs.declared.key.Key.{Key};
 ghost use Rattle.tatp_extents.specs.Opening.{opened_extents, RefusesRows};
 
-use crate::{Extent, OpenError};
+use crate::{Extent, OpenError, discard_all};
 use std::alloc::{AllocError, Global};
 use tatp_audits::audit;
 use tatp_homes::homes_in_lists;
 use tatp_limits::{EXTENT_SUBSCRIBERS, MAX_PARTITIONS, MAX_SUBSCRIBERS};
 use tatp_numbers::Directory;
 use tatp_tables::Rows;
-
-/// Spends extents that come to nothing.
-pub fn discard(extents: Vec<Extent>) {
-    let mut rest = extents;
-    while let Some(extent) = rest.pop() {
-        let _ = extent.close();
-    }
-    rest.destroy_empty();
-}
 
 /// Reserves the log of each extent for about `calls` calls of the benchmark's mix.
 pub fn reserve_logs(extents: &mut [Extent], calls: usize) -> Result<(), AllocError>
@@ -67,7 +58,7 @@ fn extents_of(alloc: Global, rows: Rows) -> Result<Vec<Extent>, AllocError>
         match Extent::open(alloc, extents.len() as u32 + 1, homes) {
             Ok(extent) => extents.push(extent).unwrap(),
             Err(error) => {
-                discard(extents);
+                discard_all(extents);
                 return Err(error);
             }
         }

@@ -68,7 +68,7 @@ impl Pinned {
     }
 
     /// Whether a call that is no standard transaction has ended on it.
-    pub fn mixed(&self) -> bool
+    pub fn is_mixed(&self) -> bool
         ensures { result ≡ self.now.extent.mixed }
     {
         self.parts.mixed

@@ -106,7 +106,7 @@ module _ (u : Database) (most s : ℕ) (lines : List Line) (w : Window) (is : Is
       ap (λ es. es ++ events_by k w.events.items) (sym (still_past k w.from is.before later is.past))
       ∙ (sym (by_append k is.before w.events.items) ∙ (ap (events_by k) (sym is.all) ∙ events_then u s k lines le))
 
-  calls_at : (k : ℕ) → w.from ≤ k → k ≤ length lines → asked_in is.before ++ calls_by k (asked_in w.events.items) ≡ calls_on u s (calls_of (take k lines))
+  pub calls_at : (k : ℕ) → w.from ≤ k → k ≤ length lines → asked_in is.before ++ calls_by k (asked_in w.events.items) ≡ calls_on u s (calls_of (take k lines))
   calls_at k later le = sym (both_by k is.before w.events.items) ∙ (ap asked_in (events_at k later le) ∙ asked_then u s (take k lines))
 
   pub explained_at : (k : ℕ) → w.from ≤ k → k ≤ length lines → IsStrictlySerializable (of_subscriber u s) (asked_in is.before ++ calls_by k (asked_in w.events.items)) → IsExplainedBy u s lines k
@@ -274,7 +274,7 @@ first_told w number events (Ok Undecided) same some never explained unexplained 
     (subst (λ es. NeedMore most (of_subscriber u s) (is.before ++ events_by many.0 es)) same (subst (λ m. NeedMore m (of_subscriber u s) (is.before ++ events_by many.0 events)) is.most_is many.1))
 
 -- ---- a window that stays as it was
-pub same_window : (u : Database) (most s : ℕ) (lines : List Line) (w after : Window) → IsWindowAfter u most s lines w → after.explanations ≡ w.explanations → after.events ≡ w.events → after.numbers ≡ w.numbers → after.from ≡ w.from → after.waiting ≡ w.waiting
+pub same_window : (u : Database) (most s : ℕ) (lines : List Line) (w after : Window) → IsWindowAfter u most s lines w → after.explanations ≡ w.explanations → after.events ≡ w.events → after.numbers ≡ w.numbers → after.from ≡ w.from → after.waiting ≡ w.waiting → after.only ≡ w.only
     → IsWindowAfter u most s lines after
-same_window u most s lines w after is explanations events numbers from waiting =
-    subst (IsWindowAfter u most s lines) (λ i. record { explanations = sym explanations i; from = sym from i; events = sym events i; numbers = sym numbers i; waiting = sym waiting i }) is
+same_window u most s lines w after is explanations events numbers from waiting only =
+    subst (IsWindowAfter u most s lines) (λ i. record { explanations = sym explanations i; from = sym from i; events = sym events i; numbers = sym numbers i; waiting = sym waiting i; only = sym only i }) is

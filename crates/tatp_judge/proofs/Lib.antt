@@ -10,6 +10,8 @@ pub mod PlaceLaws
 pub mod StepLaws
 pub mod JudgeLaws
 pub mod ExplainingLaws
+pub mod LegalReplyLaws
+pub mod PartLaws
 pub mod PopulationLaws
 pub mod FinishingLaws
 pub mod LeavingLaws

@@ -4,6 +4,8 @@ pub mod NextLine
 pub mod Searched
 pub mod Population
 pub mod Verdicts
+pub mod Legal
+pub mod Parts
 pub mod Windows
 pub mod Followed
 pub mod Steps

@@ -4,6 +4,8 @@ use Rattle.std.specs.List.{AllByRecursion}
 use Rattle.tatp_tables.specs.Database.{Database, of_subscriber}
 use Rattle.tatp_history.specs.declared.line.Line.{Line}
 use Rattle.tatp_history.specs.declared.event.Event.{Event}
+use Rattle.tatp_procs.specs.declared.reply.Reply.{Reply}
+use Rattle.tatp_history.specs.declared.observed.Observed.{Observed}
 use Rattle.tatp_history.specs.Histories.{IsStrictlySerializable}
 use Rattle.tatp_history.specs.HistoryLines.{calls_of}
 use Rattle.tatp_history.specs.Locality.{calls_on}
@@ -15,7 +17,9 @@ use Rattle.tatp_linearization.specs.Cut.{events_by}
 use Rattle.tatp_linearization.specs.Held.{IsAcceptedEvent}
 use Rattle.tatp_linearization.specs.Reached.{AreOfSubscriber, AreReached}
 use Rattle.tatp_judge.specs.declared.window.Window.{Window}
+use Rattle.tatp_judge.specs.declared.legal.OnlyReply.{OnlyReply}
 use Rattle.tatp_judge.specs.Explained.{numbers_since}
+use Rattle.tatp_judge.specs.Legal.{AreLegalReplies}
 use Rattle.tatp_judge.specs.Verdicts.{NeedMoreBy}
 
 -- ---- open calls, counted
@@ -81,9 +85,17 @@ abbrev pub IsExplainedBefore : Database → ℕ → List Line → ℕ → Type 0
 IsExplainedBefore u s lines end =
     (k : ℕ) → k < end → k ≤ length lines → IsExplainedBy u s lines k
 
--- where the last line leaves no order, and no events are kept
+-- the call and a reply
+abbrev pub only_reply : Observed → Reply → OnlyReply
+only_reply x reply = record { call = x.call; reply = reply }
+
+-- where the last line leaves no order, and no events are kept, but the only reply with which the
+-- call could have been answered there
 pub record IsSpent (u : Database) (s : ℕ) (lines : List Line) (w : Window) : Type 0 where
   pub none : w.events.items ≡ []
+  pub only : OnlyReply
+  pub only_is : w.only.items ≡ only ∷ []
+  pub legal : AreLegalReplies u s lines only.call (only.reply ∷ [])
   pub began : w.from < length lines
   pub numbers : AreNumbersKept u s lines w
   pub before : IsExplainedBefore u s lines (length lines)

@@ -1,12 +1,13 @@
 //! Whether a window's calls are explained, and up to which line.
-ghost use Rattle.std.specs.Prelude.{◌≡◌, ◌⊎◌, ℕ, ◌<◌, [], IfOk, IfSome, Ok, List, length};
+ghost use Rattle.std.specs.Prelude.{◌≡◌, ◌⊎◌, ℕ, ◌<◌, [], ◌∷◌, IfOk, IfSome, OnOk, Ok, List, length};
 ghost use Rattle.tatp_tables.specs.Database.{Database};
 ghost use Rattle.tatp_procs.specs.Arguments.{arguments_accepted};
 ghost use Rattle.tatp_history.specs.declared.line.Line.{Line as ALine};
 ghost use Rattle.tatp_linearization.specs.Single.{IsSingle, events_alone};
 ghost use Rattle.tatp_judge.specs.Steps.{Closes};
-ghost use Rattle.tatp_judge.specs.Windows.{IsForgotten, IsWindowAfter, IsFirstOf};
+ghost use Rattle.tatp_judge.specs.Windows.{IsForgotten, IsWindowAfter, IsFirstOf, only_reply};
 
+use crate::legal::OnlyReply;
 use crate::window::Window;
 use std::alloc::{AllocError, Global};
 use tatp_history::{Event, Observed};
@@ -42,23 +43,45 @@ impl Window {
         self.from = number;
     }
 
+    /// Of the events nothing is kept but the call and the only reply that it could have got.
+    fn keep_only(&mut self, alloc: Global, x: &Observed, reply: &Reply) -> Result<(), AllocError>
+        ensures events { self.new.events.items ≡ [] }
+        ensures only { OnOk result (self.new.only.items ≡ only_reply x.now reply.now ∷ []) }
+        ensures from { self.new.from ≡ self.old.from }
+        ensures numbers { self.new.numbers.items ≡ self.old.numbers.items }
+    {
+        self.events = Vec::new(alloc);
+        let mut only = Vec::new(alloc);
+        only.push(OnlyReply {
+            call: x.call,
+            reply: *reply,
+        })?;
+        self.only = only;
+        Ok(())
+    }
+
     /// Goes on over a call that overlaps no other, and is answered in the line of this number, in
     /// place.
-    fn go_on_alone(&mut self, alloc: Global, x: &Observed, number: u64) -> Standing
+    fn go_on_alone(
+        &mut self,
+        alloc: Global,
+        x: &Observed,
+        number: u64,
+    ) -> Result<Standing, AllocError>
         requires single { IsSingle self.old.explanations }
         requires alone { self.old.events.items ≡ events_alone x.now number }
         requires accepted { arguments_accepted x.now.call ≡ Ok tt }
         requires none { self.old.waiting ≡ 0 }
-        ensures { Closes number result self.old self.new }
+        ensures { IfOk result (λ standing. Closes number standing self.old self.new) }
     {
         let mut reply = Reply::Refused;
         let fits = self.explanations.follow_alone(x, &mut reply);
         if fits {
             self.forget(alloc, number);
-            Standing::Explained
+            Ok(Standing::Explained)
         } else {
-            self.events = Vec::new(alloc);
-            Standing::Unexplained
+            self.keep_only(alloc, x, &reply)?;
+            Ok(Standing::Unexplained)
         }
     }
 
@@ -95,7 +118,7 @@ impl Window {
         }
         if self.explanations.is_single() {
             if let Some(x) = alone(self.events.as_slice(), number) {
-                return Ok(self.go_on_alone(alloc, &x, number));
+                return self.go_on_alone(alloc, &x, number);
             }
         }
         self.go_on(alloc, number)

@@ -6,6 +6,7 @@ ghost use Rattle.tatp_linearization.specs.Reached.{AreOfSubscriber, AreReached};
 ghost use Rattle.tatp_judge.specs.NextLine.{ends_of, number_of_last, with_outcome};
 ghost use Rattle.tatp_history.specs.HistoryLines.{end_at};
 
+use crate::legal::OnlyReply;
 use crate::outcome::{end_at, is_answer, is_ask};
 use std::alloc::{AllocError, Global};
 use tatp_history::{Event, Line, Observed};
@@ -24,6 +25,8 @@ pub(crate) struct Window {
     pub(crate) numbers: Vec<u64>,
     /// How many of its calls are open.
     pub(crate) waiting: u64,
+    /// Where no order explains its last call, and no events are kept: that call, and its reply.
+    pub(crate) only: Vec<OnlyReply>,
 }
 
 /// The event, where the call that was asked then ends by the line of this number.
@@ -94,6 +97,7 @@ impl Window {
             events: Vec::new(alloc),
             numbers: Vec::new(alloc),
             waiting: 0,
+            only: Vec::new(alloc),
         })
     }
 

@@ -3,20 +3,23 @@ use Rattle.std.specs.Prelude.{◌≡◌, ℕ, zero, suc, ◌+◌, ◌-◌, ◌�
 use Rattle.std.proofs.Common.{refl, sym, ap, subst, ◌∙◌, arith}
 use Rattle.std.proofs.lemmas.List.{append-nil, length-append, take_all}
 use Rattle.std.proofs.lemmas.Option.{none-some, same_Some}
-use Rattle.tatp_tables.specs.Database.{Database, of_subscriber}
+use Rattle.tatp_tables.specs.Database.{of_subscriber}
 use Rattle.tatp_history.specs.Histories.{IsStrictlySerializable}
 use Rattle.tatp_history.specs.HistoryLines.{calls_of}
 use Rattle.tatp_history.specs.Locality.{calls_on, FailWithout}
 use Rattle.tatp_history.specs.declared.line.Line.{Line}
 use Rattle.tatp_history_lines.specs.declared.fault.LineFault.{LineFault}
 use Rattle.tatp_history_lines.specs.Open.{CallsOpen, opened_by}
+use Rattle.tatp_judged_inputs.specs.declared.judging.Window.{Window}
 use Rattle.tatp_judged_inputs.specs.HistoryTexts.{Told, BadText, said_in, onto, tell_on, history_from, none_open}
 use Rattle.tatp_judge.specs.declared.judge.Verdict.{Verdict}
 use Rattle.tatp_judge.specs.declared.judge.Verdict.TheVariants as verdicts
-use Rattle.tatp_judge.specs.Verdicts.{IsLegal, IsFirstIllegal, IsUnexplained, NeedMoreBy, IsVerdictOn}
+use Rattle.tatp_judged_inputs.specs.Views.{IsLegal, IsUnexplained, IsVerdictOn, NeedMoreBy, View, seen}
+use Rattle.tatp_judged_inputs.proofs.ViewLaws.{seen_length, seen_take}
+use Rattle.tatp_judge.specs.Verdicts.{IsFirstIllegal, IsLegal as AreLegal}
 use Rattle.tatp_judged_inputs.specs.declared.judging.Judged.{Judged}
 use Rattle.tatp_judged_inputs.specs.declared.judging.Judged.TheVariants.{Illegal}
-use Rattle.tatp_judged_inputs.specs.Judged.{first_told, AreWindowTold, IsJudgement, IsWindowBy, IsWindowOf, Tell, TellLegal, TellIllegal, IsIllegalAt, IsUndecidedAt, IsJudged, IsTold}
+use Rattle.tatp_judged_inputs.specs.Judged.{first_told, IsWindowTold, IsJudgement, IsWindowBy, IsWindowOf, Tell, TellLegal, TellIllegal, IsIllegalAt, IsUndecidedAt, IsJudged, IsTold}
 use Rattle.tatp_judged_inputs.proofs.HistoryLaws.{ReadAll}
 
 -- the first k lines
@@ -111,7 +114,7 @@ front_of opened taken [] t k number h at =
     absurd (none-some number (ap (λ (t : Told). slice_get t.numbers k) none ∙ at))
 front_of opened taken (text ∷ more) t k number h at = front_by opened taken text more t k number (said_in opened text) refl (λ o t k h at. front_of o (taken + 1) more t k number h at) h at
 
-pub told_illegal : (u : Database) (taken : ℕ) (texts : List (List ℕ)) (t : Told) (n number : ℕ) → history_from none_open (taken + 1) texts ≡ Ok t → IsFirstIllegal u t.lines n → slice_get t.numbers (n - 1) ≡ Some number → IsIllegalAt u taken texts number
+pub told_illegal : (u : View) (taken : ℕ) (texts : List (List ℕ)) (t : Told) (n number : ℕ) → history_from none_open (taken + 1) texts ≡ Ok t → IsFirstIllegal u.rows (seen u t.lines) n → slice_get t.numbers (n - 1) ≡ Some number → IsIllegalAt u taken texts number
 told_illegal u taken texts t n number h first at =
     let f = front_of none_open taken texts t (n - 1) number h at in
     let last : suc (n - 1) ≡ n = omega (arith, first.first) in
@@ -120,8 +123,8 @@ told_illegal u taken texts t n number h first at =
     record {
       later = omega (arith, f.number_is);
       within = omega (arith, f.number_is, f.within);
-      illegal = (front (suc (n - 1)) t, sym (ap (λ m. history_from none_open (taken + 1) (take m texts)) some) ∙ f.with, λ legal. first.illegal (subst (λ m. IsLegal u (take m t.lines)) last legal));
-      before = (front (n - 1) t, sym (ap (λ m. history_from none_open (taken + 1) (take m texts)) fewer) ∙ f.without, first.before);
+      illegal = (front (suc (n - 1)) t, sym (ap (λ m. history_from none_open (taken + 1) (take m texts)) some) ∙ f.with, λ legal. first.illegal (subst (AreLegal u.rows) (sym (seen_take u n t.lines)) (subst (λ m. IsLegal u (take m t.lines)) last legal)));
+      before = (front (n - 1) t, sym (ap (λ m. history_from none_open (taken + 1) (take m texts)) fewer) ∙ f.without, subst (AreLegal u.rows) (seen_take u (n - 1) t.lines) first.before);
     }
 
 -- ---- verdicts
@@ -144,13 +147,16 @@ front_told taken read more t n number P h some at holds =
       subst (λ m. P (first_told m t)) (sym last) holds,
     )
 
-unexplained_there : (u : Database) (lines : List Line) (n : ℕ) (s_id : Option ℕ) → IsUnexplained u lines n s_id → IsUnexplained u (take n lines) (length (take n lines)) s_id
-unexplained_there u lines n None h = λ fail. h (subst (λ ls. FailWithout u (calls_of ls)) (take_all (length (take n lines)) (take n lines) (omega arith)) fail)
+first_seen : (u : View) (n : ℕ) (lines : List Line) → take (length (take n lines)) (seen u (take n lines)) ≡ take n (seen u lines)
+first_seen u n lines = let count = seen_length u (take n lines) in take_all (length (take n lines)) (seen u (take n lines)) (omega (arith, count)) ∙ sym (seen_take u n lines)
+
+unexplained_there : (u : View) (lines : List Line) (n : ℕ) (s_id : Option ℕ) → IsUnexplained u lines n s_id → IsUnexplained u (take n lines) (length (take n lines)) s_id
+unexplained_there u lines n None h = λ fail. h (subst (λ ls. FailWithout u.rows (calls_of ls)) (first_seen u n lines) fail)
 unexplained_there u lines n (Some s) h = λ explained.
-    h (subst (λ ls. IsStrictlySerializable (of_subscriber u s) (calls_on u s (calls_of ls))) (take_all (length (take n lines)) (take n lines) (omega arith)) explained)
+    h (subst (λ ls. IsStrictlySerializable (of_subscriber u.rows s) (calls_on u.rows s (calls_of ls))) (first_seen u n lines) explained)
 
 -- unread texts follow
-illegal_stays : (u : Database) (taken : ℕ) (read more : List (List ℕ)) (number : ℕ) → IsIllegalAt u taken read number → IsIllegalAt u taken (read ++ more) number
+illegal_stays : (u : View) (taken : ℕ) (read more : List (List ℕ)) (number : ℕ) → IsIllegalAt u taken read number → IsIllegalAt u taken (read ++ more) number
 illegal_stays u taken read more number h =
     let both = length-append read more in
     let same : take (number - taken) read ≡ take (number - taken) (read ++ more) = sym (taken_front (number - taken) read more (omega (arith, h.within))) in
@@ -162,9 +168,10 @@ illegal_stays u taken read more number h =
       before = subst (TellLegal u taken) fewer h.before;
     }
 
-undecided_there : (u : Database) (most taken number line s : ℕ) (read more : List (List ℕ)) (t : Told) → ReadAll taken number read t → NeedMoreBy u most t.lines line s → IsUndecidedAt u most taken (read ++ more) number s
+undecided_there : (u : View) (most taken number line s : ℕ) (read more : List (List ℕ)) (t : Told) → ReadAll taken number read t → NeedMoreBy u most t.lines line s → IsUndecidedAt u most taken (read ++ more) number s
 undecided_there u most taken number line s read more t all h =
     let both = length-append read more in
+    let counted = seen_length u t.lines in
     let front : take (number - taken) (read ++ more) ≡ read = taken_front (number - taken) read more (omega (arith, all.count)) ∙ take_all (number - taken) read (omega (arith, all.count)) in
     record {
       later = omega (arith, all.count);
@@ -173,15 +180,15 @@ undecided_there u most taken number line s read more t all h =
         t,
         all.told,
         record {
-          within = omega arith;
+          within = omega (arith, counted);
           first = h.first;
-          by = omega (arith, h.by, h.within);
+          by = omega (arith, h.by, h.within, counted);
           many = h.many;
         },
       );
     }
 
-is_judged : (u : Database) (most taken number : ℕ) (read more : List (List ℕ)) (t : Told) (verdict : Verdict) (judged : Judged) → ReadAll taken number read t → (verdict ≡ verdicts.Legal → more ≡ []) → IsVerdictOn u most t.lines verdict
+is_judged : (u : View) (most taken number : ℕ) (read more : List (List ℕ)) (t : Told) (verdict : Verdict) (judged : Judged) → ReadAll taken number read t → (verdict ≡ verdicts.Legal → more ≡ []) → IsVerdictOn u most t.lines verdict
     → IsTold u t number verdict judged → IsJudged u most taken (read ++ more) judged
 is_judged u most taken number read more t verdicts.Legal judged all last legal told =
     let tell = ap (history_from none_open (taken + 1)) (ap (λ ts. read ++ ts) (last refl) ∙ append-nil read) ∙ all.told in
@@ -195,19 +202,19 @@ is_judged u most taken number read more t (verdicts.Undecided line s) judged all
     subst (IsJudged u most taken (read ++ more)) (sym told) (undecided_there u most taken number line s read more t all many)
 
 -- ---- the lines that are told
-window_there : (u : Database) (taken number : ℕ) (read more : List (List ℕ)) (t : Told) (first : ℕ) (s_id : Option ℕ) (window : List ℕ) → history_from none_open (taken + 1) read ≡ Ok t → 1 ≤ first → slice_get t.numbers (first - 1) ≡ Some number
+window_there : (u : View) (taken number : ℕ) (read more : List (List ℕ)) (t : Told) (first : ℕ) (s_id : Option ℕ) (window : Window) → history_from none_open (taken + 1) read ≡ Ok t → 1 ≤ first → slice_get t.numbers (first - 1) ≡ Some number
     → IsWindowBy u t (verdicts.Illegal first s_id) window → IsWindowOf u taken (read ++ more) (Illegal number s_id) window
 window_there u taken number read more t first None window h some at by = by
-window_there u taken number read more t first (Some s) window h some at by = front_told taken read more t first number (λ t. AreWindowTold u s t window) h some at by
+window_there u taken number read more t first (Some s) window h some at by = front_told taken read more t first number (λ t. IsWindowTold u s t window) h some at by
 
-window_told : (u : Database) (most taken number : ℕ) (read more : List (List ℕ)) (t : Told) (verdict : Verdict) (judged : Judged) (window : List ℕ) → ReadAll taken number read t → IsVerdictOn u most t.lines verdict → IsTold u t number verdict judged → IsWindowBy u t verdict window
+window_told : (u : View) (most taken number : ℕ) (read more : List (List ℕ)) (t : Told) (verdict : Verdict) (judged : Judged) (window : Window) → ReadAll taken number read t → IsVerdictOn u most t.lines verdict → IsTold u t number verdict judged → IsWindowBy u t verdict window
     → IsWindowOf u taken (read ++ more) judged window
 window_told u most taken number read more t verdicts.Legal judged window all is told by = subst (λ j. IsWindowOf u taken (read ++ more) j window) (sym told.2) by
 window_told u most taken number read more t (verdicts.Illegal first s_id) judged window all is told by =
     subst (λ j. IsWindowOf u taken (read ++ more) j window) (sym told.2) (window_there u taken told.0 read more t first s_id window all.told is.0.first told.1 by)
 window_told u most taken number read more t (verdicts.Undecided line s) judged window all is told by = subst (λ j. IsWindowOf u taken (read ++ more) j window) (sym told) by
 
-pub is_judgement : (u : Database) (most taken number : ℕ) (read more : List (List ℕ)) (t : Told) (verdict : Verdict) (judged : Judged) (window : List ℕ) → ReadAll taken number read t → (verdict ≡ verdicts.Legal → more ≡ []) → IsVerdictOn u most t.lines verdict
+pub is_judgement : (u : View) (most taken number : ℕ) (read more : List (List ℕ)) (t : Told) (verdict : Verdict) (judged : Judged) (window : Window) → ReadAll taken number read t → (verdict ≡ verdicts.Legal → more ≡ []) → IsVerdictOn u most t.lines verdict
     → IsTold u t number verdict judged → IsWindowBy u t verdict window → IsJudgement u most taken (read ++ more) judged window
 is_judgement u most taken number read more t verdict judged window all last is told by = record {
   judged_is = is_judged u most taken number read more t verdict judged all last is told;

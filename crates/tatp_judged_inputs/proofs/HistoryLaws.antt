@@ -3,7 +3,6 @@ use Rattle.std.specs.Prelude.{◌≡◌, ℕ, ◌+◌, List, [], ◌∷◌, ◌+
 use Rattle.std.specs.Str.{is_utf8}
 use Rattle.std.proofs.Common.{refl, sym, ap, subst, ◌∙◌, append_assoc, length, length-append, cond, Bool, true, false, arith}
 use Rattle.std.proofs.lemmas.List.{append-nil}
-use Rattle.tatp_tables.specs.Database.{Database}
 use Rattle.tatp_procs.specs.declared.call.Call.{Call}
 use Rattle.tatp_procs.specs.declared.domains.BadArgument.{BadArgument as Bad}
 use Rattle.tatp_procs.specs.Arguments.{arguments_accepted}
@@ -19,8 +18,8 @@ use Rattle.tatp_history_lines.specs.Open.{CallsOpen, open_call, opened_by}
 use Rattle.tatp_judge.specs.declared.judge.Judge.{Judge}
 use Rattle.tatp_judge.specs.declared.judge.Verdict.{Verdict}
 use Rattle.tatp_judge.specs.Accepted.{IsAcceptedLine}
-use Rattle.tatp_judge.specs.Counted.{HasCounted}
-use Rattle.tatp_judge.specs.Followed.{HasFollowed}
+use Rattle.tatp_judged_inputs.specs.Views.{HasCounted, HasFollowed, IsBegun, View}
+use Rattle.tatp_judge.specs.Parts.{IsPart}
 use Rattle.tatp_judged_inputs.specs.declared.history_fault.HistoryFault.{HistoryFault}
 use Rattle.tatp_judged_inputs.specs.declared.reading.Reading.{Reading}
 use Rattle.tatp_judged_inputs.specs.HistoryTexts.{Told, BadText, said_in, onto, tell_on, history_from, none_open}
@@ -41,7 +40,7 @@ told_more : (r : Reading) (past : List Line) (n : ℕ) (text : List ℕ) (more :
     → told_by r past n (text ∷ more) ≡ before (told_of r past) (tell_on n (open_call r.opened) said (λ after. history_from after (n + 1) more))
 told_more r past n text more said e = ap (λ s. before (told_of r past) (tell_on n (open_call r.opened) s (λ after. history_from after (n + 1) more))) e
 
-pub none_taken : (u : Database) (most : ℕ) (past : List Line) (n : ℕ) (text : List ℕ) (judge : Judge) (r : Reading) → said_in (open_call r.opened) text ≡ Ok None → HasFollowed u most past judge → IsNumbered r past → HasCounted u past r.counts → GoesOn u most past n text judge r r
+pub none_taken : (u : View) (most : ℕ) (past : List Line) (n : ℕ) (text : List ℕ) (judge : Judge) (r : Reading) → said_in (open_call r.opened) text ≡ Ok None → HasFollowed u most past judge → IsNumbered u r past → HasCounted u past r.counts → GoesOn u most past n text judge r r
 none_taken u most past n text judge r e followed numbered counted = record {
   now = past;
   followed = followed;
@@ -50,16 +49,19 @@ none_taken u most past n text judge r e followed numbered counted = record {
   told = λ more. sym (told_more r past n text more (Ok None) e);
 }
 
-pub one_numbered : (old new : Reading) (past : List Line) (n : ℕ) (line : Line) → new.numbers.items ≡ old.numbers.items ++ n ∷ [] → IsNumbered old past → IsNumbered new (past ++ line ∷ [])
-one_numbered old new past n line numbers numbered =
-    ap length numbers ∙ (length-append old.numbers.items (n ∷ []) ∙ (ap (λ k. k + 1) numbered ∙ sym (length-append past (line ∷ []))))
+pub one_numbered : {u : View} (old new : Reading) (past : List Line) (n : ℕ) (line : Line) → new.numbers.items ≡ old.numbers.items ++ n ∷ [] → new.part ≡ old.part → IsNumbered u old past → IsNumbered u new (past ++ line ∷ [])
+one_numbered {u} old new past n line numbers same numbered = record {
+  count = ap length numbers ∙ (length-append old.numbers.items (n ∷ []) ∙ (ap (λ k. k + 1) numbered.count ∙ sym (length-append past (line ∷ []))));
+  part_is = numbered.part_is ∙ sym same;
+  possible = subst IsPart (sym same) numbered.possible;
+}
 
-pub line_taken : (u : Database) (most : ℕ) (past : List Line) (n : ℕ) (text : List ℕ) (judge : Judge) (old new : Reading) (line : Line) → said_in (open_call old.opened) text ≡ Ok (Some line) → HasFollowed u most (past ++ line ∷ []) judge → IsNumbered old past
-    → HasCounted u (past ++ line ∷ []) new.counts → new.numbers.items ≡ old.numbers.items ++ n ∷ [] → ((client : ℕ) → open_call new.opened client ≡ opened_by (open_call old.opened) line client) → GoesOn u most past n text judge old new
-line_taken u most past n text judge old new line e followed numbered counted numbers opened = record {
+pub line_taken : (u : View) (most : ℕ) (past : List Line) (n : ℕ) (text : List ℕ) (judge : Judge) (old new : Reading) (line : Line) → said_in (open_call old.opened) text ≡ Ok (Some line) → HasFollowed u most (past ++ line ∷ []) judge → IsNumbered u old past
+    → HasCounted u (past ++ line ∷ []) new.counts → new.numbers.items ≡ old.numbers.items ++ n ∷ [] → new.part ≡ old.part → ((client : ℕ) → open_call new.opened client ≡ opened_by (open_call old.opened) line client) → GoesOn u most past n text judge old new
+line_taken u most past n text judge old new line e followed numbered counted numbers same opened = record {
   now = past ++ line ∷ [];
   followed = followed;
-  numbered = one_numbered old new past n line numbers numbered;
+  numbered = one_numbered old new past n line numbers same numbered;
   counted = counted;
   told = λ more.
       (λ i. before (record { numbers = numbers i; lines = past ++ line ∷ [] }) (history_from (λ client. opened client i) (n + 1) more))
@@ -79,11 +81,11 @@ pub record ReadTo (r : Reading) (past : List Line) (taken now : ℕ) (read : Lis
   pub told : (more : List (List ℕ)) → history_from none_open (taken + 1) (read ++ more) ≡ told_by r past (now + 1) more
   pub count : taken + length read ≡ now
 
-pub record ReadSoFar (u : Database) (most : ℕ) (judge : Judge) (r : Reading) (taken now : ℕ) (all left : Option LinesLeft) : Type 0 where
+pub record ReadSoFar (u : View) (most : ℕ) (judge : Judge) (r : Reading) (taken now : ℕ) (all left : Option LinesLeft) : Type 0 where
   pub past : List Line
   pub read : List (List ℕ)
   pub followed : HasFollowed u most past judge
-  pub numbered : IsNumbered r past
+  pub numbered : IsNumbered u r past
   pub counted : HasCounted u past r.counts
   pub to : ReadTo r past taken now read
   pub split : Relates all left (λ a l. a.lines ≡ read ++ l.lines)
@@ -92,12 +94,12 @@ before_nothing : (r : Result Told BadText) → before (record { numbers = []; li
 before_nothing (Ok told) = refl
 before_nothing (Err bad) = refl
 
-pub reading_starts : (u : Database) (most : ℕ) (judge : Judge) (r : Reading) (n : ℕ) (left : Option LinesLeft) → HasFollowed u most [] judge → r.numbers.items ≡ [] → ((client : ℕ) → open_call r.opened client ≡ None) → HasCounted u [] r.counts → ReadSoFar u most judge r n n left left
+pub reading_starts : (u : View) (most : ℕ) (judge : Judge) (r : Reading) (n : ℕ) (left : Option LinesLeft) → IsBegun u most r.part judge → r.numbers.items ≡ [] → ((client : ℕ) → open_call r.opened client ≡ None) → HasCounted u [] r.counts → ReadSoFar u most judge r n n left left
 reading_starts u most judge r n left followed h o counted = record {
   past = [];
   read = [];
-  followed = followed;
-  numbered = ap length h;
+  followed = followed.followed;
+  numbered = record { count = ap length h; part_is = followed.part_is; possible = followed.possible };
   counted = counted;
   to = record {
     told = λ more. sym ((λ i. before (record { numbers = h i; lines = [] }) (history_from (λ client. o client i) (n + 1) more)) ∙ before_nothing (history_from none_open (n + 1) more));
@@ -114,7 +116,7 @@ split_next read text all left left' split stays =
     relates_line all left left' text (λ a l. a.lines ≡ read ++ l.lines) (λ a l. a.lines ≡ (read ++ text ∷ []) ++ l.lines) split stays
     (λ a l h. h ∙ sym (append_assoc read (text ∷ []) l.lines))
 
-pub reading_goes_on : (u : Database) (most : ℕ) (judge judge' : Judge) (r r' : Reading) (taken now number : ℕ) (text : List ℕ) (all left left' : Option LinesLeft) (s : ReadSoFar u most judge r taken now all left) → number ≡ now + 1
+pub reading_goes_on : (u : View) (most : ℕ) (judge judge' : Judge) (r r' : Reading) (taken now number : ℕ) (text : List ℕ) (all left left' : Option LinesLeft) (s : ReadSoFar u most judge r taken now all left) → number ≡ now + 1
     → Stays left (option_map (with_line text) left') → GoesOn u most s.past number text judge' r r' → ReadSoFar u most judge' r' taken number all left'
 reading_goes_on u most judge judge' r r' taken now number text all left left' s next stays on =
     let long = one_longer s.read text in
@@ -133,11 +135,11 @@ reading_goes_on u most judge judge' r r' taken now number text all left left' s 
     }
 
 -- what was read then
-pub none_read : (u : Database) (most : ℕ) (judge : Judge) (r : Reading) (n : ℕ) (left : Option LinesLeft) (followed : HasFollowed u most [] judge) (h : r.numbers.items ≡ []) (o : (client : ℕ) → open_call r.opened client ≡ None) (counted : HasCounted u [] r.counts) → (reading_starts u most judge r n left followed h o counted).read ≡ []
+pub none_read : (u : View) (most : ℕ) (judge : Judge) (r : Reading) (n : ℕ) (left : Option LinesLeft) (followed : IsBegun u most r.part judge) (h : r.numbers.items ≡ []) (o : (client : ℕ) → open_call r.opened client ≡ None) (counted : HasCounted u [] r.counts) → (reading_starts u most judge r n left followed h o counted).read ≡ []
 unfolding reading_starts
 none_read u most judge r n left followed h o counted = refl
 
-pub one_more_read : (u : Database) (most : ℕ) (judge judge' : Judge) (r r' : Reading) (taken now number : ℕ) (text : List ℕ) (all left left' : Option LinesLeft) (s : ReadSoFar u most judge r taken now all left) (next : number ≡ now + 1)
+pub one_more_read : (u : View) (most : ℕ) (judge judge' : Judge) (r r' : Reading) (taken now number : ℕ) (text : List ℕ) (all left left' : Option LinesLeft) (s : ReadSoFar u most judge r taken now all left) (next : number ≡ now + 1)
     (stays : Stays left (option_map (with_line text) left')) (on : GoesOn u most s.past number text judge' r r') → (reading_goes_on u most judge judge' r r' taken now number text all left left' s next stays on).read ≡ s.read ++ text ∷ []
 unfolding reading_goes_on
 one_more_read u most judge judge' r r' taken now number text all left left' s next stays on = refl
@@ -154,7 +156,7 @@ read_all r past taken now read to = record {
   count = to.count;
 }
 
-pub read_decided : (u : Database) (most : ℕ) (verdict : Verdict) (judge : Judge) (r r' : Reading) (past : List Line) (taken now number : ℕ) (read : List (List ℕ)) (text : List ℕ) → ReadTo r past taken now read → number ≡ now + 1 → (d : Decides u most past number text verdict judge r r')
+pub read_decided : (u : View) (most : ℕ) (verdict : Verdict) (judge : Judge) (r r' : Reading) (past : List Line) (taken now number : ℕ) (read : List (List ℕ)) (text : List ℕ) → ReadTo r past taken now read → number ≡ now + 1 → (d : Decides u most past number text verdict judge r r')
     → ReadAll taken number (read ++ text ∷ []) (record { numbers = r'.numbers.items; lines = past ++ d.line ∷ [] })
 read_decided u most verdict judge r r' past taken now number read text to next d =
     let long = one_longer read text in
@@ -174,7 +176,7 @@ pub at_all : (all : Option LinesLeft) (a : LinesLeft) (P : LinesLeft → Type 0)
 at_all all a P e h = subst (λ o. IfSome o P) e h
 
 -- all were read
-pub read_to_end : (u : Database) (most : ℕ) (judge : Judge) (r : Reading) (taken now : ℕ) (all left left' : Option LinesLeft) (a : LinesLeft) (s : ReadSoFar u most judge r taken now all left) → all ≡ Some a → Stays left left' → IfSome left' (λ l. l.lines ≡ [])
+pub read_to_end : (u : View) (most : ℕ) (judge : Judge) (r : Reading) (taken now : ℕ) (all left left' : Option LinesLeft) (a : LinesLeft) (s : ReadSoFar u most judge r taken now all left) → all ≡ Some a → Stays left left' → IfSome left' (λ l. l.lines ≡ [])
     → IfSome left' (λ l. IsWithinLimit l.input) → a.lines ≡ s.read
 read_to_end u most judge r taken now all left left' a s e stays none within =
     at_all all a (λ b. b.lines ≡ s.read) e
@@ -184,14 +186,14 @@ read_to_end u most judge r taken now all left left' a s e stays none within =
     (λ b l h. h))
 
 -- one more was read
-pub read_one : (u : Database) (most : ℕ) (judge : Judge) (r : Reading) (taken now : ℕ) (text : List ℕ) (all left left' : Option LinesLeft) (a : LinesLeft) (s : ReadSoFar u most judge r taken now all left) → all ≡ Some a → Stays left (option_map (with_line text) left')
+pub read_one : (u : View) (most : ℕ) (judge : Judge) (r : Reading) (taken now : ℕ) (text : List ℕ) (all left left' : Option LinesLeft) (a : LinesLeft) (s : ReadSoFar u most judge r taken now all left) → all ≡ Some a → Stays left (option_map (with_line text) left')
     → (rest : List (List ℕ)) × (a.lines ≡ (s.read ++ text ∷ []) ++ rest)
 read_one u most judge r taken now text all left left' a s e stays =
     at_all all a (λ b. (rest : List (List ℕ)) × (b.lines ≡ (s.read ++ text ∷ []) ++ rest)) e
     (relates_all all left' (λ b l. b.lines ≡ (s.read ++ text ∷ []) ++ l.lines) (λ b. (rest : List (List ℕ)) × (b.lines ≡ (s.read ++ text ∷ []) ++ rest)) (split_next s.read text all left left' s.split stays)
     (λ b l h. (l.lines, h)))
 
-pub reading_refused : (u : Database) (most : ℕ) (judge : Judge) (r : Reading) (taken now number : ℕ) (text : List ℕ) (f : HistoryFault) (all left left' : Option LinesLeft) → ReadSoFar u most judge r taken now all left → number ≡ now + 1 → Stays left (option_map (with_line text) left')
+pub reading_refused : (u : View) (most : ℕ) (judge : Judge) (r : Reading) (taken now number : ℕ) (text : List ℕ) (f : HistoryFault) (all left left' : Option LinesLeft) → ReadSoFar u most judge r taken now all left → number ≡ now + 1 → Stays left (option_map (with_line text) left')
     → ((past : List Line) (more : List (List ℕ)) → RefusesHistory (told_by r past number (text ∷ more)) f) → IfSome all (λ a. RefusesHistory (history_from none_open (taken + 1) a.lines) f)
 reading_refused u most judge r taken now number text f all left left' s next stays refused =
     by_all all (λ a. RefusesHistory (history_from none_open (taken + 1) a.lines) f) (λ a e.

@@ -1,21 +1,25 @@
 -- What is said of an input, by what its parts tell.
-use Rattle.std.proofs.Common.{◌≡◌, ℕ, List, [], Option, Some, None, subst, arith, inl, inr}
+use Rattle.std.proofs.Common.{◌≡◌, ℕ, List, [], Option, Some, None, sym, subst, arith, inl, inr}
 use Rattle.std.proofs.lemmas.Option.{IfSome_then}
 use Rattle.std.specs.Option.{IfSome}
 use Rattle.tatp_lines.specs.Lines.{lines_of}
-use Rattle.tatp_tables.specs.Database.{Database, database_of}
+use Rattle.tatp_tables.specs.Database.{database_of}
 use Rattle.tatp_tables.specs.declared.row.Rows.{Rows}
 use Rattle.tatp_extents.specs.declared.open_error.OpenError.{OpenError}
 use Rattle.tatp_extents.specs.Opening.{RefusesRows}
 use Rattle.tatp_judge.specs.declared.judge.Judge.{Judge}
+use Rattle.tatp_judge.specs.declared.part.Part.{Part}
 use Rattle.tatp_judge.specs.Followed.{HasFollowed}
+use Rattle.tatp_judge.specs.Parts.{IsPart}
+use Rattle.tatp_judged_inputs.specs.Views.{IsBegun, View}
 use Rattle.tatp_streams.specs.declared.fault.StreamFault.TheVariants.{NoMemory, ReadFault, WriteFault}
 use Rattle.tatp_streams.specs.LineReading.{LineReaderState, nothing_taken, LinesLeft, lines_left, Relates}
 use Rattle.tatp_streams.proofs.LineReadingLaws.{of_input, relates_known}
 use Rattle.tatp_tasks.specs.declared.judging.JudgePlan.{JudgePlan}
 use Rattle.tatp_tasks.specs.declared.population.Population.{Population}
 use Rattle.tatp_inputs.specs.Work.{Work, lines_before, BringsWork}
-use Rattle.tatp_judged_inputs.specs.Judging.{OfWork, IsJudgedWith, JudgesWork, JudgesInput, RefusesTexts, RefusesAfterRows, RefusesInput}
+use Rattle.tatp_judged_inputs.specs.declared.judging.Window.{Window}
+use Rattle.tatp_judged_inputs.specs.Judging.{OfWork, part_asked, view_asked, IsJudgedWith, JudgesWork, JudgesInput, RefusesTexts, RefusesAfterRows, RefusesInput}
 use Rattle.tatp_judged_inputs.specs.RowsAtEnd.{AreAdmitted}
 use Rattle.tatp_judged_inputs.specs.declared.fault.JudgeFault.{JudgeFault}
 use Rattle.tatp_judged_inputs.specs.declared.fault.JudgeFault.TheVariants.{BadLine, BadArgument, Unopened, Stream}
@@ -36,12 +40,12 @@ of_work population start limit known left rows n P e b h =
     (λ all. OfWork population all.lines (λ work. P work (lines_before population all.lines))) (rw e at b) h
     (λ all l brings holds. (record { rows = rows; lines = l.lines }, brings.work, subst (P (record { rows = rows; lines = l.lines })) (come_before population rows n all l brings) holds)))
 
-pub input_judged : (plan : JudgePlan) (start : LineReaderState) (limit : ℕ) (known : Option (List ℕ)) (left : Option LinesLeft) (rows : Rows) (n : ℕ) (judge : Judge) (judged : Judged) (window : List ℕ)
-    → start ≡ nothing_taken limit → Relates (lines_left start known) left (BringsWork plan.population rows start.number n) → AreAdmitted rows → HasFollowed (database_of rows) plan.most [] judge
-    → IfSome left (λ l. (u : Database) (most : ℕ) → HasFollowed u most [] judge → IsJudgedWith plan.final_rows u most n l.lines judged window) → IfSome known (λ input. JudgesInput plan (lines_of input) judged window)
-input_judged plan start limit known left rows n judge judged window e b admitted from h =
+pub input_judged : (plan : JudgePlan) (start : LineReaderState) (limit : ℕ) (known : Option (List ℕ)) (left : Option LinesLeft) (rows : Rows) (n : ℕ) (judge : Judge) (part : Part) (judged : Judged) (window : Window)
+    → start ≡ nothing_taken limit → Relates (lines_left start known) left (BringsWork plan.population rows start.number n) → AreAdmitted rows → HasFollowed (database_of rows) plan.most [] judge → part ≡ part_asked plan → IsPart (part_asked plan)
+    → IfSome left (λ l. (u : View) (most : ℕ) → IsBegun u most part judge → IsJudgedWith plan.final_rows u most n l.lines judged window) → IfSome known (λ input. JudgesInput plan (lines_of input) judged window)
+input_judged plan start limit known left rows n judge part judged window e b admitted from asked possible h =
     of_work plan.population start limit known left rows n (λ work taken. JudgesWork plan work taken judged window) e b
-    (IfSome_then left h (λ l says. record { admitted = admitted; is = says (database_of rows) plan.most from }))
+    (IfSome_then left h (λ l says. record { admitted = admitted; is = says (view_asked plan rows) plan.most (record { followed = from; part_is = sym asked; possible = subst IsPart (sym asked) possible }) }))
 
 -- ---- what is refused
 holds_where : {A : Type 0} {P : A → Type 0} (known : Option A) → ((a : A) → P a) → IfSome known P

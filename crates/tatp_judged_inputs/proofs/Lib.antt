@@ -1,3 +1,4 @@
+pub mod ViewLaws
 pub mod NumbersLaws
 pub mod HistoryLaws
 pub mod FrontLaws

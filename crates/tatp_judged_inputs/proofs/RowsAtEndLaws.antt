@@ -24,12 +24,12 @@ use Rattle.tatp_judge.specs.declared.judge.Judge.{Judge}
 use Rattle.tatp_judge.specs.declared.judge.Verdict.{Verdict}
 use Rattle.tatp_judge.specs.declared.judge.Verdict.TheVariants as verdicts
 use Rattle.tatp_judge.specs.declared.stakes.Stakes.{Stakes}
-use Rattle.tatp_judge.specs.Counted.{HasCounted}
-use Rattle.tatp_judge.specs.Finishing.{IsFinalVerdictOn, IsFirstUnreached, LeadsTo}
-use Rattle.tatp_judge.specs.Followed.{HasFollowed}
-use Rattle.tatp_judge.specs.Verdicts.{IsVerdictOn, NeedMoreBy}
+use Rattle.tatp_judged_inputs.specs.Views.{HasCounted, IsBegun, IsFinalVerdictOn, IsFirstUnreached, IsVerdictOn, LeadsTo, NeedMoreBy, View, seen}
+use Rattle.tatp_judge.specs.Verdicts.{NeedMoreBy as NeedMoreByAll}
+use Rattle.tatp_judged_inputs.proofs.ViewLaws.{seen_length}
+use Rattle.tatp_judged_inputs.specs.declared.judging.Window.{Window}
 use Rattle.tatp_judged_inputs.specs.HistoryTexts.{Told, history_from, none_open}
-use Rattle.tatp_judged_inputs.specs.Judged.{Tell, IsJudged, IsJudgement, IsTold, IsUndecidedAt, IsWindowBy, IsWindowOf}
+use Rattle.tatp_judged_inputs.specs.Judged.{Tell, IsUntold, IsJudged, IsJudgement, IsTold, IsUndecidedAt, IsWindowBy, IsWindowOf}
 use Rattle.tatp_judged_inputs.specs.Judging.{RefusesTexts, history_fault, input_fault}
 use Rattle.tatp_judged_inputs.specs.Reading.{Decides, GoesOn, ReadsToDot, RefusesHistory, told_by, told_of}
 use Rattle.tatp_judged_inputs.specs.RowsAtEnd.{AreAdmitted, Bring, IsJudgedTo, IsJudgementTo, dot_number, rows_after, rows_at_end, told_by_rows}
@@ -80,17 +80,17 @@ missing taken now n texts read e none count next =
     ap (rows_after (taken + length texts + 1) (dot_number taken texts + 1)) without ∙ ap Err number
 
 -- ---- the loop
-pub record ToDotSoFar (u : Database) (most : ℕ) (judge : Judge) (r : Reading) (taken now : ℕ) (all left : Option LinesLeft) : Type 0 where
+pub record ToDotSoFar (u : View) (most : ℕ) (judge : Judge) (r : Reading) (taken now : ℕ) (all left : Option LinesLeft) : Type 0 where
   pub so_far : ReadSoFar u most judge r taken now all left
   pub no_dots : NoDots so_far.read
 
-pub to_dot_starts : (u : Database) (most : ℕ) (judge : Judge) (r : Reading) (n : ℕ) (left : Option LinesLeft) → HasFollowed u most [] judge → r.numbers.items ≡ [] → ((client : ℕ) → open_call r.opened client ≡ None) → HasCounted u [] r.counts → ToDotSoFar u most judge r n n left left
+pub to_dot_starts : (u : View) (most : ℕ) (judge : Judge) (r : Reading) (n : ℕ) (left : Option LinesLeft) → IsBegun u most r.part judge → r.numbers.items ≡ [] → ((client : ℕ) → open_call r.opened client ≡ None) → HasCounted u [] r.counts → ToDotSoFar u most judge r n n left left
 to_dot_starts u most judge r n left followed h o counted = record {
   so_far = reading_starts u most judge r n left followed h o counted;
   no_dots = subst NoDots (sym (none_read u most judge r n left followed h o counted)) tt;
 }
 
-pub to_dot_goes_on : (u : Database) (most : ℕ) (judge judge' : Judge) (r r' : Reading) (taken now number : ℕ) (text : List ℕ) (all left left' : Option LinesLeft) (s : ToDotSoFar u most judge r taken now all left) → is_dot text ≡ false → number ≡ now + 1
+pub to_dot_goes_on : (u : View) (most : ℕ) (judge judge' : Judge) (r r' : Reading) (taken now number : ℕ) (text : List ℕ) (all left left' : Option LinesLeft) (s : ToDotSoFar u most judge r taken now all left) → is_dot text ≡ false → number ≡ now + 1
     → Stays left (option_map (with_line text) left') → GoesOn u most s.so_far.past number text judge' r r' → ToDotSoFar u most judge' r' taken number all left'
 to_dot_goes_on u most judge judge' r r' taken now number text all left left' s is next stays on = record {
   so_far = reading_goes_on u most judge judge' r r' taken now number text all left left' s.so_far next stays on;
@@ -98,7 +98,7 @@ to_dot_goes_on u most judge judge' r r' taken now number text all left left' s i
 }
 
 -- ---- at the line `.`
-pub judged_at_dot : (u : Database) (most : ℕ) (judge : Judge) (r : Reading) (taken now number : ℕ) (text : List ℕ) (all left left' : Option LinesLeft) (a : LinesLeft) (verdict : Verdict) (judged : Judged) (window : List ℕ) (s : ToDotSoFar u most judge r taken now all left) → all ≡ Some a
+pub judged_at_dot : (u : View) (most : ℕ) (judge : Judge) (r : Reading) (taken now number : ℕ) (text : List ℕ) (all left left' : Option LinesLeft) (a : LinesLeft) (verdict : Verdict) (judged : Judged) (window : Window) (s : ToDotSoFar u most judge r taken now all left) → all ≡ Some a
     → is_dot text ≡ true → Stays left (option_map (with_line text) left') → number ≡ now → IsVerdictOn u most s.so_far.past verdict → IsTold u (told_of r s.so_far.past) number verdict judged → IsWindowBy u (told_of r s.so_far.past) verdict window
     → IsJudgement u most taken (before_dot a.lines) judged window
 judged_at_dot u most judge r taken now number text all left left' a verdict judged window s e is stays same on told by =
@@ -107,7 +107,7 @@ judged_at_dot u most judge r taken now number text all left left' a verdict judg
     subst (λ texts. IsJudgement u most taken texts judged window) (append-nil read ∙ sym (before_it a.lines read text one.0 one.1 s.no_dots is))
     (is_judgement u most taken now read [] (told_of r s.so_far.past) verdict judged window (read_all r s.so_far.past taken now read s.so_far.to) (λ _. refl) on (subst (λ n. IsTold u (told_of r s.so_far.past) n verdict judged) same told) by)
 
-pub reads_to_dot : (u : Database) (most : ℕ) (judge : Judge) (r : Reading) (taken now number : ℕ) (text : List ℕ) (all left left' : Option LinesLeft) (s : ToDotSoFar u most judge r taken now all left) → is_dot text ≡ true → number ≡ now + 1
+pub reads_to_dot : (u : View) (most : ℕ) (judge : Judge) (r : Reading) (taken now number : ℕ) (text : List ℕ) (all left left' : Option LinesLeft) (s : ToDotSoFar u most judge r taken now all left) → is_dot text ≡ true → number ≡ now + 1
     → Stays left (option_map (with_line text) left') → Relates all left' (ReadsToDot s.so_far.past taken number)
 reads_to_dot u most judge r taken now number text all left left' s is next stays =
     let read = s.so_far.read in
@@ -139,7 +139,7 @@ all_by_history_fault taken texts (history.Stream ReadFault) h = tt
 all_by_history_fault taken texts (history.Stream WriteFault) h = h
 
 -- a text before the line `.`
-pub refused_to_dot : (u : Database) (most : ℕ) (judge : Judge) (r : Reading) (taken now number : ℕ) (text : List ℕ) (fault : HistoryFault) (all left left' : Option LinesLeft) → ToDotSoFar u most judge r taken now all left → is_dot text ≡ false → number ≡ now + 1
+pub refused_to_dot : (u : View) (most : ℕ) (judge : Judge) (r : Reading) (taken now number : ℕ) (text : List ℕ) (fault : HistoryFault) (all left left' : Option LinesLeft) → ToDotSoFar u most judge r taken now all left → is_dot text ≡ false → number ≡ now + 1
     → Stays left (option_map (with_line text) left') → ((past : List Line) (more : List (List ℕ)) → RefusesHistory (told_by r past number (text ∷ more)) fault) → IfSome all (λ a. RefusesTexts true taken a.lines (history_fault fault))
 refused_to_dot u most judge r taken now number text fault all left left' s is next stays refused =
     by_all all (λ a. RefusesTexts true taken a.lines (history_fault fault)) (λ a e.
@@ -152,32 +152,32 @@ refused_to_dot u most judge r taken now number text fault all left left' s is ne
     (refused s.so_far.past rest)))
 
 -- the line `.` itself
-pub refused_without_dot : (u : Database) (most : ℕ) (judge : Judge) (r : Reading) (taken now n : ℕ) (all left left' : Option LinesLeft) → ToDotSoFar u most judge r taken now all left → n ≡ now + 1 → Stays left left' → IfSome left' (λ l. l.lines ≡ [])
+pub refused_without_dot : (u : View) (most : ℕ) (judge : Judge) (r : Reading) (taken now n : ℕ) (all left left' : Option LinesLeft) → ToDotSoFar u most judge r taken now all left → n ≡ now + 1 → Stays left left' → IfSome left' (λ l. l.lines ≡ [])
     → IfSome left' (λ l. IsWithinLimit l.input) → IfSome all (λ a. RefusesTexts true taken a.lines (history_fault (history.BadLine n)))
 refused_without_dot u most judge r taken now n all left left' s next stays none within =
     by_all all (λ a. RefusesTexts true taken a.lines (BadLine n)) (λ a e.
     inr (refl, missing taken now n a.lines s.so_far.read (read_to_end u most judge r taken now all left left' a s.so_far e stays none within) s.no_dots s.so_far.to.count next))
 
 -- ---- what is decided before the rows
-pub told_legal : (u : Database) (t : Told) (read : ℕ) (verdict : Verdict) (judged : Judged) (stakes : Stakes) → IsTold u t read verdict judged → (verdict ≡ verdicts.Legal → ⊥) → judged ≡ Legal stakes → ⊥
+pub told_legal : (u : View) (t : Told) (read : ℕ) (verdict : Verdict) (judged : Judged) (stakes : Stakes) → IsTold u t read verdict judged → (verdict ≡ verdicts.Legal → ⊥) → judged ≡ Legal stakes → ⊥
 told_legal u t read verdicts.Legal judged stakes told never e = never refl
 told_legal u t read (verdicts.Illegal first s_id) judged stakes told never e = let is = told.2 in cc
 told_legal u t read (verdicts.Undecided line s) judged stakes told never e = cc
 
-decided_before : (u : Database) (most taken : ℕ) (texts : List (List ℕ)) (judged : Judged) → ((stakes : Stakes) → judged ≡ Legal stakes → ⊥) → IsJudged u most taken (before_dot texts) judged → IsJudgedTo u most taken texts judged
+decided_before : (u : View) (most taken : ℕ) (texts : List (List ℕ)) (judged : Judged) → ((stakes : Stakes) → judged ≡ Legal stakes → ⊥) → IsJudged u most taken (before_dot texts) judged → IsJudgedTo u most taken texts judged
 decided_before u most taken texts (Legal stakes) never h = absurd (never stakes refl)
 decided_before u most taken texts (Illegal number s_id) never h = h
 decided_before u most taken texts (Undecided number s) never h = h
 decided_before u most taken texts (Unreached number s) never h = absurd h
 
-pub judgement_before : (u : Database) (most taken : ℕ) (texts : List (List ℕ)) (judged : Judged) (window : List ℕ) → ((stakes : Stakes) → judged ≡ Legal stakes → ⊥) → IsJudgement u most taken (before_dot texts) judged window → IsJudgementTo u most taken texts judged window
+pub judgement_before : (u : View) (most taken : ℕ) (texts : List (List ℕ)) (judged : Judged) (window : Window) → ((stakes : Stakes) → judged ≡ Legal stakes → ⊥) → IsJudgement u most taken (before_dot texts) judged window → IsJudgementTo u most taken texts judged window
 judgement_before u most taken texts judged window never h = record {
   judged_is = decided_before u most taken texts judged never h.judged_is;
   window_is = h.window_is;
 }
 
 -- a text decides, and the judge isn't asked again
-pub judged_before_dot : (u : Database) (most : ℕ) (judge judge' : Judge) (r r' : Reading) (taken now number : ℕ) (text : List ℕ) (all left left' : Option LinesLeft) (a : LinesLeft) (verdict : Verdict) (judged : Judged) (window : List ℕ) (s : ToDotSoFar u most judge r taken now all left)
+pub judged_before_dot : (u : View) (most : ℕ) (judge judge' : Judge) (r r' : Reading) (taken now number : ℕ) (text : List ℕ) (all left left' : Option LinesLeft) (a : LinesLeft) (verdict : Verdict) (judged : Judged) (window : Window) (s : ToDotSoFar u most judge r taken now all left)
     → all ≡ Some a → is_dot text ≡ false → number ≡ now + 1 → Stays left (option_map (with_line text) left') → (verdict ≡ verdicts.Legal → ⊥) → (d : Decides u most s.so_far.past number text verdict judge' r r') → IsTold u (told_of r' (s.so_far.past ++ d.line ∷ [])) number verdict judged
     → IsWindowBy u (told_of r' (s.so_far.past ++ d.line ∷ [])) verdict window → IsJudgement u most taken (before_dot a.lines) judged window
 judged_before_dot u most judge judge' r r' taken now number text all left left' a verdict judged window s e is next stays never d told by =
@@ -196,7 +196,7 @@ brings taken dot past a l rows Holds reads read admitted holds = record {
   holds = (reads.told, reads.tell, subst (λ lines. Holds lines (database_of rows)) (sym reads.lines_are) holds);
 }
 
-undecided_by_rows : (u : Database) (most taken dot s : ℕ) (past : List Line) (a l : LinesLeft) → ReadsToDot past taken dot a l → NeedMoreBy u most past (length past) s → IsUndecidedAt u most taken (before_dot a.lines) (dot - 1) s
+undecided_by_rows : (u : View) (most taken dot s : ℕ) (past : List Line) (a l : LinesLeft) → ReadsToDot past taken dot a l → NeedMoreBy u most past (length past) s → IsUndecidedAt u most taken (before_dot a.lines) (dot - 1) s
 undecided_by_rows u most taken dot s past a l reads many = record {
   later = omega (arith, reads.counted);
   within = omega (arith, reads.counted);
@@ -204,15 +204,15 @@ undecided_by_rows u most taken dot s past a l reads many = record {
       (reads.told, reads.tell, subst (λ lines. NeedMoreBy u most lines (length lines) s) (sym reads.lines_are) many);
 }
 
-said_by_rows : (u : Database) (most taken dot : ℕ) (past : List Line) (a l : LinesLeft) (rows : Rows) (stakes : Stakes) (verdict : FinalVerdict) → ReadsToDot past taken dot a l → rows_of_lines (dot + 1) l.lines ≡ Ok rows → AreAdmitted rows → IsJudged u most taken (before_dot a.lines) (Legal stakes)
+said_by_rows : (u : View) (most taken dot : ℕ) (past : List Line) (a l : LinesLeft) (rows : Rows) (stakes : Stakes) (verdict : FinalVerdict) → ReadsToDot past taken dot a l → rows_of_lines (dot + 1) l.lines ≡ Ok rows → AreAdmitted rows → IsJudged u most taken (before_dot a.lines) (Legal stakes)
     → IsFinalVerdictOn u most past (database_of rows) verdict → IsJudgedTo u most taken a.lines (told_by_rows stakes verdict dot)
 said_by_rows u most taken dot past a l rows stakes final.Reached reads read admitted legal is = (brings taken dot past a l rows (LeadsTo u) reads read admitted is, legal.1)
 said_by_rows u most taken dot past a l rows stakes (final.Unreached s) reads read admitted legal is =
     record { number_is = reads.counted; legal = legal.0; unreached = brings taken dot past a l rows (λ lines after. IsFirstUnreached u lines after s) reads read admitted is }
-said_by_rows u most taken dot past a l rows stakes (final.Undecided s) reads read admitted legal is = undecided_by_rows u most taken dot s past a l reads is
+said_by_rows u most taken dot past a l rows stakes (final.Undecided s) reads read admitted legal is = undecided_by_rows u most taken dot s past a l reads (subst (λ k. NeedMoreByAll u.rows most (seen u past) k s) (seen_length u past) is)
 
 -- no lines are told with it
-window_by_rows : (u : Database) (taken dot : ℕ) (texts : List (List ℕ)) (stakes : Stakes) (verdict : FinalVerdict) (window : List ℕ) → window ≡ [] → IsWindowOf u taken texts (told_by_rows stakes verdict dot) window
+window_by_rows : (u : View) (taken dot : ℕ) (texts : List (List ℕ)) (stakes : Stakes) (verdict : FinalVerdict) (window : Window) → IsUntold window → IsWindowOf u taken texts (told_by_rows stakes verdict dot) window
 window_by_rows u taken dot texts stakes final.Reached window none = none
 window_by_rows u taken dot texts stakes (final.Unreached s) window none = none
 window_by_rows u taken dot texts stakes (final.Undecided s) window none = none
@@ -222,7 +222,7 @@ both_known None left P Q R S h q r f = tt
 both_known (Some a) None P Q R S h q r f = absurd h
 both_known (Some a) (Some l) P Q R S h q r f = f a l h q r
 
-pub judged_by_rows : (u : Database) (most taken dot : ℕ) (past : List Line) (all left : Option LinesLeft) (rows : Rows) (stakes : Stakes) (verdict : FinalVerdict) (window : List ℕ) → Relates all left (ReadsToDot past taken dot) → IfSome left (λ l. rows_of_lines (dot + 1) l.lines ≡ Ok rows)
+pub judged_by_rows : (u : View) (most taken dot : ℕ) (past : List Line) (all left : Option LinesLeft) (rows : Rows) (stakes : Stakes) (verdict : FinalVerdict) (window : Window) → Relates all left (ReadsToDot past taken dot) → IfSome left (λ l. rows_of_lines (dot + 1) l.lines ≡ Ok rows)
     → AreAdmitted rows → IfSome all (λ a. IsJudgement u most taken (before_dot a.lines) (Legal stakes) window) → IsFinalVerdictOn u most past (database_of rows) verdict → IfSome all (λ a. IsJudgementTo u most taken a.lines (told_by_rows stakes verdict dot) window)
 judged_by_rows u most taken dot past all left rows stakes verdict window reads read admitted legal is =
     both_known all left (ReadsToDot past taken dot) (λ l. rows_of_lines (dot + 1) l.lines ≡ Ok rows) (λ a. IsJudgement u most taken (before_dot a.lines) (Legal stakes) window) (λ a. IsJudgementTo u most taken a.lines (told_by_rows stakes verdict dot) window) reads read legal

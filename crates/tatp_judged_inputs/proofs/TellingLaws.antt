@@ -1,19 +1,23 @@
 -- The lines that are told, by their numbers in the input.
-use Rattle.std.proofs.Common.{◌≡◌, ℕ, ◌+◌, ◌-◌, ◌<◌, ◌≤◌, ◌∙◌, suc, sym, ap, subst, Option, Some, List, [], ◌∷◌, ◌++◌, length, take, get_or-take, slice_index, refl, arith, append_assoc, codes}
+use Rattle.std.proofs.Common.{◌≡◌, ℕ, ◌+◌, ◌-◌, ◌<◌, ◌≤◌, ◌∙◌, suc, sym, ap, subst, get_or, Option, Some, List, [], ◌∷◌, ◌++◌, length, take, get_or-take, slice_index, refl, arith, append_assoc, codes}
 use Rattle.std.specs.List.{All}
-use Rattle.std.proofs.lemmas.List.{append-nil, take_more}
-use Rattle.tatp_tables.specs.Database.{Database}
+use Rattle.std.specs.Option.{IfSome}
+use Rattle.std.proofs.lemmas.List.{append-nil, take_all, take_more}
 use Rattle.tatp_history.specs.declared.line.Line.{Line}
+use Rattle.tatp_procs.specs.declared.ask.Ask.{Ask}
+use Rattle.tatp_procs.specs.declared.ask.Ask.TheVariants.{Txn}
+use Rattle.tatp_procs.specs.declared.reply.Reply.{Reply}
+use Rattle.tatp_judge.specs.declared.legal.LegalReplies.{LegalReplies}
 use Rattle.tatp_judge.specs.declared.judge.Judge.{Judge}
 use Rattle.tatp_judge.specs.declared.judge.Verdict.{Verdict}
 use Rattle.tatp_judge.specs.declared.judge.Verdict.TheVariants.{Illegal}
-use Rattle.tatp_judge.specs.Explained.{AreWindowNumbers}
-use Rattle.tatp_judge.specs.Followed.{HasKept}
-use Rattle.tatp_judge.specs.Verdicts.{IsUnexplained, IsVerdictOn}
+use Rattle.tatp_judged_inputs.proofs.ViewLaws.{seen_length}
+use Rattle.tatp_judged_inputs.specs.Views.{AreNumbersTold, AreRepliesTold, HasKept, IsUnexplained, IsVerdictOn, View}
+use Rattle.tatp_judged_inputs.specs.declared.judging.Window.{Window}
 use Rattle.tatp_judged_inputs.specs.declared.reading.Reading.{Reading}
 use Rattle.tatp_judged_inputs.specs.Reading.{IsKeptFor, told_of}
-use Rattle.tatp_judged_inputs.specs.Judged.{in_input, IsWindowBy}
-use Rattle.tatp_judged_inputs.specs.Judging.{number_line, window_lines}
+use Rattle.tatp_judged_inputs.specs.Judged.{first_told, in_input, IsWindowTold}
+use Rattle.tatp_judged_inputs.specs.Judging.{could_line, could_lines, legal_lines, more_line, number_line, window_lines}
 
 -- ---- numbers
 input_both : (numbers xs ys : List ℕ) → in_input numbers (xs ++ ys) ≡ in_input numbers xs ++ in_input numbers ys
@@ -40,20 +44,23 @@ pub all_wider : (n m : ℕ) (lines : List ℕ) → n ≤ m → All (λ k. (1 ≤
 all_wider n m lines le h k d lt = let bounds = h k d lt in (bounds.0, omega (arith, bounds.1, le))
 
 -- ---- a verdict that names a subscriber
-pub kept_there : (u : Database) (most : ℕ) (past : List Line) (verdict : Verdict) (judge : Judge) (line : ℕ) (named : Option ℕ) (s : ℕ) → verdict ≡ Illegal line named → named ≡ Some s → IsVerdictOn u most past verdict → IsKeptFor u past verdict judge
+pub kept_there : (u : View) (most : ℕ) (past : List Line) (verdict : Verdict) (judge : Judge) (line : ℕ) (named : Option ℕ) (s : ℕ) → verdict ≡ Illegal line named → named ≡ Some s → IsVerdictOn u most past verdict → IsKeptFor u past verdict judge
     → HasKept u past judge × (line ≤ length past) × IsUnexplained u past line (Some s)
 kept_there u most past verdict judge line named s e f on kept =
     let is : verdict ≡ Illegal line (Some s) = e ∙ ap (λ o. Illegal line o) f in
     let here = subst (IsVerdictOn u most past) is on in
-    (kept line (Some s) is, here.0.within, here.1)
+    let counted = seen_length u past in
+    (kept line (Some s) is, omega (arith, here.0.within, counted), here.1)
 
-pub window_by : (u : Database) (most : ℕ) (past : List Line) (r : Reading) (verdict : Verdict) (judge : Judge) (line : ℕ) (named : Option ℕ) (s : ℕ) (lines told : List ℕ) → verdict ≡ Illegal line named → named ≡ Some s → IsVerdictOn u most past verdict → IsKeptFor u past verdict judge
-    → ((v : Database) (ls : List Line) → HasKept v ls judge → line ≤ length ls → IsUnexplained v ls line (Some s) → AreWindowNumbers v s (take line ls) lines)
-    → All (λ n. (1 ≤ n) × (n ≤ line)) lines → told ≡ in_input r.numbers.items lines → IsWindowBy u (told_of r past) verdict told
-window_by u most past r verdict judge line named s lines told e f on kept are within is =
-    let there = kept_there u most past verdict judge line named s e f on kept in
-    subst (λ v. IsWindowBy u (told_of r past) v told) (sym (e ∙ ap (λ o. Illegal line o) f))
-    (lines, are u past there.0 there.1 there.2, is ∙ sym (in_front line r.numbers.items lines within))
+pub told_window : (u : View) (past : List Line) (r : Reading) (s line : ℕ) (lines : List ℕ) (window : Window) → AreNumbersTold u s (take line past) lines
+    → IfSome window.legal (λ legal. AreRepliesTold u s (take line past) legal.call legal.replies.items)
+    → All (λ n. (1 ≤ n) × (n ≤ line)) lines → window.lines.items ≡ in_input r.numbers.items lines → IsWindowTold u s (first_told line (told_of r past)) window
+told_window u past r s line lines window are legal within is = record {
+  lines = lines;
+  numbers = are;
+  lines_are = is ∙ sym (in_front line r.numbers.items lines within);
+  legal = legal;
+}
 
 -- ---- lines
 lines_both : (xs ys : List ℕ) → window_lines (xs ++ ys) ≡ window_lines xs ++ window_lines ys
@@ -70,3 +77,24 @@ one_line window i old now longer so lt is =
 -- a text appended to one that was appended
 pub both_told : (old now longer first second : List ℕ) → now ≡ old ++ first → longer ≡ now ++ second → longer ≡ old ++ (first ++ second)
 both_told old now longer first second so is = is ∙ (ap (λ text. text ++ second) so ∙ append_assoc old first second)
+
+-- ---- replies
+could_both : (ask : Ask) (xs ys : List Reply) → could_lines ask (xs ++ ys) ≡ could_lines ask xs ++ could_lines ask ys
+could_both ask [] ys = refl
+could_both ask (x ∷ xs) ys = ap (λ text. could_line ask x ++ text) (could_both ask xs ys) ∙ sym (append_assoc (could_line ask x) (could_lines ask xs) (could_lines ask ys))
+
+pub one_reply : (ask : Ask) (replies : List Reply) (i : ℕ) (reply : Reply) (old now longer : List ℕ) → now ≡ old ++ could_lines ask (take i replies) → i < length replies → reply ≡ get_or replies i reply → longer ≡ now ++ could_line ask reply
+    → longer ≡ old ++ could_lines ask (take (i + 1) replies)
+one_reply ask replies i reply old now longer so lt at is =
+    let line = could_line ask reply in
+    is ∙ (ap (λ text. text ++ line) so ∙ (append_assoc old (could_lines ask (take i replies)) line
+    ∙ ap (λ text. old ++ text) (ap (λ text. could_lines ask (take i replies) ++ text) (sym (append-nil line))
+    ∙ (sym (could_both ask (take i replies) (reply ∷ []))
+    ∙ ap (could_lines ask) (ap (λ r. take i replies ++ r ∷ []) at ∙ sym (take_more replies i reply lt))))))
+
+pub few_told : (legal : LegalReplies) → length legal.replies.items ≤ 8 → could_lines (Txn legal.call) legal.replies.items ≡ legal_lines (Some legal)
+few_told legal few =
+    let none : length legal.replies.items - 8 ≡ 0 = omega (arith, few) in
+    ap (could_lines (Txn legal.call)) (sym (take_all 8 legal.replies.items few))
+    ∙ (sym (append-nil (could_lines (Txn legal.call) (take 8 legal.replies.items)))
+    ∙ ap (λ n. could_lines (Txn legal.call) (take 8 legal.replies.items) ++ more_line n) (sym none))

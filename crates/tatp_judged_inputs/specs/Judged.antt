@@ -1,14 +1,13 @@
 -- What is said of a history by the numbers of its lines in the input.
-use Rattle.std.specs.Prelude.{◌≡◌, ℕ, ◌+◌, ◌-◌, ◌<◌, ◌≤◌, List, [], length, map, take, slice_get, slice_index, Option, Some, None, Ok}
+use Rattle.std.specs.Prelude.{◌≡◌, ℕ, ◌+◌, ◌-◌, ◌<◌, ◌≤◌, List, [], length, map, take, slice_get, slice_index, Option, Some, None, IfSome, Ok}
 use Rattle.tatp_tables.specs.Database.{Database}
 use Rattle.tatp_judged_inputs.specs.HistoryTexts.{Told, history_from, none_open}
 use Rattle.tatp_judge.specs.declared.judge.Verdict.{Verdict}
 use Rattle.tatp_judge.specs.declared.judge.Verdict.TheVariants as verdicts
 use Rattle.tatp_judge.specs.declared.stakes.Stakes.{Stakes}
-use Rattle.tatp_judge.specs.Explained.{AreWindowNumbers}
-use Rattle.tatp_judge.specs.Stakes.{AreStakes}
-use Rattle.tatp_judge.specs.Verdicts.{IsLegal, IsUnexplained, NeedMoreBy}
+use Rattle.tatp_judged_inputs.specs.Views.{AreNumbersTold, AreRepliesTold, AreStakes, IsLegal, IsUnexplained, NeedMoreBy, View}
 use Rattle.tatp_judged_inputs.specs.declared.judging.Judged.{Judged}
+use Rattle.tatp_judged_inputs.specs.declared.judging.Window.{Window}
 use Rattle.tatp_judged_inputs.specs.declared.judging.Judged.TheVariants.{Legal, Illegal, Undecided, Unreached}
 
 -- the texts, the first of which comes after so many lines of the input, tell a history of which
@@ -17,19 +16,19 @@ abbrev pub Tell : ℕ → List (List ℕ) → (Told → Type 0) → Type 0
 Tell taken texts Holds =
     (told : Told) × (history_from none_open (taken + 1) texts ≡ Ok told) × Holds told
 
-abbrev pub TellLegal : Database → ℕ → List (List ℕ) → Type 0
+abbrev pub TellLegal : View → ℕ → List (List ℕ) → Type 0
 TellLegal u taken texts = Tell taken texts (λ told. IsLegal u told.lines)
 
-abbrev pub TellIllegal : Database → ℕ → List (List ℕ) → Type 0
+abbrev pub TellIllegal : View → ℕ → List (List ℕ) → Type 0
 TellIllegal u taken texts = Tell taken texts (λ told. IsLegal u told.lines → ⊥)
 
 -- this was at stake in it
-abbrev pub TellStakes : Database → ℕ → List (List ℕ) → Stakes → Type 0
+abbrev pub TellStakes : View → ℕ → List (List ℕ) → Stakes → Type 0
 TellStakes u taken texts stakes = Tell taken texts (λ told. AreStakes u told.lines stakes)
 
 -- the lines up to the one with this number in the input tell an illegal history, and those up to
 -- the one before a legal one
-pub record IsIllegalAt (u : Database) (taken : ℕ) (texts : List (List ℕ)) (number : ℕ)
+pub record IsIllegalAt (u : View) (taken : ℕ) (texts : List (List ℕ)) (number : ℕ)
     : Type 0 where
   pub later : taken < number
   pub within : number ≤ taken + length texts
@@ -38,7 +37,7 @@ pub record IsIllegalAt (u : Database) (taken : ℕ) (texts : List (List ℕ)) (n
 
 -- the lines up to the one with this number tell a history in which more than so many
 -- configurations of the subscriber are possible after some of its events
-pub record IsUndecidedAt (u : Database) (most taken : ℕ) (texts : List (List ℕ)) (number s : ℕ)
+pub record IsUndecidedAt (u : View) (most taken : ℕ) (texts : List (List ℕ)) (number s : ℕ)
     : Type 0 where
   pub later : taken ≤ number
   pub within : number ≤ taken + length texts
@@ -47,11 +46,11 @@ pub record IsUndecidedAt (u : Database) (most taken : ℕ) (texts : List (List �
 
 -- in the lines up to the one with this number the calls on this subscriber aren't strictly
 -- serializable; or, where none is named, a call that names none didn't fail
-abbrev pub AreUnexplainedAt : Database → ℕ → List (List ℕ) → ℕ → Option ℕ → Type 0
+abbrev pub AreUnexplainedAt : View → ℕ → List (List ℕ) → ℕ → Option ℕ → Type 0
 AreUnexplainedAt u taken texts number s_id = Tell taken (take (number - taken) texts)
     (λ told. IsUnexplained u told.lines (length told.lines) s_id)
 
-abbrev pub IsJudged : Database → ℕ → ℕ → List (List ℕ) → Judged → Type 0
+abbrev pub IsJudged : View → ℕ → ℕ → List (List ℕ) → Judged → Type 0
 IsJudged u most taken texts (Legal stakes) =
     TellLegal u taken texts × TellStakes u taken texts stakes
 IsJudged u most taken texts (Illegal number s_id) =
@@ -61,7 +60,7 @@ IsJudged u most taken texts (Unreached number s) = ⊥
 
 -- it says what a verdict on the lines says, by their numbers in the input, of which so many lines
 -- were read
-abbrev pub IsTold : Database → Told → ℕ → Verdict → Judged → Type 0
+abbrev pub IsTold : View → Told → ℕ → Verdict → Judged → Type 0
 IsTold u told read verdicts.Legal judged =
     (stakes : Stakes) × AreStakes u told.lines stakes × (judged ≡ Legal stakes)
 IsTold u told read (verdicts.Illegal first s_id) judged = (number : ℕ)
@@ -73,25 +72,33 @@ IsTold u told read (verdicts.Undecided line s) judged = judged ≡ Undecided rea
 abbrev pub in_input : List ℕ → List ℕ → List ℕ
 in_input numbers lines = map (λ line. slice_index numbers (line - 1)) lines
 
--- they are those of the window of the subscriber that ends with the last line
-abbrev pub AreWindowTold : Database → ℕ → Told → List ℕ → Type 0
-AreWindowTold u s told window =
-    (lines : List ℕ) × AreWindowNumbers u s told.lines lines
-    × (window ≡ in_input told.numbers lines)
+-- they are those of the window of the subscriber that ends with the last line; and where replies
+-- are told, they are those with which this line could have answered its call
+pub record IsWindowTold (u : View) (s : ℕ) (told : Told) (window : Window) : Type 0 where
+  pub lines : List ℕ
+  pub numbers : AreNumbersTold u s told.lines lines
+  pub lines_are : window.lines.items ≡ in_input told.numbers lines
+  pub legal : IfSome window.legal
+      (λ legal. AreRepliesTold u s told.lines legal.call legal.replies.items)
 
--- those that are told with what is said of the texts, where this names a subscriber whose calls are
+-- nothing is told
+pub record IsUntold (window : Window) : Type 0 where
+  pub lines : window.lines.items ≡ []
+  pub legal : window.legal ≡ None
+
+-- what is told with what is said of the texts, where this names a subscriber whose calls are
 -- unexplained
-abbrev pub IsWindowOf : Database → ℕ → List (List ℕ) → Judged → List ℕ → Type 0
-IsWindowOf u taken texts (Legal stakes) window = window ≡ []
-IsWindowOf u taken texts (Illegal number None) window = window ≡ []
+abbrev pub IsWindowOf : View → ℕ → List (List ℕ) → Judged → Window → Type 0
+IsWindowOf u taken texts (Legal stakes) window = IsUntold window
+IsWindowOf u taken texts (Illegal number None) window = IsUntold window
 IsWindowOf u taken texts (Illegal number (Some s)) window =
-    Tell taken (take (number - taken) texts) (λ told. AreWindowTold u s told window)
-IsWindowOf u taken texts (Undecided number s) window = window ≡ []
-IsWindowOf u taken texts (Unreached number s) window = window ≡ []
+    Tell taken (take (number - taken) texts) (λ told. IsWindowTold u s told window)
+IsWindowOf u taken texts (Undecided number s) window = IsUntold window
+IsWindowOf u taken texts (Unreached number s) window = IsUntold window
 
--- what is said of the texts, and the numbers told with it
-pub record IsJudgement (u : Database) (most taken : ℕ) (texts : List (List ℕ)) (judged : Judged)
-    (window : List ℕ) : Type 0 where
+-- what is said of the texts, and what is told with it
+pub record IsJudgement (u : View) (most taken : ℕ) (texts : List (List ℕ)) (judged : Judged)
+    (window : Window) : Type 0 where
   pub judged_is : IsJudged u most taken texts judged
   pub window_is : IsWindowOf u taken texts judged window
 
@@ -99,10 +106,10 @@ pub record IsJudgement (u : Database) (most taken : ℕ) (texts : List (List ℕ
 abbrev pub first_told : ℕ → Told → Told
 first_told n told = record { numbers = take n told.numbers; lines = take n told.lines }
 
--- the numbers told with a verdict on lines
-abbrev pub IsWindowBy : Database → Told → Verdict → List ℕ → Type 0
-IsWindowBy u told verdicts.Legal window = window ≡ []
-IsWindowBy u told (verdicts.Illegal first None) window = window ≡ []
+-- what is told with a verdict on lines
+abbrev pub IsWindowBy : View → Told → Verdict → Window → Type 0
+IsWindowBy u told verdicts.Legal window = IsUntold window
+IsWindowBy u told (verdicts.Illegal first None) window = IsUntold window
 IsWindowBy u told (verdicts.Illegal first (Some s)) window =
-    AreWindowTold u s (first_told first told) window
-IsWindowBy u told (verdicts.Undecided line s) window = window ≡ []
+    IsWindowTold u s (first_told first told) window
+IsWindowBy u told (verdicts.Undecided line s) window = IsUntold window

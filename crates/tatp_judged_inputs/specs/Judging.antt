@@ -1,6 +1,6 @@
 -- What the command `judge` writes, and what each fault leaves. Old and new are the bytes that a
 -- writer holds.
-use Rattle.std.specs.Prelude.{◌≡◌, ◌⊎◌, ℕ, ◌+◌, Bool, true, false, if◌then◌else◌, List, [], ◌∷◌, ◌++◌, Option, Some, None, Ok, Err, codes, decimal}
+use Rattle.std.specs.Prelude.{◌≡◌, ◌⊎◌, ℕ, zero, suc, ◌+◌, ◌-◌, length, take, Bool, true, false, if◌then◌else◌, List, [], ◌∷◌, ◌++◌, Option, Some, None, Ok, Err, codes, decimal}
 use Rattle.std.specs.Io.KnownBytes.{Appends}
 use Rattle.tatp_lines.specs.Lines.{lines_of}
 use Rattle.tatp_tables.specs.Database.{Database, database_of}
@@ -8,6 +8,11 @@ use Rattle.tatp_tables.specs.declared.row.Rows.{Rows}
 use Rattle.tatp_extents.specs.Opening.{RefusesRows}
 use Rattle.tatp_streams.specs.Writing.{LeavesText}
 use Rattle.tatp_streams.specs.declared.fault.StreamFault.TheVariants.{WriteFault}
+use Rattle.tatp_procs.specs.declared.ask.Ask.{Ask}
+use Rattle.tatp_procs.specs.declared.ask.Ask.TheVariants.{Txn}
+use Rattle.tatp_procs.specs.declared.reply.Reply.{Reply}
+use Rattle.tatp_procs.specs.ReplyText.{reply_text}
+use Rattle.tatp_judge.specs.declared.legal.LegalReplies.{LegalReplies}
 use Rattle.tatp_tasks.specs.declared.judging.JudgePlan.{JudgePlan}
 use Rattle.tatp_tasks.specs.declared.population.Population.{Population}
 use Rattle.tatp_inputs.specs.Parts.{before_dot}
@@ -19,11 +24,14 @@ use Rattle.tatp_judged_inputs.specs.HistoryTexts.{history_from, none_open}
 use Rattle.tatp_judged_inputs.specs.Reading.{RefusesHistory}
 use Rattle.tatp_judged_inputs.specs.declared.history_fault.HistoryFault.{HistoryFault}
 use Rattle.tatp_judged_inputs.specs.declared.history_fault.HistoryFault.TheVariants as history
+use Rattle.tatp_judge.specs.declared.part.Part.{Part}
+use Rattle.tatp_judged_inputs.specs.Views.{View}
 use Rattle.tatp_judged_inputs.specs.Judged.{IsJudgement}
 use Rattle.tatp_judged_inputs.specs.RowsAtEnd.{AreAdmitted, IsJudgementTo, rows_at_end}
 use Rattle.tatp_judged_inputs.specs.declared.fault.JudgeFault.{JudgeFault}
 use Rattle.tatp_judged_inputs.specs.declared.fault.JudgeFault.TheVariants.{BadLine, BadArgument, Unopened, Stream}
 use Rattle.tatp_judged_inputs.specs.declared.judging.Judged.{Judged}
+use Rattle.tatp_judged_inputs.specs.declared.judging.Window.{Window}
 use Rattle.tatp_judged_inputs.specs.declared.judging.Judged.TheVariants.{Legal, Illegal, Undecided, Unreached}
 
 -- ---- an input
@@ -33,21 +41,29 @@ OfWork population lines P = (work : Work) × (work_of population 1 lines ≡ Ok 
 
 -- this is said of the history that the lines are, with the rows at its end where these follow it
 abbrev pub IsJudgedWith
-    : Bool → Database → ℕ → ℕ → List (List ℕ) → Judged → List ℕ → Type 0
+    : Bool → View → ℕ → ℕ → List (List ℕ) → Judged → Window → Type 0
 IsJudgedWith false u most taken texts judged window =
     IsJudgement u most taken texts judged window
 IsJudgedWith true u most taken texts judged window =
     IsJudgementTo u most taken texts judged window
 
+-- the part of a history that is asked for
+abbrev pub part_asked : JudgePlan → Part
+part_asked plan = record { number = plan.part; count = plan.parts }
+
+-- what is judged: that part of a history that begins with these rows
+abbrev pub view_asked : JudgePlan → Rows → View
+view_asked plan rows = record { rows = database_of rows; part = part_asked plan }
+
 -- the history begins with the rows; so many lines of the input come before it, and at most so many
 -- configurations of a subscriber are kept
 pub record JudgesWork (plan : JudgePlan) (work : Work) (taken : ℕ) (judged : Judged)
-    (window : List ℕ) : Type 0 where
+    (window : Window) : Type 0 where
   pub admitted : AreAdmitted work.rows
-  pub is : IsJudgedWith plan.final_rows (database_of work.rows) plan.most taken work.lines judged
-      window
+  pub is : IsJudgedWith plan.final_rows (view_asked plan work.rows) plan.most taken work.lines
+      judged window
 
-abbrev pub JudgesInput : JudgePlan → List (List ℕ) → Judged → List ℕ → Type 0
+abbrev pub JudgesInput : JudgePlan → List (List ℕ) → Judged → Window → Type 0
 JudgesInput plan lines judged window = OfWork plan.population lines
     (λ work. JudgesWork plan work (lines_before plan.population lines) judged window)
 
@@ -101,6 +117,30 @@ abbrev pub window_lines : List ℕ → List ℕ
 window_lines [] = []
 window_lines (number ∷ more) = number_line (codes "LINE ") number ++ window_lines more
 
+-- the line of a reply with which a call could have been answered
+abbrev pub could_line : Ask → Reply → List ℕ
+could_line ask reply = codes "COULD " ++ (reply_text ask reply ++ 10 ∷ [])
+
+abbrev pub could_lines : Ask → List Reply → List ℕ
+could_lines ask [] = []
+could_lines ask (reply ∷ more) = could_line ask reply ++ could_lines ask more
+
+-- how many more there are, if there are any
+abbrev pub more_line : ℕ → List ℕ
+more_line zero = []
+more_line (suc n) = number_line (codes "MORE ") (suc n)
+
+-- lines of at most eight of them
+abbrev pub legal_lines : Option LegalReplies → List ℕ
+legal_lines None = []
+legal_lines (Some legal) =
+    could_lines (Txn legal.call) (take 8 legal.replies.items)
+    ++ more_line (length legal.replies.items - 8)
+
+-- the lines of a window, and of the replies that are legal there
+abbrev pub told_lines : Window → List ℕ
+told_lines window = window_lines window.lines.items ++ legal_lines window.legal
+
 -- the lines that tell what was at stake
 abbrev pub stakes_lines : Stakes → List ℕ
 stakes_lines stakes =
@@ -112,10 +152,10 @@ stakes_lines stakes =
     ++ number_line (codes "WIDEST ") stakes.widest))))
 
 -- the lines that say it, each with its line feed
-abbrev pub judged_lines : Judged → List ℕ → List ℕ
+abbrev pub judged_lines : Judged → Window → List ℕ
 judged_lines (Legal stakes) window = codes "LEGAL" ++ (10 ∷ stakes_lines stakes)
 judged_lines (Illegal number s_id) window =
-    number_line (codes "ILLEGAL ") number ++ (subscriber_line s_id ++ window_lines window)
+    number_line (codes "ILLEGAL ") number ++ (subscriber_line s_id ++ told_lines window)
 judged_lines (Unreached number s) window =
     number_line (codes "ILLEGAL ") number ++ subscriber_line (Some s)
 judged_lines (Undecided number s) window =
@@ -124,14 +164,14 @@ judged_lines (Undecided number s) window =
 -- the text tells what is said of the input
 pub record TellsJudged (plan : JudgePlan) (input text : List ℕ) : Type 0 where
   pub judged : Judged
-  pub window : List ℕ
+  pub window : Window
   pub is : JudgesInput plan (lines_of input) judged window
   pub told : text ≡ judged_lines judged window
 
 -- this is said of the input, and new has it besides
 pub record WritesJudged (plan : JudgePlan) (input : List ℕ) (judged : Judged)
     (old new : Option (List ℕ)) : Type 0 where
-  pub window : List ℕ
+  pub window : Window
   pub is : JudgesInput plan (lines_of input) judged window
   pub written : Appends old new (judged_lines judged window)
 

@@ -1,4 +1,5 @@
 pub mod HistoryTexts
+pub mod Views
 pub mod Reading
 pub mod LineNumbers
 pub mod Judged

@@ -13,15 +13,16 @@ use Rattle.tatp_inputs.specs.Parts.{before_dot, after_dot}
 use Rattle.tatp_judge.specs.declared.judge.Judge.{Judge}
 use Rattle.tatp_judge.specs.declared.judge.Verdict.{Verdict}
 use Rattle.tatp_judge.specs.declared.judge.Verdict.TheVariants.{Illegal}
-use Rattle.tatp_judge.specs.Counted.{HasCounted}
-use Rattle.tatp_judge.specs.Followed.{HasFollowed, HasKept}
-use Rattle.tatp_judge.specs.Verdicts.{IsVerdictOn}
+use Rattle.tatp_judge.specs.Parts.{IsPart}
+use Rattle.tatp_judged_inputs.specs.Views.{HasCounted, HasFollowed, HasKept, IsVerdictOn, View}
 use Rattle.tatp_judged_inputs.specs.declared.reading.Reading.{Reading}
 use Rattle.tatp_judged_inputs.specs.HistoryTexts.{Told, BadText, said_in, history_from, none_open}
 
--- each line that was read has its number
-abbrev pub IsNumbered : Reading → List Line → Type 0
-IsNumbered r past = length r.numbers.items ≡ length past
+-- each line that was read has its number, and the part is that of the view
+pub record IsNumbered (u : View) (r : Reading) (past : List Line) : Type 0 where
+  pub count : length r.numbers.items ≡ length past
+  pub part_is : u.part ≡ r.part
+  pub possible : IsPart r.part
 
 -- what was read
 abbrev pub told_of : Reading → List Line → Told
@@ -48,25 +49,26 @@ RefusesAt bad fault = RefusesText bad.number bad.fault fault
 
 -- after the text with this number the judge has followed these lines, which are counted, and those
 -- that follow tell the rest
-pub record GoesOn (u : Database) (most : ℕ) (past : List Line) (number : ℕ) (text : List ℕ)
+pub record GoesOn (u : View) (most : ℕ) (past : List Line) (number : ℕ) (text : List ℕ)
     (judge : Judge) (old new : Reading) : Type 0 where
   pub now : List Line
   pub followed : HasFollowed u most now judge
-  pub numbered : IsNumbered new now
+  pub numbered : IsNumbered u new now
   pub counted : HasCounted u now new.counts
   pub told : (more : List (List ℕ))
       → told_by new now (number + 1) more ≡ told_by old past number (text ∷ more)
 
 -- where the verdict is that the lines are illegal, the judge keeps what explains it
-abbrev pub IsKeptFor : Database → List Line → Verdict → Judge → Type 0
+abbrev pub IsKeptFor : View → List Line → Verdict → Judge → Type 0
 IsKeptFor u past verdict judge =
     (line : ℕ) (s_id : Option ℕ) → verdict ≡ Illegal line s_id → HasKept u past judge
 
 -- the text with this number says a line, which decides the history
-pub record Decides (u : Database) (most : ℕ) (past : List Line) (number : ℕ) (text : List ℕ)
+pub record Decides (u : View) (most : ℕ) (past : List Line) (number : ℕ) (text : List ℕ)
     (verdict : Verdict) (judge : Judge) (old new : Reading) : Type 0 where
   pub line : Line
   pub said : said_in (open_call old.opened) text ≡ Ok (Some line)
+  pub part_same : new.part ≡ old.part
   pub numbers_are : new.numbers.items ≡ old.numbers.items ++ number ∷ []
   pub counted : HasCounted u (past ++ line ∷ []) new.counts
   pub decided : IsVerdictOn u most (past ++ line ∷ []) verdict

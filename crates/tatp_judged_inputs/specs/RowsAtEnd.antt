@@ -10,9 +10,10 @@ use Rattle.tatp_inputs.specs.RowLines.{rows_of_lines}
 use Rattle.tatp_judge.specs.declared.finishing.FinalVerdict.{FinalVerdict}
 use Rattle.tatp_judge.specs.declared.finishing.FinalVerdict.TheVariants as final
 use Rattle.tatp_judge.specs.declared.stakes.Stakes.{Stakes}
-use Rattle.tatp_judge.specs.Finishing.{LeadsTo, IsFirstUnreached}
+use Rattle.tatp_judged_inputs.specs.Views.{IsFirstUnreached, LeadsTo, View}
 use Rattle.tatp_judged_inputs.specs.Judged.{Tell, TellLegal, TellStakes, AreUnexplainedAt, IsIllegalAt, IsUndecidedAt, IsWindowOf}
 use Rattle.tatp_judged_inputs.specs.declared.judging.Judged.{Judged}
+use Rattle.tatp_judged_inputs.specs.declared.judging.Window.{Window}
 use Rattle.tatp_judged_inputs.specs.declared.judging.Judged.TheVariants.{Legal, Illegal, Undecided, Unreached}
 
 -- a history can begin with these rows, or end with them
@@ -47,14 +48,14 @@ pub record Bring (taken : ℕ) (texts : List (List ℕ)) (Holds : List Line → 
   pub holds : Tell taken (before_dot texts) (λ told. Holds told.lines (database_of rows))
 
 -- the history is legal, no order leads to the rows, and this is the number of the line `.`
-pub record IsUnreachedAt (u : Database) (taken : ℕ) (texts : List (List ℕ)) (number s : ℕ)
+pub record IsUnreachedAt (u : View) (taken : ℕ) (texts : List (List ℕ)) (number s : ℕ)
     : Type 0 where
   pub number_is : number ≡ dot_number taken texts
   pub legal : TellLegal u taken (before_dot texts)
   pub unreached : Bring taken texts (λ lines after. IsFirstUnreached u lines after s)
 
 -- it is legal where some order leads to the rows. They aren't read where the history decides
-abbrev pub IsJudgedTo : Database → ℕ → ℕ → List (List ℕ) → Judged → Type 0
+abbrev pub IsJudgedTo : View → ℕ → ℕ → List (List ℕ) → Judged → Type 0
 IsJudgedTo u most taken texts (Legal stakes) =
     Bring taken texts (LeadsTo u) × TellStakes u taken (before_dot texts) stakes
 IsJudgedTo u most taken texts (Illegal number s_id) =
@@ -64,9 +65,9 @@ IsJudgedTo u most taken texts (Undecided number s) =
     IsUndecidedAt u most taken (before_dot texts) number s
 IsJudgedTo u most taken texts (Unreached number s) = IsUnreachedAt u taken texts number s
 
--- what is said of both, and the numbers told with it
-pub record IsJudgementTo (u : Database) (most taken : ℕ) (texts : List (List ℕ)) (judged : Judged)
-    (window : List ℕ) : Type 0 where
+-- what is said of both, and what is told with it
+pub record IsJudgementTo (u : View) (most taken : ℕ) (texts : List (List ℕ)) (judged : Judged)
+    (window : Window) : Type 0 where
   pub judged_is : IsJudgedTo u most taken texts judged
   pub window_is : IsWindowOf u taken (before_dot texts) judged window
 

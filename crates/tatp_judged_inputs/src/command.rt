@@ -9,15 +9,17 @@ ghost use Rattle.tatp_tasks.specs.Judging.{IsJudgePlan};
 ghost use Rattle.tatp_inputs.specs.Work.{AreCleanWhereDrawn};
 ghost use Rattle.tatp_judged_inputs.specs.declared.fault.JudgeFault.TheVariants.{Stream, Unopened};
 ghost use Rattle.tatp_judged_inputs.specs.RowsAtEnd.{AreAdmitted};
-ghost use Rattle.tatp_judged_inputs.specs.Judging.{JudgesInput, RefusesInput, number_line, stakes_lines, subscriber_line, window_lines, judged_lines, WritesJudged, LeavesJudged};
+ghost use Rattle.tatp_judged_inputs.specs.Judging.{JudgesInput, RefusesInput, number_line, part_asked, stakes_lines, subscriber_line, told_lines, window_lines, judged_lines, WritesJudged, LeavesJudged};
 
+use crate::judging::Window;
+use crate::legal_replies::push_legal;
 use crate::to_rows::judge_lines;
 use crate::{JudgeFault, Judged, Judgement};
 use std::alloc::{AllocError, Global};
 use std::io::{Read, Write};
 use tatp_extents::{OpenError, admit};
 use tatp_inputs::work_of;
-use tatp_judge::{Judge, Stakes};
+use tatp_judge::{Judge, Part, Stakes};
 use tatp_lines::push_decimal;
 use tatp_streams::{LineReader, MAX_INPUT_LIMIT, write_last};
 use tatp_tables::Rows;
@@ -38,11 +40,21 @@ fn judge_of(alloc: Global, plan: &JudgePlan, rows: &Rows) -> Result<Judge, OpenE
     Ok(Judge::new(alloc, rows, plan.most)?)
 }
 
+/// The part of a history that is asked for.
+fn part_of(plan: &JudgePlan) -> Part
+    ensures { result ≡ part_asked plan.now }
+{
+    Part {
+        number: plan.part,
+        count: plan.parts,
+    }
+}
+
 /// What is said of the history that an input is.
 fn judged<R: Read>(alloc: Global, reader: &mut R, plan: &JudgePlan) -> Result<Judgement, JudgeFault>
     requires { IsJudgePlan plan.now }
     ensures judged { IfOk result (λ judgement. IfSome (R.remaining reader.old) (λ input.
-        JudgesInput plan.now (lines_of input) judgement.judged judgement.window.items)) }
+        JudgesInput plan.now (lines_of input) judgement.judged judgement.window)) }
     ensures faults { IfErr result (λ fault. IfSome (R.remaining reader.old) (λ input.
         RefusesInput plan.now (lines_of input) fault)) }
 {
@@ -50,11 +62,19 @@ fn judged<R: Read>(alloc: Global, reader: &mut R, plan: &JudgePlan) -> Result<Ju
     let rows = work_of(alloc, plan.population, &mut lines, reader)?;
     let mut judge = judge_of(alloc, plan, &rows)?;
     drop(rows);
-    judge_lines(alloc, plan.final_rows, &mut judge, &mut lines, reader)
+    let part = part_of(plan);
+    judge_lines(
+        alloc,
+        plan.final_rows,
+        &part,
+        &mut judge,
+        &mut lines,
+        reader,
+    )
 }
 
 /// Appends a line of a word and a number.
-fn push_number_line(text: &mut String, word: &str, number: u64) -> Result<(), AllocError>
+pub(crate) fn push_number_line(text: &mut String, word: &str, number: u64) -> Result<(), AllocError>
     ensures { OnOk result
         (string_bytes text.new ≡ string_bytes text.old ++ number_line word.now number) }
 {
@@ -101,21 +121,33 @@ fn push_window(text: &mut String, window: &[u64]) -> Result<(), AllocError>
     Ok(())
 }
 
+/// Appends the lines of a window, and those of the replies that are legal there.
+fn push_told(text: &mut String, window: &Window) -> Result<(), AllocError>
+    ensures { OnOk result
+        (string_bytes text.new ≡ string_bytes text.old ++ told_lines window.now) }
+{
+    push_window(text, window.lines.as_slice())?;
+    match &window.legal {
+        Some(legal) => push_legal(text, legal),
+        None => Ok(()),
+    }
+}
+
 /// Appends the lines that tell why the lines up to one are illegal.
-fn push_explanation(text: &mut String, s_id: Option<u64>, window: &[u64]) -> Result<(), AllocError>
+fn push_explanation(text: &mut String, s_id: Option<u64>, window: &Window) -> Result<(), AllocError>
     ensures { OnOk result (string_bytes text.new
-        ≡ string_bytes text.old ++ (subscriber_line s_id ++ window_lines window.now)) }
+        ≡ string_bytes text.old ++ (subscriber_line s_id ++ told_lines window.now)) }
 {
     if let Some(s_id) = s_id {
         push_number_line(text, "SUBSCRIBER ", s_id)?;
     }
-    push_window(text, window)
+    push_told(text, window)
 }
 
 /// The lines that tell it.
 fn lines_that_tell(alloc: Global, judgement: &Judgement) -> Result<String, AllocError>
     ensures { IfOk result (λ lines. string_bytes lines
-        ≡ judged_lines judgement.now.judged judgement.now.window.items) }
+        ≡ judged_lines judgement.now.judged judgement.now.window) }
 {
     let mut text = String::new(alloc);
     match judgement.judged {
@@ -125,7 +157,7 @@ fn lines_that_tell(alloc: Global, judgement: &Judgement) -> Result<String, Alloc
         }
         Judged::Illegal { line, s_id } => {
             push_number_line(&mut text, "ILLEGAL ", line)?;
-            push_explanation(&mut text, s_id, judgement.window.as_slice())?;
+            push_explanation(&mut text, s_id, &judgement.window)?;
         }
         Judged::Unreached { line, s_id } => {
             push_with_subscriber(&mut text, "ILLEGAL ", line, s_id)?;

@@ -1,11 +1,8 @@
 //! The verdict on the history that the lines left of an input are.
 ghost use Rattle.std.specs.Prelude.{[], ℕ, ◌+◌, IfOk, IfErr, IfSome, List};
-ghost use Rattle.tatp_tables.specs.Database.{Database};
 ghost use Rattle.tatp_history.specs.declared.line.Line.{Line as ALine};
 ghost use Rattle.tatp_streams.specs.LineReading.{lines_left};
-ghost use Rattle.tatp_judge.specs.Counted.{HasCounted};
-ghost use Rattle.tatp_judge.specs.Followed.{HasFollowed};
-ghost use Rattle.tatp_judge.specs.Verdicts.{IsVerdictOn};
+ghost use Rattle.tatp_judged_inputs.specs.Views.{HasCounted, IsBegun, IsVerdictOn, View};
 ghost use Rattle.tatp_judged_inputs.specs.HistoryTexts.{history_from, none_open};
 ghost use Rattle.tatp_judged_inputs.specs.Judged.{IsJudgement, IsTold, IsWindowBy};
 ghost use Rattle.tatp_judged_inputs.specs.Reading.{IsKeptFor, IsNumbered, RefusesHistory, told_of};
@@ -16,7 +13,7 @@ use crate::reading::Reading;
 use std::alloc::{AllocError, Global};
 use std::io::Read;
 use tatp_history_lines::OpenCalls;
-use tatp_judge::{Counts, Judge, Stakes, Verdict};
+use tatp_judge::{Counts, Judge, LegalReplies, Part, Stakes, Verdict};
 use tatp_streams::LineReader;
 
 /// What is said of a history in an input.
@@ -48,21 +45,30 @@ pub enum Judged {
     },
 }
 
-/// What is said of a history in an input, and the lines that are told with it.
+/// What is told where a subscriber's calls are unexplained.
+#[derive(Drop)]
+pub struct Window {
+    /// The numbers in the input of the lines in which its calls were asked and ended, since none of
+    /// them was open.
+    pub lines: Vec<u64>,
+    /// The replies with which the last line could have answered its call, if it answers one and
+    /// they are known.
+    pub legal: Option<LegalReplies>,
+}
+
+/// What is said of a history in an input, and the window that is told with it.
 #[derive(Drop)]
 pub struct Judgement {
     pub judged: Judged,
-    /// Where a subscriber's calls are unexplained, the numbers in the input of the lines in which
-    /// they were asked and ended, since none of them was open.
-    pub window: Vec<u64>,
+    pub window: Window,
 }
 
 impl Reading {
     /// A verdict by the numbers of the lines in the input, of which so many were read.
     pub(crate) fn judged(&self, verdict: &Verdict, number: u64) -> Judged
-        requires { (u : Database) × (most : ℕ) × (past : List ALine) × IsNumbered self.now past
+        requires { (u : View) × (most : ℕ) × (past : List ALine) × IsNumbered u self.now past
             × IsVerdictOn u most past verdict.now × HasCounted u past self.now.counts }
-        ensures { (u : Database) (past : List ALine) → HasCounted u past self.now.counts
+        ensures { (u : View) (past : List ALine) → HasCounted u past self.now.counts
             → IsTold u (told_of self.now past) number verdict.now result }
     {
         match *verdict {
@@ -84,16 +90,16 @@ impl Reading {
         verdict: &Verdict,
         number: u64,
     ) -> Result<Judgement, AllocError>
-        requires { (u : Database) × (most : ℕ) × (past : List ALine) × IsNumbered self.now past
+        requires { (u : View) × (most : ℕ) × (past : List ALine) × IsNumbered u self.now past
             × IsVerdictOn u most past verdict.now × IsKeptFor u past verdict.now judge.now
             × HasCounted u past self.now.counts }
-        ensures judged { IfOk result (λ judgement. (u : Database) (past : List ALine)
+        ensures judged { IfOk result (λ judgement. (u : View) (past : List ALine)
             → HasCounted u past self.now.counts
             → IsTold u (told_of self.now past) number verdict.now judgement.judged) }
-        ensures window { IfOk result (λ judgement. (u : Database) (most : ℕ) (past : List ALine)
-            → IsNumbered self.now past → IsVerdictOn u most past verdict.now
+        ensures window { IfOk result (λ judgement. (u : View) (most : ℕ) (past : List ALine)
+            → IsNumbered u self.now past → IsVerdictOn u most past verdict.now
             → IsKeptFor u past verdict.now judge.now
-            → IsWindowBy u (told_of self.now past) verdict.now judgement.window.items) }
+            → IsWindowBy u (told_of self.now past) verdict.now judgement.window) }
     {
         Ok(Judgement {
             judged: self.judged(verdict, number),
@@ -102,19 +108,20 @@ impl Reading {
     }
 }
 
-/// The verdict on the history that all lines left of an input are. Lines after that which decides
-/// it aren't read.
+/// The verdict on a part of the history that all lines left of an input are. Lines after that which
+/// decides it aren't read.
 pub fn judge_history<R: Read>(
     alloc: Global,
+    part: &Part,
     judge: &mut Judge,
     lines: &mut LineReader,
     reader: &mut R,
 ) -> Result<Judgement, HistoryFault>
-    requires { (u : Database) × (most : ℕ) × HasFollowed u most [] judge.old }
+    requires { (u : View) × (most : ℕ) × IsBegun u most part.now judge.old }
     ensures judged { IfOk result (λ judgement.
         IfSome (lines_left lines.old (R.remaining reader.old)) (λ all.
-        (u : Database) (most : ℕ) → HasFollowed u most [] judge.old → IsJudgement u most
-        lines.old.number all.lines judgement.judged judgement.window.items)) }
+        (u : View) (most : ℕ) → IsBegun u most part.now judge.old → IsJudgement u most
+        lines.old.number all.lines judgement.judged judgement.window)) }
     ensures faults { IfErr result (λ fault.
         IfSome (lines_left lines.old (R.remaining reader.old)) (λ all.
         RefusesHistory (history_from none_open (lines.old.number + 1) all.lines) fault)) }
@@ -124,6 +131,7 @@ pub fn judge_history<R: Read>(
         opened: OpenCalls::new(alloc),
         numbers: LineNumbers::new(alloc),
         counts,
+        part: *part,
     };
     'lines: loop {
         if !lines.advance(reader)? {

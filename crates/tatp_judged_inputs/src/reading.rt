@@ -1,11 +1,8 @@
 //! A history, read line by line.
 ghost use Rattle.std.specs.Prelude.{◌≡◌, ◌++◌, ◌∷◌, [], ◌+◌, ℕ, List, Ok, None, Some, IfOk, IfErr, IfSome, length};
-ghost use Rattle.tatp_tables.specs.Database.{Database};
 ghost use Rattle.tatp_history.specs.declared.line.Line.{Line as ALine};
 ghost use Rattle.tatp_history_lines.specs.Open.{open_call};
-ghost use Rattle.tatp_judge.specs.Counted.{HasCounted};
-ghost use Rattle.tatp_judge.specs.Followed.{HasFollowed};
-ghost use Rattle.tatp_judge.specs.Verdicts.{IsVerdictOn};
+ghost use Rattle.tatp_judged_inputs.specs.Views.{HasCounted, HasFollowed, IsVerdictOn, View};
 ghost use Rattle.tatp_judged_inputs.specs.HistoryTexts.{said_in};
 ghost use Rattle.tatp_judged_inputs.specs.Reading.{RefusesText, RefusesHistory, Decides, GoesOn, IsNumbered, told_by};
 
@@ -14,7 +11,7 @@ use crate::line_numbers::LineNumbers;
 use std::alloc::Global;
 use tatp_history::Line;
 use tatp_history_lines::{LineFault, OpenCalls};
-use tatp_judge::{Counts, Judge, Verdict};
+use tatp_judge::{Counts, Judge, Part, Verdict};
 use tatp_streams::text_of;
 
 /// What was read of a history.
@@ -26,6 +23,8 @@ pub(crate) struct Reading {
     pub(crate) numbers: LineNumbers,
     /// What was at stake in them.
     pub(crate) counts: Counts,
+    /// The part of the history that is judged.
+    pub(crate) part: Part,
 }
 
 /// What a text says, which has to be UTF-8.
@@ -50,8 +49,8 @@ fn fault_at(number: u64, fault: LineFault) -> HistoryFault
 }
 
 impl Reading {
-    /// A text is the next, and has this number: the judge follows its line, if it says one. A
-    /// verdict decides the history.
+    /// A text is the next, and has this number: the judge follows what its line says of the part,
+    /// if it says one. A verdict decides the history.
     #[tactic(auto, using(crate::proofs::HistoryLaws::none_taken, crate::proofs::HistoryLaws::text_refused))]
     pub(crate) fn take(
         &mut self,
@@ -60,16 +59,16 @@ impl Reading {
         number: u64,
         text: &[u8],
     ) -> Result<Option<Verdict>, HistoryFault>
-        requires { (u : Database) × (most : ℕ) × (past : List ALine)
-            × HasFollowed u most past judge.old × IsNumbered self.old past
+        requires { (u : View) × (most : ℕ) × (past : List ALine)
+            × HasFollowed u most past judge.old × IsNumbered u self.old past
             × HasCounted u past self.old.counts }
-        ensures goes_on { result ≡ Ok None → (u : Database) (most : ℕ) (past : List ALine)
-            → HasFollowed u most past judge.old → IsNumbered self.old past
+        ensures goes_on { result ≡ Ok None → (u : View) (most : ℕ) (past : List ALine)
+            → HasFollowed u most past judge.old → IsNumbered u self.old past
             → HasCounted u past self.old.counts
             → GoesOn u most past number text.now judge.new self.old self.new }
         ensures decided { IfOk result (λ found. IfSome found (λ verdict.
-            (u : Database) (most : ℕ) (past : List ALine)
-            → HasFollowed u most past judge.old → IsNumbered self.old past
+            (u : View) (most : ℕ) (past : List ALine)
+            → HasFollowed u most past judge.old → IsNumbered u self.old past
             → HasCounted u past self.old.counts
             → Decides u most past number text.now verdict judge.new self.old self.new)) }
         ensures never { result ≡ Ok (Some Verdict.Legal) → ⊥ }
@@ -80,8 +79,9 @@ impl Reading {
             Ok(None) => Ok(None),
             Ok(Some(line)) => {
                 self.numbers.push(number)?;
-                self.counts.count(judge, &line);
-                let found = judge.follow(alloc, &line)?;
+                let of_part = judge.line_of_part(&self.part, &line);
+                self.counts.count(judge, &of_part);
+                let found = judge.follow(alloc, &of_part)?;
                 self.opened.follow(&line)?;
                 Ok(found)
             }

@@ -1,14 +1,24 @@
-//! The lines of the history that are told with a verdict.
-ghost use Rattle.std.specs.Prelude.{◌≡◌, ◌≤◌, ℕ, All, IfOk, List, length};
-ghost use Rattle.tatp_tables.specs.Database.{Database};
+//! What is told with a verdict: lines of the history, and legal replies.
+ghost use Rattle.std.specs.Prelude.{◌≡◌, ◌≤◌, ℕ, All, Some, IfOk, List, length};
 ghost use Rattle.tatp_history.specs.declared.line.Line.{Line as ALine};
-ghost use Rattle.tatp_judge.specs.Verdicts.{IsVerdictOn};
-ghost use Rattle.tatp_judged_inputs.specs.Judged.{IsWindowBy, in_input};
+ghost use Rattle.tatp_judged_inputs.specs.Views.{HasKept, IsUnexplained, IsVerdictOn, View};
+ghost use Rattle.tatp_judged_inputs.specs.Judged.{IsUntold, IsWindowBy, IsWindowTold, first_told, in_input};
 ghost use Rattle.tatp_judged_inputs.specs.Reading.{IsKeptFor, IsNumbered, told_of};
 
+use crate::judging::Window;
 use crate::reading::Reading;
 use std::alloc::{AllocError, Global};
 use tatp_judge::{Judge, Verdict};
+
+/// Nothing is told.
+fn nothing(alloc: Global) -> Window
+    ensures { IsUntold result }
+{
+    Window {
+        lines: Vec::new(alloc),
+        legal: None,
+    }
+}
 
 impl Reading {
     /// The numbers in the input of the history's lines with these numbers.
@@ -25,31 +35,49 @@ impl Reading {
         Ok(told)
     }
 
-    /// The numbers in the input of the lines that are told with a verdict.
+    /// What is told where the subscriber's calls are unexplained up to a line of the history.
+    fn explained(
+        &self,
+        alloc: Global,
+        judge: &Judge,
+        s_id: u64,
+        line: u64,
+    ) -> Result<Window, AllocError>
+        requires { (u : View) × (past : List ALine) × IsNumbered u self.now past
+            × HasKept u past judge.now × (line ≤ length past)
+            × IsUnexplained u past line (Some s_id) }
+        ensures { IfOk result (λ window. (u : View) (past : List ALine)
+            → IsNumbered u self.now past → HasKept u past judge.now → line ≤ length past
+            → IsUnexplained u past line (Some s_id)
+            → IsWindowTold u s_id (first_told line (told_of self.now past)) window) }
+    {
+        let numbers = judge.window_numbers(alloc, s_id, line)?;
+        let lines = self.in_input(alloc, numbers.as_slice())?;
+        let legal = judge.legal_replies(alloc, s_id, line)?;
+        Ok(Window { lines, legal })
+    }
+
+    /// What is told with a verdict.
     pub(crate) fn window(
         &self,
         alloc: Global,
         judge: &Judge,
         verdict: &Verdict,
-    ) -> Result<Vec<u64>, AllocError>
-        requires { (u : Database) × (most : ℕ) × (past : List ALine) × IsNumbered self.now past
+    ) -> Result<Window, AllocError>
+        requires { (u : View) × (most : ℕ) × (past : List ALine) × IsNumbered u self.now past
             × IsVerdictOn u most past verdict.now × IsKeptFor u past verdict.now judge.now }
-        ensures { IfOk result (λ window. (u : Database) (most : ℕ) (past : List ALine)
-            → IsNumbered self.now past → IsVerdictOn u most past verdict.now
+        ensures { IfOk result (λ window. (u : View) (most : ℕ) (past : List ALine)
+            → IsNumbered u self.now past → IsVerdictOn u most past verdict.now
             → IsKeptFor u past verdict.now judge.now
-            → IsWindowBy u (told_of self.now past) verdict.now window.items) }
+            → IsWindowBy u (told_of self.now past) verdict.now window) }
     {
-        let none = Vec::new(alloc);
         match *verdict {
-            Verdict::Legal => Ok(none),
+            Verdict::Legal => Ok(nothing(alloc)),
             Verdict::Illegal { line, s_id } => match s_id {
-                Some(s_id) => {
-                    let lines = judge.window_numbers(alloc, s_id, line)?;
-                    self.in_input(alloc, lines.as_slice())
-                }
-                None => Ok(none),
+                Some(s_id) => self.explained(alloc, judge, s_id, line),
+                None => Ok(nothing(alloc)),
             },
-            Verdict::Undecided { .. } => Ok(none),
+            Verdict::Undecided { .. } => Ok(nothing(alloc)),
         }
     }
 }

@@ -1,11 +1,10 @@
 //! The verdict on a history that is followed by the rows at its end.
 ghost use Rattle.std.specs.Prelude.{◌≡◌, ◌≤◌, [], ℕ, true, Ok, IfOk, IfErr, IfSome, List};
-ghost use Rattle.tatp_tables.specs.Database.{Database};
 ghost use Rattle.tatp_history.specs.declared.line.Line.{Line as ALine};
 ghost use Rattle.tatp_streams.specs.LineReading.{lines_left, Relates};
 ghost use Rattle.tatp_inputs.specs.Parts.{before_dot};
 ghost use Rattle.tatp_judge.specs.declared.stakes.Stakes.{Stakes as AStakes};
-ghost use Rattle.tatp_judge.specs.Followed.{HasFollowed};
+ghost use Rattle.tatp_judged_inputs.specs.Views.{HasFollowed, IsBegun, View};
 ghost use Rattle.tatp_judged_inputs.specs.Judged.{IsJudgement};
 ghost use Rattle.tatp_judged_inputs.specs.Judging.{IsJudgedWith, RefusesTexts, history_fault};
 ghost use Rattle.tatp_judged_inputs.specs.Reading.{ReadsToDot};
@@ -19,25 +18,26 @@ use std::io::Read;
 use tatp_extents::admit;
 use tatp_history_lines::OpenCalls;
 use tatp_inputs::{is_dot, read_rows_to_end};
-use tatp_judge::{Counts, FinalVerdict, Judge, Stakes};
+use tatp_judge::{Counts, FinalVerdict, Judge, Part, Stakes};
 use tatp_streams::LineReader;
 
 /// The verdict on the history that the lines up to a line `.` are. Where it is legal, the lines
 /// after that are left; else lines after that which decides it aren't read.
 fn judge_to_dot<R: Read>(
     alloc: Global,
+    part: &Part,
     judge: &mut Judge,
     lines: &mut LineReader,
     reader: &mut R,
 ) -> Result<Judgement, HistoryFault>
-    requires { (u : Database) × (most : ℕ) × HasFollowed u most [] judge.old }
+    requires { (u : View) × (most : ℕ) × IsBegun u most part.now judge.old }
     ensures judged { IfOk result (λ judgement.
         IfSome (lines_left lines.old (R.remaining reader.old)) (λ all.
-        (u : Database) (most : ℕ) → HasFollowed u most [] judge.old → IsJudgement u most
-        lines.old.number (before_dot all.lines) judgement.judged judgement.window.items)) }
+        (u : View) (most : ℕ) → IsBegun u most part.now judge.old → IsJudgement u most
+        lines.old.number (before_dot all.lines) judgement.judged judgement.window)) }
     ensures followed { IfOk result (λ judgement. (stakes : AStakes)
         → judgement.judged ≡ Judged.Legal stakes
-        → (u : Database) (most : ℕ) → HasFollowed u most [] judge.old
+        → (u : View) (most : ℕ) → IsBegun u most part.now judge.old
         → (past : List ALine) × HasFollowed u most past judge.new
         × Relates (lines_left lines.old (R.remaining reader.old))
         (lines_left lines.new (R.remaining reader.new))
@@ -53,6 +53,7 @@ fn judge_to_dot<R: Read>(
         opened: OpenCalls::new(alloc),
         numbers: LineNumbers::new(alloc),
         counts,
+        part: *part,
     };
     'lines: loop {
         if !lines.advance(reader)? {
@@ -87,20 +88,21 @@ fn judged_to(stakes: Stakes, verdict: FinalVerdict, dot: u64) -> Judged
 /// rows after it. These aren't read where the history decides.
 fn judge_to_rows<R: Read>(
     alloc: Global,
+    part: &Part,
     judge: &mut Judge,
     lines: &mut LineReader,
     reader: &mut R,
 ) -> Result<Judgement, JudgeFault>
-    requires { (u : Database) × (most : ℕ) × HasFollowed u most [] judge.old }
+    requires { (u : View) × (most : ℕ) × IsBegun u most part.now judge.old }
     ensures judged { IfOk result (λ judgement.
         IfSome (lines_left lines.old (R.remaining reader.old)) (λ all.
-        (u : Database) (most : ℕ) → HasFollowed u most [] judge.old → IsJudgementTo u most
-        lines.old.number all.lines judgement.judged judgement.window.items)) }
+        (u : View) (most : ℕ) → IsBegun u most part.now judge.old → IsJudgementTo u most
+        lines.old.number all.lines judgement.judged judgement.window)) }
     ensures faults { IfErr result (λ fault.
         IfSome (lines_left lines.old (R.remaining reader.old)) (λ all.
         RefusesTexts true lines.old.number all.lines fault)) }
 {
-    let judgement = judge_to_dot(alloc, judge, lines, reader)?;
+    let judgement = judge_to_dot(alloc, part, judge, lines, reader)?;
     match judgement.judged {
         Judged::Legal(stakes) => {
             let dot = lines.number();
@@ -121,22 +123,23 @@ fn judge_to_rows<R: Read>(
 pub(crate) fn judge_lines<R: Read>(
     alloc: Global,
     final_rows: bool,
+    part: &Part,
     judge: &mut Judge,
     lines: &mut LineReader,
     reader: &mut R,
 ) -> Result<Judgement, JudgeFault>
-    requires { (u : Database) × (most : ℕ) × HasFollowed u most [] judge.old }
+    requires { (u : View) × (most : ℕ) × IsBegun u most part.now judge.old }
     ensures judged { IfOk result (λ judgement.
         IfSome (lines_left lines.old (R.remaining reader.old)) (λ all.
-        (u : Database) (most : ℕ) → HasFollowed u most [] judge.old → IsJudgedWith final_rows u
-        most lines.old.number all.lines judgement.judged judgement.window.items)) }
+        (u : View) (most : ℕ) → IsBegun u most part.now judge.old → IsJudgedWith final_rows u
+        most lines.old.number all.lines judgement.judged judgement.window)) }
     ensures faults { IfErr result (λ fault.
         IfSome (lines_left lines.old (R.remaining reader.old)) (λ all.
         RefusesTexts final_rows lines.old.number all.lines fault)) }
 {
     if final_rows {
-        judge_to_rows(alloc, judge, lines, reader)
+        judge_to_rows(alloc, part, judge, lines, reader)
     } else {
-        Ok(judge_history(alloc, judge, lines, reader)?)
+        Ok(judge_history(alloc, part, judge, lines, reader)?)
     }
 }

@@ -1,5 +1,5 @@
--- Reads that take effect at once: no order is lost, and none is made up.
-use Rattle.std.proofs.Common.{◌≡◌, ℕ, zero, suc, ◌≤◌, ◌⊎◌, ◌↔◌, true, false, List, [], ◌∷◌, ◌++◌, length, refl, sym, ◌∙◌, subst, arith, true≢false, inl, inr}
+-- Reads that take effect at once: no order is lost.
+use Rattle.std.proofs.Common.{◌≡◌, ℕ, zero, suc, ◌≤◌, ◌⊎◌, true, false, List, [], ◌∷◌, ◌++◌, length, refl, sym, ◌∙◌, subst, arith, true≢false, inl, inr}
 use Rattle.std.proofs.lemmas.List.{append-nil}
 use Rattle.std.specs.List.{AllByRecursion}
 use Rattle.tatp_tables.specs.Database.{Database}
@@ -18,11 +18,11 @@ use Rattle.tatp_history.proofs.OrderLaws.{all_in, in_all}
 use Rattle.tatp_history.proofs.ChoiceLaws.{chooses_some, chooses_length, find_asked}
 use Rattle.tatp_history.proofs.EventLaws.{answered_at}
 use Rattle.tatp_history.proofs.ReadLaws.{without_read}
-use Rattle.tatp_history.proofs.RemainingLaws.{IsLeft, IsOrderFrom, HasOrder, open_asked, open_chosen, open_ended, put_first, taken_off, first_opens, order_asks, asks_order, order_ends, ends_order}
-use Rattle.tatp_history.proofs.JustInTimeLaws.{Any, ended, is_serial, serial_is, none_open}
+use Rattle.tatp_history.proofs.RemainingLaws.{IsLeft, IsOrderFrom, HasOrder, open_asked, open_chosen, open_ended, taken_off, first_opens, asks_order, ends_order}
+use Rattle.tatp_history.proofs.JustInTimeLaws.{Any, serial_is, none_open}
 use Rattle.tatp_linearization.specs.AtOnce.{only_reads, FitsAtOnce, IsSettled, NeedsNoPlace, TakesOne, TakeUntil, FollowsAtOnce, LeadAtOnce}
 use Rattle.tatp_linearization.proofs.DecisionLaws.{fits_or_not}
-use Rattle.tatp_linearization.proofs.SettlingLaws.{left_exists, left_settled, left_shorter, left_open, read_back, left_order, order_left, reads_leave}
+use Rattle.tatp_linearization.proofs.SettlingLaws.{left_exists, left_settled, left_shorter, left_open, left_order, reads_leave}
 
 pub have_more : (event : Event) (more : List Event) → HaveEnds (event ∷ more) → HaveEnds more
 have_more (Asks x) more h = h.2
@@ -63,7 +63,7 @@ module _ (Q : Database → Type 0) (more : List Event) (x : Observed) (aborted :
     h.2,
   )
 
-  aborted_in : (u : Database) (opened : List Observed) → HasOrder Q u more opened → HasOrder Q u more (x ∷ opened)
+  pub aborted_in : (u : Database) (opened : List Observed) → HasOrder Q u more opened → HasOrder Q u more (x ∷ opened)
   aborted_in u opened h = (
     h.0,
     record {
@@ -92,13 +92,6 @@ place_or_none u x = elim (may_take_effect x.outcome) as (λ b. may_take_effect x
   | false ↦ λ e. inl (inl e)
 ] refl
 
-module _ (Q : Database → Type 0) (more : List Event) (have : HaveEnds more) (u : Database) (opened : List Observed) (x : Observed) (are : AreOpen more (x ∷ opened)) (needs : NeedsNoPlace u x) where
-  place_back : HasOrder Q u more opened → HasOrder Q u more (x ∷ opened)
-  place_back h = elim needs [
-    | inl k ↦ aborted_in Q more x k u opened h
-    | inr k ↦ read_back Q more have u (x ∷ opened) opened x (inl (refl, refl)) are k h
-  ]
-
 -- ---- calls that write
 pub one_open : (events : List Event) (c d : Configuration) → TakesOne c d → AreOpen events c.opened → AreOpen events d.opened
 one_open events c d h are = left_open events (transaction h.0.call c.rows).database [] h.1 d.opened h.2.settled (open_chosen events c.opened h.0 h.1 h.2.chosen are)
@@ -121,21 +114,6 @@ until_open (suc n) asked at more c d h are = let on = one_open (Ends asked at �
 ]
 
 module _ (Q : Database → Type 0) where
-  pub one_sound : (events : List Event) → HaveEnds events → (c d : Configuration) → TakesOne c d → AreOpen events c.opened → HasOrder Q d.rows events d.opened → HasOrder Q c.rows events c.opened
-  one_sound events have c d h are order =
-      let v : Database = (transaction h.0.call c.rows).database in
-      let on = open_chosen events c.opened h.0 h.1 h.2.chosen are in
-      let rest : HasOrder Q v events h.1 = order_left Q events have v [] h.1 d.opened h.2.settled on (subst (λ w. HasOrder Q w events d.opened) h.2.rows order) in
-      (h.0 ∷ rest.0, put_first c.rows events c.opened h.0 h.1 rest.0 have are h.2.chosen h.2.may rest.1, rest.2)
-
-  until_sound : (n asked at : ℕ) (more : List Event) → HaveEnds more → (c d : Configuration) → TakeUntil n asked c d → AreOpen (Ends asked at ∷ more) c.opened
-      → HasOrder Q d.rows more d.opened → HasOrder Q c.rows (Ends asked at ∷ more) c.opened
-  until_sound zero asked at more have c d h are order = absurd h
-  until_sound (suc n) asked at more have c d h are order = one_sound (Ends asked at ∷ more) have c h.0 h.1 are (elim h.2 [
-    | inl k ↦ order_ends Q h.0.rows asked at more h.0.opened (subst (λ (b : Configuration). HasOrder Q b.rows more b.opened) k.1 order)
-    | inr k ↦ until_sound n asked at more have h.0 d k.1 (one_open (Ends asked at ∷ more) c h.0 h.1 are) order
-  ])
-
   until_complete : (n asked at : ℕ) (more : List Event) → TimesRise (Ends asked at ∷ more) → HaveEnds more → (c : Configuration) → IsSettled c → length c.opened ≤ n → AreOpen (Ends asked at ∷ more) c.opened
       → (z : Observed) → IsIn z c.opened → z.asked ≡ asked → (order : List Observed) → IsOrderFrom c.rows (Ends asked at ∷ more) c.opened order → Q (rows_after c.rows order)
       → (d : Configuration) × TakeUntil n asked c d × HasOrder Q d.rows more d.opened
@@ -189,19 +167,6 @@ event_open (Ends asked at) more rise have c d h are = elim h [
 ]
 
 module _ (Q : Database → Type 0) where
-  event_sound : (event : Event) (more : List Event) → TimesRise (event ∷ more) → HaveEnds (event ∷ more) → (c d : Configuration) → FollowsAtOnce event c d → AreOpen (event ∷ more) c.opened
-      → HasOrder Q d.rows more d.opened → HasOrder Q c.rows (event ∷ more) c.opened
-  event_sound (Asks x) more rise have c d h are order =
-      let on = open_asked x more c.opened rise have are in
-      order_asks Q c.rows x more c.opened (elim h [
-        | inl k ↦ place_back Q more have.2 c.rows c.opened x on k.0 (subst (λ (b : Configuration). HasOrder Q b.rows more b.opened) k.1 order)
-        | inr k ↦ subst (λ (b : Configuration). HasOrder Q b.rows more b.opened) k.1 order
-      ])
-  event_sound (Ends asked at) more rise have c d h are order = elim h [
-    | inl k ↦ order_ends Q c.rows asked at more c.opened (subst (λ (b : Configuration). HasOrder Q b.rows more b.opened) k.1 order)
-    | inr k ↦ until_sound Q (length c.opened) asked at more have c d k.1 are order
-  ]
-
   event_complete : (event : Event) (more : List Event) → TimesRise (event ∷ more) → HaveEnds (event ∷ more) → (c : Configuration) → IsSettled c → AreOpen (event ∷ more) c.opened
       → HasOrder Q c.rows (event ∷ more) c.opened → (d : Configuration) × FollowsAtOnce event c d × HasOrder Q d.rows more d.opened
   event_complete (Asks x) more rise have c settled are order =
@@ -233,10 +198,6 @@ pub lead_settled : (events : List Event) (c d : Configuration) → IsSettled c �
 lead_settled [] c d settled h = subst IsSettled (sym h) settled
 lead_settled (event ∷ more) c d settled h = lead_settled more h.0 d (event_settled event c h.0 settled h.1) h.2
 
-pub lead_on : (first second : List Event) (c d e : Configuration) → LeadAtOnce first c d → LeadAtOnce second d e → LeadAtOnce (first ++ second) c e
-lead_on [] second c d e on more = subst (λ (b : Configuration). LeadAtOnce second b e) on more
-lead_on (event ∷ first) second c d e on more = (on.0, on.1, lead_on first second on.0 d e on.2 more)
-
 pub lead_by : (first second : List Event) (c e : Configuration) → LeadAtOnce (first ++ second) c e → (d : Configuration) × LeadAtOnce first c d × LeadAtOnce second d e
 lead_by [] second c e on = (c, refl, on)
 lead_by (event ∷ first) second c e on = let rest = lead_by first second on.0 e on.2 in (rest.0, (on.0, on.1, rest.1), rest.2)
@@ -247,13 +208,6 @@ lead_open (event ∷ more) second rise have c d are on =
     lead_open more second rise.1 (have_more event (more ++ second) have) on.0 d (event_open event (more ++ second) rise have c on.0 on.1 are) on.2
 
 module _ (Q : Database → Type 0) where
-  pub lead_sound : (first second : List Event) → TimesRise (first ++ second) → HaveEnds (first ++ second) → (c d : Configuration) → AreOpen (first ++ second) c.opened
-      → LeadAtOnce first c d → HasOrder Q d.rows second d.opened → HasOrder Q c.rows (first ++ second) c.opened
-  lead_sound [] second rise have c d are on h = subst (λ (b : Configuration). HasOrder Q b.rows second b.opened) on h
-  lead_sound (event ∷ more) second rise have c d are on h =
-      event_sound Q event (more ++ second) rise have c on.0 on.1 are
-      (lead_sound more second rise.1 (have_more event (more ++ second) have) on.0 d (event_open event (more ++ second) rise have c on.0 on.1 are) on.2 h)
-
   pub lead_complete : (first second : List Event) → TimesRise (first ++ second) → HaveEnds (first ++ second) → (c : Configuration) → IsSettled c → AreOpen (first ++ second) c.opened
       → HasOrder Q c.rows (first ++ second) c.opened → (d : Configuration) × LeadAtOnce first c d × HasOrder Q d.rows second d.opened
   lead_complete [] second rise have c settled are h = (c, refl, h)
@@ -263,18 +217,11 @@ module _ (Q : Database → Type 0) where
       (rest.0, (next.0, next.1, rest.1), rest.2)
 
 -- ---- the law
-pub at_once_exact : (u : Database) (events : List Event) → TimesRise events → HaveEnds events → ((d : Configuration) × LeadAtOnce events (starting u) d) ↔ IsStrictlySerializable u (asked_in events)
-at_once_exact u events rise have =
+pub at_once_complete : (u : Database) (events : List Event) → TimesRise events → HaveEnds events → IsStrictlySerializable u (asked_in events) → (d : Configuration) × LeadAtOnce events (starting u) d
+at_once_complete u events rise have s =
     let whole : events ≡ events ++ [] = sym (append-nil events) in
     let rise' : TimesRise (events ++ []) = subst TimesRise whole rise in
-    let have' : HaveEnds (events ++ []) = subst HaveEnds whole have in (
-      λ h.
-          let are = lead_open events [] rise' have' (starting u) h.0 (none_open (events ++ [])) h.1 in
-          let order = lead_sound Any events [] rise' have' (starting u) h.0 (none_open (events ++ [])) h.1 (ended h.0 are) in
-          let order' : HasOrder Any u events [] = subst (λ es. HasOrder Any u es []) (append-nil events) order in
-          (order'.0, is_serial u events [] order'.0 order'.1),
-      λ s.
-          let order : HasOrder Any u (events ++ []) [] = subst (λ es. HasOrder Any u es []) whole (s.0, serial_is u events [] s.0 s.1, tt) in
-          let led = lead_complete Any events [] rise' have' (starting u) tt (none_open (events ++ [])) order in
-          (led.0, led.1),
-    )
+    let have' : HaveEnds (events ++ []) = subst HaveEnds whole have in
+    let order : HasOrder Any u (events ++ []) [] = subst (λ es. HasOrder Any u es []) whole (s.0, serial_is u events [] s.0 s.1, tt) in
+    let led = lead_complete Any events [] rise' have' (starting u) tt (none_open (events ++ [])) order in
+    (led.0, led.1)

@@ -1,7 +1,5 @@
 -- No configuration follows on a doomed one up to the end of its window.
-use Rattle.std.proofs.Common.{◌≡◌, ℕ, zero, suc, ◌⊎◌, ◌≤◌, Bool, true, false, ◌==◌, List, [], ◌∷◌, length, Option, Some, None, set, get_or, slice_index, slice_get, refl, sym, ◌∙◌, ap, subst, arith, eq-eqb, true≢false, inl, inr}
-use Rattle.std.specs.List.{AllByRecursion, items_where_true}
-use Rattle.std.specs.List.Retain.{IsFiltered, ReturnsInTurn}
+use Rattle.std.proofs.Common.{◌≡◌, ℕ, zero, suc, ◌⊎◌, true, false, ◌==◌, List, [], ◌∷◌, length, Option, Some, None, set, get_or, slice_index, slice_get, refl, sym, ◌∙◌, ap, subst, arith, eq-eqb, true≢false, inl, inr}
 use Rattle.std.specs.Option.{option_map}
 use Rattle.std.proofs.lemmas.List.{get_or-set_other}
 use Rattle.tatp_tables.specs.Tuples.{Tuple, Tuples, has, replace_row, remove_row}
@@ -16,9 +14,8 @@ use Rattle.tatp_numbers.specs.declared.key.Key.TheVariants.{Number}
 use Rattle.tatp_numbers.specs.Homes.{home_of_key}
 use Rattle.tatp_procs.specs.declared.call.Call.{Call}
 use Rattle.tatp_procs.specs.declared.call.Call.TheVariants.{GetSubscriberData, GetNewDestination, GetAccessData, UpdateSubscriberData, UpdateLocation, InsertCallForwarding, DeleteCallForwarding}
-use Rattle.tatp_procs.specs.declared.reply.Reply.{Reply}
-use Rattle.tatp_procs.specs.declared.reply.Reply.TheVariants.{Values, Failed}
-use Rattle.tatp_procs.specs.Transactions.{transaction, reads, updates_both, moves, with_bit_1, with_vlr_location, inserts_under, inserts_for, deletes, deletes_for}
+use Rattle.tatp_procs.specs.declared.reply.Reply.TheVariants.{Values}
+use Rattle.tatp_procs.specs.Transactions.{transaction, reads, updates_both, updates_location, with_bit_1, with_vlr_location, inserts_under, inserts_for, deletes, deletes_for}
 use Rattle.tatp_history.specs.declared.event.Event.{Event}
 use Rattle.tatp_history.specs.declared.event.Event.TheVariants.{Asks, Ends}
 use Rattle.tatp_history.specs.declared.observed.Observed.{Observed}
@@ -26,16 +23,17 @@ use Rattle.tatp_history.specs.declared.observed.Recorded.TheVariants.{Exactly}
 use Rattle.tatp_history.specs.declared.observed.Outcome.TheVariants.{Answered}
 use Rattle.tatp_history.specs.Histories.{IsIn, MayHaveReply}
 use Rattle.tatp_history.specs.JustInTime.{Chooses, NoneAskedAt}
-use Rattle.tatp_history.specs.Configurations.{Configuration, IsRead}
+use Rattle.tatp_history.specs.Configurations.{Configuration}
 use Rattle.tatp_history.proofs.OrderLaws.{in_all}
-use Rattle.tatp_history.proofs.ChoiceLaws.{chosen_in, rest_in, in_cases}
-use Rattle.tatp_history.specs.Locality.{AreAccepted}
+use Rattle.tatp_history.proofs.ChoiceLaws.{in_cases}
 use Rattle.tatp_linearization.specs.declared.configuration.Configuration.{Configuration as Held}
-use Rattle.tatp_linearization.specs.Possible.{AreDistinct}
-use Rattle.tatp_linearization.specs.Held.{seen, all_seen, Has, AreReady, AreApart}
+use Rattle.tatp_linearization.specs.Held.{seen}
+use Rattle.tatp_linearization.specs.Overwritten.{IsBlind, AreButSome}
+use Rattle.tatp_linearization.specs.Covering.{StandsFor}
 use Rattle.tatp_linearization.specs.AtOnce.{only_reads, FitsAtOnce, AreLeft, TakesOne, TakeUntil, FollowsAtOnce}
-use Rattle.tatp_linearization.specs.Doomed.{NoneHasLocation, sets_location, SawLocation, NoneSetsUntil, NoneSets, IsStuck, IsDoomed}
+use Rattle.tatp_linearization.specs.Doomed.{NoneHasLocation, sets_location, SawLocation, NoneSets, IsStuck, IsDoomed}
 use Rattle.tatp_linearization.proofs.SettlingLaws.{left_all, reads_leave}
+use Rattle.tatp_linearization.proofs.ButSomeLaws.{but_all}
 
 -- ---- locations
 set_cases : (xs : List ℕ) (i w d : ℕ) → (get_or (set xs i w) i d ≡ w) ⊎ (get_or (set xs i w) i d ≡ get_or xs i d)
@@ -52,9 +50,9 @@ keeps_both v u x y None facility there none = none
 keeps_both v u x y (Some row) None there none = none
 keeps_both v u x y (Some row) (Some facility) there none = none_replaced v u row (with_bit_1 row x) (λ e. none row (there row refl) (sym (get_or-set_other row 2 33 x 0 (λ d. omega (arith, d))) ∙ e)) none
 
-keeps_moves : (v : ℕ) (u : Database) (w : ℕ) (row : Option Tuple) → (w == v) ≡ false → ((q : Tuple) → row ≡ Some q → has u.subscribers q ≡ true) → NoneHasLocation v u → NoneHasLocation v (moves u w row).database
-keeps_moves v u w None other there none = none
-keeps_moves v u w (Some row) other there none = none_replaced v u row (with_vlr_location row w) (λ e. elim (set_cases row 33 w 0) [
+keeps_location : (v : ℕ) (u : Database) (w : ℕ) (row : Option Tuple) → (w == v) ≡ false → ((q : Tuple) → row ≡ Some q → has u.subscribers q ≡ true) → NoneHasLocation v u → NoneHasLocation v (updates_location u w row).database
+keeps_location v u w None other there none = none
+keeps_location v u w (Some row) other there none = none_replaced v u row (with_vlr_location row w) (λ e. elim (set_cases row 33 w 0) [
   | inl is ↦ true≢false (sym (eq-eqb w v (sym is ∙ e)) ∙ other)
   | inr is ↦ none row (there row refl) (sym is ∙ e)
 ]) none
@@ -85,7 +83,7 @@ none_after (GetSubscriberData s) v u other none = subst (NoneHasLocation v) (sym
 none_after (GetNewDestination s t b e) v u other none = subst (NoneHasLocation v) (sym (reads_leave (GetNewDestination s t b e) refl u)) none
 none_after (GetAccessData s t) v u other none = subst (NoneHasLocation v) (sym (reads_leave (GetAccessData s t) refl u)) none
 none_after (UpdateSubscriberData s x t y) v u other none = keeps_both v u x y (row_at u.subscribers (s ∷ [])) (row_at u.facilities (s ∷ t ∷ [])) (λ q e. row_at-has u.subscribers (s ∷ []) q e) none
-none_after (UpdateLocation n w) v u other none = keeps_moves v u w (row_with_number u.subscribers n) other (λ q e. has-found (has_number n) u.subscribers q e) none
+none_after (UpdateLocation n w) v u other none = keeps_location v u w (row_with_number u.subscribers n) other (λ q e. has-found (has_number n) u.subscribers q e) none
 none_after (InsertCallForwarding n t b e x) v u other none = subst (NoRowHas v) (sym (inserts_for_keep u t b e x (home_of_key u.subscribers (Number n)))) none
 none_after (DeleteCallForwarding n t b) v u other none = subst (NoRowHas v) (sym (deletes_for_keep u t b (home_of_key u.subscribers (Number n)))) none
 
@@ -188,57 +186,32 @@ location_cell home is row there =
 pub none_located : (home : SubscriberRows) (v : ℕ) → IsHome home → (cell home.tables 33 (home.s_id ∷ 0 ∷ 0 ∷ []) ≡ Some v → ⊥) → NoneHasLocation v home.tables
 none_located home v is none row there e = none (location_cell home is row there ∙ ap Some e)
 
--- ---- lists without some
-module _ {F : Type 0} (R : F → Held → Bool → F → Type 0) (events : List Event) (f : F) (tells : (c : Held) (b : Bool) (g : F) → R f c b g → (b ≡ false → IsDoomed events (seen c)) × (g ≡ f)) where
-  kept_there : (bs : List Bool) (cs : List Held) (d : Configuration) → Has (items_where_true bs cs) d → Has cs d
-  kept_there [] cs d h = absurd h
-  kept_there (b ∷ bs) [] d h = absurd h
-  kept_there (true ∷ bs) (c ∷ cs) d h = elim h [ inl e ↦ inl e | inr k ↦ inr (kept_there bs cs d k) ]
-  kept_there (false ∷ bs) (c ∷ cs) d h = inr (kept_there bs cs d h)
+-- ---- configurations that a doomed one stands for
+stays : (F : Observed → Type 0) (k : ℕ) (xs left : List Observed) → AreButSome F k xs left → (z : Observed) → (F z → ⊥) → IsIn z xs → IsIn z left
+stays F k [] left a z other h = absurd h
+stays F k (x ∷ xs) left a z other h = elim a [
+  | inl p ↦ subst (IsIn z) (sym p.1) (elim h [ inl e ↦ inl e | inr q ↦ inr (stays F k xs p.0 p.2 z other q) ])
+  | inr p ↦ elim h [ inl e ↦ absurd (other (subst F (sym e) p.1)) | inr q ↦ stays F k xs left p.2 z other q ]
+]
 
-  others_doomed : (bs : List Bool) (cs : List Held) (q : F) → length bs ≡ length cs → ReturnsInTurn R f bs cs q → (d : Configuration) → Has cs d → Has (items_where_true bs cs) d ⊎ IsDoomed events d
-  others_doomed bs [] q same t d h = absurd h
-  others_doomed [] (c ∷ cs) q same t d h = absurd (omega (arith, same))
-  others_doomed (true ∷ bs) (c ∷ cs) q same t d h = let one = tells c true t.0 t.1 in elim h [
-    | inl e ↦ inl (inl e)
-    | inr k ↦ elim (others_doomed bs cs q (omega (arith, same)) (subst (λ (g : F). ReturnsInTurn R g bs cs q) one.1 t.2) d k) [ inl p ↦ inl (inr p) | inr p ↦ inr p ]
-  ]
-  others_doomed (false ∷ bs) (c ∷ cs) q same t d h = let one = tells c false t.0 t.1 in elim h [
-    | inl e ↦ inr (subst (IsDoomed events) (sym e) (one.0 refl))
-    | inr k ↦ others_doomed bs cs q (omega (arith, same)) (subst (λ (g : F). ReturnsInTurn R g bs cs q) one.1 t.2) d k
-  ]
+no_update : (u : Database) (x : Observed) (s : ℕ) → x.call ≡ GetSubscriberData s → IsBlind u x → ⊥
+no_update u x s reads b = let same : GetSubscriberData s ≡ UpdateLocation b.sets.number b.sets.location = sym reads ∙ b.sets.updates in cc
 
-  all_kept : (P : Held → Type 0) (bs : List Bool) (cs : List Held) → AllByRecursion P cs → AllByRecursion P (items_where_true bs cs)
-  all_kept P [] cs h = tt
-  all_kept P (b ∷ bs) [] h = tt
-  all_kept P (true ∷ bs) (c ∷ cs) h = (h.0, all_kept P bs cs h.1)
-  all_kept P (false ∷ bs) (c ∷ cs) h = all_kept P bs cs h.1
-
-  all_seen_kept : (P : Configuration → Type 0) (bs : List Bool) (cs : List Held) → AllByRecursion P (all_seen cs) → AllByRecursion P (all_seen (items_where_true bs cs))
-  all_seen_kept P [] cs h = tt
-  all_seen_kept P (b ∷ bs) [] h = tt
-  all_seen_kept P (true ∷ bs) (c ∷ cs) h = (h.0, all_seen_kept P bs cs h.1)
-  all_seen_kept P (false ∷ bs) (c ∷ cs) h = all_seen_kept P bs cs h.1
-
-  distinct_kept : (bs : List Bool) (cs : List Held) → AreDistinct (all_seen cs) → AreDistinct (all_seen (items_where_true bs cs))
-  distinct_kept [] cs h = tt
-  distinct_kept (b ∷ bs) [] h = tt
-  distinct_kept (true ∷ bs) (c ∷ cs) h = (all_seen_kept (λ (d : Configuration). seen c ≡ d → ⊥) bs cs h.0, distinct_kept bs cs h.1)
-  distinct_kept (false ∷ bs) (c ∷ cs) h = distinct_kept bs cs h.1
-
-  pub record AreLess (old new : List Held) : Type 0 where
-    pub kept : (d : Configuration) → Has new d → Has old d
-    pub found : (d : Configuration) → Has old d → Has new d ⊎ IsDoomed events d
-    pub ready : AreReady old → AreReady new
-    pub apart : (s : ℕ) → AreApart s old → AreApart s new
-
-  pub retained : (old new : List Held) → IsFiltered R f old new → AreLess old new
-  retained old new k = subst (AreLess old) (sym k.4) (record {
-    kept = kept_there k.0 old;
-    found = others_doomed k.0 old k.1 k.2 k.3;
-    ready = all_kept (λ (c : Held). AreAccepted c.opened.items) k.0 old;
-    apart = λ s h. record { own = all_kept (λ (c : Held). c.home.s_id ≡ s) k.0 old h.own; distinct = distinct_kept k.0 old h.distinct };
-  })
+pub doomed_stands : (events : List Event) (c : Held) (d : Configuration) → IsDoomed events (seen c) → StandsFor c d → IsDoomed events d
+doomed_stands events c d doomed h =
+    let r = doomed.0 in
+    let v = doomed.1 in
+    let stuck = doomed.2 in (
+      doomed.0,
+      doomed.1,
+      record {
+        there = stays (IsBlind c.home.tables) c.overwritten c.opened.items d.opened h.opened r (no_update c.home.tables r stuck.saw.s_id stuck.saw.reads) stuck.there;
+        saw = stuck.saw;
+        rows = subst (NoneHasLocation v) (sym h.rows) stuck.rows;
+        opened = but_all (IsBlind c.home.tables) c.overwritten (λ (z : Observed). sets_location v z.call ≡ false) c.opened.items d.opened h.opened stuck.opened;
+        later = stuck.later;
+      },
+    )
 
 pub get_in : (xs : List Observed) (i : ℕ) (x : Observed) → slice_get xs i ≡ Some x → IsIn x xs
 get_in [] i x e = absurd cc

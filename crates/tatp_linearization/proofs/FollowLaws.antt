@@ -6,29 +6,25 @@ use Rattle.tatp_history.specs.declared.observed.Observed.{Observed}
 use Rattle.tatp_history.specs.declared.event.Event.{Event}
 use Rattle.tatp_history.specs.declared.event.Event.TheVariants.{Asks, Ends}
 use Rattle.tatp_history.specs.Locality.{AreAccepted}
-use Rattle.tatp_history.specs.Events.{asked_in, TimesRise, HaveEnds}
+use Rattle.tatp_history.specs.Events.{asked_in, time_of, AreAfter, TimesRise, HaveEnds}
 use Rattle.tatp_history.specs.JustInTime.{NoneAskedAt}
 use Rattle.tatp_history.specs.Histories.{IsStrictlySerializable}
 use Rattle.tatp_history.specs.Configurations.{Configuration, starting}
 use Rattle.tatp_linearization.specs.declared.configuration.Configuration.{Configuration as Held}
-use Rattle.tatp_linearization.specs.AtOnce.{TakeUntil, FollowsAtOnce, LeadAtOnce}
+use Rattle.tatp_linearization.specs.AtOnce.{FollowsAtOnce, LeadAtOnce}
 use Rattle.tatp_linearization.specs.Doomed.{IsDoomed}
-use Rattle.tatp_linearization.specs.Possible.{AreMoreThan, NeedMore}
-use Rattle.tatp_linearization.specs.Held.{seen, Has, AreReady, AreApart, Adds, HoldsOfOne, IsTried, FollowAll}
+use Rattle.tatp_linearization.specs.Possible.{AreMoreThan, IsPossible, NeedMore}
+use Rattle.tatp_linearization.specs.Held.{seen, AreReady, AreApart}
+use Rattle.tatp_linearization.specs.Covering.{OneStandsFor, AreEachApart, FromOne, MayBeTried, FollowSet}
 use Rattle.tatp_linearization.specs.Reached.{AreKept}
-use Rattle.tatp_linearization.proofs.AtOnceLaws.{lead_on, lead_by, at_once_exact}
-use Rattle.tatp_linearization.proofs.PossibleLaws.{AreLed, need_more}
+use Rattle.tatp_linearization.proofs.AtOnceLaws.{lead_by, at_once_complete}
+use Rattle.tatp_linearization.proofs.PossibleLaws.{ArePossible, follow_possible, need_more}
+use Rattle.tatp_linearization.proofs.SerialLaws.{possible_serial, possible_apart}
+use Rattle.tatp_linearization.proofs.CoveringLaws.{seen_stands, bare_stands}
 use Rattle.tatp_linearization.proofs.DoomedLaws.{none_doomed, doomed_on}
 use Rattle.tatp_linearization.proofs.PlaceLaws.{take_more, drop_at}
-use Rattle.tatp_linearization.proofs.TurnLaws.{until_some}
 
 -- ---- one configuration
-pub adds_same : (old : List Held) (P R : Configuration → Type 0) (new : List Held) → ((d : Configuration) → P d ↔ R d) → Adds old P new → Adds old R new
-adds_same old P R new same adds d = (
-  λ h. elim ((adds d).0 h) [ inl k ↦ inl k | inr k ↦ inr ((same d).0 k) ],
-  λ h. (adds d).1 (elim h [ inl k ↦ inl k | inr k ↦ inr ((same d).1 k) ]),
-)
-
 -- what follows where a call is asked is one
 pub asked_same : (c d : Configuration) (x : Observed) → FollowsAtOnce (Asks x) c d → (e : Configuration) → (e ≡ d) ↔ FollowsAtOnce (Asks x) c e
 asked_same c d x f e = (
@@ -45,62 +41,68 @@ none_same c d asked at none same e = (
   λ h. elim h [ inl k ↦ k.1 ∙ sym same | inr k ↦ absurd (k.0 none) ],
 )
 
-pub until_same : (c : Configuration) (asked at : ℕ) → (NoneAskedAt asked c.opened → ⊥) → (e : Configuration) → TakeUntil (length c.opened) asked c e ↔ FollowsAtOnce (Ends asked at) c e
-until_same c asked at some e = (
-  λ h. inr (some, h),
-  λ h. elim h [ inl k ↦ absurd (some k.0) | inr k ↦ k.1 ],
-)
-
--- what follows is among what is tried
-pub follows_tried : (event : Event) (c d : Configuration) → FollowsAtOnce event c d → IsTried event c d
-follows_tried (Asks x) c d h = h
-follows_tried (Ends asked at) c d h = elim h [ inl k ↦ (0, k.1) | inr k ↦ until_some (length c.opened) asked c d k.1 ]
-
 -- ---- explanations
 pub kept_none : (u : Database) (cs : List Held) (c : Held) → cs ≡ c ∷ [] → c.home.tables ≡ u → c.opened.items ≡ [] → AreKept u [] cs
 kept_none u cs c is rows none =
     let there : seen c ≡ starting u = λ k. record { rows = rows k; opened = none k } in
     record {
-      exact = λ d. (
-        λ h. let k : Has (c ∷ []) d = subst (λ bs. Has bs d) is h in elim k [ inl q ↦ q ∙ there | inr q ↦ absurd q ],
-        λ h. subst (λ bs. Has bs d) (sym is) (inl (h ∙ sym there)),
-      );
+      complete = λ rise d h. subst (λ bs. OneStandsFor bs d) (sym is) (inl ((bare_stands c d none).1 (h ∙ sym there)));
+      sound = λ d h.
+          let k : OneStandsFor (c ∷ []) d = subst (λ bs. OneStandsFor bs d) is h in
+          elim k [
+            | inl q ↦ subst (IsPossible u []) (sym ((bare_stands c d none).0 q ∙ there)) ((0, refl), tt)
+            | inr q ↦ absurd q
+          ];
       ready = subst AreReady (sym is) (subst AreAccepted (sym none) tt, tt);
       apart = (c.home.s_id, subst (AreApart c.home.s_id) (sym is) (record { own = (refl, tt); distinct = (tt, tt) }));
     }
 
--- these are the configurations to which the events lead, but for some that are doomed by the rest
+-- the open calls of each were asked apart
+pub each_apart : (u : Database) (past : List Event) (cs : List Held) → TimesRise past → ArePossible u past cs → AreEachApart cs
+each_apart u past [] rise all = tt
+each_apart u past (c ∷ cs) rise all = (possible_apart u past (seen c) rise (all (seen c) (inl (seen_stands c))).0, each_apart u past cs rise (λ d h. all d (inr h)))
+
+-- these stand for the configurations to which the events lead, but for some that are doomed by the rest
 pub record AreKeptBut (u : Database) (past rest : List Event) (cs : List Held) : Type 0 where
-  pub sound : AreLed u past cs
-  pub found : (d : Configuration) → LeadAtOnce past (starting u) d → Has cs d ⊎ IsDoomed rest d
+  pub sound : ArePossible u past cs
+  pub found : TimesRise past → (d : Configuration) → LeadAtOnce past (starting u) d → OneStandsFor cs d ⊎ IsDoomed rest d
   pub ready : AreReady cs
   pub apart : (s : ℕ) × AreApart s cs
 
-pub but_none : (u : Database) (past rest : List Event) (cs : List Held) → AreKept u past cs → AreKeptBut u past rest cs
-but_none u past rest cs kept = record { sound = λ d h. (kept.exact d).0 h; found = λ d h. inl ((kept.exact d).1 h); ready = kept.ready; apart = kept.apart }
+pub but_none_doomed : (u : Database) (past rest : List Event) (cs : List Held) → AreKept u past cs → AreKeptBut u past rest cs
+but_none_doomed u past rest cs kept = record { sound = kept.sound; found = λ rise d h. inl (kept.complete rise d h); ready = kept.ready; apart = kept.apart }
 
 pub none_but : (u : Database) (past : List Event) (cs : List Held) → AreKeptBut u past [] cs → AreKept u past cs
-none_but u past cs kept = record { exact = λ d. (kept.sound d, λ h. elim (kept.found d h) [ inl k ↦ k | inr doomed ↦ absurd (none_doomed d doomed) ]); ready = kept.ready; apart = kept.apart }
+none_but u past cs kept = record { complete = λ rise d h. elim (kept.found rise d h) [ inl k ↦ k | inr doomed ↦ absurd (none_doomed d doomed) ]; sound = kept.sound; ready = kept.ready; apart = kept.apart }
 
-pub kept_more : (u : Database) (past : List Event) (event : Event) (rest : List Event) (before after : List Held) → FollowAll event before after → AreReady after → ((s : ℕ) → AreApart s before → AreApart s after) → AreKeptBut u past (event ∷ rest) before → AreKeptBut u (past ++ event ∷ []) rest after
+pub first_rise : (past more : List Event) → TimesRise (past ++ more) → TimesRise past
+first_rise [] more h = tt
+first_rise (event ∷ past) more h = (after past h.0, first_rise past more h.1)
+  where
+    after : (es : List Event) → AreAfter (time_of event) (es ++ more) → AreAfter (time_of event) es
+    after [] k = tt
+    after (e ∷ es) k = (k.0, after es k.1)
+
+pub kept_more : (u : Database) (past : List Event) (event : Event) (rest : List Event) (before after : List Held) → FollowSet event before after → AreReady after → ((s : ℕ) → AreApart s before → AreApart s after) → AreKeptBut u past (event ∷ rest) before → AreKeptBut u (past ++ event ∷ []) rest after
 kept_more u past event rest before after all ready apart kept = record {
-  sound = λ d h. let k = (all d).0 h in lead_on past (event ∷ []) (starting u) k.0 d (kept.sound k.0 k.1) (d, k.2, refl);
-  found = λ d h.
+  sound = λ d h. let k = all.sound d h in follow_possible u past event k.0 d (kept.sound k.0 k.1) k.2;
+  found = λ rise d h.
+      let early = first_rise past (event ∷ []) rise in
       let parts = lead_by past (event ∷ []) (starting u) d h in
       let last : FollowsAtOnce event parts.0 d = subst (λ (b : Configuration). FollowsAtOnce event parts.0 b) (sym parts.2.2) parts.2.1 in
-      elim (kept.found parts.0 parts.1) [
-        | inl k ↦ inl ((all d).1 (parts.0, k, last))
+      elim (kept.found early parts.0 parts.1) [
+        | inl k ↦ inl (all.found (each_apart u past before early kept.sound) d (parts.0, k, last))
         | inr doomed ↦ inr (doomed_on event rest parts.0 d doomed last)
       ];
   ready = ready;
   apart = (kept.apart.0, apart kept.apart.0 kept.apart.1);
 }
 
-pub kept_less : (u : Database) (past rest : List Event) (before after : List Held) → ((d : Configuration) → Has after d → Has before d) → ((d : Configuration) → Has before d → Has after d ⊎ IsDoomed rest d) → (AreReady before → AreReady after)
+pub kept_less : (u : Database) (past rest : List Event) (before after : List Held) → ((d : Configuration) → OneStandsFor after d → OneStandsFor before d) → ((d : Configuration) → OneStandsFor before d → OneStandsFor after d ⊎ IsDoomed rest d) → (AreReady before → AreReady after)
     → ((s : ℕ) → AreApart s before → AreApart s after) → AreKeptBut u past rest before → AreKeptBut u past rest after
 kept_less u past rest before after less found ready apart kept = record {
   sound = λ d h. kept.sound d (less d h);
-  found = λ d h. elim (kept.found d h) [ inl k ↦ found d k | inr doomed ↦ inr doomed ];
+  found = λ rise d h. elim (kept.found rise d h) [ inl k ↦ found d k | inr doomed ↦ inr doomed ];
   ready = ready kept.ready;
   apart = (kept.apart.0, apart kept.apart.0 kept.apart.1);
 }
@@ -111,18 +113,18 @@ positive (suc n) e = omega arith
 
 -- where none is kept there is no order, and where some are there is one
 pub none_explains : (u : Database) (past : List Event) (cs : List Held) → AreKept u past cs → TimesRise past → HaveEnds past → length cs ≡ 0 → IsStrictlySerializable u (asked_in past) → ⊥
-none_explains u past cs kept rise have none s = let led = (at_once_exact u past rise have).1 s in not_there cs led.0 none ((kept.exact led.0).1 led.1)
+none_explains u past cs kept rise have none s = let led = at_once_complete u past rise have s in not_there cs led.0 none (kept.complete rise led.0 led.1)
   where
-    not_there : (bs : List Held) (d : Configuration) → length bs ≡ 0 → Has bs d → ⊥
+    not_there : (bs : List Held) (d : Configuration) → length bs ≡ 0 → OneStandsFor bs d → ⊥
     not_there [] d e h = h
     not_there (b ∷ bs) d e h = omega (arith, e)
 
 pub some_explain : (u : Database) (past : List Event) (cs : List Held) → AreKept u past cs → TimesRise past → HaveEnds past → 0 < length cs → IsStrictlySerializable u (asked_in past)
-some_explain u past cs kept rise have some = let first = first_of cs some in (at_once_exact u past rise have).0 (seen first.0, (kept.exact (seen first.0)).0 first.1)
+some_explain u past cs kept rise have some = let first = first_of cs some in possible_serial u past (seen first.0) rise have (kept.sound (seen first.0) first.1).0
   where
-    first_of : (bs : List Held) → 0 < length bs → (c : Held) × Has bs (seen c)
+    first_of : (bs : List Held) → 0 < length bs → (c : Held) × OneStandsFor bs (seen c)
     first_of [] lt = absurd (omega (arith, lt))
-    first_of (b ∷ bs) lt = (b, inl refl)
+    first_of (b ∷ bs) lt = (b, inl (seen_stands b))
 
 -- ---- windows
 -- events up to a place, and the one there
@@ -144,10 +146,10 @@ pub record IsFollowed (set : List Held) (events : List Event) (i : ℕ) (after :
   pub apart : (s : ℕ) → AreApart s set → AreApart s after
 
 pub followed_none : (set : List Held) (events : List Event) → AreReady set → IsFollowed set events 0 set
-followed_none set events ready = record { kept = λ u past k. subst (λ es. AreKeptBut u es events set) (sym (append-nil past)) (but_none u past events set k); ready = ready; apart = λ s h. h }
+followed_none set events ready = record { kept = λ u past k. subst (λ es. AreKeptBut u es events set) (sym (append-nil past)) (but_none_doomed u past events set k); ready = ready; apart = λ s h. h }
 
 pub followed_more : (set : List Held) (events : List Event) (i : ℕ) (event : Event) (before after : List Held) → slice_get events i ≡ Some event → IsFollowed set events i before
-    → FollowAll event before after → AreReady after → ((s : ℕ) → AreApart s before → AreApart s after) → IsFollowed set events (i + 1) after
+    → FollowSet event before after → AreReady after → ((s : ℕ) → AreApart s before → AreApart s after) → IsFollowed set events (i + 1) after
 followed_more set events i event before after at f all ready apart = record {
   kept = λ u past k. subst (λ es. AreKeptBut u es (drop (i + 1) events) after) (sym (window_more past events i event at))
       (kept_more u (past ++ take i events) event (drop (i + 1) events) before after all ready apart
@@ -160,8 +162,8 @@ followed_more set events i event before after at f all ready apart = record {
     next n = omega arith
 
 -- without some that are doomed
-pub followed_less : (set : List Held) (events : List Event) (i : ℕ) (before after : List Held) → IsFollowed set events i before → ((d : Configuration) → Has after d → Has before d)
-    → ((d : Configuration) → Has before d → Has after d ⊎ IsDoomed (drop i events) d) → (AreReady before → AreReady after) → ((s : ℕ) → AreApart s before → AreApart s after) → IsFollowed set events i after
+pub followed_less : (set : List Held) (events : List Event) (i : ℕ) (before after : List Held) → IsFollowed set events i before → ((d : Configuration) → OneStandsFor after d → OneStandsFor before d)
+    → ((d : Configuration) → OneStandsFor before d → OneStandsFor after d ⊎ IsDoomed (drop i events) d) → (AreReady before → AreReady after) → ((s : ℕ) → AreApart s before → AreApart s after) → IsFollowed set events i after
 followed_less set events i before after f less found ready apart = record {
   kept = λ u past k. kept_less u (past ++ take i events) (drop i events) before after less found ready apart (f.kept u past k);
   ready = ready f.ready;
@@ -180,7 +182,7 @@ followed_all set events i after f all u past k =
     nothing_left (e ∷ es) (suc n) le = nothing_left es n (omega (arith, le))
 
 pub followed_many : (most : ℕ) (set : List Held) (events : List Event) (i : ℕ) (event : Event) (before : List Held) → slice_get events i ≡ Some event → IsFollowed set events i before
-    → ((s : ℕ) → AreApart s before → AreMoreThan most (HoldsOfOne (IsTried event) before)) → (u : Database) (past : List Event) → AreKept u past set → NeedMore most u (past ++ events)
+    → ((s : ℕ) → AreApart s before → AreMoreThan most (FromOne (MayBeTried event) before)) → (u : Database) (past : List Event) → AreKept u past set → NeedMore most u (past ++ events)
 followed_many most set events i event before at f many u past k =
     let own = f.kept u past k in
     subst (NeedMore most u) (sym (window_whole past events i event at))

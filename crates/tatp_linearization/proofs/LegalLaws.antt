@@ -19,7 +19,9 @@ use Rattle.tatp_history.proofs.RemainingLaws.{IsLeft}
 use Rattle.tatp_history.proofs.JustInTimeLaws.{Any, serial_is, none_open}
 use Rattle.tatp_linearization.specs.declared.configuration.Configuration.{Configuration as Held}
 use Rattle.tatp_linearization.specs.declared.explanations.Explanations.{Explanations}
-use Rattle.tatp_linearization.specs.Held.{Has, AreReady, IsAcceptedEvent}
+use Rattle.tatp_linearization.specs.Held.{seen, Has, AreReady, IsAcceptedEvent}
+use Rattle.tatp_linearization.specs.Overwritten.{IsBlind}
+use Rattle.tatp_linearization.specs.Covering.{OneStandsFor}
 use Rattle.tatp_linearization.specs.Reached.{AreKept, AreReached}
 use Rattle.tatp_linearization.specs.Single.{answered_with}
 use Rattle.tatp_linearization.specs.Cut.{events_by, AreWindow}
@@ -27,6 +29,10 @@ use Rattle.tatp_linearization.specs.Legal.{with_call, events_with, calls_in, ope
 use Rattle.tatp_linearization.specs.Leaving.{without_calls, AreAcceptedCalls, AreClosed}
 use Rattle.tatp_linearization.specs.Listed.{IsListed, AreSifted}
 use Rattle.tatp_linearization.proofs.AtOnceLaws.{lead_complete}
+use Rattle.tatp_linearization.proofs.ButSomeLaws.{but_in}
+use Rattle.tatp_linearization.proofs.HeldLaws.{get_has}
+use Rattle.tatp_linearization.proofs.CoveringLaws.{stands_get}
+use Rattle.tatp_linearization.proofs.FollowLaws.{first_rise}
 use Rattle.tatp_linearization.proofs.PlacedLaws.{told_rises, told_have, told_asked, other_in, among_window}
 
 -- ---- calls among those of a window and those open before it
@@ -42,10 +48,10 @@ among_second : (call : Call) (xs ys : List Call) → IsAmong call ys → IsAmong
 among_second call [] ys h = h
 among_second call (x ∷ xs) ys h = inr (among_second call xs ys h)
 
-among_open : (cs : List Held) (d : Configuration) (z : Observed) → Has cs d → IsIn z d.opened → IsAmong z.call (open_calls cs)
+among_open : (cs : List Held) (d : Configuration) (z : Observed) → OneStandsFor cs d → IsIn z d.opened → IsAmong z.call (open_calls cs)
 among_open [] d z h k = absurd h
 among_open (c ∷ cs) d z h k = elim h [
-  | inl e ↦ among_first z.call (calls_in c.opened.items) (open_calls cs) (among_in z c.opened.items (subst (λ (b : Configuration). IsIn z b.opened) e k))
+  | inl e ↦ among_first z.call (calls_in c.opened.items) (open_calls cs) (among_in z c.opened.items (but_in (IsBlind c.home.tables) c.overwritten c.opened.items d.opened e.opened z k))
   | inr q ↦ among_second z.call (calls_in c.opened.items) (open_calls cs) (among_open cs d z q k)
 ]
 
@@ -68,7 +74,9 @@ legal_on_rows u past events x at reply cs rows window there was kept starts clos
     let s' : IsStrictlySerializable u (asked_in (past ++ E)) = subst (IsStrictlySerializable u) (sym (told_asked past events x at reply window there was)) s in
     let led = lead_complete Any past E rise have (starting u) tt (none_open (past ++ E)) (s'.0, serial_is u (past ++ E) [] s'.0 s'.1, tt) in
     let d : Configuration = led.0 in
-    let has : Has cs d = (kept.exact d).1 led.1 in
+    let has : OneStandsFor cs d = kept.complete (first_rise past E rise) d led.1 in
+    let one = stands_get cs d has in
+    let bare : Has rows (record { rows = d.rows; opened = [] }) = subst (λ v. Has rows (record { rows = v; opened = [] })) (sym one.4.rows) (starts (seen one.2) (get_has cs one.0 one.2 one.3)) in
     let order = led.2 in
     let calls : List Call = all_calls cs events in
     let own : IsAmong x.call calls = among_second x.call (open_calls cs) (calls_in (asked_in events)) (among_in x (asked_in events) there) in
@@ -80,7 +88,7 @@ legal_on_rows u past events x at reply cs rows window there was kept starts clos
       ]
     ]) in
     let stands : IsIn (answered_with x at reply) order.0 = order.1.all (answered_with x at reply) (inr (other_in past events x at reply window there was events there)) tt in
-    on_rows calls rows closed (answered_with x at reply) order.0 d.rows (starts d has) among order.1.replies stands
+    on_rows calls rows closed (answered_with x at reply) order.0 d.rows bare among order.1.replies stands
 
 -- a call of a window is accepted
 pub accepted_in : (x : Observed) (events : List Event) → AllByRecursion IsAcceptedEvent events → IsIn x (asked_in events) → arguments_accepted x.call ≡ Ok tt

@@ -1,6 +1,6 @@
 -- What the search keeps and tries is possible.
 use Rattle.std.proofs.Common.{◌≡◌, ℕ, zero, suc, Bool, true, false, cond, List, [], ◌∷◌, ◌++◌, length, refl, sym, ◌∙◌, ap, subst, inl, inr}
-use Rattle.std.proofs.lemmas.List.{append-nil, append_assoc}
+use Rattle.std.proofs.lemmas.List.{append-nil}
 use Rattle.tatp_tables.specs.Database.{Database}
 use Rattle.tatp_procs.specs.Transactions.{transaction}
 use Rattle.tatp_history.specs.declared.event.Event.{Event}
@@ -16,9 +16,10 @@ use Rattle.tatp_history.proofs.OrderLaws.{all_map}
 use Rattle.tatp_linearization.specs.declared.configuration.Configuration.{Configuration as Held}
 use Rattle.tatp_linearization.specs.AtOnce.{FitsAtOnce, AreLeft, IsSettled, TakesOne, TakeUntil, FollowsAtOnce, LeadAtOnce}
 use Rattle.tatp_linearization.specs.Possible.{CallTakesEffect, CallsTakeEffect, Passes, MayBecome, AreMoreThan, IsPossible, NeedMore}
-use Rattle.tatp_linearization.specs.Held.{Has, HoldsOfOne, TakeMany, TakeSome, IsTried}
+use Rattle.tatp_linearization.specs.Held.{TakeMany}
+use Rattle.tatp_linearization.specs.Covering.{OneStandsFor, FromOne, MayCome, MayFollow, MayBeTried}
 use Rattle.tatp_linearization.proofs.SettlingLaws.{chooses_mid, shift, reads_leave}
-use Rattle.tatp_linearization.proofs.AtOnceLaws.{one_settled, event_settled, lead_settled}
+use Rattle.tatp_linearization.proofs.AtOnceLaws.{one_settled, event_settled}
 
 pub more_than : (most : ℕ) (P R : Configuration → Type 0) → ((d : Configuration) → P d → R d) → AreMoreThan most P → AreMoreThan most R
 more_than most P R f p = record { some = p.some; many = p.many; distinct = p.distinct; hold = all_map P R f p.some p.hold }
@@ -63,7 +64,7 @@ one_takes c d h =
     let end : record { rows = v; opened = d.opened } ≡ d = λ i. record { rows = sym h.2.rows i; opened = d.opened } in
     some_on c mid d (one_call c mid (h.0, h.1, h.2.chosen, h.2.may, refl)) (subst (SomeTakeEffect mid) end (reads_take v [] h.1 d.opened h.2.settled))
 
-until_takes : (n asked : ℕ) (c d : Configuration) → TakeUntil n asked c d → SomeTakeEffect c d × NoneAskedAt asked d.opened
+pub until_takes : (n asked : ℕ) (c d : Configuration) → TakeUntil n asked c d → SomeTakeEffect c d × NoneAskedAt asked d.opened
 until_takes zero asked c d h = absurd h
 until_takes (suc n) asked c d h = elim h.2 [
   | inl k ↦ (subst (SomeTakeEffect c) (sym k.1) (one_takes c h.0 h.1), subst (λ (b : Configuration). NoneAskedAt asked b.opened) (sym k.1) k.0)
@@ -121,38 +122,44 @@ lead_becomes past (event ∷ more) s c d may h =
     subst (λ es. MayBecome es s d) (sym (shift past event more))
     (lead_becomes (past ++ event ∷ []) more s h.0 d (event_becomes past event s c h.0 may h.1) h.2)
 
--- each configuration is one to which the events lead
-abbrev pub AreLed : Database → List Event → List Held → Type 0
-AreLed u past cs = (d : Configuration) → Has cs d → LeadAtOnce past (starting u) d
+-- what comes or follows is possible
+pub come_possible : (u : Database) (past : List Event) (c d : Configuration) → IsPossible u past c → MayCome c d → IsPossible u past d
+come_possible u past c d own m = (becomes_on past (starting u) c d own.0 m.calls, m.settled own.1)
 
-pub led_possible : (u : Database) (past : List Event) (cs : List Held) → AreLed u past cs → (d : Configuration) → Has cs d → IsPossible u past d
-led_possible u past cs all d h =
-    let led = all d h in
-    (lead_becomes [] past (starting u) (starting u) d (0, refl) led, lead_settled past (starting u) d tt led)
+pub follow_possible : (u : Database) (past : List Event) (event : Event) (c d : Configuration) → IsPossible u past c → MayFollow event c d → IsPossible u (past ++ event ∷ []) d
+follow_possible u past (Asks x) c d own h = (event_becomes past (Asks x) (starting u) c d own.0 h, event_settled (Asks x) c d own.1 h)
+follow_possible u past (Ends asked at) c d own h =
+    let come = come_possible u past c d own h.0 in
+    (becomes_passed past (Ends asked at) (starting u) d d come.0 (h.1, refl), come.1)
 
--- so is what open calls make of it
-pub tried_possible : (u : Database) (past : List Event) (cs : List Held) → AreLed u past cs → (d : Configuration) → HoldsOfOne TakeSome cs d → IsPossible u past d
-tried_possible u past cs all d h =
-    let own = led_possible u past cs all h.0 h.1 in
-    let takes = many_take h.2.0 h.0 d own.1 h.2.1 in
-    (becomes_on past (starting u) h.0 d own.0 takes.0, takes.1)
+abbrev pub ArePossible : Database → List Event → List Held → Type 0
+ArePossible u past cs = (d : Configuration) → OneStandsFor cs d → IsPossible u past d
 
-pub need_more : (u : Database) (past : List Event) (event : Event) (rest : List Event) (most : ℕ) (cs : List Held) → AreLed u past cs → AreMoreThan most (HoldsOfOne (IsTried event) cs) → NeedMore most u (past ++ event ∷ rest)
+-- more than so many that are tried at an event
+pub need_more : (u : Database) (past : List Event) (event : Event) (rest : List Event) (most : ℕ) (cs : List Held) → ArePossible u past cs → AreMoreThan most (FromOne (MayBeTried event) cs) → NeedMore most u (past ++ event ∷ rest)
 need_more u past (Asks x) rest most cs all p = (
   past ++ Asks x ∷ [],
   rest,
   shift past (Asks x) rest,
-  more_than most (HoldsOfOne (IsTried (Asks x)) cs) (IsPossible u (past ++ Asks x ∷ [])) (λ d h.
-      let own = led_possible u past cs all h.0 h.1 in
-      (event_becomes past (Asks x) (starting u) h.0 d own.0 h.2, event_settled (Asks x) h.0 d own.1 h.2)) p,
+  more_than most (FromOne (MayBeTried (Asks x)) cs) (IsPossible u (past ++ Asks x ∷ [])) (λ d h. follow_possible u past (Asks x) h.0 d (all h.0 h.1) h.2) p,
 )
 need_more u past (Ends asked at) rest most cs all p = (
   past,
   Ends asked at ∷ rest,
   refl,
-  more_than most (HoldsOfOne (IsTried (Ends asked at)) cs) (IsPossible u past) (tried_possible u past cs all) p,
+  more_than most (FromOne (MayBeTried (Ends asked at)) cs) (IsPossible u past) (λ d h. come_possible u past h.0 d (all h.0 h.1) h.2) p,
 )
 
--- where more than so many are needed by some of the first events, they are by all
-pub need_on : (most : ℕ) (u : Database) (first second : List Event) → NeedMore most u first → NeedMore most u (first ++ second)
-need_on most u first second p = (p.0, p.1 ++ second, ap (λ es. es ++ second) p.2 ∙ append_assoc p.0 p.1 second, p.3)
+-- what comes of those that are possible
+pub come_many : (u : Database) (past : List Event) (most : ℕ) (cs : List Held) → ArePossible u past cs → AreMoreThan most (FromOne MayCome cs) → NeedMore most u past
+come_many u past most cs all p = (past, [], sym (append-nil past), more_than most (FromOne MayCome cs) (IsPossible u past) (λ d h. come_possible u past h.0 d (all h.0 h.1) h.2) p)
+
+-- ---- one after another
+pub come_none : (c : Configuration) → MayCome c c
+come_none c = record { calls = (0, refl); settled = λ h. h }
+
+pub come_on : (c d e : Configuration) → MayCome c d → MayCome d e → MayCome c e
+come_on c d e first second = record { calls = some_on c d e first.calls second.calls; settled = λ h. second.settled (first.settled h) }
+
+pub one_comes : (c d : Configuration) → TakesOne c d → MayCome c d
+one_comes c d h = record { calls = one_takes c d h; settled = λ _. one_settled c d h }

@@ -6,11 +6,10 @@ use Rattle.tatp_procs.specs.declared.call.Call.{Call}
 use Rattle.tatp_procs.specs.declared.call.Call.TheVariants.{GetSubscriberData, GetNewDestination, GetAccessData, UpdateSubscriberData, UpdateLocation, InsertCallForwarding, DeleteCallForwarding}
 use Rattle.tatp_history.specs.declared.event.Event.{Event}
 use Rattle.tatp_history.specs.declared.observed.Observed.{Observed}
-use Rattle.tatp_history.specs.Histories.{rows_after}
 use Rattle.tatp_history.specs.Events.{HaveEnds}
 use Rattle.tatp_history.specs.JustInTime.{Chooses, AreOpen}
 use Rattle.tatp_history.specs.Configurations.{IsRead}
-use Rattle.tatp_history.proofs.RemainingLaws.{HasOrder, IsOrderFrom, open_chosen, put_first}
+use Rattle.tatp_history.proofs.RemainingLaws.{HasOrder, open_chosen}
 use Rattle.tatp_history.proofs.ReadLaws.{without_read, subscriber_data_is_read, new_destination_is_read, access_data_is_read}
 use Rattle.tatp_linearization.specs.AtOnce.{only_reads, FitsAtOnce, AreLeft}
 use Rattle.tatp_linearization.proofs.DecisionLaws.{fits_or_not}
@@ -85,14 +84,6 @@ left_open events u before (x ∷ xs) left a are = elim a [
 ]
 
 module _ (Q : Database → Type 0) (events : List Event) (have : HaveEnds events) (u : Database) where
-  pub read_back : (opened left : List Observed) (x : Observed) → Chooses opened x left → AreOpen events opened → FitsAtOnce u x → HasOrder Q u events left → HasOrder Q u events opened
-  read_back opened left x c are f h =
-      let same = reads_leave x.call f.0 u in (
-        x ∷ h.0,
-        put_first u events opened x left h.0 have are c f.1 (subst (λ v. IsOrderFrom v events left h.0) (sym same) h.1),
-        subst (λ v. Q (rows_after v h.0)) (sym same) h.2,
-      )
-
   pub left_order : (before xs left : List Observed) → AreLeft u xs left → AreOpen events (before ++ xs) → HasOrder Q u events (before ++ xs) → HasOrder Q u events (before ++ left)
   left_order before [] left a are h = subst (λ zs. HasOrder Q u events (before ++ zs)) (sym a) h
   left_order before (x ∷ xs) left a are h = elim a [
@@ -101,15 +92,4 @@ module _ (Q : Database → Type 0) (events : List Event) (have : HaveEnds events
         (without_read events (before ++ x ∷ xs) x (before ++ xs) c are Q u (reads_leave x.call k.0.0) h)
     | inr k ↦ subst (λ zs. HasOrder Q u events (before ++ zs)) (sym k.1.1) (subst (λ zs. HasOrder Q u events zs) (sym (shift before x k.1.0))
         (left_order (before ++ x ∷ []) xs k.1.0 k.1.2 (subst (AreOpen events) (shift before x xs) are) (subst (λ zs. HasOrder Q u events zs) (shift before x xs) h)))
-  ]
-
-  pub order_left : (before xs left : List Observed) → AreLeft u xs left → AreOpen events (before ++ xs) → HasOrder Q u events (before ++ left) → HasOrder Q u events (before ++ xs)
-  order_left before [] left a are h = subst (λ zs. HasOrder Q u events (before ++ zs)) a h
-  order_left before (x ∷ xs) left a are h = elim a [
-    | inl k ↦ let c = chooses_mid before xs x in
-        read_back (before ++ x ∷ xs) (before ++ xs) x c are k.0
-        (order_left before xs left k.1 (open_chosen events (before ++ x ∷ xs) x (before ++ xs) c are) h)
-    | inr k ↦ subst (λ zs. HasOrder Q u events zs) (sym (shift before x xs))
-        (order_left (before ++ x ∷ []) xs k.1.0 k.1.2 (subst (AreOpen events) (shift before x xs) are)
-        (subst (λ zs. HasOrder Q u events zs) (shift before x k.1.0) (subst (λ zs. HasOrder Q u events (before ++ zs)) k.1.1 h)))
   ]

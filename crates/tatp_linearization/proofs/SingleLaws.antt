@@ -15,11 +15,17 @@ use Rattle.tatp_history.specs.Events.{asked_in, time_of, AreAfter, TimesRise, Is
 use Rattle.tatp_history.specs.Configurations.{Configuration, starting}
 use Rattle.tatp_linearization.specs.declared.configuration.Configuration.{Configuration as Held}
 use Rattle.tatp_linearization.specs.AtOnce.{only_reads, AreLeft, TakeUntil, FollowsAtOnce, LeadAtOnce}
-use Rattle.tatp_linearization.specs.Held.{seen, Has, AreReady, AreApart}
+use Rattle.tatp_linearization.specs.Possible.{IsPossible}
+use Rattle.tatp_linearization.specs.Held.{seen, AreReady, AreApart}
+use Rattle.tatp_linearization.specs.Covering.{OneStandsFor}
 use Rattle.tatp_linearization.specs.Reached.{AreKept}
 use Rattle.tatp_linearization.specs.Single.{events_alone, answered_with}
 use Rattle.tatp_linearization.proofs.SettlingLaws.{reads_leave}
-use Rattle.tatp_linearization.proofs.AtOnceLaws.{lead_on, lead_by, at_once_exact}
+use Rattle.tatp_linearization.proofs.AtOnceLaws.{lead_by, lead_settled, at_once_complete}
+use Rattle.tatp_linearization.proofs.PossibleLaws.{lead_becomes}
+use Rattle.tatp_linearization.proofs.SerialLaws.{possible_serial}
+use Rattle.tatp_linearization.proofs.CoveringLaws.{seen_stands, bare_stands}
+use Rattle.tatp_linearization.proofs.FollowLaws.{first_rise}
 
 -- ---- the events
 was_not : (outcome : Outcome) → IsAnswered outcome → may_take_effect outcome ≡ false → ⊥
@@ -103,39 +109,39 @@ module _ (x : Observed) (at : ℕ) (u : Database) (past : List Event) (cs : List
   held_is : seen c ≡ held
   held_is i = record { rows = c.home.tables; opened = none i }
 
-  only_held : (d : Configuration) → LeadAtOnce past (starting u) d → d ≡ held
-  only_held d led = let there : Has (c ∷ []) d = subst (λ bs. Has bs d) is ((kept.exact d).1 led) in elim there [ inl e ↦ e ∙ held_is | inr k ↦ absurd k ]
+  only_held : TimesRise past → (d : Configuration) → LeadAtOnce past (starting u) d → d ≡ held
+  only_held rise d led = let there : OneStandsFor (c ∷ []) d = subst (λ bs. OneStandsFor bs d) is (kept.complete rise d led) in elim there [ inl h ↦ (bare_stands c d none).0 h ∙ held_is | inr k ↦ absurd k ]
 
-  is_held : LeadAtOnce past (starting u) held
-  is_held = subst (LeadAtOnce past (starting u)) held_is ((kept.exact (seen c)).0 (subst (λ bs. Has bs (seen c)) (sym is) (inl refl)))
+  is_held : IsPossible u past held
+  is_held = subst (IsPossible u past) held_is (kept.sound (seen c) (subst (λ bs. OneStandsFor bs (seen c)) (sym is) (inl (seen_stands c))))
+
+  after_held : MayHaveReply x.outcome (transaction x.call c.home.tables).reply → IsPossible u (past ++ events_alone x at) (after x at c.home.tables)
+  after_held may =
+      let led = alone_leads x at c.home.tables may in
+      (lead_becomes past (events_alone x at) (starting u) held (after x at c.home.tables) is_held.0 led, lead_settled (events_alone x at) held (after x at c.home.tables) is_held.1 led)
 
   pub alone_explained : TimesRise (past ++ events_alone x at) → HaveEnds (past ++ events_alone x at) → IsAnswered x.outcome
       → MayHaveReply x.outcome (transaction x.call c.home.tables).reply ↔ IsStrictlySerializable u (asked_in (past ++ events_alone x at))
   alone_explained rise have answered = (
-    λ may. (at_once_exact u (past ++ events_alone x at) rise have).0 (
-      after x at c.home.tables,
-      lead_on past (events_alone x at) (starting u) held (after x at c.home.tables) is_held (alone_leads x at c.home.tables may),
-    ),
+    λ may. possible_serial u (past ++ events_alone x at) (after x at c.home.tables) rise have (after_held may).0,
     λ s.
-        let led = (at_once_exact u (past ++ events_alone x at) rise have).1 s in
+        let led = at_once_complete u (past ++ events_alone x at) rise have s in
         let parts = lead_by past (events_alone x at) (starting u) led.0 led.1 in
-        (leads_alone x at c.home.tables led.0 (was_not x.outcome answered) (subst (λ (b : Configuration). LeadAtOnce (events_alone x at) b led.0) (only_held parts.0 parts.1) parts.2)).0,
+        (leads_alone x at c.home.tables led.0 (was_not x.outcome answered) (subst (λ (b : Configuration). LeadAtOnce (events_alone x at) b led.0) (only_held (first_rise past (events_alone x at) rise) parts.0 parts.1) parts.2)).0,
   )
 
   pub alone_kept : (d : Held) (new : List Held) → MayHaveReply x.outcome (transaction x.call c.home.tables).reply → new ≡ d ∷ [] → d.home.tables ≡ (transaction x.call c.home.tables).database → d.opened.items ≡ [] → AreKept u (past ++ events_alone x at) new
   alone_kept d new may there rows empty = record {
-    exact = λ e. (
-      λ h.
-          let one : Has (d ∷ []) e = subst (λ bs. Has bs e) there h in
-          elim one [
-            | inl q ↦ subst (LeadAtOnce (past ++ events_alone x at) (starting u)) (sym (q ∙ end)) (lead_on past (events_alone x at) (starting u) held (after x at c.home.tables) is_held (alone_leads x at c.home.tables may))
-            | inr q ↦ absurd q
-          ],
-      λ h.
-          let parts = lead_by past (events_alone x at) (starting u) e h in
-          let last : LeadAtOnce (events_alone x at) held e = subst (λ (b : Configuration). LeadAtOnce (events_alone x at) b e) (only_held parts.0 parts.1) parts.2 in
-          subst (λ bs. Has bs e) (sym there) (inl ((leads_alone x at c.home.tables e (no_abort x.outcome (transaction x.call c.home.tables).reply may) last).1 ∙ sym end)),
-    );
+    complete = λ rise e h.
+        let parts = lead_by past (events_alone x at) (starting u) e h in
+        let last : LeadAtOnce (events_alone x at) held e = subst (λ (b : Configuration). LeadAtOnce (events_alone x at) b e) (only_held (first_rise past (events_alone x at) rise) parts.0 parts.1) parts.2 in
+        subst (λ bs. OneStandsFor bs e) (sym there) (inl ((bare_stands d e empty).1 ((leads_alone x at c.home.tables e (no_abort x.outcome (transaction x.call c.home.tables).reply may) last).1 ∙ sym end)));
+    sound = λ e h.
+        let one : OneStandsFor (d ∷ []) e = subst (λ bs. OneStandsFor bs e) there h in
+        elim one [
+          | inl q ↦ subst (IsPossible u (past ++ events_alone x at)) (sym ((bare_stands d e empty).0 q ∙ end)) (after_held may)
+          | inr q ↦ absurd q
+        ];
     ready = subst AreReady (sym there) (subst AreAccepted (sym empty) tt, tt);
     apart = (d.home.s_id, subst (AreApart d.home.s_id) (sym there) (record { own = (refl, tt); distinct = (tt, tt) }));
   }

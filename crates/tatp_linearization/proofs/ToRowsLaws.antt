@@ -1,5 +1,5 @@
 -- Rows that orders leave: open calls that write take effect last, one after another, or never.
-use Rattle.std.proofs.Common.{◌≡◌, ℕ, zero, suc, ◌≤◌, ◌⊎◌, ◌↔◌, true, false, List, [], ◌∷◌, ◌++◌, length, refl, sym, subst, arith, inl, inr}
+use Rattle.std.proofs.Common.{◌≡◌, ℕ, zero, suc, ◌≤◌, ◌⊎◌, true, false, List, [], ◌∷◌, ◌++◌, length, refl, sym, subst, arith, inl, inr}
 use Rattle.std.specs.List.{AllByRecursion}
 use Rattle.std.proofs.lemmas.List.{append-nil}
 use Rattle.tatp_tables.specs.Database.{Database}
@@ -13,38 +13,24 @@ use Rattle.tatp_history.specs.Configurations.{Configuration, starting}
 use Rattle.tatp_history.proofs.OrderLaws.{in_all}
 use Rattle.tatp_history.proofs.ChoiceLaws.{chooses_some, chooses_length}
 use Rattle.tatp_history.proofs.RemainingLaws.{IsOrderFrom, HasOrder, open_chosen, taken_off}
-use Rattle.tatp_history.proofs.JustInTimeLaws.{is_serial, serial_is, none_open}
+use Rattle.tatp_history.proofs.JustInTimeLaws.{serial_is, none_open}
 use Rattle.tatp_linearization.specs.declared.configuration.Configuration.{Configuration as Held}
 use Rattle.tatp_linearization.specs.AtOnce.{only_reads, FitsAtOnce, IsSettled, TakesOne, LeadAtOnce}
-use Rattle.tatp_linearization.specs.Possible.{AreMoreThan, IsPossible, NeedMore}
-use Rattle.tatp_linearization.specs.Held.{Has, AreReady, AreApart, HoldsOfOne, TakeMany, TakeSome}
+use Rattle.tatp_linearization.specs.Possible.{AreMoreThan}
+use Rattle.tatp_linearization.specs.Held.{AreReady, AreApart, TakeMany, TakeSome}
+use Rattle.tatp_linearization.specs.Overwritten.{IsBlind}
+use Rattle.tatp_linearization.specs.Covering.{OneStandsFor, FromOne, MayCome, Gains}
 use Rattle.tatp_linearization.specs.Reached.{AreKept}
 use Rattle.tatp_linearization.proofs.SettlingLaws.{left_exists, left_shorter, left_order}
-use Rattle.tatp_linearization.proofs.AtOnceLaws.{one_open, one_settled, one_sound, lead_settled, lead_open, lead_sound, lead_complete}
-use Rattle.tatp_linearization.proofs.PossibleLaws.{more_than, tried_possible}
-use Rattle.tatp_linearization.proofs.TurnLaws.{many_one}
-use Rattle.tatp_linearization.proofs.HeldLaws.{has_get}
+use Rattle.tatp_linearization.proofs.AtOnceLaws.{one_open, one_settled, lead_settled, lead_open, lead_complete}
+use Rattle.tatp_linearization.proofs.PossibleLaws.{more_than, come_on, come_possible}
+use Rattle.tatp_linearization.proofs.SerialLaws.{possible_to}
+use Rattle.tatp_linearization.proofs.CoveringLaws.{stands_get}
+use Rattle.tatp_linearization.proofs.ButSomeLaws.{but_length}
 use Rattle.tatp_linearization.proofs.PlaceLaws.{all_get}
 
 -- ---- orders of open calls
 module _ (Q : Database → Type 0) where
-  nothing_more : (c : Configuration) → AreOpen [] c.opened → Q c.rows → HasOrder Q c.rows [] c.opened
-  nothing_more c are q = (
-    [],
-    record {
-      made = tt;
-      once = tt;
-      all = λ z h answered. elim h [ inl k ↦ absurd (are.ends z k answered) | inr k ↦ absurd k ];
-      real_time = tt;
-      replies = tt;
-    },
-    q,
-  )
-
-  many_sound : (n : ℕ) (c d : Configuration) → TakeMany n c d → AreOpen [] c.opened → Q d.rows → HasOrder Q c.rows [] c.opened
-  many_sound zero c d h are q = nothing_more c are (subst (λ (b : Configuration). Q b.rows) h q)
-  many_sound (suc n) c d h are q = one_sound Q [] tt c h.0 h.1 are (many_sound n h.0 d h.2 (one_open [] c h.0 h.1 are) q)
-
   some_complete : (n : ℕ) (order : List Observed) (c : Configuration) → length c.opened ≤ n → IsSettled c → AreOpen [] c.opened → IsOrderFrom c.rows [] c.opened order → Q (rows_after c.rows order) → (d : Configuration) × TakeSome c d × Q d.rows
   some_complete n [] c few settled are ok q = (c, (0, refl), q)
   some_complete zero (x ∷ order) c few settled are ok q =
@@ -74,23 +60,16 @@ module _ (Q : Database → Type 0) where
 abbrev pub LeadsTo : Database → List Event → Database → Type 0
 LeadsTo u past after = (c : Configuration) × LeadAtOnce past (starting u) c × ((d : Configuration) × TakeSome c d × (d.rows ≡ after))
 
-pub to_exact : (u after : Database) (past : List Event) → TimesRise past → HaveEnds past → LeadsTo u past after ↔ IsStrictlySerializableTo u (asked_in past) after
-to_exact u after past rise have =
+pub to_complete : (u after : Database) (past : List Event) → TimesRise past → HaveEnds past → IsStrictlySerializableTo u (asked_in past) after → LeadsTo u past after
+to_complete u after past rise have s =
     let Q : Database → Type 0 = λ v. v ≡ after in
     let whole : past ≡ past ++ [] = sym (append-nil past) in
     let rise' : TimesRise (past ++ []) = subst TimesRise whole rise in
-    let have' : HaveEnds (past ++ []) = subst HaveEnds whole have in (
-      λ h.
-          let are = lead_open past [] rise' have' (starting u) h.0 (none_open (past ++ [])) h.1 in
-          let order = lead_sound Q past [] rise' have' (starting u) h.0 (none_open (past ++ [])) h.1 (many_sound Q h.2.1.0 h.0 h.2.0 h.2.1.1 are h.2.2) in
-          let order' : HasOrder Q u past [] = subst (λ es. HasOrder Q u es []) (append-nil past) order in
-          (order'.0, is_serial u past [] order'.0 order'.1, order'.2),
-      λ s.
-          let order : HasOrder Q u (past ++ []) [] = subst (λ es. HasOrder Q u es []) whole (s.0, serial_is u past [] s.0 s.1, s.2) in
-          let led = lead_complete Q past [] rise' have' (starting u) tt (none_open (past ++ [])) order in
-          let are = lead_open past [] rise' have' (starting u) led.0 (none_open (past ++ [])) led.1 in
-          (led.0, led.1, some_complete Q (length led.0.opened) led.2.0 led.0 (omega arith) (lead_settled past (starting u) led.0 tt led.1) are led.2.1 led.2.2),
-    )
+    let have' : HaveEnds (past ++ []) = subst HaveEnds whole have in
+    let order : HasOrder Q u (past ++ []) [] = subst (λ es. HasOrder Q u es []) whole (s.0, serial_is u past [] s.0 s.1, s.2) in
+    let led = lead_complete Q past [] rise' have' (starting u) tt (none_open (past ++ [])) order in
+    let are = lead_open past [] rise' have' (starting u) led.0 (none_open (past ++ [])) led.1 in
+    (led.0, led.1, some_complete Q (length led.0.opened) led.2.0 led.0 (omega arith) (lead_settled past (starting u) led.0 tt led.1) are led.2.1 led.2.2)
 
 -- ---- turns
 one_shorter : (c d : Configuration) → TakesOne c d → suc (length d.opened) ≤ length c.opened
@@ -109,44 +88,41 @@ many_last zero c d h = (c, refl, subst (TakesOne c) (sym h.2) h.1)
 many_last (suc n) c d h = let rest = many_last n h.0 d h.2 in (rest.0, (h.0, h.1, rest.1), rest.2)
 
 abbrev pub HaveNone : List Held → Database → ℕ → Type 0
-HaveNone set after n = (d : Configuration) → HoldsOfOne (TakeMany n) set d → d.rows ≡ after → ⊥
+HaveNone set after n = (d : Configuration) → FromOne (TakeMany n) set d → d.rows ≡ after → ⊥
 
 -- so many calls took effect, and fewer never leave the rows
 pub record Tried (s : ℕ) (set : List Held) (after : Database) (n : ℕ) (going : List Held) : Type 0 where
-  pub exact : (d : Configuration) → Has going d ↔ HoldsOfOne (TakeMany n) set d
+  pub sound : (d : Configuration) → OneStandsFor going d → FromOne MayCome set d
+  pub found : (d : Configuration) → FromOne (TakeMany n) set d → OneStandsFor going d
   pub none : (m : ℕ) → suc m ≤ n → HaveNone set after m
   pub ready : AreReady going
   pub apart : AreApart s going
 
-pub tried_first : (s : ℕ) (set : List Held) (after : Database) (going : List Held) → ((d : Configuration) → Has set d → d.rows ≡ after → ⊥) → ((d : Configuration) → Has going d ↔ HoldsOfOne TakesOne set d) → AreReady going → AreApart s going → Tried s set after 1 going
-tried_first s set after going none exact ready apart = record {
-  exact = λ d. (
-    λ h. let k = (exact d).0 h in (k.0, k.1, (d, k.2, refl)),
-    λ h. (exact d).1 (h.0, h.1, subst (TakesOne h.0) (sym h.2.2) h.2.1),
-  );
+pub tried_first : (s : ℕ) (set : List Held) (after : Database) (going : List Held) → ((d : Configuration) → OneStandsFor set d → d.rows ≡ after → ⊥) → Gains (FromOne MayCome set) (FromOne TakesOne set) [] going → AreReady going → AreApart s going → Tried s set after 1 going
+tried_first s set after going none gains ready apart = record {
+  sound = λ d h. elim (gains.sound d h) [ inl k ↦ absurd k | inr k ↦ k ];
+  found = λ d h. gains.found d (h.0, h.1, subst (TakesOne h.0) (sym h.2.2) h.2.1);
   none = λ m le. elim m as (λ k. suc k ≤ 1 → HaveNone set after k) [
-    | zero ↦ λ _ d h e. none d (subst (Has set) (sym h.2) h.1) e
+    | zero ↦ λ _ d h e. none d (subst (OneStandsFor set) (sym h.2) h.1) e
     | suc k ↦ λ more. absurd (omega (arith, more))
   ] le;
   ready = ready;
   apart = apart;
 }
 
-pub tried_more : (s : ℕ) (set : List Held) (after : Database) (n : ℕ) (going next : List Held) → Tried s set after n going → ((d : Configuration) → Has going d → d.rows ≡ after → ⊥)
-    → ((d : Configuration) → Has next d ↔ HoldsOfOne TakesOne going d) → AreReady next → (AreApart s going → AreApart s next) → Tried s set after (suc n) next
-tried_more s set after n going next p none exact ready apart = record {
-  exact = λ d. (
-    λ h.
-        let k = (exact d).0 h in
-        let q = (p.exact k.0).0 k.1 in
-        (q.0, q.1, many_one n q.0 k.0 d q.2 k.2),
-    λ h.
-        let last = many_last n h.0 d h.2 in
-        (exact d).1 (last.0, (p.exact last.0).1 (h.0, h.1, last.1), last.2),
-  );
+come_one : (set going : List Held) → ((d : Configuration) → OneStandsFor going d → FromOne MayCome set d) → (d : Configuration) → FromOne MayCome going d → FromOne MayCome set d
+come_one set going sound d h = let q = sound h.0 h.1 in (q.0, q.1, come_on q.0 h.0 d q.2 h.2)
+
+pub tried_more : (s : ℕ) (set : List Held) (after : Database) (n : ℕ) (going next : List Held) → Tried s set after n going → ((d : Configuration) → OneStandsFor going d → d.rows ≡ after → ⊥)
+    → Gains (FromOne MayCome going) (FromOne TakesOne going) [] next → AreReady next → (AreApart s going → AreApart s next) → Tried s set after (suc n) next
+tried_more s set after n going next p none gains ready apart = record {
+  sound = λ d h. elim (gains.sound d h) [ inl k ↦ absurd k | inr k ↦ come_one set going p.sound d k ];
+  found = λ d h.
+      let last = many_last n h.0 d h.2 in
+      gains.found d (last.0, p.found last.0 (h.0, h.1, last.1), last.2);
   none = λ m le d h e. elim (below m n le) [
     | inl less ↦ p.none m less d h e
-    | inr is ↦ none d ((p.exact d).1 (subst (λ k. HoldsOfOne (TakeMany k) set d) is h)) e
+    | inr is ↦ none d (p.found d (subst (λ k. FromOne (TakeMany k) set d) is h)) e
   ];
   ready = ready;
   apart = apart p.apart;
@@ -160,30 +136,21 @@ tried_more s set after n going next p none exact ready apart = record {
 
 -- after so many turns as calls are open none is left to take effect
 pub tried_all : (s : ℕ) (set : List Held) (after : Database) (n most : ℕ) (going : List Held) → Tried s set after (suc n) going → AllByRecursion (λ (c : Held). length c.opened.items ≤ most) set → most ≤ n
-    → (d : Configuration) → HoldsOfOne TakeSome set d → d.rows ≡ after → ⊥
+    → (d : Configuration) → FromOne TakeSome set d → d.rows ≡ after → ⊥
 tried_all s set after n most going p opened enough d h e =
-    let there = has_get set h.0 h.1 in
+    let there = stands_get set h.0 h.1 in
     let few : length there.2.opened.items ≤ most = all_get (λ (c : Held). length c.opened.items ≤ most) set there.0 there.2 opened there.3 in
     let less : h.2.0 ≤ length h.0.opened = many_shorter h.2.0 h.0 d h.2.1 in
-    let same : length h.0.opened ≡ length there.2.opened.items = λ i. length (there.4 i).opened in
-    p.none h.2.0 (omega (arith, few, less, same, enough)) d (h.0, h.1, h.2.1) e
+    let within = but_length (IsBlind there.2.home.tables) there.2.overwritten there.2.opened.items h.0.opened there.4.opened in
+    p.none h.2.0 (omega (arith, few, less, within, enough)) d (h.0, h.1, h.2.1) e
 
-pub tried_many : (s : ℕ) (set : List Held) (after : Database) (n most : ℕ) (going : List Held) → Tried s set after n going → AreMoreThan most (HoldsOfOne TakesOne going) → AreMoreThan most (HoldsOfOne TakeSome set)
-tried_many s set after n most going p many = more_than most (HoldsOfOne TakesOne going) (HoldsOfOne TakeSome set) (λ d h.
-    let q = (p.exact h.0).0 h.1 in
-    (q.0, q.1, (suc n, many_one n q.0 h.0 d q.2 h.2))) many
-
-pub one_some : (set : List Held) (most : ℕ) → AreMoreThan most (HoldsOfOne TakesOne set) → AreMoreThan most (HoldsOfOne TakeSome set)
-one_some set most many = more_than most (HoldsOfOne TakesOne set) (HoldsOfOne TakeSome set) (λ d h. (h.0, h.1, (1, (d, h.2, refl)))) many
+pub tried_many : (s : ℕ) (set : List Held) (after : Database) (n most : ℕ) (going : List Held) → Tried s set after n going → AreMoreThan most (FromOne MayCome going) → AreMoreThan most (FromOne MayCome set)
+tried_many s set after n most going p many = more_than most (FromOne MayCome going) (FromOne MayCome set) (come_one set going p.sound) many
 
 -- ---- explanations
 module _ (u : Database) (past : List Event) (cs : List Held) (kept : AreKept u past cs) where
-  pub kept_to : (after : Database) → TimesRise past → HaveEnds past → ((d : Configuration) × HoldsOfOne TakeSome cs d × (d.rows ≡ after)) ↔ IsStrictlySerializableTo u (asked_in past) after
-  kept_to after rise have =
-      let law = to_exact u after past rise have in (
-        λ h. law.0 (h.1.0, (kept.exact h.1.0).0 h.1.1, (h.0, h.1.2, h.2)),
-        λ s. let led = law.1 s in (led.2.0, (led.0, (kept.exact led.0).1 led.1, led.2.1), led.2.2),
-      )
+  pub kept_to : (after : Database) → TimesRise past → HaveEnds past → (d : Configuration) × FromOne MayCome cs d × (d.rows ≡ after) → IsStrictlySerializableTo u (asked_in past) after
+  kept_to after rise have h = possible_to u after past h.0 rise have (come_possible u past h.1.0 h.0 (kept.sound h.1.0 h.1.1) h.1.2).0 h.2
 
-  pub kept_many : (most : ℕ) → AreMoreThan most (HoldsOfOne TakeSome cs) → NeedMore most u past
-  kept_many most many = (past, [], sym (append-nil past), more_than most (HoldsOfOne TakeSome cs) (IsPossible u past) (tried_possible u past cs (λ d h. (kept.exact d).0 h)) many)
+  pub to_kept : (after : Database) → TimesRise past → HaveEnds past → IsStrictlySerializableTo u (asked_in past) after → (d : Configuration) × FromOne TakeSome cs d × (d.rows ≡ after)
+  to_kept after rise have s = let led = to_complete u after past rise have s in (led.2.0, (led.0, kept.complete rise led.0 led.1, led.2.1), led.2.2)

@@ -1,6 +1,7 @@
 -- Configurations as the search holds them, and what it makes of them.
-use Rattle.std.specs.Prelude.{◌≡◌, ℕ, zero, suc, ◌⊎◌, ◌↔◌, false, List, [], ◌∷◌, ◌++◌, Option, Some, None, Ok, map, slice_get, remove}
+use Rattle.std.specs.Prelude.{◌≡◌, ℕ, zero, suc, ◌⊎◌, ◌↔◌, false, List, [], ◌∷◌, ◌++◌, Option, Some, None, Ok, map, length, slice_get, remove}
 use Rattle.std.specs.List.{AllByRecursion}
+use Rattle.tatp_homes.specs.Home.{IsHome}
 use Rattle.tatp_procs.specs.Arguments.{arguments_accepted}
 use Rattle.tatp_procs.specs.Transactions.{transaction}
 use Rattle.tatp_history.specs.declared.event.Event.{Event}
@@ -8,10 +9,10 @@ use Rattle.tatp_history.specs.declared.event.Event.TheVariants.{Asks, Ends}
 use Rattle.tatp_history.specs.declared.observed.Observed.{Observed}
 use Rattle.tatp_history.specs.Histories.{MayHaveReply}
 use Rattle.tatp_history.specs.Locality.{AreAccepted}
-use Rattle.tatp_history.specs.JustInTime.{NoneAskedAt}
 use Rattle.tatp_history.specs.Configurations.{Configuration}
 use Rattle.tatp_linearization.specs.declared.configuration.Configuration.{Configuration as Held}
 use Rattle.tatp_linearization.specs.AtOnce.{only_reads, AreLeft, TakesOne, FollowsAtOnce}
+use Rattle.tatp_linearization.specs.Overwritten.{SetsLocation, AreLeftOf, without_place}
 use Rattle.tatp_linearization.specs.Possible.{AreDistinct}
 
 -- the configuration that the search holds
@@ -47,6 +48,14 @@ pub record IsAsked (c : Held) (x : Observed) (d : Held) : Type 0 where
   pub own : d.home.s_id ≡ c.home.s_id
 
 -- ---- one call takes effect
+-- where it sets the location all open calls are overwritten then, and else those that were before
+abbrev pub IsOverwritten : Held → Held → ℕ → Observed → Type 0
+IsOverwritten c d i x =
+    (SetsLocation c.home.tables x.call × (d.overwritten ≡ length d.opened.items))
+    ⊎ AreLeftOf (transaction x.call c.home.tables).database
+    (without_place c.overwritten (length c.opened.items) i)
+    (remove c.opened.items i) d.overwritten d.opened.items
+
 pub record TakesAt (c d : Held) (i : ℕ) (x : Observed) : Type 0 where
   pub at : slice_get c.opened.items i ≡ Some x
   pub writes : only_reads x.call ≡ false
@@ -55,6 +64,8 @@ pub record TakesAt (c d : Held) (i : ℕ) (x : Observed) : Type 0 where
   pub settled : AreLeft (transaction x.call c.home.tables).database
       (remove c.opened.items i) d.opened.items
   pub own : d.home.s_id ≡ c.home.s_id
+  pub home : IsHome c.home
+  pub overwritten : IsOverwritten c d i x
 
 -- the second is the first after its open call at this place, which writes, took effect. There is
 -- none where that call reads, or can't have ended with its reply here
@@ -82,15 +93,7 @@ abbrev pub HoldsOfOne
     : (Configuration → Configuration → Type 0) → List Held → Configuration → Type 0
 HoldsOfOne Holds set d = (c : Configuration) × Has set c × Holds c d
 
--- ---- what one open call may lead to
--- one open call takes effect, and then the call that was asked at this time isn't open
-abbrev pub TakesLast : ℕ → Configuration → Configuration → Type 0
-TakesLast asked c d = TakesOne c d × NoneAskedAt asked d.opened
-
--- one open call takes effect, and the call that was asked at this time stays open
-abbrev pub TakesOther : ℕ → Configuration → Configuration → Type 0
-TakesOther asked c d = TakesOne c d × (NoneAskedAt asked d.opened → ⊥)
-
+-- ---- calls that take effect
 -- the second is the first after this many open calls that write took effect
 abbrev pub TakeMany : ℕ → Configuration → Configuration → Type 0
 TakeMany zero c d = d ≡ c
@@ -98,13 +101,3 @@ TakeMany (suc n) c d = (e : Configuration) × TakesOne c e × TakeMany n e d
 
 abbrev pub TakeSome : Configuration → Configuration → Type 0
 TakeSome c d = (n : ℕ) × TakeMany n c d
-
--- ---- what an event may lead to
--- what is tried: what follows where a call is asked, and what can come before the end of a call
-abbrev pub IsTried : Event → Configuration → Configuration → Type 0
-IsTried (Asks x) c d = FollowsAtOnce (Asks x) c d
-IsTried (Ends asked at) c d = TakeSome c d
-
--- the new list has exactly what may follow on one of the set
-abbrev pub FollowAll : Event → List Held → List Held → Type 0
-FollowAll event set new = (d : Configuration) → Has new d ↔ HoldsOfOne (FollowsAtOnce event) set d

@@ -8,3 +8,5 @@ pub mod Legal
 pub mod Leaving
 pub mod Listed
 pub mod Doomed
+pub mod Overwritten
+pub mod Covering

@@ -1,16 +1,22 @@
 -- The configurations to which events lead.
-use Rattle.std.specs.Prelude.{◌↔◌, ℕ, ◌<◌, List, length}
+use Rattle.std.specs.Prelude.{ℕ, ◌<◌, List, length}
 use Rattle.tatp_tables.specs.Database.{Database}
 use Rattle.tatp_history.specs.declared.event.Event.{Event}
+use Rattle.tatp_history.specs.Events.{TimesRise}
 use Rattle.tatp_history.specs.Configurations.{Configuration, starting}
 use Rattle.tatp_linearization.specs.declared.configuration.Configuration.{Configuration as Held}
 use Rattle.tatp_linearization.specs.declared.explanations.Explanations.{Explanations}
 use Rattle.tatp_linearization.specs.AtOnce.{LeadAtOnce}
-use Rattle.tatp_linearization.specs.Held.{Has, AreReady, AreApart}
+use Rattle.tatp_linearization.specs.Possible.{IsPossible}
+use Rattle.tatp_linearization.specs.Held.{AreReady, AreApart}
+use Rattle.tatp_linearization.specs.Covering.{OneStandsFor}
 
--- these are exactly the configurations to which the events lead from the rows, each once
+-- these stand for each configuration to which the events lead from the rows just in time, and for
+-- none that isn't possible
 pub record AreKept (u : Database) (past : List Event) (cs : List Held) : Type 0 where
-  pub exact : (d : Configuration) → Has cs d ↔ LeadAtOnce past (starting u) d
+  pub complete : TimesRise past → (d : Configuration) → LeadAtOnce past (starting u) d
+      → OneStandsFor cs d
+  pub sound : (d : Configuration) → OneStandsFor cs d → IsPossible u past d
   pub ready : AreReady cs
   pub apart : (s : ℕ) × AreApart s cs
 

@@ -31,7 +31,7 @@ fn is_same_outcome(x: &Outcome, y: &Outcome) -> bool
     }
 }
 
-fn is_same_call(x: &Observed, y: &Observed) -> bool
+pub(crate) fn is_same_call(x: &Observed, y: &Observed) -> bool
     ensures { IsTrue result ↔ (x.now ≡ y.now) }
 {
     x.asked == y.asked && x.call == y.call && is_same_outcome(&x.outcome, &y.outcome)

@@ -3,23 +3,29 @@ ghost use Rattle.std.specs.Prelude.{◌≡◌, ◌<◌, ◌≤◌, ◌↔◌, Is
 ghost use Rattle.tatp_procs.specs.Arguments.{arguments_accepted};
 ghost use Rattle.tatp_history.specs.JustInTime.{NoneAskedAt};
 ghost use Rattle.tatp_history.specs.Locality.{AreAccepted};
+ghost use Rattle.tatp_linearization.specs.Overwritten.{SetsLocation, least, without_place as count_without};
+ghost use Rattle.tatp_linearization.specs.Covering.{IsLetGo};
 ghost use Rattle.tatp_linearization.specs.Possible.{AreMoreThan};
 ghost use Rattle.tatp_linearization.specs.Held.{Adds, AreApart, AreReady, Has, IsAsked, IsOldOr, StandFirst, Takes, seen};
 
 use crate::comparing::{are_asked_alike, are_same};
+use crate::covering::may_be_left_out;
 use crate::reading::{needs_no_place, only_reads, settle};
 use crate::stopped::Stopped;
 use std::alloc::{AllocError, Global};
 use tatp_evaluation::evaluate;
 use tatp_history::Observed;
-use tatp_homes::Home;
-use tatp_procs::Reply;
+use tatp_homes::{Home, what_holds_of_every_home};
+use tatp_procs::{Call, Reply};
 
 /// A home, and the open calls that have not taken effect, of which the last asked comes first.
 #[derive(Drop)]
 pub(crate) struct Configuration {
     pub(crate) home: Home,
     pub(crate) opened: Vec<Observed>,
+    /// How many at the end of the open calls were asked before a location was last set: those of
+    /// them that set the location too may have taken effect right before that.
+    pub(crate) overwritten: usize,
 }
 
 /// Whether none of these calls was asked at this time.
@@ -45,10 +51,12 @@ pub(crate) fn none_asked(c: &Configuration, asked: u64) -> bool
 pub(crate) fn copy(alloc: Global, c: &Configuration) -> Result<Configuration, AllocError>
     ensures same { IfOk result (λ d. seen d ≡ seen c.now) }
     ensures own { IfOk result (λ d. d.home.s_id ≡ c.now.home.s_id) }
+    ensures overwritten { IfOk result (λ d. d.overwritten ≡ c.now.overwritten) }
 {
     Ok(Configuration {
         home: c.home.copy(),
         opened: Vec::from_slice(alloc, c.opened.as_slice())?,
+        overwritten: c.overwritten,
     })
 }
 
@@ -77,7 +85,7 @@ fn is_among(set: &[Configuration], d: &Configuration) -> bool
 
 /// Adds a configuration, unless the set has it. `Err` means that the set would have more than
 /// `most`, or that memory was refused.
-pub(crate) fn add(
+pub(crate) fn add_once(
     set: &mut Vec<Configuration>,
     d: Configuration,
     most: usize,
@@ -102,6 +110,13 @@ pub(crate) fn add(
     Ok(())
 }
 
+/// As many, but no more than there are.
+fn at_most(many: usize, size: usize) -> usize
+    ensures { result ≡ least many size }
+{
+    if many <= size { many } else { size }
+}
+
 /// The configuration after a call was asked.
 pub(crate) fn ask(
     alloc: Global,
@@ -109,17 +124,49 @@ pub(crate) fn ask(
     x: &Observed,
 ) -> Result<Configuration, AllocError>
     requires accepted { arguments_accepted x.now.call ≡ Ok tt }
-    ensures { IfOk result (IsAsked c.now x.now) }
+    ensures asked { IfOk result (IsAsked c.now x.now) }
+    ensures overwritten { IfOk result (λ d. d.overwritten
+        ≡ least c.now.overwritten (length c.now.opened.items)) }
 {
     let mut home = c.home.copy();
+    let overwritten = at_most(c.overwritten, c.opened.len());
     if needs_no_place(&mut home, x) {
         let opened = Vec::from_slice(alloc, c.opened.as_slice())?;
-        return Ok(Configuration { home, opened });
+        return Ok(Configuration {
+            home,
+            opened,
+            overwritten,
+        });
     }
     let mut opened = Vec::new(alloc);
     opened.push(*x)?;
     opened.extend_from_slice(c.opened.as_slice())?;
-    Ok(Configuration { home, opened })
+    Ok(Configuration {
+        home,
+        opened,
+        overwritten,
+    })
+}
+
+/// How many of the last calls of a list of this size are left without the one at the place `i`.
+fn without_place(overwritten: usize, size: usize, i: usize) -> usize
+    requires inside { i < size }
+    ensures { result ≡ count_without overwritten size i }
+{
+    if size - i <= overwritten {
+        return overwritten - 1;
+    }
+    overwritten
+}
+
+/// Whether a call sets the location of the home's subscriber.
+fn updates_location(home: &Home, call: &Call) -> bool
+    ensures { IsTrue result ↔ SetsLocation home.now.tables call.now }
+{
+    match call {
+        Call::UpdateLocation { sub_nbr, .. } => home.has_number(*sub_nbr),
+        _ => false,
+    }
 }
 
 /// The configuration after its open call at the place `i` took effect. `None` means that this call
@@ -145,6 +192,43 @@ pub(crate) fn take(
     }
     let mut opened = Vec::from_slice(alloc, c.opened.as_slice())?;
     opened.remove(i);
-    settle(&mut home, &mut opened);
-    Ok(Some(Configuration { home, opened }))
+    let many = without_place(c.overwritten, c.opened.len(), i);
+    let still = settle(&mut home, &mut opened, many);
+    what_holds_of_every_home(&c.home);
+    let overwritten = if updates_location(&c.home, &x.call) {
+        opened.len()
+    } else {
+        still
+    };
+    Ok(Some(Configuration {
+        home,
+        opened,
+        overwritten,
+    }))
+}
+
+/// The configuration without its open call asked at a time, if it also stands for that: the call
+/// has taken effect then. `None` means that it doesn't.
+pub(crate) fn let_go(
+    alloc: Global,
+    c: &Configuration,
+    asked: u64,
+) -> Result<Option<Configuration>, AllocError>
+    ensures { IfOk result (IsLetGo asked c.now) }
+{
+    for i in 0..c.opened.len() {
+        if c.opened[i].asked == asked {
+            if !may_be_left_out(c, i) {
+                return Ok(None);
+            }
+            let mut opened = Vec::from_slice(alloc, c.opened.as_slice())?;
+            opened.remove(i);
+            return Ok(Some(Configuration {
+                home: c.home.copy(),
+                opened,
+                overwritten: c.overwritten - 1,
+            }));
+        }
+    }
+    Ok(None)
 }

@@ -1,7 +1,8 @@
 //! Configurations from which no order explains the rest of a window.
 ghost use Rattle.std.specs.Prelude.{◌≡◌, ℕ, ◌⊎◌, ◌<◌, IsTrue, IfSome, false, drop, length};
 ghost use Rattle.tatp_history.specs.Configurations.{Configuration as Seen};
-ghost use Rattle.tatp_linearization.specs.Held.{AreApart, AreReady, Has, seen};
+ghost use Rattle.tatp_linearization.specs.Held.{AreApart, AreReady, seen};
+ghost use Rattle.tatp_linearization.specs.Covering.{OneStandsFor};
 ghost use Rattle.tatp_linearization.specs.Doomed.{IsDoomed, NoneHasLocation, NoneSets, NoneSetsUntil, SawLocation, sets_location as sets};
 
 use crate::configuration::Configuration;
@@ -126,9 +127,9 @@ fn is_doomed(c: &Configuration, events: &[Event], from: usize) -> bool
 /// Lets configurations go from which no order explains the events from a place on, where many are
 /// kept.
 pub(crate) fn drop_doomed(set: &mut Vec<Configuration>, events: &[Event], from: usize)
-    ensures kept { (d : Seen) → Has set.new.items d → Has set.old.items d }
-    ensures found { (d : Seen) → Has set.old.items d
-        → Has set.new.items d ⊎ IsDoomed (drop from events.now) d }
+    ensures kept { (d : Seen) → OneStandsFor set.new.items d → OneStandsFor set.old.items d }
+    ensures found { (d : Seen) → OneStandsFor set.old.items d
+        → OneStandsFor set.new.items d ⊎ IsDoomed (drop from events.now) d }
     ensures ready { AreReady set.old.items → AreReady set.new.items }
     ensures apart { (s : ℕ) → AreApart s set.old.items → AreApart s set.new.items }
 {

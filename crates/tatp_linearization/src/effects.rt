@@ -1,40 +1,75 @@
 //! Calls that take effect before one is answered.
-ghost use Rattle.std.specs.Prelude.{◌≡◌, ℕ, ◌⊎◌, ◌↔◌, IfOk, OnOk, IsErrOf, length};
+ghost use Rattle.std.specs.Prelude.{◌≡◌, ℕ, ◌⊎◌, IfOk, OnOk, IsErrOf, []};
 ghost use Rattle.tatp_history.specs.Configurations.{Configuration as Seen};
 ghost use Rattle.tatp_history.specs.Locality.{AreAccepted};
-ghost use Rattle.tatp_linearization.specs.AtOnce.{TakeUntil, TakesOne};
 ghost use Rattle.tatp_linearization.specs.Possible.{AreMoreThan};
-ghost use Rattle.tatp_linearization.specs.Held.{Adds, AreApart, AreReady, Has, HoldsOfOne, IsOldOr, TakeSome, TakesLast, TakesOther, seen};
+ghost use Rattle.tatp_linearization.specs.Held.{AreApart, AreReady};
+ghost use Rattle.tatp_linearization.specs.Covering.{AreAllDone, AreDone, AreEachApart, AreOf, AreTriedOut, From, FromOne, Gains, GainsTaken, GoesOn, Grow, IsApart, IsStoodOr, MayCome, OneStandsFor, StandsFor, WentFrom, WentFromOne};
 
-use crate::configuration::{Configuration, add, copy, none_asked, take};
+use crate::configuration::{Configuration, copy, none_asked, take};
+use crate::covering::{add, is_covered};
 use crate::stopped::Stopped;
 use std::alloc::Global;
 
+/// Adds a configuration to those that were tried and to those that go on, unless one that was tried
+/// stands for all for which it does.
+fn go_on(
+    alloc: Global,
+    d: Configuration,
+    most: usize,
+    tried: &mut Vec<Configuration>,
+    going: &mut Vec<Configuration>,
+) -> Result<(), Stopped>
+    requires accepted { AreAccepted d.opened.items }
+    ensures gained { OnOk result (Gains (StandsFor d) (StandsFor d)
+        tried.old.items tried.new.items) }
+    ensures goes { OnOk result (GoesOn d tried.old.items going.old.items going.new.items) }
+    ensures ready { OnOk result (AreReady tried.old.items → AreReady tried.new.items) }
+    ensures apart { OnOk result (AreApart d.home.s_id tried.old.items
+        → AreApart d.home.s_id tried.new.items) }
+    ensures many { IsErrOf result Stopped.MoreThanMost → AreApart d.home.s_id tried.old.items
+        → AreMoreThan most (IsStoodOr tried.old.items (StandsFor d)) }
+{
+    if is_covered(tried.as_slice(), &d) {
+        return Ok(());
+    }
+    add(tried, copy(alloc, &d)?, most)?;
+    going.push(d)?;
+    Ok(())
+}
+
 /// Lets each open call of a configuration that writes take effect. The configuration after that is
-/// added to `answered` where the call asked at the time `asked` isn't open, and else to `going`.
+/// added to `answered` where the call asked at the time `asked` isn't open, and else it goes on.
 fn try_each(
     alloc: Global,
     c: &Configuration,
     asked: u64,
     most: usize,
     answered: &mut Vec<Configuration>,
+    tried: &mut Vec<Configuration>,
     going: &mut Vec<Configuration>,
 ) -> Result<(), Stopped>
     requires accepted { AreAccepted c.now.opened.items }
-    ensures answered { OnOk result (Adds answered.old.items
-        (TakesLast asked (seen c.now)) answered.new.items) }
-    ensures going { OnOk result (Adds going.old.items
-        (TakesOther asked (seen c.now)) going.new.items) }
+    ensures grown { OnOk result (Grow (From MayCome c.now) asked
+        (record { answered = answered.old.items; tried = tried.old.items; going = going.old.items })
+        (record {
+          answered = answered.new.items;
+          tried = tried.new.items;
+          going = going.new.items;
+        })) }
+    ensures done { OnOk result (IsApart c.now
+        → AreDone asked c.now answered.new.items tried.new.items) }
     ensures ready { OnOk result (AreReady answered.old.items → AreReady answered.new.items) }
-    ensures left { OnOk result (AreReady going.old.items → AreReady going.new.items) }
+    ensures left { OnOk result (AreReady tried.old.items → AreReady tried.new.items) }
     ensures apart { OnOk result (AreApart c.now.home.s_id answered.old.items
         → AreApart c.now.home.s_id answered.new.items) }
-    ensures distinct { OnOk result (AreApart c.now.home.s_id going.old.items
-        → AreApart c.now.home.s_id going.new.items) }
+    ensures distinct { OnOk result (AreApart c.now.home.s_id tried.old.items
+        → AreApart c.now.home.s_id tried.new.items) }
+    ensures went { OnOk result (WentFrom c.now going.old.items going.new.items) }
     ensures many { IsErrOf result Stopped.MoreThanMost
-        → AreApart c.now.home.s_id answered.old.items → AreApart c.now.home.s_id going.old.items
-        → AreMoreThan most (IsOldOr answered.old.items (TakesOne (seen c.now)))
-        ⊎ AreMoreThan most (IsOldOr going.old.items (TakesOne (seen c.now))) }
+        → AreApart c.now.home.s_id answered.old.items → AreApart c.now.home.s_id tried.old.items
+        → AreMoreThan most (IsStoodOr answered.old.items (From MayCome c.now))
+        ⊎ AreMoreThan most (IsStoodOr tried.old.items (From MayCome c.now)) }
 {
     'calls: for i in 0..c.opened.len() {
         match take(alloc, c, i)? {
@@ -42,7 +77,7 @@ fn try_each(
                 if none_asked(&d, asked) {
                     add(answered, d, most)?;
                 } else {
-                    add(going, d, most)?;
+                    go_on(alloc, d, most, tried, going)?;
                 }
             }
             None => {}
@@ -58,53 +93,70 @@ fn try_all(
     asked: u64,
     most: usize,
     answered: &mut Vec<Configuration>,
+    tried: &mut Vec<Configuration>,
 ) -> Result<Vec<Configuration>, Stopped>
     requires ready { AreReady set.now }
-    ensures answered { OnOk result (Adds answered.old.items
-        (HoldsOfOne (TakesLast asked) set.now) answered.new.items) }
-    ensures going { IfOk result (λ going. (d : Seen)
-        → Has going.items d ↔ HoldsOfOne (TakesOther asked) set.now d) }
+    ensures grown { IfOk result (λ going. Grow (FromOne MayCome set.now) asked
+        (record { answered = answered.old.items; tried = tried.old.items; going = [] })
+        (record {
+          answered = answered.new.items;
+          tried = tried.new.items;
+          going = going.items;
+        })) }
+    ensures done { OnOk result (AreEachApart set.now
+        → AreAllDone asked set.now answered.new.items tried.new.items) }
     ensures ready { OnOk result (AreReady answered.old.items → AreReady answered.new.items) }
-    ensures left { IfOk result (λ going. AreReady going.items) }
-    ensures apart { OnOk result ((s : ℕ) → AreApart s set.now
-        → AreApart s answered.old.items → AreApart s answered.new.items) }
-    ensures distinct { IfOk result (λ going. (s : ℕ) → AreApart s set.now
-        → AreApart s going.items) }
-    ensures many { IsErrOf result Stopped.MoreThanMost → (s : ℕ) → AreApart s set.now
-        → AreApart s answered.old.items
-        → AreMoreThan most (IsOldOr answered.old.items (HoldsOfOne TakesOne set.now)) }
+    ensures left { OnOk result (AreReady tried.old.items → AreReady tried.new.items) }
+    ensures apart { OnOk result ((s : ℕ) → AreApart s answered.old.items
+        → AreOf s set.now → AreApart s answered.new.items) }
+    ensures distinct { OnOk result ((s : ℕ) → AreApart s tried.old.items
+        → AreOf s set.now → AreApart s tried.new.items) }
+    ensures went { IfOk result (λ going. WentFromOne set.now going.items) }
+    ensures many { IsErrOf result Stopped.MoreThanMost → (s : ℕ) → AreOf s set.now
+        → AreApart s answered.old.items → AreApart s tried.old.items
+        → AreMoreThan most (IsStoodOr answered.old.items (FromOne MayCome set.now))
+        ⊎ AreMoreThan most (IsStoodOr tried.old.items (FromOne MayCome set.now)) }
 {
     let mut going = Vec::new(alloc);
     'configurations: for i in 0..set.len() {
-        try_each(alloc, &set[i], asked, most, answered, &mut going)?;
+        try_each(alloc, &set[i], asked, most, answered, tried, &mut going)?;
     }
     Ok(going)
 }
 
 /// Adds what the configuration can become once the call asked at the time `asked` has taken effect,
-/// after other calls or none. In every turn one call more takes effect, and each configuration is
-/// tried once.
+/// after other calls or none. In every turn one call more takes effect. What was tried before isn't
+/// tried again.
 pub(crate) fn take_effect(
     alloc: Global,
     c: &Configuration,
     asked: u64,
     most: usize,
     answered: &mut Vec<Configuration>,
+    tried: &mut Vec<Configuration>,
 ) -> Result<(), Stopped>
     requires accepted { AreAccepted c.now.opened.items }
-    ensures added { OnOk result (Adds answered.old.items
-        (TakeUntil (length c.now.opened.items) asked (seen c.now)) answered.new.items) }
+    ensures gained { OnOk result (GainsTaken asked c.now tried.old.items
+        answered.old.items answered.new.items) }
+    ensures done { OnOk result (IsApart c.now
+        → AreTriedOut asked answered.old.items tried.old.items
+        → AreTriedOut asked answered.new.items tried.new.items) }
+    ensures tried { OnOk result ((d : Seen) → OneStandsFor tried.new.items d
+        → IsStoodOr tried.old.items (From MayCome c.now) d) }
     ensures ready { OnOk result (AreReady answered.old.items → AreReady answered.new.items) }
     ensures apart { OnOk result (AreApart c.now.home.s_id answered.old.items
         → AreApart c.now.home.s_id answered.new.items) }
+    ensures distinct { OnOk result (AreApart c.now.home.s_id tried.old.items
+        → AreApart c.now.home.s_id tried.new.items) }
     ensures many { IsErrOf result Stopped.MoreThanMost
-        → AreApart c.now.home.s_id answered.old.items
-        → AreMoreThan most (IsOldOr answered.old.items (TakeSome (seen c.now))) }
+        → AreApart c.now.home.s_id answered.old.items → AreApart c.now.home.s_id tried.old.items
+        → AreMoreThan most (IsStoodOr answered.old.items (From MayCome c.now))
+        ⊎ AreMoreThan most (IsStoodOr tried.old.items (From MayCome c.now)) }
 {
     let mut going = Vec::new(alloc);
-    going.push(copy(alloc, c)?)?;
+    try_each(alloc, c, asked, most, answered, tried, &mut going)?;
     'turns: for i in 0..c.opened.len() {
-        let next = try_all(alloc, going.as_slice(), asked, most, answered)?;
+        let next = try_all(alloc, going.as_slice(), asked, most, answered, tried)?;
         going = next;
     }
     Ok(())

@@ -77,6 +77,7 @@ impl Explanations {
         configurations.push(Configuration {
             home: home.copy(),
             opened: Vec::new(alloc),
+            overwritten: 0,
         })?;
         Ok(Explanations {
             configurations,

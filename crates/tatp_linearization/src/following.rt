@@ -1,12 +1,14 @@
 //! Configurations that may follow on others at an event.
-ghost use Rattle.std.specs.Prelude.{◌≡◌, ◌↔◌, ℕ, IsTrue, IfOk, OnOk, IsErrOf};
+ghost use Rattle.std.specs.Prelude.{◌≡◌, ◌↔◌, ◌⊎◌, ℕ, IsTrue, IfOk, OnOk, IsErrOf};
 ghost use Rattle.tatp_history.specs.Configurations.{Configuration as Seen};
 ghost use Rattle.tatp_history.specs.Locality.{AreAccepted};
 ghost use Rattle.tatp_linearization.specs.AtOnce.{FollowsAtOnce};
 ghost use Rattle.tatp_linearization.specs.Possible.{AreMoreThan};
-ghost use Rattle.tatp_linearization.specs.Held.{Adds, AreApart, AreReady, FollowAll, HoldsOfOne, IsAcceptedEvent, IsOldOr, IsTried, seen};
+ghost use Rattle.tatp_linearization.specs.Held.{AreApart, AreReady, IsAcceptedEvent, seen};
+ghost use Rattle.tatp_linearization.specs.Covering.{AreTriedOut, AreTriedOutAt, FollowSet, From, FromOne, GainsAfter, GainsEnd, GainsGone, IsApart, IsStoodOr, MayBeTried, MayCome, OneStandsFor, Opens, StandsFor};
 
-use crate::configuration::{Configuration, add, ask, copy, none_asked};
+use crate::configuration::{Configuration, ask, copy, let_go, none_asked};
+use crate::covering::add;
 use crate::effects::take_effect;
 use crate::reading::needs_no_place;
 use crate::stopped::Stopped;
@@ -17,8 +19,8 @@ use tatp_history::Event;
 /// call ends that isn't open.
 fn leaves(c: &Configuration, event: &Event) -> bool
     requires accepted { IsAcceptedEvent event.now }
-    ensures { IsTrue result → (d : Seen)
-        → (d ≡ seen c.now) ↔ FollowsAtOnce event.now (seen c.now) d }
+    ensures { IsTrue result → (d : Seen) → StandsFor c.now d
+        → (e : Seen) → (e ≡ d) ↔ FollowsAtOnce event.now d e }
 {
     match event {
         Event::Asks(x) => {
@@ -32,7 +34,7 @@ fn leaves(c: &Configuration, event: &Event) -> bool
 /// Whether an event leaves all of these as they are.
 pub(crate) fn leaves_all(set: &[Configuration], event: &Event) -> bool
     requires accepted { IsAcceptedEvent event.now }
-    ensures { IsTrue result → FollowAll event.now set.now set.now }
+    ensures { IsTrue result → FollowSet event.now set.now set.now }
 {
     for i in 0..set.len() {
         if !leaves(&set[i], event) {
@@ -42,6 +44,67 @@ pub(crate) fn leaves_all(set: &[Configuration], event: &Event) -> bool
     true
 }
 
+/// Adds the configuration without a call that ends, where the call is an update that was
+/// overwritten: it has taken effect before that.
+fn add_gone(
+    alloc: Global,
+    c: &Configuration,
+    asked: u64,
+    most: usize,
+    after: &mut Vec<Configuration>,
+) -> Result<(), Stopped>
+    requires ready { AreAccepted c.now.opened.items }
+    requires open { Opens asked (seen c.now) }
+    ensures gained { OnOk result (GainsGone asked c.now after.old.items after.new.items) }
+    ensures ready { OnOk result (AreReady after.old.items → AreReady after.new.items) }
+    ensures apart { OnOk result (AreApart c.now.home.s_id after.old.items
+        → AreApart c.now.home.s_id after.new.items) }
+    ensures many { IsErrOf result Stopped.MoreThanMost → AreApart c.now.home.s_id after.old.items
+        → AreMoreThan most (IsStoodOr after.old.items (From MayCome c.now)) }
+{
+    match let_go(alloc, c, asked)? {
+        Some(d) => {
+            if none_asked(&d, asked) {
+                add(after, d, most)?;
+            }
+            Ok(())
+        }
+        None => Ok(()),
+    }
+}
+
+/// Adds the configurations that may follow on one where an open call ends.
+fn end(
+    alloc: Global,
+    c: &Configuration,
+    asked: u64,
+    most: usize,
+    after: &mut Vec<Configuration>,
+    tried: &mut Vec<Configuration>,
+) -> Result<(), Stopped>
+    requires ready { AreAccepted c.now.opened.items }
+    requires open { Opens asked (seen c.now) }
+    ensures gained { OnOk result (GainsEnd asked c.now tried.old.items
+        after.old.items after.new.items) }
+    ensures done { OnOk result (IsApart c.now → AreTriedOut asked after.old.items tried.old.items
+        → AreTriedOut asked after.new.items tried.new.items) }
+    ensures tried { OnOk result ((d : Seen) → OneStandsFor tried.new.items d
+        → IsStoodOr tried.old.items (From MayCome c.now) d) }
+    ensures ready { OnOk result (AreReady after.old.items → AreReady after.new.items) }
+    ensures apart { OnOk result (AreApart c.now.home.s_id after.old.items
+        → AreApart c.now.home.s_id after.new.items) }
+    ensures distinct { OnOk result (AreApart c.now.home.s_id tried.old.items
+        → AreApart c.now.home.s_id tried.new.items) }
+    ensures many { IsErrOf result Stopped.MoreThanMost → AreApart c.now.home.s_id after.old.items
+        → AreApart c.now.home.s_id tried.old.items
+        → AreMoreThan most (IsStoodOr after.old.items (From MayCome c.now))
+        ⊎ AreMoreThan most (IsStoodOr tried.old.items (From MayCome c.now)) }
+{
+    add_gone(alloc, c, asked, most, after)?;
+    take_effect(alloc, c, asked, most, after, tried)?;
+    Ok(())
+}
+
 /// Adds the configurations that may follow on one at an event.
 fn follow(
     alloc: Global,
@@ -49,25 +112,39 @@ fn follow(
     event: &Event,
     most: usize,
     after: &mut Vec<Configuration>,
+    tried: &mut Vec<Configuration>,
 ) -> Result<(), Stopped>
     requires ready { AreAccepted c.now.opened.items }
     requires accepted { IsAcceptedEvent event.now }
-    ensures added { OnOk result (Adds after.old.items
-        (FollowsAtOnce event.now (seen c.now)) after.new.items) }
+    ensures gained { OnOk result (GainsAfter event.now c.now tried.old.items
+        after.old.items after.new.items) }
+    ensures done { OnOk result (IsApart c.now
+        → AreTriedOutAt event.now after.old.items tried.old.items
+        → AreTriedOutAt event.now after.new.items tried.new.items) }
+    ensures tried { OnOk result ((d : Seen) → OneStandsFor tried.new.items d
+        → IsStoodOr tried.old.items (From (MayBeTried event.now) c.now) d) }
     ensures ready { OnOk result (AreReady after.old.items → AreReady after.new.items) }
     ensures apart { OnOk result (AreApart c.now.home.s_id after.old.items
         → AreApart c.now.home.s_id after.new.items) }
+    ensures distinct { OnOk result (AreApart c.now.home.s_id tried.old.items
+        → AreApart c.now.home.s_id tried.new.items) }
     ensures many { IsErrOf result Stopped.MoreThanMost → AreApart c.now.home.s_id after.old.items
-        → AreMoreThan most (IsOldOr after.old.items (IsTried event.now (seen c.now))) }
+        → AreApart c.now.home.s_id tried.old.items
+        → AreMoreThan most (IsStoodOr after.old.items (From (MayBeTried event.now) c.now))
+        ⊎ AreMoreThan most (IsStoodOr tried.old.items (From (MayBeTried event.now) c.now)) }
 {
     match event {
-        Event::Asks(x) => add(after, ask(alloc, c, x)?, most),
+        Event::Asks(x) => {
+            add(after, ask(alloc, c, x)?, most)?;
+            Ok(())
+        }
         Event::Ends { asked, .. } => {
             if none_asked(c, *asked) {
-                add(after, copy(alloc, c)?, most)
+                add(after, copy(alloc, c)?, most)?;
             } else {
-                take_effect(alloc, c, *asked, most, after)
+                end(alloc, c, *asked, most, after, tried)?;
             }
+            Ok(())
         }
     }
 }
@@ -81,16 +158,17 @@ pub(crate) fn after_event(
 ) -> Result<Vec<Configuration>, Stopped>
     requires ready { AreReady set.now }
     requires accepted { IsAcceptedEvent event.now }
-    ensures followed { IfOk result (λ after. FollowAll event.now set.now after.items) }
+    ensures followed { IfOk result (λ after. FollowSet event.now set.now after.items) }
     ensures ready { IfOk result (λ after. AreReady after.items) }
     ensures apart { IfOk result (λ after. (s : ℕ) → AreApart s set.now
         → AreApart s after.items) }
     ensures many { IsErrOf result Stopped.MoreThanMost → (s : ℕ) → AreApart s set.now
-        → AreMoreThan most (HoldsOfOne (IsTried event.now) set.now) }
+        → AreMoreThan most (FromOne (MayBeTried event.now) set.now) }
 {
     let mut after = Vec::new(alloc);
+    let mut tried = Vec::new(alloc);
     'configurations: for i in 0..set.len() {
-        follow(alloc, &set[i], event, most, &mut after)?;
+        follow(alloc, &set[i], event, most, &mut after, &mut tried)?;
     }
     Ok(after)
 }

@@ -187,13 +187,14 @@ impl Explanations {
 
     /// The replies with which a call of a window could have been answered at a time, so that an
     /// order explains the calls up to that time, each once. `None` means that they aren't known,
-    /// since more configurations or more rows are possible than may be kept.
+    /// since more configurations are possible than may be kept, or more rows than `most_rows`.
     pub fn legal_replies(
         &self,
         alloc: Global,
         events: &[Event],
         x: &Observed,
         at: u64,
+        most_rows: usize,
     ) -> Result<Option<Vec<Reply>>, AllocError>
         requires reached { (u : Database) × (past : List Event) × AreReached u past self.now }
         requires accepted { AllByRecursion IsAcceptedEvent events.now }
@@ -207,13 +208,13 @@ impl Explanations {
         ensures once { IfOk result (λ found. IfSome found (λ legal. AreEachOnce legal.items)) }
         ensures unknown { result ≡ Ok None → (u : Database) (past : List Event)
             → AreReached u past self.now
-            → AreMoreThan self.now.most (MayBeLeft self.now.configurations.items events.now)
+            → AreMoreThan most_rows (MayBeLeft self.now.configurations.items events.now)
             ⊎ ((reply : Replied) × NeedMore self.now.most u
             (past ++ events_then_with (answered_with x.now at reply) (events_then at events.now))) }
     {
         let set = self.configurations.as_slice();
         let calls = calls_of(alloc, set, events)?;
-        let rows = match rows_left(alloc, set, calls.as_slice(), self.most) {
+        let rows = match rows_left(alloc, set, calls.as_slice(), most_rows) {
             Ok(rows) => rows,
             Err(Stopped::MoreThanMost) => return Ok(None),
             Err(Stopped::NoMemory) => return Err(AllocError),

@@ -3,6 +3,7 @@
 
 mod comparing;
 mod configuration;
+mod covering;
 mod cut;
 mod doomed;
 mod effects;

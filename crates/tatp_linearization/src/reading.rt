@@ -1,9 +1,10 @@
 //! Reads that take effect at once.
-ghost use Rattle.std.specs.Prelude.{◌≡◌, ◌<◌, ◌↔◌, IsTrue, Ok, Some, length, remove, slice_get};
+ghost use Rattle.std.specs.Prelude.{◌≡◌, ◌<◌, ◌↔◌, IsTrue, Ok, Some, false, length, remove, slice_get};
 ghost use Rattle.tatp_history.specs.declared.observed.Observed.{Observed as Asked};
 ghost use Rattle.tatp_procs.specs.Arguments.{arguments_accepted};
 ghost use Rattle.tatp_history.specs.Locality.{AreAccepted};
-ghost use Rattle.tatp_linearization.specs.AtOnce.{AreLeft, FitsAtOnce, IsSettledAt, NeedsNoPlace, only_reads as reads};
+ghost use Rattle.tatp_linearization.specs.AtOnce.{FitsAtOnce, IsSettledAt, NeedsNoPlace, only_reads as reads};
+ghost use Rattle.tatp_linearization.specs.Overwritten.{AreLeftOf};
 
 use tatp_evaluation::evaluate;
 use tatp_history::{Observed, Outcome};
@@ -54,31 +55,39 @@ pub(crate) fn needs_no_place(home: &mut Home, x: &Observed) -> bool
     }
 }
 
-/// Takes an open call out, if it is a read whose reply fits. The home keeps its rows.
-fn settle_at(home: &mut Home, opened: &mut Vec<Observed>, place: usize)
+/// Takes an open call out, if it is a read whose reply fits, and tells whether it is one. The home
+/// keeps its rows.
+fn settle_at(home: &mut Home, opened: &mut Vec<Observed>, place: usize) -> bool
     requires inside { place < length opened.old.items }
     requires accepted { AreAccepted opened.old.items }
     ensures left { (x : Asked) → slice_get opened.old.items place ≡ Some x
-        → IsSettledAt home.old.tables x (opened.new.items ≡ remove opened.old.items place)
-        (opened.new.items ≡ opened.old.items) }
+        → IsSettledAt home.old.tables x
+        (IsTrue result × (opened.new.items ≡ remove opened.old.items place))
+        ((result ≡ false) × (opened.new.items ≡ opened.old.items)) }
     ensures rows { home.new.tables ≡ home.old.tables }
     ensures own { home.new.s_id ≡ home.old.s_id }
 {
     if !fits_at_once(home, &opened[place]) {
-        return;
+        return false;
     }
     opened.remove(place);
+    true
 }
 
-/// Takes the reads whose reply fits out of the open calls. The home keeps its rows.
-pub(crate) fn settle(home: &mut Home, opened: &mut Vec<Observed>)
+/// Takes the reads whose reply fits out of the open calls, and tells how many of the last `many`
+/// are left. The home keeps its rows.
+pub(crate) fn settle(home: &mut Home, opened: &mut Vec<Observed>, many: usize) -> usize
     requires accepted { AreAccepted opened.old.items }
-    ensures left { AreLeft home.old.tables opened.old.items opened.new.items }
+    ensures left { AreLeftOf home.old.tables many opened.old.items result opened.new.items }
     ensures rows { home.new.tables ≡ home.old.tables }
     ensures own { home.new.s_id ≡ home.old.s_id }
 {
     let count = opened.len();
+    let mut still = 0;
     'calls: for i in 0..count {
-        settle_at(home, opened, count - 1 - i);
+        if !settle_at(home, opened, count - 1 - i) && i < many {
+            still += 1;
+        }
     }
+    still
 }

@@ -10,7 +10,7 @@ ghost use Rattle.tatp_linearization.specs.Held.{AreApart, Has, HoldsOfOne, Stand
 ghost use Rattle.tatp_linearization.specs.Legal.{IsAmong, MayLeave, all_calls, calls_in};
 ghost use Rattle.tatp_linearization.specs.Leaving.{AreAcceptedCalls, AreClosed, AreFrom, left_by as left, without_calls as bare};
 
-use crate::configuration::{Configuration, add};
+use crate::configuration::{Configuration, add_once};
 use crate::stopped::Stopped;
 use std::alloc::{AllocError, Global};
 use tatp_evaluation::evaluate;
@@ -66,6 +66,7 @@ fn without_calls(alloc: Global, c: &Configuration) -> Configuration
     Configuration {
         home: c.home.copy(),
         opened: Vec::new(alloc),
+        overwritten: 0,
     }
 }
 
@@ -81,6 +82,7 @@ fn left_by(alloc: Global, c: &Configuration, call: &Call) -> Configuration
     Configuration {
         home,
         opened: Vec::new(alloc),
+        overwritten: 0,
     }
 }
 
@@ -107,7 +109,7 @@ fn add_left(
 {
     'calls: for i in 0..calls.len() {
         let d = left_by(alloc, &set[place], &calls[i]);
-        add(set, d, most)?;
+        add_once(set, d, most)?;
     }
     Ok(())
 }
@@ -129,7 +131,7 @@ fn all_without_calls(
     let mut rows = Vec::new(alloc);
     'configurations: for i in 0..set.len() {
         let d = without_calls(alloc, &set[i]);
-        add(&mut rows, d, most)?;
+        add_once(&mut rows, d, most)?;
     }
     Ok(rows)
 }

@@ -1,5 +1,5 @@
 //! Whether calls leave given rows.
-ghost use Rattle.std.specs.Prelude.{◌≡◌, ◌≤◌, ◌↔◌, ℕ, IsTrue, IfOk, OnOk, IsErrOf, Ok, List, length};
+ghost use Rattle.std.specs.Prelude.{◌≡◌, ◌≤◌, ℕ, IsTrue, IfOk, OnOk, IsErrOf, Ok, List, [], length};
 ghost use Rattle.std.specs.List.{AllByRecursion};
 ghost use Rattle.tatp_tables.specs.Database.{Database};
 ghost use Rattle.tatp_history.specs.declared.event.Event.{Event};
@@ -10,10 +10,12 @@ ghost use Rattle.tatp_history.specs.Locality.{AreAccepted};
 ghost use Rattle.tatp_linearization.specs.declared.configuration.Configuration.{Configuration as Held};
 ghost use Rattle.tatp_linearization.specs.AtOnce.{TakesOne};
 ghost use Rattle.tatp_linearization.specs.Possible.{AreMoreThan, NeedMore};
-ghost use Rattle.tatp_linearization.specs.Held.{Adds, AreApart, AreReady, Has, HoldsOfOne, IsOldOr, TakeSome, seen};
+ghost use Rattle.tatp_linearization.specs.Held.{AreApart, AreReady, TakeSome};
+ghost use Rattle.tatp_linearization.specs.Covering.{From, FromOne, Gains, IsStoodOr, MayCome, OneStandsFor};
 ghost use Rattle.tatp_linearization.specs.Reached.{AreOfSubscriber, AreReached};
 
-use crate::configuration::{Configuration, add, take};
+use crate::configuration::{Configuration, take};
+use crate::covering::add;
 use crate::explanations::{Explanations, Standing};
 use crate::stopped::Stopped;
 use std::alloc::{AllocError, Global};
@@ -27,12 +29,13 @@ fn add_taken(
     after: &mut Vec<Configuration>,
 ) -> Result<(), Stopped>
     requires accepted { AreAccepted c.now.opened.items }
-    ensures added { OnOk result (Adds after.old.items (TakesOne (seen c.now)) after.new.items) }
+    ensures gained { OnOk result (Gains (From MayCome c.now) (From TakesOne c.now)
+        after.old.items after.new.items) }
     ensures ready { OnOk result (AreReady after.old.items → AreReady after.new.items) }
     ensures apart { OnOk result (AreApart c.now.home.s_id after.old.items
         → AreApart c.now.home.s_id after.new.items) }
     ensures many { IsErrOf result Stopped.MoreThanMost → AreApart c.now.home.s_id after.old.items
-        → AreMoreThan most (IsOldOr after.old.items (TakesOne (seen c.now))) }
+        → AreMoreThan most (IsStoodOr after.old.items (From MayCome c.now)) }
 {
     'calls: for i in 0..c.opened.len() {
         match take(alloc, c, i)? {
@@ -50,13 +53,13 @@ fn after_one(
     most: usize,
 ) -> Result<Vec<Configuration>, Stopped>
     requires ready { AreReady set.now }
-    ensures taken { IfOk result (λ after. (d : Seen)
-        → Has after.items d ↔ HoldsOfOne TakesOne set.now d) }
+    ensures gained { IfOk result (λ after. Gains (FromOne MayCome set.now)
+        (FromOne TakesOne set.now) [] after.items) }
     ensures ready { IfOk result (λ after. AreReady after.items) }
     ensures apart { IfOk result (λ after. (s : ℕ) → AreApart s set.now
         → AreApart s after.items) }
     ensures many { IsErrOf result Stopped.MoreThanMost → (s : ℕ) → AreApart s set.now
-        → AreMoreThan most (HoldsOfOne TakesOne set.now) }
+        → AreMoreThan most (FromOne MayCome set.now) }
 {
     let mut after = Vec::new(alloc);
     'configurations: for i in 0..set.len() {
@@ -67,8 +70,9 @@ fn after_one(
 
 /// Whether one of these has the rows.
 fn have_rows(set: &[Configuration], rows: &Home) -> bool
-    ensures there { IsTrue result → (d : Seen) × Has set.now d × (d.rows ≡ rows.now.tables) }
-    ensures other { AreApart rows.now.s_id set.now → (d : Seen) → Has set.now d
+    ensures there { IsTrue result
+        → (d : Seen) × OneStandsFor set.now d × (d.rows ≡ rows.now.tables) }
+    ensures other { AreApart rows.now.s_id set.now → (d : Seen) → OneStandsFor set.now d
         → d.rows ≡ rows.now.tables → IsTrue result }
 {
     for i in 0..set.len() {
@@ -103,10 +107,12 @@ fn may_have_rows(
 ) -> Result<bool, Stopped>
     requires ready { AreReady set.now }
     requires apart { AreApart rows.now.s_id set.now }
-    ensures rows { IfOk result (λ yes. IsTrue yes
-        ↔ ((d : Seen) × HoldsOfOne TakeSome set.now d × (d.rows ≡ rows.now.tables))) }
+    ensures there { IfOk result (λ yes. IsTrue yes
+        → (d : Seen) × FromOne MayCome set.now d × (d.rows ≡ rows.now.tables)) }
+    ensures other { IfOk result (λ yes. (d : Seen) → FromOne TakeSome set.now d
+        → d.rows ≡ rows.now.tables → IsTrue yes) }
     ensures many { IsErrOf result Stopped.MoreThanMost
-        → AreMoreThan most (HoldsOfOne TakeSome set.now) }
+        → AreMoreThan most (FromOne MayCome set.now) }
 {
     if have_rows(set, rows) {
         return Ok(true);

@@ -6,7 +6,7 @@ ghost use Rattle.tatp_tasks.specs.Loads.{IsCallsPlan};
 ghost use Rattle.tatp_load.specs.Written.{WritesFrontOf};
 ghost use Rattle.tatp_load.specs.Calls.{calls_written};
 
-use crate::call_line::push_call;
+use crate::call_line::push_call_line;
 use std::alloc::Global;
 use std::io::Write;
 use tatp_driver::Driver;
@@ -31,7 +31,7 @@ pub fn run_calls<W: Write>(
     let mut driver = Driver::new(plan.seed, plan.client, plan.subscribers, plan.distribution);
     let mut pending = String::new(alloc);
     for _ in 0..plan.calls {
-        push_call(&mut pending, &driver.next_call())?;
+        push_call_line(&mut pending, &driver.next_call())?;
         write_if_full(writer, &mut pending)?;
     }
     write_last(writer, pending.as_bytes())?;

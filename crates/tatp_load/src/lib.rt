@@ -5,6 +5,6 @@ mod call_line;
 mod calls;
 mod rows;
 
-pub use call_line::push_call;
+pub use call_line::push_call_line;
 pub use calls::run_calls;
 pub use rows::run_rows;

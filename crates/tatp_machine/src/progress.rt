@@ -1,6 +1,6 @@
 //! What a step answers.
 ghost use Rattle.std.specs.Prelude.{◌≡◌, Some};
-ghost use Rattle.tatp_machine.specs.Machines.{told};
+ghost use Rattle.tatp_machine.specs.Machines.{progress_after};
 ghost use Rattle.tatp_machine.specs.Traps.{trap_name};
 
 use std::fmt;
@@ -57,7 +57,7 @@ pub enum Progress {
 /// What became of a write that an instruction makes. It fits a register, as a [`Progress`] doesn't:
 /// a step with a place for an answer pays for that whether or not it writes.
 #[derive(Clone, Copy)]
-pub(crate) enum Write {
+pub(crate) enum WriteOutcome {
     /// It was made, or it wasn't and the call was told why.
     Made,
     /// No row was current, so the call has ended.
@@ -68,12 +68,12 @@ pub(crate) enum Write {
 
 /// What a step answers that wrote.
 #[inline(always)]
-pub(crate) fn told(write: Write) -> Progress
-    ensures { result ≡ told write }
+pub(crate) fn progress_after(outcome: WriteOutcome) -> Progress
+    ensures { result ≡ progress_after outcome }
 {
-    match write {
-        Write::Made => Progress::Running,
-        Write::NoCurrent => Progress::Ended(End::Trapped(Trap::NoCurrent)),
-        Write::Domain => Progress::Ended(End::Trapped(Trap::Domain)),
+    match outcome {
+        WriteOutcome::Made => Progress::Running,
+        WriteOutcome::NoCurrent => Progress::Ended(End::Trapped(Trap::NoCurrent)),
+        WriteOutcome::Domain => Progress::Ended(End::Trapped(Trap::Domain)),
     }
 }

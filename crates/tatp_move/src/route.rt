@@ -6,7 +6,7 @@ ghost use Rattle.tatp_extents.specs.Opening.{extent_count};
 use crate::{MoveRefusal, Plan};
 use std::alloc::{AllocError, Global};
 use std::marker::Model;
-use tatp_extents::{extent_count, extent_of};
+use tatp_extents::{Discard, extent_count, extent_of};
 use tatp_limits::MAX_SUBSCRIBERS;
 use tatp_partition::Landed;
 
@@ -108,7 +108,7 @@ impl Routes {
             return RouteUpdate::Superseded;
         }
         self.routes[place] = Route { partition, moves };
-        return RouteUpdate::Set;
+        RouteUpdate::Set
     }
 
     /// The extents in which the subscribers lo to hi lie, to be moved from one partition to

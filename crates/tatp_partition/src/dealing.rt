@@ -7,9 +7,9 @@ ghost use Rattle.tatp_partition.specs.Sites.{SiteState};
 ghost use Rattle.tatp_partition.specs.Moving.{HasPlaceFor};
 ghost use Rattle.tatp_partition.specs.Dealing.{AreSitesDealt, AreSitesOpened, LandsAt};
 
-use crate::{Parcel, Site, discard_all};
+use crate::{Parcel, Site};
 use std::alloc::{AllocError, Global};
-use tatp_extents::Extent;
+use tatp_extents::{Discard, Extent, discard_all};
 use tatp_loader::Loaded;
 
 /// The sites of all partitions, for `count` extents, none of which is there yet.
@@ -76,11 +76,6 @@ pub fn open_sites<'m>(
     }
     rest.destroy_empty();
     Ok(sites)
-}
-
-/// Spends sites, with the extents there.
-pub fn close_sites(sites: Vec<Site<'_>>) {
-    discard_all(sites);
 }
 
 /// Law: the extents that rows are opened into have the numbers from 1 on, each once.

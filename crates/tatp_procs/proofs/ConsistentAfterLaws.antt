@@ -14,7 +14,7 @@ use Rattle.tatp_numbers.specs.Homes.{s_id_of, home_of_key}
 use Rattle.tatp_procs.specs.declared.call.Call.{Call}
 use Rattle.tatp_procs.specs.declared.call.Call.TheVariants.{GetSubscriberData, GetNewDestination, GetAccessData, UpdateSubscriberData, UpdateLocation, InsertCallForwarding, DeleteCallForwarding}
 use Rattle.tatp_procs.specs.Arguments.{arguments_accepted, fits_of}
-use Rattle.tatp_procs.specs.Transactions.{reads, some_of, destinations, updates_both, moves, inserts_under, inserts_for, deletes, deletes_for, transaction}
+use Rattle.tatp_procs.specs.Transactions.{reads, some_of, destinations, updates_both, updates_location, inserts_under, inserts_for, deletes, deletes_for, transaction}
 use Rattle.tatp_procs.specs.Consistent.{IsConsistent}
 use Rattle.tatp_procs.proofs.HomeRowLaws.{row_length}
 use Rattle.tatp_procs.proofs.ForwardingLaws.{s_id_fits, row_fits}
@@ -35,9 +35,9 @@ by_both u x y None o' is d d' there there' = Kept-same u is
 by_both u x y (Some row) None is d d' there there' = Kept-same u is
 by_both u x y (Some row) (Some facility) is d d' there there' = Kept-both u row facility x y is (there row refl) (there' facility refl) d d'
 
-by_move : (u : Database) (v : ℕ) (o : Option Tuple) → IsConsistent u → is_in_domain 33 v ≡ true → ((row : Tuple) → o ≡ Some row → has u.subscribers row ≡ true) → Kept u (moves u v o).database
-by_move u v None is d there = Kept-same u is
-by_move u v (Some row) is d there = Kept-subscriber u row 33 v is (there row refl) (omega arith) d
+by_location : (u : Database) (v : ℕ) (o : Option Tuple) → IsConsistent u → is_in_domain 33 v ≡ true → ((row : Tuple) → o ≡ Some row → has u.subscribers row ≡ true) → Kept u (updates_location u v o).database
+by_location u v None is d there = Kept-same u is
+by_location u v (Some row) is d there = Kept-subscriber u row 33 v is (there row refl) (omega arith) d
 
 by_insert_under : (u : Database) (row : Tuple) (parent there : Option Tuple) → IsConsistent u → is_row CallForwarding row ≡ true → row_at u.facilities (take 2 row) ≡ parent → row_at u.forwardings (take 3 row) ≡ there
     → Kept u (inserts_under u row parent there).database
@@ -71,7 +71,7 @@ kept_by (UpdateSubscriberData s x t y) u is h =
     by_both u x y (row_at u.subscribers (s ∷ [])) (row_at u.facilities (s ∷ t ∷ [])) is fits.1.0 fits.1.1.1.0 (λ row e. row_at-has u.subscribers (s ∷ []) row e) (λ row e. row_at-has u.facilities (s ∷ t ∷ []) row e)
 kept_by (UpdateLocation n v) u is h =
     let fits = all_fit 0 (fits_of (UpdateLocation n v)) h in
-    by_move u v (row_with_number u.subscribers n) is fits.1.0 (λ row e. has-found _ u.subscribers row e)
+    by_location u v (row_with_number u.subscribers n) is fits.1.0 (λ row e. has-found _ u.subscribers row e)
 kept_by (InsertCallForwarding n t b e x) u is h =
     let fits = all_fit 0 (fits_of (InsertCallForwarding n t b e x)) h in
     by_insert u t b e x (row_with_number u.subscribers n) is (λ s d. row_fits s t b e x d fits.1.0 fits.1.1.0 fits.1.1.1.0 fits.1.1.1.1.0) (λ row e. has-found _ u.subscribers row e)

@@ -18,7 +18,7 @@ use Rattle.tatp_numbers.specs.Homes.{s_id_of, home_of_key}
 use Rattle.tatp_procs.specs.declared.call.Call.{Call}
 use Rattle.tatp_procs.specs.declared.call.Call.TheVariants.{GetSubscriberData, GetNewDestination, GetAccessData, UpdateSubscriberData, UpdateLocation, InsertCallForwarding, DeleteCallForwarding}
 use Rattle.tatp_procs.specs.Calls.{key_of_call}
-use Rattle.tatp_procs.specs.Transactions.{transaction, replies, fails, reads, numberx_of, start_time_of, end_time_of, is_active, is_destination, destinations, some_of, updates_both, moves, inserts_under, inserts_for, deletes, deletes_for, with_bit_1, with_data_a, with_vlr_location}
+use Rattle.tatp_procs.specs.Transactions.{transaction, replies, fails, reads, numberx_of, start_time_of, end_time_of, is_active, is_destination, destinations, some_of, updates_both, updates_location, inserts_under, inserts_for, deletes, deletes_for, with_bit_1, with_data_a, with_vlr_location}
 use Rattle.tatp_procs.specs.Consistent.{IsConsistent}
 use Rattle.tatp_procs.specs.Locality.{with_answer, IsLocal}
 use Rattle.tatp_procs.proofs.HomeRowLaws.{row_at-own, no_child}
@@ -146,9 +146,9 @@ transactions_are_local (UpdateLocation n v) u s is e =
     let named = number_names u.subscribers n s e in
     let row = named.row in
     let own : has_key (s ∷ []) row ≡ true = subst (λ k. has_key (k ∷ []) row ≡ true) named.own (own_of u row is (has-found (has_number n) u.subscribers row named.found)) in
-    ap (moves u v) named.found
+    ap (updates_location u v) named.found
     ∙ ap (λ w. replies w []) (sym (subscriber_replaced u s row (with_vlr_location row v) own (set_own s 33 v row (omega arith) own)))
-    ∙ ap (λ o. with_answer u s (moves (of_subscriber u s) v o)) (sym (number_own u n s named is))
+    ∙ ap (λ o. with_answer u s (updates_location (of_subscriber u s) v o)) (sym (number_own u n s named is))
 transactions_are_local (InsertCallForwarding n t b x y) u s is e =
     ap (inserts_for u t b x y) e
     ∙ inserts_local u s (s ∷ t ∷ b ∷ x ∷ y ∷ []) (row_at u.facilities (s ∷ t ∷ [])) (row_at u.forwardings (s ∷ t ∷ b ∷ []))
@@ -177,7 +177,7 @@ fails_without_home (GetNewDestination k t b n) u is e =
     ∙ ap (λ xs. some_of u (map numberx_of xs)) (nothing_passes (has_key (k ∷ t ∷ [])) (rows_of u.forwardings))
 fails_without_home (GetAccessData k t) u is e = ap (reads u (drop 2)) (no_child u.subscribers u.accesses k (t ∷ []) is.parents.of_accesses (none_names u.subscribers k e))
 fails_without_home (UpdateSubscriberData k x t y) u is e = ap (λ o. updates_both u x y o (row_at u.facilities (k ∷ t ∷ []))) (none_names u.subscribers k e)
-fails_without_home (UpdateLocation n v) u is e = ap (moves u v) (no_number u.subscribers n e)
+fails_without_home (UpdateLocation n v) u is e = ap (updates_location u v) (no_number u.subscribers n e)
 fails_without_home (InsertCallForwarding n t b x y) u is e = ap (inserts_for u t b x y) e
 fails_without_home (DeleteCallForwarding n t b) u is e = ap (deletes_for u t b) e
 
@@ -223,9 +223,9 @@ module _ (u : Database) (s : ℕ) where
       (AreOf-replace_row s w.facilities facility (with_data_a facility y) (set_own s 4 y facility (omega arith) (has_key-head s (t ∷ []) facility (row_at-key w.facilities (s ∷ t ∷ []) facility g))) (AreOf-rows_with_s_id s u.facilities))
       (AreOf-rows_with_s_id s u.forwardings)
 
-  keeps_moves : (n v : ℕ) (row : Option Tuple) → row_with_number w.subscribers n ≡ row → HaveSId s (moves w v row).database
-  keeps_moves n v None f = HaveSId-of_subscriber u s
-  keeps_moves n v (Some row) f = of_tables s _ _ _ _
+  keeps_location : (n v : ℕ) (row : Option Tuple) → row_with_number w.subscribers n ≡ row → HaveSId s (updates_location w v row).database
+  keeps_location n v None f = HaveSId-of_subscriber u s
+  keeps_location n v (Some row) f = of_tables s _ _ _ _
       (AreOf-replace_row s w.subscribers row (with_vlr_location row v) (set_own s 33 v row (omega arith) (AreOf-rows_with_s_id s u.subscribers row (has-found (has_number n) w.subscribers row f))) (AreOf-rows_with_s_id s u.subscribers))
       (AreOf-rows_with_s_id s u.accesses) (AreOf-rows_with_s_id s u.facilities) (AreOf-rows_with_s_id s u.forwardings)
 
@@ -248,7 +248,7 @@ rows_stay_own (GetSubscriberData k) u s is e = keeps_reads u s (λ row. row) _
 rows_stay_own (GetNewDestination k t b n) u s is e = keeps_some u s _
 rows_stay_own (GetAccessData k t) u s is e = keeps_reads u s (drop 2) _
 rows_stay_own (UpdateSubscriberData k x t y) u s is e = subst (λ j. HaveSId s (transaction (UpdateSubscriberData j x t y) (of_subscriber u s)).database) (sym (id_names u.subscribers k s e)) (keeps_updates u s x t y _ _ refl refl)
-rows_stay_own (UpdateLocation n v) u s is e = keeps_moves u s n v _ refl
+rows_stay_own (UpdateLocation n v) u s is e = keeps_location u s n v _ refl
 rows_stay_own (InsertCallForwarding n t b x y) u s is e =
     subst (λ o. HaveSId s (inserts_for (of_subscriber u s) t b x y o).database) (sym (named_at_home u s (Number n) is e)) (keeps_inserts u s (s ∷ t ∷ b ∷ x ∷ y ∷ []) (row_at (of_subscriber u s).facilities (s ∷ t ∷ [])) (row_at (of_subscriber u s).forwardings (s ∷ t ∷ b ∷ [])) (head_own s (t ∷ b ∷ x ∷ y ∷ [])))
 rows_stay_own (DeleteCallForwarding n t b) u s is e =

@@ -14,20 +14,20 @@ pub data Ending : Type 0 where
   Over : End → List ℕ → Database → Ending
   Unfinished : Ending
 
-abbrev pub go_on : (Frame → Database → Ending) → List ℕ → Database → Turn → Ending
-go_on more outputs v (Goes_on q w) = more q w
-go_on more outputs v (Stops end) = Over end outputs v
-go_on more outputs v Nothing_next = Unfinished
+abbrev pub continue_with : (Frame → Database → Ending) → List ℕ → Database → Turn → Ending
+continue_with more outputs v (Goes_on q w) = more q w
+continue_with more outputs v (Stops end) = Over end outputs v
+continue_with more outputs v Nothing_next = Unfinished
 
 -- on the rows v of the home
 abbrev pub run : ℕ → Frame → Database → Ending
 run zero q v = Unfinished
-run (suc n) q v = go_on (run n) q.outputs v (turn_by_table q v)
+run (suc n) q v = continue_with (run n) q.outputs v (turn_by_table q v)
 
 -- without a home
 abbrev pub run_homeless : ℕ → Frame → Ending
 run_homeless zero q = Unfinished
-run_homeless (suc n) q = go_on (λ next w. run_homeless n next) q.outputs no_tables (turn_by_table q no_tables)
+run_homeless (suc n) q = continue_with (λ next w. run_homeless n next) q.outputs no_tables (turn_by_table q no_tables)
 
 -- ---- what an ending says
 pub end_is : (e f : End) (a b : List ℕ) (v w : Database) → Over e a v ≡ Over f b w → e ≡ f
@@ -51,7 +51,7 @@ makes_next q q' v v' e = makes_at (slice_get q.code q.pc) q q' v v' e
 pub grows : (n : ℕ) (q : Frame) (v w : Database) (end : End) (outputs : List ℕ) → run n q v ≡ Over end outputs w → length q.outputs ≤ length outputs
 grows zero q v w end outputs h = cc
 grows (suc n) q v w end outputs h =
-    elim (turn_by_table q v) as (λ t. turn_by_table q v ≡ t → go_on (run n) q.outputs v t ≡ Over end outputs w → length q.outputs ≤ length outputs) [
+    elim (turn_by_table q v) as (λ t. turn_by_table q v ≡ t → continue_with (run n) q.outputs v t ≡ Over end outputs w → length q.outputs ≤ length outputs) [
       | Goes_on next x ↦ λ e h. omega (arith, (makes_next q next v x e).2.outputs, grows n next x w end outputs h)
       | Stops f ↦ λ e h. omega (arith, ap length (outputs_are f end q.outputs outputs v w h))
       | Nothing_next ↦ λ e h. cc
@@ -60,7 +60,7 @@ grows (suc n) q v w end outputs h =
 pub grows_homeless : (n : ℕ) (q : Frame) (w : Database) (end : End) (outputs : List ℕ) → run_homeless n q ≡ Over end outputs w → length q.outputs ≤ length outputs
 grows_homeless zero q w end outputs h = cc
 grows_homeless (suc n) q w end outputs h =
-    elim (turn_by_table q no_tables) as (λ t. turn_by_table q no_tables ≡ t → go_on (λ next v. run_homeless n next) q.outputs no_tables t ≡ Over end outputs w → length q.outputs ≤ length outputs) [
+    elim (turn_by_table q no_tables) as (λ t. turn_by_table q no_tables ≡ t → continue_with (λ next v. run_homeless n next) q.outputs no_tables t ≡ Over end outputs w → length q.outputs ≤ length outputs) [
       | Goes_on next x ↦ λ e h. omega (arith, (makes_next q next no_tables x e).2.outputs, grows_homeless n next w end outputs h)
       | Stops f ↦ λ e h. omega (arith, ap length (outputs_are f end q.outputs outputs no_tables w h))
       | Nothing_next ↦ λ e h. cc

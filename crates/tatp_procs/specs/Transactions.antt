@@ -100,14 +100,14 @@ update_subscriber_data u s x t y =
 abbrev pub with_vlr_location : Tuple → ℕ → Tuple
 with_vlr_location subscriber v = slice_set subscriber 33 v
 
-abbrev pub moves : Database → ℕ → Option Tuple → Answer
-moves u v None = fails u 1
-moves u v (Some subscriber) = replies (record u {
+abbrev pub updates_location : Database → ℕ → Option Tuple → Answer
+updates_location u v None = fails u 1
+updates_location u v (Some subscriber) = replies (record u {
   subscribers = replace_row u.subscribers subscriber (with_vlr_location subscriber v);
 }) []
 
 abbrev pub update_location : Database → ℕ → ℕ → Answer
-update_location u n v = moves u v (row_with_number u.subscribers n)
+update_location u n v = updates_location u v (row_with_number u.subscribers n)
 
 -- ---- INSERT_CALL_FORWARDING
 -- SELECT s_id FROM Subscriber WHERE sub_nbr = n

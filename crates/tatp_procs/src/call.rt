@@ -79,18 +79,11 @@ impl Call {
     }
 
     /// How many arguments it has.
+    #[tactic(auto, using(crate::proofs::ArgumentLaws::one_each))]
     pub(crate) fn arg_count(&self) -> usize
         ensures { result ≡ length (arguments_of self.now) }
     {
-        match self {
-            Call::GetSubscriberData { .. } => 1,
-            Call::GetNewDestination { .. } => 4,
-            Call::GetAccessData { .. } => 2,
-            Call::UpdateSubscriberData { .. } => 4,
-            Call::UpdateLocation { .. } => 2,
-            Call::InsertCallForwarding { .. } => 5,
-            Call::DeleteCallForwarding { .. } => 3,
-        }
+        self.columns().len()
     }
 
     /// Its arguments, in the order of its standard procedure.

@@ -1,13 +1,16 @@
 //! The call of a line, and the line of a call.
-ghost use Rattle.std.specs.Prelude.{◌≡◌, true, Some, IfOk, IfSome};
+ghost use Rattle.std.specs.Prelude.{◌≡◌, ◌++◌, true, Some, IfOk, IfSome, OnOk};
 ghost use Rattle.std.specs.String.{string_bytes};
-ghost use Rattle.tatp_procs.specs.CallText.{call_of_line, call_text, is_printable_call, name_of};
+ghost use Rattle.tatp_procs.specs.CallText.{call_of_line, call_text, is_printable_call};
 
 mod arguments;
 
 use crate::Call;
-use crate::columns::columns;
-use crate::values::with_values;
+use crate::transactions::{
+    DELETE_CALL_FORWARDING, GET_ACCESS_DATA, GET_NEW_DESTINATION, GET_SUBSCRIBER_DATA,
+    INSERT_CALL_FORWARDING, UPDATE_LOCATION, UPDATE_SUBSCRIBER_DATA,
+};
+use crate::values::{push_values, with_values};
 use std::alloc::{AllocError, Global};
 use tatp_texts::Fields;
 
@@ -25,15 +28,23 @@ fn call_of_line(line: &str) -> Option<Call>
     ensures { result ≡ call_of_line line.now }
 {
     let mut fields = Fields::new(line);
-    match fields.next()? {
-        "GET_SUBSCRIBER_DATA" => arguments::get_subscriber_data(&mut fields),
-        "GET_NEW_DESTINATION" => arguments::get_new_destination(&mut fields),
-        "GET_ACCESS_DATA" => arguments::get_access_data(&mut fields),
-        "UPDATE_SUBSCRIBER_DATA" => arguments::update_subscriber_data(&mut fields),
-        "UPDATE_LOCATION" => arguments::update_location(&mut fields),
-        "INSERT_CALL_FORWARDING" => arguments::insert_call_forwarding(&mut fields),
-        "DELETE_CALL_FORWARDING" => arguments::delete_call_forwarding(&mut fields),
-        _ => None,
+    let name = fields.next()?;
+    if name == GET_SUBSCRIBER_DATA.name {
+        arguments::get_subscriber_data(&mut fields)
+    } else if name == GET_NEW_DESTINATION.name {
+        arguments::get_new_destination(&mut fields)
+    } else if name == GET_ACCESS_DATA.name {
+        arguments::get_access_data(&mut fields)
+    } else if name == UPDATE_SUBSCRIBER_DATA.name {
+        arguments::update_subscriber_data(&mut fields)
+    } else if name == UPDATE_LOCATION.name {
+        arguments::update_location(&mut fields)
+    } else if name == INSERT_CALL_FORWARDING.name {
+        arguments::insert_call_forwarding(&mut fields)
+    } else if name == DELETE_CALL_FORWARDING.name {
+        arguments::delete_call_forwarding(&mut fields)
+    } else {
+        None
     }
 }
 
@@ -43,19 +54,13 @@ pub fn call_text(alloc: Global, call: &Call) -> Result<String, AllocError>
     ensures read_back { IfOk result (λ text. is_printable_call call.now ≡ true
         → call_of_line (string_bytes text) ≡ Some call.now) }
 {
-    with_values(alloc, name(call), columns(call), &call.args())
+    with_values(alloc, call.name(), call.columns(), &call.args())
 }
 
-fn name(call: &Call) -> &'static str
-    ensures { result.now ≡ name_of call.now }
+/// Appends the line of a call. An error may leave some of it.
+pub fn push_call(text: &mut String, call: &Call) -> Result<(), AllocError>
+    ensures { OnOk result (string_bytes text.new ≡ string_bytes text.old ++ call_text call.now) }
 {
-    match call {
-        Call::GetSubscriberData { .. } => "GET_SUBSCRIBER_DATA",
-        Call::GetNewDestination { .. } => "GET_NEW_DESTINATION",
-        Call::GetAccessData { .. } => "GET_ACCESS_DATA",
-        Call::UpdateSubscriberData { .. } => "UPDATE_SUBSCRIBER_DATA",
-        Call::UpdateLocation { .. } => "UPDATE_LOCATION",
-        Call::InsertCallForwarding { .. } => "INSERT_CALL_FORWARDING",
-        Call::DeleteCallForwarding { .. } => "DELETE_CALL_FORWARDING",
-    }
+    text.push_str(call.name())?;
+    push_values(text, call.columns(), &call.args())
 }

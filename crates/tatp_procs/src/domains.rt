@@ -3,7 +3,7 @@ ghost use Rattle.std.specs.Prelude.{◌≡◌, length};
 ghost use Rattle.tatp_procs.specs.Arguments.{fits, fitting, first_bad, arguments_accepted};
 
 use crate::Call;
-use crate::columns::{S_ID, columns};
+use crate::transactions::S_ID;
 use tatp_tables::in_domain;
 use thiserror::Error;
 
@@ -18,7 +18,7 @@ pub struct BadArgument(pub usize);
 pub fn args_ok(call: &Call) -> Result<(), BadArgument>
     ensures { result ≡ arguments_accepted call.now }
 {
-    match first_bad(columns(call), &call.args()) {
+    match first_bad(call.columns(), &call.args()) {
         Some(argument) => Err(BadArgument(argument)),
         None => Ok(()),
     }

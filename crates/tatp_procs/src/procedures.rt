@@ -1,5 +1,5 @@
 //! The standard module: the seven transactions as procedures, in version 2 of the table.
-ghost use Rattle.std.specs.Prelude.{◌≡◌, ◌↔◌, true, IsTrue, IfOk, Ok};
+ghost use Rattle.std.specs.Prelude.{◌≡◌, ◌↔◌, ◌≤◌, true, IsTrue, IfOk, Ok};
 ghost use Rattle.tatp_tables.specs.Database.{Database};
 ghost use Rattle.tatp_encoding.specs.Modules.{is_procedure};
 ghost use Rattle.tatp_procs.specs.declared.call.Call.{Call};
@@ -13,10 +13,15 @@ mod registers;
 mod text;
 mod writes;
 
+use crate::transactions::{
+    DELETE_CALL_FORWARDING, GET_ACCESS_DATA, GET_NEW_DESTINATION, GET_SUBSCRIBER_DATA,
+    INSERT_CALL_FORWARDING, Transaction, UPDATE_LOCATION, UPDATE_SUBSCRIBER_DATA,
+};
 use reads::{get_access_data, get_new_destination, get_subscriber_data};
 use std::alloc::{AllocError, Global};
 use tatp_encoding::{Module, Proc, encode};
 use tatp_instr::{Instr, Version};
+use tatp_limits::MAX_ARGUMENTS;
 use tatp_loader::{Loaded, check};
 pub use text::{STANDARD, STANDARD_1};
 use writes::{
@@ -47,70 +52,68 @@ pub fn is_standard(loaded: &Loaded) -> bool
     let [a, b, c, d, e, f, g] = module.procs() else {
         return false;
     };
-    if !consists_of(a, "GET_SUBSCRIBER_DATA", 1, &get_subscriber_data()) {
+    if !consists_of(a, &GET_SUBSCRIBER_DATA, &get_subscriber_data()) {
         return false;
     }
-    if !consists_of(b, "GET_NEW_DESTINATION", 4, &get_new_destination()) {
+    if !consists_of(b, &GET_NEW_DESTINATION, &get_new_destination()) {
         return false;
     }
-    if !consists_of(c, "GET_ACCESS_DATA", 2, &get_access_data()) {
+    if !consists_of(c, &GET_ACCESS_DATA, &get_access_data()) {
         return false;
     }
-    if !consists_of(d, "UPDATE_SUBSCRIBER_DATA", 4, &update_subscriber_data()) {
+    if !consists_of(d, &UPDATE_SUBSCRIBER_DATA, &update_subscriber_data()) {
         return false;
     }
-    if !consists_of(e, "UPDATE_LOCATION", 2, &update_location()) {
+    if !consists_of(e, &UPDATE_LOCATION, &update_location()) {
         return false;
     }
-    if !consists_of(f, "INSERT_CALL_FORWARDING", 5, &insert_call_forwarding()) {
+    if !consists_of(f, &INSERT_CALL_FORWARDING, &insert_call_forwarding()) {
         return false;
     }
-    consists_of(g, "DELETE_CALL_FORWARDING", 3, &delete_call_forwarding())
+    consists_of(g, &DELETE_CALL_FORWARDING, &delete_call_forwarding())
 }
 
 fn procedures(alloc: Global) -> Result<Vec<Proc>, AllocError>
     ensures { IfOk result (λ procs. procs.items ≡ standard_module.procedures) }
 {
     Ok(vec![in alloc;
-        procedure(alloc, "GET_SUBSCRIBER_DATA", 1, &get_subscriber_data())?,
-        procedure(alloc, "GET_NEW_DESTINATION", 4, &get_new_destination())?,
-        procedure(alloc, "GET_ACCESS_DATA", 2, &get_access_data())?,
-        procedure(
-            alloc,
-            "UPDATE_SUBSCRIBER_DATA",
-            4,
-            &update_subscriber_data()
-        )?,
-        procedure(alloc, "UPDATE_LOCATION", 2, &update_location())?,
-        procedure(
-            alloc,
-            "INSERT_CALL_FORWARDING",
-            5,
-            &insert_call_forwarding()
-        )?,
-        procedure(
-            alloc,
-            "DELETE_CALL_FORWARDING",
-            3,
-            &delete_call_forwarding()
-        )?,
+        procedure(alloc, &GET_SUBSCRIBER_DATA, &get_subscriber_data())?,
+        procedure(alloc, &GET_NEW_DESTINATION, &get_new_destination())?,
+        procedure(alloc, &GET_ACCESS_DATA, &get_access_data())?,
+        procedure(alloc, &UPDATE_SUBSCRIBER_DATA, &update_subscriber_data())?,
+        procedure(alloc, &UPDATE_LOCATION, &update_location())?,
+        procedure(alloc, &INSERT_CALL_FORWARDING, &insert_call_forwarding())?,
+        procedure(alloc, &DELETE_CALL_FORWARDING, &delete_call_forwarding())?,
     ]?)
 }
 
-fn procedure(alloc: Global, name: &str, arity: u8, code: &[Instr]) -> Result<Proc, AllocError>
-    requires { is_procedure (record { name = name.now; arity = arity; code = code.now }) ≡ true }
-    ensures { IfOk result (λ p. p ≡ record { name = name.now; arity = arity; code = code.now }) }
+fn procedure<const COUNT: usize>(
+    alloc: Global,
+    transaction: &Transaction<COUNT>,
+    code: &[Instr],
+) -> Result<Proc, AllocError>
+    requires few { COUNT ≤ MAX_ARGUMENTS }
+    requires procedure { is_procedure
+        (record { name = transaction.now.name.now; arity = COUNT; code = code.now }) ≡ true }
+    ensures { IfOk result (λ p.
+        p ≡ record { name = transaction.now.name.now; arity = COUNT; code = code.now }) }
 {
     let mut kept = Vec::new(alloc);
     kept.extend_from_slice(code)?;
-    Ok(Proc::new(name, arity, kept))
+    Ok(Proc::new(transaction.name, COUNT as u8, kept))
 }
 
-fn consists_of(procedure: &Proc, name: &str, arity: u8, code: &[Instr]) -> bool
-    ensures { IsTrue result
-        ↔ (procedure.now ≡ record { name = name.now; arity = arity; code = code.now }) }
+fn consists_of<const COUNT: usize>(
+    procedure: &Proc,
+    transaction: &Transaction<COUNT>,
+    code: &[Instr],
+) -> bool
+    ensures { IsTrue result ↔ (procedure.now
+        ≡ record { name = transaction.now.name.now; arity = COUNT; code = code.now }) }
 {
-    procedure.name() == name && procedure.arity() == arity && is_code(procedure.code(), code)
+    procedure.name() == transaction.name
+        && usize::from(procedure.arity()) == COUNT
+        && is_code(procedure.code(), code)
 }
 
 fn is_code(code: &[Instr], other: &[Instr]) -> bool

@@ -6,7 +6,7 @@ ghost use Rattle.tatp_procs.specs.Extends.{Extends};
 ghost use Rattle.tatp_procs.specs.Replies.{reply_seen};
 ghost use Rattle.tatp_procs.specs.ReplyText.{answer_columns, reply_columns, reply_text};
 
-use crate::columns::NUMBERX;
+use crate::transactions::NUMBERX;
 use crate::values::push_values;
 use crate::{Ask, Call, ReplyRef};
 use std::alloc::{AllocError, Global};

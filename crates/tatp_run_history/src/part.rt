@@ -7,7 +7,7 @@ ghost use Rattle.tatp_run_history.specs.Parts.{is_done, rest_of, PushesFirst};
 
 use std::alloc::AllocError;
 use tatp_lines::push_decimal;
-use tatp_load::push_call;
+use tatp_load::push_call_line;
 use tatp_logs::{ReceiptRef, Receipts};
 use tatp_procs::{Ask, push_reply};
 
@@ -32,7 +32,7 @@ fn push_asked(text: &mut String, client: u64, ask: &Ask) -> Result<(), AllocErro
     push_decimal(text, client)?;
     text.push(' ')?;
     match ask {
-        Ask::Txn(call) => push_call(text, call),
+        Ask::Txn(call) => push_call_line(text, call),
         Ask::Raw(_) => text.push('\n'),
     }
 }

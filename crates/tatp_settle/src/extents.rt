@@ -65,7 +65,7 @@ fn is_mixed_here(site: &ClosedSite, number: u64) -> bool
         return true;
     }
     match site.extent(number) {
-        Some(extent) => extent.mixed(),
+        Some(extent) => extent.is_mixed(),
         None => false,
     }
 }
@@ -74,7 +74,7 @@ fn is_mixed_here(site: &ClosedSite, number: u64) -> bool
 fn is_mixed_in(extents: &[Extent], number: u64) -> bool
     ensures { result ≡ list_any (mixed_as number) extents.now }
 {
-    extents.iter().any(|extent| extent.number() as u64 == number && extent.mixed())
+    extents.iter().any(|extent| extent.number() as u64 == number && extent.is_mixed())
 }
 
 /// Whether one of these extents has the number.

@@ -4,11 +4,11 @@ ghost use Rattle.tatp_settle.specs.Runs.{joined, lists_of};
 
 use crate::sites::{begins, ended, lands, opened, spend_parcels, spend_site};
 use std::alloc::{AllocError, Global};
-use tatp_extents::Chapter;
+use tatp_extents::{Chapter, Discard, discard_all};
 use tatp_loader::Loaded;
 use tatp_logs::{Receipt, Receipts};
 use tatp_numbers::Key;
-use tatp_partition::{Item, Parcel, Site, close_sites, discard_all};
+use tatp_partition::{Item, Parcel, Site};
 use tatp_procs::{Ask, Call, Raw, Reply};
 
 /// What happens at a site.
@@ -53,7 +53,7 @@ impl Left<'_> {
             parcels,
             chapters,
         } = self;
-        close_sites(sites);
+        discard_all(sites);
         spend_parcels(parcels);
         discard_all(chapters);
     }
@@ -200,14 +200,14 @@ fn all_opened<'m>(
     for partition in partitions {
         match opened(alloc, loaded, subscribers, *partition) {
             Err(error) => {
-                close_sites(sites);
+                discard_all(sites);
                 return Err(error);
             }
             Ok(site) => match sites.push(site) {
                 Ok(()) => {}
                 Err(refused) => {
                     spend_site(refused.value);
-                    close_sites(sites);
+                    discard_all(sites);
                     return Err(AllocError);
                 }
             },

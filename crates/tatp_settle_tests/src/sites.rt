@@ -2,7 +2,7 @@
 
 use crate::rows::clean_rows;
 use std::alloc::{AllocError, Global};
-use tatp_extents::{discard, open};
+use tatp_extents::{Discard, discard_all, open};
 use tatp_loader::Loaded;
 use tatp_partition::{
     Completion, Item, NotGiven, Offer, Parcel, Site, SiteRefusal, Stepped,
@@ -30,7 +30,7 @@ pub fn opened<'m>(
             match Site::open(alloc, loaded, partition, count, extents) {
                 Ok(site) => Ok(site),
                 Err(extents) => {
-                    discard(extents);
+                    discard_all(extents);
                     Err(AllocError)
                 }
             }

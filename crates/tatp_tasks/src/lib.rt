@@ -9,7 +9,7 @@ mod procedures;
 mod setup;
 mod task;
 
-pub use judging::{JudgePlan, MAX_CONFIGURATIONS};
+pub use judging::{JudgePlan, MAX_CONFIGURATIONS, MAX_PARTS};
 pub use load::{CallsPlan, MAX_DRAWN_CALLS, RowsPlan};
 pub use plan::BenchPlan;
 pub use population::Population;

@@ -24,8 +24,8 @@ impl<R: Wait, G: Gate, A: Arities> Answering for Inspector<'_, '_, '_, R, G, A> 
         self.shared.answer(self.rt, client, delivery);
     }
 
-    fn complete(&mut self, completion: &Completion) {
-        self.shared.complete(self.rt, completion);
+    fn deliver_receipt(&mut self, completion: &Completion) {
+        self.shared.deliver_receipt(self.rt, completion);
     }
 
     fn tell(&mut self, partition: u8, client: u64) {

@@ -10,7 +10,7 @@ use crate::reserved::ExecutorSeat;
 use crate::shared::Shared;
 use std::sync::Wait;
 use tatp_extents::Chapter;
-use tatp_partition::{Completion, CompletionPlace, Item, SiteRefusal};
+use tatp_partition::{Completion, CompletionBuffer, Item, SiteRefusal};
 use tatp_workers::{
     Answering, Checkpointed, Delivery, Executing, Gate, Message, Offered, take_calls,
 };
@@ -32,8 +32,8 @@ impl<R: Wait, G: Gate, A: Arities> Answering for ExecutorEnds<'_, '_, '_, '_, R,
         self.shared.answer(self.rt, client, delivery);
     }
 
-    fn complete(&mut self, completion: &Completion) {
-        self.shared.complete(self.rt, completion);
+    fn deliver_receipt(&mut self, completion: &Completion) {
+        self.shared.deliver_receipt(self.rt, completion);
     }
 
     fn tell(&mut self, partition: u8, client: u64) {
@@ -52,11 +52,11 @@ impl<R: Wait, G: Gate, A: Arities> Executing for ExecutorEnds<'_, '_, '_, '_, R,
         self.partition.offer(self.rt, self.shared.alloc, item)
     }
 
-    fn slice(&mut self, ended: &mut CompletionPlace) -> Result<u64, SiteRefusal>
-        requires { ended.old ≡ None }
-        ensures { OfSomeSite (λ s s'. MakesSlice s result ended.new s') }
+    fn slice(&mut self, buffer: &mut CompletionBuffer) -> Result<u64, SiteRefusal>
+        requires { buffer.old ≡ None }
+        ensures { OfSomeSite (λ s s'. MakesSlice s result buffer.new s') }
     {
-        self.partition.slice(self.rt, self.shared.gate, ended)
+        self.partition.slice(self.rt, self.shared.gate, buffer)
     }
 
     /// Room for the chapter is taken before the lock.

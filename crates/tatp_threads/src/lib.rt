@@ -19,7 +19,7 @@ mod shared;
 mod starting;
 
 pub use history::copy_extent;
-pub use outcome::{Ran, RanParts, discard_chapters};
+pub use outcome::{RunOutcome, RunOutcomeParts};
 pub use refusal::RunRefusal;
 pub use run::{run_calls, run_clean_calls};
 pub use run_plan::RunPlan;

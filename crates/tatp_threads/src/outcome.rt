@@ -3,15 +3,15 @@ ghost use Rattle.std.specs.Prelude.{◌≡◌};
 
 use tatp_extents::Chapter;
 use tatp_logs::Receipts;
-use tatp_partition::{Parcel, Site, discard_all};
+use tatp_partition::{Parcel, Site};
 
-/// What a run leaves. It can be neither copied nor dropped: [`Ran::parts`] spends it.
-pub struct Ran<'m> {
-    parts: RanParts<'m>,
+/// What a run leaves. It can be neither copied nor dropped: [`RunOutcome::parts`] spends it.
+pub struct RunOutcome<'m> {
+    parts: RunOutcomeParts<'m>,
 }
 
 /// The parts of what a run leaves.
-pub struct RanParts<'m> {
+pub struct RunOutcomeParts<'m> {
     /// The sites, that of partition 0 first, one for each partition.
     pub sites: Vec<Site<'m>>,
     /// The extents that were taken and not given.
@@ -22,28 +22,19 @@ pub struct RanParts<'m> {
     pub receipts: Vec<Receipts>,
 }
 
-impl<'m> Ran<'m> {
+impl<'m> RunOutcome<'m> {
     /// What a run that has ended leaves.
-    pub(crate) fn new(parts: RanParts<'m>) -> Ran<'m>
+    pub(crate) fn new(parts: RunOutcomeParts<'m>) -> RunOutcome<'m>
         ensures { result.parts ≡ parts.entry }
     {
-        Ran { parts }
+        RunOutcome { parts }
     }
 
     /// Spends it: its parts.
-    pub fn parts(self) -> RanParts<'m>
+    pub fn parts(self) -> RunOutcomeParts<'m>
         ensures { result ≡ self.entry.parts }
     {
-        let Ran { parts } = self;
+        let RunOutcome { parts } = self;
         parts
     }
-}
-
-/// Spends lists of chapters.
-pub fn discard_chapters(lists: Vec<Vec<Chapter>>) {
-    let mut rest = lists;
-    while let Some(chapters) = rest.pop() {
-        discard_all(chapters);
-    }
-    rest.destroy_empty();
 }

@@ -18,9 +18,9 @@ use std::alloc::Global;
 use std::sync::atomic::{AtomicU64, Ordering};
 use std::sync::{Mutex, Wait};
 use std::{mem, thread};
-use tatp_extents::Chapter;
+use tatp_extents::{Chapter, discard_all};
 use tatp_partition::{
-    CompletionPlace, Item, Landed, NotGiven, Parcel, Site, SiteRefusal, Stepped, discard_all,
+    CompletionBuffer, Item, Landed, NotGiven, Parcel, Site, SiteRefusal, Stepped,
     what_holds_of_every_site,
 };
 use tatp_sync::lock;
@@ -84,27 +84,27 @@ impl<'m> Partition<'m> {
         &self,
         rt: &R,
         gate: &G,
-        ended: &mut CompletionPlace,
+        buffer: &mut CompletionBuffer,
     ) -> Result<u64, SiteRefusal>
-        requires { ended.old ≡ None }
-        ensures { OfSomeSite (λ s s'. MakesSlice s result ended.new s') }
+        requires { buffer.old ≡ None }
+        ensures { OfSomeSite (λ s s'. MakesSlice s result buffer.new s') }
     {
         let mut observer = Gated { gate };
         let made = {
             let mut locked = lock(rt, &self.site);
             let site = &mut *locked;
             what_holds_of_every_site(site);
-            let made = slice(site, &mut observer, &self.wanted, ended);
+            let made = slice(site, &mut observer, &self.wanted, buffer);
             what_holds_of_every_site(site);
             made
         };
-        self.give_way(&made, ended);
+        self.give_way(&made, buffer);
         made
     }
 
     /// Lets other threads go on, where the call goes on and one of them wants the lock.
-    fn give_way(&self, made: &Result<u64, SiteRefusal>, ended: &CompletionPlace) {
-        if made.is_ok() && !ended.is_some() && is_wanted(&self.wanted) {
+    fn give_way(&self, made: &Result<u64, SiteRefusal>, buffer: &CompletionBuffer) {
+        if made.is_ok() && !buffer.is_some() && is_wanted(&self.wanted) {
             thread::yield_now();
         }
     }

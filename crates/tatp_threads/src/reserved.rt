@@ -18,16 +18,16 @@ use tatp_sync::{Mailbox, ends_of, open_inboxes};
 use tatp_workers::Delivery;
 
 /// An empty list with capacity for values that can't be dropped.
-pub(crate) struct Spare<T> {
+pub(crate) struct ReservedList<T> {
     items: Vec<T>,
     ghost empty: { vec_len items ≡ 0 },
 }
 
-impl<T> Spare<T> {
-    fn new(alloc: Global, room: usize) -> Result<Spare<T>, AllocError>
+impl<T> ReservedList<T> {
+    fn new(alloc: Global, room: usize) -> Result<ReservedList<T>, AllocError>
         ensures { IfOk result (λ spare. room ≤ vec_capacity spare.items) }
     {
-        Ok(Spare {
+        Ok(ReservedList {
             items: Vec::with_capacity(alloc, room)?,
         })
     }
@@ -36,14 +36,14 @@ impl<T> Spare<T> {
         ensures empty { vec_len result ≡ 0 }
         ensures room { vec_capacity result ≡ vec_capacity self.items }
     {
-        let Spare { items } = self;
+        let ReservedList { items } = self;
         items
     }
 }
 
-impl<T> Drop for Spare<T> {
+impl<T> Drop for ReservedList<T> {
     fn drop(self) {
-        let Spare { items } = self;
+        let ReservedList { items } = self;
         items.destroy_empty();
     }
 }
@@ -137,11 +137,11 @@ pub(crate) struct Reserved<'m, A: Arities> {
     pub(crate) mailboxes: Vec<Mailbox<Delivery>>,
     /// An empty list with capacity for the receipts of each client.
     pub(crate) receipts: Vec<Receipts>,
-    pub(crate) partitions: Spare<Partition<'m>>,
-    pub(crate) sites: Spare<Site<'m>>,
-    pub(crate) hand: Spare<Parcel>,
+    pub(crate) partitions: ReservedList<Partition<'m>>,
+    pub(crate) sites: ReservedList<Site<'m>>,
+    pub(crate) hand: ReservedList<Parcel>,
     /// Capacity for each executor's list of chapters.
-    pub(crate) chapters: Spare<Vec<Chapter>>,
+    pub(crate) chapters: ReservedList<Vec<Chapter>>,
 }
 
 impl<'m, A: Arities> Reserved<'m, A> {
@@ -180,10 +180,10 @@ impl<'m, A: Arities> Reserved<'m, A> {
             clients,
             mailboxes: make_mailboxes(alloc, lists.len())?,
             receipts: Vec::with_capacity(alloc, lists.len())?,
-            partitions: Spare::new(alloc, partitions)?,
-            sites: Spare::new(alloc, partitions)?,
-            hand: Spare::new(alloc, 1)?,
-            chapters: Spare::new(alloc, partitions)?,
+            partitions: ReservedList::new(alloc, partitions)?,
+            sites: ReservedList::new(alloc, partitions)?,
+            hand: ReservedList::new(alloc, 1)?,
+            chapters: ReservedList::new(alloc, partitions)?,
         })
     }
 }

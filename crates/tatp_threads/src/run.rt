@@ -10,18 +10,18 @@ use crate::partition::Partition;
 use crate::reserved::{ClientSeat, Reserved, calls_an_extent};
 use crate::shared::Shared;
 use crate::starting::run_threads;
-use crate::{Ran, RanParts, RunPlan, RunRefusal, discard_chapters};
+use crate::{RunOutcome, RunOutcomeParts, RunPlan, RunRefusal};
 use std::alloc::{AllocError, Global};
 use std::marker::Brand;
 use std::sync::{Mutex, Wait};
 use std::thread::Threads;
-use tatp_extents::{Chapter, OpenError, admit, discard, open_clean, reserve_logs};
+use tatp_extents::{Chapter, OpenError, admit, discard_all, open_clean, reserve_logs};
 use tatp_limits::MAX_CLIENTS;
 use tatp_loader::Loaded;
 use tatp_logs::Receipts;
 use tatp_move::Routes;
 use tatp_numbers::Directory;
-use tatp_partition::{Site, close_sites, discard_parcels, open_sites};
+use tatp_partition::{Site, open_sites};
 use tatp_sync::Start;
 use tatp_tables::Rows;
 use tatp_workers::Gate;
@@ -104,7 +104,7 @@ fn run_ruled<'m, R: Threads + Wait + Sync, G: Gate + Sync, A: Arities + Send + S
     alloc: Global,
     setup: Setup<'m, '_>,
     gate: &G,
-) -> Result<Ran<'m>, RunRefusal>
+) -> Result<RunOutcome<'m>, RunRefusal>
     requires clients { length setup.plan.lists.now ≤ MAX_CLIENTS }
     requires rule { arities_of setup.loaded.now ≡ A.arities }
     ensures sites { IfOk result (λ ran. vec_len ran.parts.sites ≡ vec_len setup.entry.sites) }
@@ -135,7 +135,7 @@ fn run_ruled<'m, R: Threads + Wait + Sync, G: Gate + Sync, A: Arities + Send + S
     } = match Reserved::<A>::make(alloc, loaded, sites.len(), plan.lists) {
         Ok(reserved) => reserved,
         Err(_) => {
-            close_sites(sites);
+            discard_all(sites);
             return Err(RunRefusal::NoMemory);
         }
     };
@@ -158,12 +158,12 @@ fn run_ruled<'m, R: Threads + Wait + Sync, G: Gate + Sync, A: Arities + Send + S
     let started = run_threads(rt, &shared, quit, executors, seats, &mut hand);
     let (sites, chapters) = unlock_all(partitions, unlocked.into_vec(), chapters.into_vec());
     if !started {
-        close_sites(sites);
-        discard_parcels(hand);
-        discard_chapters(chapters);
+        discard_all(sites);
+        discard_all(hand);
+        discard_all(chapters);
         return Err(RunRefusal::NoThread);
     }
-    Ok(Ran::new(RanParts {
+    Ok(RunOutcome::new(RunOutcomeParts {
         sites,
         parcels: hand,
         chapters,
@@ -180,7 +180,7 @@ pub fn run_clean_calls<'m, R: Threads + Wait + Sync, G: Gate + Sync>(
     rows: Rows,
     plan: RunPlan<'_>,
     gate: &G,
-) -> Result<Ran<'m>, RunRefusal>
+) -> Result<RunOutcome<'m>, RunRefusal>
     requires plan { IsRunPlan plan }
     requires rows { AreOpened rows }
     requires calls { obstacle_among loaded.now plan.lists.now ≡ None }
@@ -196,13 +196,13 @@ pub fn run_clean_calls<'m, R: Threads + Wait + Sync, G: Gate + Sync>(
     let routes = match Routes::open(alloc, subscribers, plan.partitions) {
         Ok(routes) => routes,
         Err(_) => {
-            discard(extents);
+            discard_all(extents);
             return Err(RunRefusal::NoMemory);
         }
     };
     let room = calls_an_extent(plan.lists, extents.len(), plan.chapter);
     if reserve_logs(extents.as_mut_slice(), room).is_err() {
-        discard(extents);
+        discard_all(extents);
         return Err(RunRefusal::NoMemory);
     }
     let sites = open_sites(alloc, loaded, plan.partitions, extents)?;
@@ -228,7 +228,7 @@ pub fn run_calls<'m, R: Threads + Wait + Sync, G: Gate + Sync>(
     rows: Rows,
     plan: RunPlan<'_>,
     gate: &G,
-) -> Result<Ran<'m>, RunRefusal>
+) -> Result<RunOutcome<'m>, RunRefusal>
     requires plan { IsRunPlan plan }
     ensures sites { IfOk result (λ ran. vec_len ran.parts.sites ≡ plan.entry.partitions) }
     ensures receipts { IfOk result

@@ -57,9 +57,9 @@ impl<'a, 'm, G, A: Arities> Shared<'a, 'm, G, A> {
     }
 
     /// Puts its receipt into the mailbox of a completed call's client.
-    pub(crate) fn complete<R: Wait>(&self, rt: &R, completion: &Completion) {
+    pub(crate) fn deliver_receipt<R: Wait>(&self, rt: &R, completion: &Completion) {
         if let Some(mailbox) = self.mailboxes.get(completion.entry.client as usize) {
-            mailbox.put(rt, |place| place.complete(completion));
+            mailbox.put(rt, |delivery| delivery.write_receipt(completion));
         }
     }
 }

@@ -13,7 +13,7 @@ use Rattle.tatp_workers.specs.declared.effects.Effect.TheVariants.{Receives, Off
 use Rattle.tatp_workers.specs.Growing.{Grows, Does}
 use Rattle.tatp_workers.specs.Effects.{Follows, concluding}
 use Rattle.tatp_workers.specs.Offering.{is_again, has_begun}
-use Rattle.tatp_workers.specs.Executing.{IsOfferedAgain, IsOffered, is_to_go_on, GoesOnAfter, ChecksFull, Completes, Finishes, RunsToItsEnd, RunsWhereItBegan, ExecutesCall, Executes, is_last, ExecutesUntilQuit}
+use Rattle.tatp_workers.specs.Executing.{IsOfferedAgain, IsOffered, continues, GoesOnAfter, ChecksFull, FinishesCall, Finishes, RunsToItsEnd, RunsWhereItBegan, ExecutesCall, Executes, is_last, ExecutesUntilQuit}
 use Rattle.tatp_workers.proofs.GrowthLaws.{not_grown, grown_twice}
 
 -- ---- a call is offered
@@ -59,7 +59,7 @@ none_sliced known = ([], All-nil GoesOnAfter, not_grown known)
 
 pub one_more_sliced : (answer : Result Stepped SiteRefusal) (logged : ℕ) (known mid known' : Option (List Effect))
     → Does (All GoesOnAfter) known mid
-    → is_to_go_on answer ≡ true
+    → continues answer ≡ true
     → Grows mid known' (Slices answer logged ∷ [])
     → Does (All GoesOnAfter) known known'
 one_more_sliced answer logged known mid known' before goes grows = (
@@ -70,7 +70,7 @@ one_more_sliced answer logged known mid known' before goes grows = (
 
 pub last_sliced : (partition chapter : ℕ) (answer : Result Stepped SiteRefusal) (logged : ℕ) (known mid sliced_known known' : Option (List Effect))
     → Does (All GoesOnAfter) known mid
-    → is_to_go_on answer ≡ false
+    → continues answer ≡ false
     → Grows mid sliced_known (Slices answer logged ∷ [])
     → Does (Finishes partition chapter answer logged) sliced_known known'
     → Does (RunsToItsEnd partition chapter) known known'
@@ -94,7 +94,7 @@ last_sliced partition chapter answer logged known mid sliced_known known' before
 pub completed : (partition chapter : ℕ) (completion : Completion) (logged : ℕ) (known concluded known' : Option (List Effect))
     → Grows known concluded (concluding partition completion)
     → Does (ChecksFull completion.extent chapter logged) concluded known'
-    → Does (Completes partition chapter completion logged) known known'
+    → Does (FinishesCall partition chapter completion logged) known known'
 completed partition chapter completion logged known concluded known' concludes checks = (
   concluding partition completion ++ checks.0,
   (checks.0, checks.1, refl),

@@ -40,16 +40,16 @@ is_not_running refusal = false
 
 -- steps after which more are to be made: the call goes on, or its site is stopped or at a
 -- breakpoint
-abbrev pub is_to_go_on : Result Stepped SiteRefusal → Bool
-is_to_go_on (Ok Moved) = true
-is_to_go_on (Ok (Ended completion)) = false
-is_to_go_on (Err refusal) = not (is_not_running refusal)
+abbrev pub continues : Result Stepped SiteRefusal → Bool
+continues (Ok Moved) = true
+continues (Ok (Ended completion)) = false
+continues (Err refusal) = not (is_not_running refusal)
 
 -- steps of the running call were made, and more are to be
 abbrev pub GoesOnAfter : Effect → Type 0
 GoesOnAfter effect =
     (answer : Result Stepped SiteRefusal) × (logged : ℕ)
-    × (is_to_go_on answer ≡ true)
+    × (continues answer ≡ true)
     × (effect ≡ Slices answer logged)
 
 -- the log of an extent has `logged` entries: it is to be handed out if a chapter needs no more, and
@@ -62,8 +62,8 @@ ChecksFull extent chapter logged effects =
 
 -- a call is completed, at whose end the log of its extent had `logged` entries: its client is
 -- answered, the gate is notified, and then comes the log
-abbrev pub Completes : ℕ → ℕ → Completion → ℕ → List Effect → Type 0
-Completes partition chapter completion logged effects =
+abbrev pub FinishesCall : ℕ → ℕ → Completion → ℕ → List Effect → Type 0
+FinishesCall partition chapter completion logged effects =
     (checking : List Effect)
     × ChecksFull completion.extent chapter logged checking
     × (effects ≡ concluding partition completion ++ checking)
@@ -72,7 +72,7 @@ Completes partition chapter completion logged effects =
 abbrev pub Finishes : ℕ → ℕ → Result Stepped SiteRefusal → ℕ → List Effect → Type 0
 Finishes partition chapter (Ok Moved) logged effects = effects ≡ []
 Finishes partition chapter (Ok (Ended completion)) logged effects =
-    Completes partition chapter completion logged effects
+    FinishesCall partition chapter completion logged effects
 Finishes partition chapter (Err refusal) logged effects = effects ≡ []
 
 -- steps are made until the call has ended, or doesn't run any more since the debugger ended it;
@@ -83,7 +83,7 @@ pub record RunsToItsEnd (partition chapter : ℕ) (effects : List Effect) : Type
   pub logged : ℕ
   pub following : List Effect
   pub going_on : All GoesOnAfter before
-  pub ended : is_to_go_on last ≡ false
+  pub ended : continues last ≡ false
   pub finished : Finishes partition chapter last logged following
   pub all : effects ≡ before ++ Slices last logged ∷ following
 

@@ -17,7 +17,7 @@ pub enum Delivery {
 
 impl Delivery {
     /// Writes the receipt of a completed call in place of this delivery, once and where it stays.
-    pub fn complete(&mut self, completion: &Completion)
+    pub fn write_receipt(&mut self, completion: &Completion)
         ensures { self.new ≡ Delivery.Got (receipt_of completion.now) }
     {
         match self {

@@ -12,7 +12,7 @@ ghost use Rattle.tatp_workers.specs.declared.effects.Effect.TheVariants.{Sends, 
 use crate::{Checkpointed, Delivery, Message, Offered};
 use tatp_debug::Snapshot;
 use tatp_logs::Receipt;
-use tatp_partition::{Completion, CompletionPlace, Item, SiteRefusal, Stepped};
+use tatp_partition::{Completion, CompletionBuffer, Item, SiteRefusal, Stepped};
 
 /// What an executor or the debugger did.
 #[derive(Clone, Copy)]
@@ -53,7 +53,7 @@ pub trait Answering {
         ensures { Grows (effects self.old) (effects self.new) (Answers client delivery.now ∷ []) };
 
     /// Hands its receipt to the client of a completed call.
-    fn complete(&mut self, completion: &Completion)
+    fn deliver_receipt(&mut self, completion: &Completion)
         ensures { Grows (effects self.old) (effects self.new)
             (Answers completion.now.entry.client (Got (receipt_of completion.now)) ∷ []) };
 
@@ -73,12 +73,12 @@ pub trait Executing: Answering {
         ensures { Grows (Self.effects self.old) (Self.effects self.new)
             (Offers item.now result ∷ []) };
 
-    /// Makes steps of the running call at the site. Where the call ends, its completion is left in
-    /// its place, and the answer is how many entries the log of its extent has then.
-    fn slice(&mut self, ended: &mut CompletionPlace) -> Result<u64, SiteRefusal>
-        requires { ended.old ≡ None }
+    /// Makes steps of the running call at the site. Where the call ends, its completion is written
+    /// to the buffer, and the answer is how many entries the log of its extent has then.
+    fn slice(&mut self, buffer: &mut CompletionBuffer) -> Result<u64, SiteRefusal>
+        requires { buffer.old ≡ None }
         ensures { Grows (Self.effects self.old) (Self.effects self.new)
-            (Slices (result_and result (Ok (stepped_of ended.new))) (logged_by result) ∷ []) };
+            (Slices (result_and result (Ok (stepped_of buffer.new))) (logged_by result) ∷ []) };
 
     /// Hands out the log of an extent at the site if it has `chapter` entries or more, and keeps it
     /// as a chapter.
@@ -97,7 +97,7 @@ pub(crate) fn conclude<A: Answering>(answering: &mut A, partition: u8, completio
     ensures { Grows (A.effects answering.old) (A.effects answering.new)
         (concluding partition completion.now) }
 {
-    answering.complete(completion);
+    answering.deliver_receipt(completion);
     answering.tell(partition, completion.entry.client);
 }
 

@@ -3,29 +3,29 @@ ghost use Rattle.std.specs.Prelude.{◌≡◌, Ok};
 ghost use Rattle.std.specs.Result.{result_and};
 ghost use Rattle.tatp_partition.specs.Running.{stepped_of};
 ghost use Rattle.tatp_workers.specs.Growing.{Does};
-ghost use Rattle.tatp_workers.specs.Executing.{IsOffered, ChecksFull, Completes, Finishes, RunsToItsEnd, ExecutesCall, ExecutesUntilQuit, is_not_running, is_to_go_on};
+ghost use Rattle.tatp_workers.specs.Executing.{IsOffered, ChecksFull, FinishesCall, Finishes, RunsToItsEnd, ExecutesCall, ExecutesUntilQuit, is_not_running, continues};
 ghost use Rattle.tatp_workers.specs.Slices.{logged_by};
 
 use crate::effects::{conclude, follow};
 use crate::{Executing, Message};
 use std::sync::Wait;
 use std::thread;
-use tatp_partition::{Completion, CompletionPlace, Item, SiteRefusal};
+use tatp_partition::{Completion, CompletionBuffer, Item, SiteRefusal};
 
 /// Takes one call after another out of an inbox and runs it, until Quit. After the end of a call a
 /// checkpoint of its extent is made if the log has `chapter` entries or more. Each completion is
-/// written to one place, which is made once.
+/// written to one buffer, which is made once.
 pub fn take_calls<R: Wait, E: Executing>(rt: &R, executing: &mut E, partition: u8, chapter: u64)
     ensures { Does (ExecutesUntilQuit partition chapter) (E.effects executing.old)
         (E.effects executing.new) }
 {
-    let mut ended = CompletionPlace::empty();
+    let mut buffer = CompletionBuffer::empty();
     for _round in rt.forever() {
         match executing.receive() {
             None => return,
             Some(Message::Quit) => return,
             Some(Message::Call(item)) => {
-                execute_call(rt, executing, partition, chapter, &item, &mut ended)
+                execute_call(rt, executing, partition, chapter, &item, &mut buffer)
             }
         }
     }
@@ -39,13 +39,13 @@ fn execute_call<R: Wait, E: Executing>(
     partition: u8,
     chapter: u64,
     item: &Item,
-    ended: &mut CompletionPlace,
+    buffer: &mut CompletionBuffer,
 )
     ensures { Does (ExecutesCall partition chapter item.now) (E.effects executing.old)
         (E.effects executing.new) }
 {
     if begin(rt, executing, item) {
-        run(rt, executing, partition, chapter, ended);
+        run(rt, executing, partition, chapter, buffer);
     }
 }
 
@@ -74,11 +74,11 @@ fn is_not_running(refusal: &SiteRefusal) -> bool
 
 /// Whether more steps are to be made after a slice that answered this and left this completion, if
 /// any.
-fn is_to_go_on(made: &Result<u64, SiteRefusal>, ended: &CompletionPlace) -> bool
-    ensures { result ≡ is_to_go_on (result_and made.now (Ok (stepped_of ended.now))) }
+fn continues(made: &Result<u64, SiteRefusal>, buffer: &CompletionBuffer) -> bool
+    ensures { result ≡ continues (result_and made.now (Ok (stepped_of buffer.now))) }
 {
     match made {
-        Ok(_) => !ended.is_some(),
+        Ok(_) => !buffer.is_some(),
         Err(refusal) => !is_not_running(refusal),
     }
 }
@@ -94,36 +94,36 @@ fn check_log<E: Executing>(executing: &mut E, extent: u32, chapter: u64, logged:
 }
 
 /// Concludes a call that ended, and then has the log of its extent handed out if that is due.
-fn complete<E: Executing>(
+fn finish_call<E: Executing>(
     executing: &mut E,
     partition: u8,
     chapter: u64,
     completion: &Completion,
     logged: u64,
 )
-    ensures { Does (Completes partition chapter completion.now logged) (E.effects executing.old)
+    ensures { Does (FinishesCall partition chapter completion.now logged) (E.effects executing.old)
         (E.effects executing.new) }
 {
     conclude(executing, partition, completion);
     check_log(executing, completion.extent, chapter, logged);
 }
 
-/// Completes the call where the steps that were made have ended it.
+/// Finishes the call where the steps that were made have ended it.
 fn finish<E: Executing>(
     executing: &mut E,
     partition: u8,
     chapter: u64,
     made: &Result<u64, SiteRefusal>,
-    ended: &CompletionPlace,
+    buffer: &CompletionBuffer,
 )
     ensures { Does
-        (Finishes partition chapter (result_and made.now (Ok (stepped_of ended.now)))
+        (Finishes partition chapter (result_and made.now (Ok (stepped_of buffer.now)))
         (logged_by made.now))
         (E.effects executing.old) (E.effects executing.new) }
 {
     if let Ok(logged) = made {
-        if let Some(completion) = ended.get() {
-            complete(executing, partition, chapter, completion, *logged);
+        if let Some(completion) = buffer.get() {
+            finish_call(executing, partition, chapter, completion, *logged);
         }
     }
 }
@@ -134,20 +134,20 @@ fn run<R: Wait, E: Executing>(
     executing: &mut E,
     partition: u8,
     chapter: u64,
-    ended: &mut CompletionPlace,
+    buffer: &mut CompletionBuffer,
 )
     ensures { Does (RunsToItsEnd partition chapter) (E.effects executing.old)
         (E.effects executing.new) }
 {
     for _round in rt.forever() {
-        ended.clear();
-        let made = executing.slice(ended);
-        if is_to_go_on(&made, ended) {
+        buffer.clear();
+        let made = executing.slice(buffer);
+        if continues(&made, buffer) {
             if made.is_err() {
                 thread::yield_now();
             }
         } else {
-            finish(executing, partition, chapter, &made, ended);
+            finish(executing, partition, chapter, &made, buffer);
             return;
         }
     }

@@ -8,7 +8,7 @@ ghost use Rattle.tatp_workers.specs.Slices.{IsSlice, step_ahead, steps_ahead, lo
 
 use crate::{Observer, StepAhead};
 use std::sync::atomic::{AtomicU64, Ordering};
-use tatp_partition::{CompletionPlace, Site, SiteRefusal, StepKind};
+use tatp_partition::{CompletionBuffer, Site, SiteRefusal, StepKind};
 
 /// The most steps of one call under one hold of the lock.
 const MOST_STEPS: u32 = 16;
@@ -37,17 +37,17 @@ fn step_ahead(site: &Site<'_>) -> Option<StepAhead>
 }
 
 /// One step of the running call, which its observer sees before. A step that is refused isn't seen.
-/// Where the call ends, its completion is left in its place.
+/// Where the call ends, its completion is written to the buffer.
 #[inline(always)]
 fn observed_step<O: Observer>(
     site: &mut Site<'_>,
     observer: &mut O,
-    ended: &mut CompletionPlace,
+    buffer: &mut CompletionBuffer,
 ) -> Result<(), SiteRefusal>
-    requires { ended.old ≡ None }
+    requires { buffer.old ≡ None }
     ensures step { AdvancesUnless (step_obstacle site.old) site.old
-        (result_and result (Ok (stepped_of ended.new))) site.new }
-    ensures refused { OnErr result (ended.new ≡ None) }
+        (result_and result (Ok (stepped_of buffer.new))) site.new }
+    ensures refused { OnErr result (buffer.new ≡ None) }
     ensures observed { Grows (O.observed observer.old) (O.observed observer.new)
         (steps_ahead site.old) }
 {
@@ -57,41 +57,41 @@ fn observed_step<O: Observer>(
     if let Some(step) = step_ahead(site) {
         observer.before_step(step);
     }
-    site.step_into(StepKind::Step, ended)
+    site.step_into(StepKind::Step, buffer)
 }
 
 /// Makes up to 16 steps of the running call: it stops at the first after which the call doesn't go
 /// on, and after any step if another thread wants the lock. Where the call ends, its completion is
-/// left in its place.
+/// written to the buffer.
 fn make_steps<O: Observer>(
     site: &mut Site<'_>,
     observer: &mut O,
     wanted: &AtomicU64,
-    ended: &mut CompletionPlace,
+    buffer: &mut CompletionBuffer,
 ) -> Result<(), SiteRefusal>
-    requires { ended.old ≡ None }
+    requires { buffer.old ≡ None }
     ensures { Does
-        (IsSlice site.old (result_and result (Ok (stepped_of ended.new))) site.new)
+        (IsSlice site.old (result_and result (Ok (stepped_of buffer.new))) site.new)
         (O.observed observer.old) (O.observed observer.new) }
 {
     for _made in 0..MOST_STEPS - 1 {
-        match observed_step(site, observer, ended) {
+        match observed_step(site, observer, buffer) {
             Ok(()) => {
-                if ended.is_some() || is_wanted(wanted) {
+                if buffer.is_some() || is_wanted(wanted) {
                     return Ok(());
                 }
             }
             Err(refusal) => return Err(refusal),
         }
     }
-    observed_step(site, observer, ended)
+    observed_step(site, observer, buffer)
 }
 
 /// How many entries the log of the extent has on which a call ended; 0 where it goes on.
-fn logged_at(site: &Site<'_>, ended: &CompletionPlace) -> u64
-    ensures { result ≡ logged_at site.now ended.now }
+fn logged_at(site: &Site<'_>, buffer: &CompletionBuffer) -> u64
+    ensures { result ≡ logged_at site.now buffer.now }
 {
-    match ended.get() {
+    match buffer.get() {
         None => 0,
         Some(completion) => site.log_len(completion.extent),
     }
@@ -99,22 +99,22 @@ fn logged_at(site: &Site<'_>, ended: &CompletionPlace) -> u64
 
 /// Makes up to 16 steps of the running call at a site whose lock is held: it stops at the first
 /// after which the call doesn't go on, and after any step if another thread wants the lock. Where
-/// the call ends, its completion is left in its place, and the answer is how many entries the log
-/// of its extent has then.
+/// the call ends, its completion is written to the buffer, and the answer is how many entries the
+/// log of its extent has then.
 pub fn slice<O: Observer>(
     site: &mut Site<'_>,
     observer: &mut O,
     wanted: &AtomicU64,
-    ended: &mut CompletionPlace,
+    buffer: &mut CompletionBuffer,
 ) -> Result<u64, SiteRefusal>
-    requires { ended.old ≡ None }
+    requires { buffer.old ≡ None }
     ensures steps { Does
-        (IsSlice site.old (result_and result (Ok (stepped_of ended.new))) site.new)
+        (IsSlice site.old (result_and result (Ok (stepped_of buffer.new))) site.new)
         (O.observed observer.old) (O.observed observer.new) }
-    ensures logged { IfOk result (λ logged. logged ≡ logged_at site.new ended.new) }
+    ensures logged { IfOk result (λ logged. logged ≡ logged_at site.new buffer.new) }
 {
-    match make_steps(site, observer, wanted, ended) {
-        Ok(()) => Ok(logged_at(site, ended)),
+    match make_steps(site, observer, wanted, buffer) {
+        Ok(()) => Ok(logged_at(site, buffer)),
         Err(refusal) => Err(refusal),
     }
 }

@@ -21,11 +21,12 @@ use std::alloc::Global;
 use std::sync::Wait;
 use std::sync::atomic::AtomicU64;
 use tatp_debug::Snapshot;
+use tatp_extents::Discard;
 use tatp_logs::Receipts;
 use tatp_move::{MoveRefusal, Plan};
 use tatp_numbers::Directory;
 use tatp_partition::{
-    Completion, CompletionPlace, Item, Landed, Parcel, Site, SiteRefusal, Stepped,
+    Completion, CompletionBuffer, Item, Landed, Parcel, Site, SiteRefusal, Stepped,
 };
 use tatp_procs::Ask;
 
@@ -123,9 +124,9 @@ impl Answering for Record<Effect> {
         self.keep(Effect::Answers(client, *delivery));
     }
 
-    fn complete(&mut self, completion: &Completion) {
+    fn deliver_receipt(&mut self, completion: &Completion) {
         let mut delivery = Delivery::Dropped;
-        delivery.complete(completion);
+        delivery.write_receipt(completion);
         self.keep(Effect::Answers(completion.entry.client, delivery));
     }
 
@@ -168,7 +169,7 @@ impl Executing for Record<Effect> {
         Offered::Dropped
     }
 
-    fn slice(&mut self, _ended: &mut CompletionPlace) -> Result<u64, SiteRefusal> {
+    fn slice(&mut self, _ended: &mut CompletionBuffer) -> Result<u64, SiteRefusal> {
         self.keep(Effect::Slices(Err(SiteRefusal::NotRunning), 0));
         Err(SiteRefusal::NotRunning)
     }
@@ -242,14 +243,14 @@ fn slice_once(
     site: &mut Site<'_>,
     alloc: Global,
     wanted: &AtomicU64,
-    ended: &mut CompletionPlace,
+    buffer: &mut CompletionBuffer,
 ) -> (Record<StepAhead>, Result<u64, SiteRefusal>)
-    requires { ended.old ≡ None }
+    requires { buffer.old ≡ None }
     ensures { result.0.is_lost ≡ false
-        → IsSlice site.old (result_and result.1 (Ok (stepped_of ended.new))) site.new
+        → IsSlice site.old (result_and result.1 (Ok (stepped_of buffer.new))) site.new
         result.0.kept.items }
 {
     let mut observer = Record::new(alloc);
-    let made = slice(site, &mut observer, wanted, ended);
+    let made = slice(site, &mut observer, wanted, buffer);
     (observer, made)
 }

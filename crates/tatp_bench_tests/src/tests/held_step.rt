@@ -8,7 +8,7 @@ use tatp_bench::{BenchPlan, Progress, run_bench};
 use tatp_debug::Snapshot;
 use tatp_driver::Distribution;
 use tatp_partition::SiteRefusal;
-use tatp_threads::{Gate, RanParts};
+use tatp_threads::{Gate, RunOutcomeParts};
 
 /// Holds the first step of the run, in whichever partition it comes, until a call ends in the other
 /// one.
@@ -59,7 +59,7 @@ impl<R: Clock> Gate for HoldFirst<'_, R> {
 impl<R: Clock> Progress for HoldFirst<'_, R> {
     fn tell(&self, _line: &str) {}
 
-    fn after_run(&self, _parts: &RanParts<'_>) {}
+    fn after_run(&self, _parts: &RunOutcomeParts<'_>) {}
 }
 
 // All calls by one thread, or under one lock, are late here.

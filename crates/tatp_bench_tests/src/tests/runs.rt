@@ -7,7 +7,7 @@ use tatp_bench::{BenchPlan, Progress, run_bench};
 use tatp_debug::Snapshot;
 use tatp_driver::Distribution;
 use tatp_partition::SiteRefusal;
-use tatp_threads::{Gate, NoGate, RanParts};
+use tatp_threads::{Gate, NoGate, RunOutcomeParts};
 
 /// Counts first steps and ends, and adds up whose they are.
 #[derive(Drop)]
@@ -37,7 +37,7 @@ impl Gate for Count {
 impl Progress for Count {
     fn tell(&self, _line: &str) {}
 
-    fn after_run(&self, _parts: &RanParts<'_>) {}
+    fn after_run(&self, _parts: &RunOutcomeParts<'_>) {}
 }
 
 /// 200 calls of each of four clients: 200 x (0 + 1 + 2 + 3) is 1200.

@@ -5,12 +5,12 @@ use std::test::*;
 use std::thread::Threads;
 use tatp_audits::{Verdict, audit};
 use tatp_bench::{BenchFault, SettledRun, settle_run};
-use tatp_partition::{close_sites, discard_all};
+use tatp_extents::discard_all;
 use tatp_settle::Unsettled;
 use tatp_settle_tests::events::{Event, Left, are_few, left_at, readings};
 use tatp_settle_tests::rows::clean_rows;
 use tatp_settle_tests::sites::{module, spend_parcels};
-use tatp_threads::RanParts;
+use tatp_threads::RunOutcomeParts;
 
 /// The verdict on a run at one site, in which the first client asked one subscriber and got
 /// nothing. None where one of its events did not happen.
@@ -38,11 +38,11 @@ fn told_of<R: Threads + Sync>(
             if let Err(refused) = lists.push(chapters) {
                 discard_all(refused.value);
                 lists.destroy_empty();
-                close_sites(sites);
+                discard_all(sites);
                 spend_parcels(parcels);
                 return Err(AllocError);
             }
-            let parts = RanParts {
+            let parts = RunOutcomeParts {
                 sites,
                 parcels,
                 receipts: Vec::new(alloc),

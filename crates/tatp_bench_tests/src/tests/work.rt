@@ -5,13 +5,13 @@ use std::alloc::Global;
 use std::sync::Wait;
 use std::test::*;
 use std::thread::Threads;
-use tatp_bench::{BenchPlan, Drawn, Work, draw, run_work, settle_run};
+use tatp_bench::{BenchPlan, Work, Workload, generate_workload, run_work, settle_run};
 use tatp_driver::Distribution;
 use tatp_logs::{ReceiptRef, Receipts};
 use tatp_partition::Site;
 use tatp_procs::standard;
 use tatp_settle_tests::events::are_few;
-use tatp_threads::{NoGate, RanParts, RunPlan};
+use tatp_threads::{NoGate, RunOutcomeParts, RunPlan};
 
 /// One call on 100 extents, beside which extents are moved and partitions stopped.
 const MOVED: BenchPlan = BenchPlan {
@@ -54,7 +54,7 @@ fn stops_made(sites: &[Site<'_>]) -> (u64, u64, u64) {
 }
 
 /// How many chapters the executors kept, and how many of these have `calls` calls.
-fn chapters_kept(parts: &RanParts<'_>, calls: usize) -> (u64, u64) {
+fn chapters_kept(parts: &RunOutcomeParts<'_>, calls: usize) -> (u64, u64) {
     let mut kept: u64 = 0;
     let mut full: u64 = 0;
     for list in &parts.chapters {
@@ -94,13 +94,13 @@ fn seen_of<R: Threads + Wait + Sync>(rt: &R, alloc: Global, plan: &BenchPlan) ->
     requires { IsPlan plan.now }
 {
     let loaded = standard(alloc)?;
-    let Drawn {
+    let Workload {
         population,
         rows,
         lists,
         moves,
         stops,
-    } = draw(rt, alloc, plan)?;
+    } = generate_workload(rt, alloc, plan)?;
     if !are_few(&lists) {
         return Err("too many calls".into());
     }

@@ -10,7 +10,7 @@ impl<'m> World<'m> {
     ghost use Rattle.tatp_dispatch.specs.Serving.{Tells};
 
     /// One event. The events of a call, of which most runs consist, are inlined here, and any other
-    /// has a function of its own; [`tatp_partition::CompletionPlace`] says why.
+    /// has a function of its own; [`tatp_partition::CompletionBuffer`] says why.
     #[inline(always)]
     pub fn apply(&mut self, event: Event) -> Result<Answer, Refusal>
         ensures happens { Happens self.old event result self.new }

@@ -1,16 +1,7 @@
 //! The system is closed.
 
 use super::World;
-use tatp_partition::{Landed, close_sites, discard_all};
-
-/// Spends landings.
-fn discard_landings(landings: Vec<Landed>) {
-    let mut rest = landings;
-    while let Some(landed) = rest.pop() {
-        landed.discard();
-    }
-    rest.destroy_empty();
-}
+use tatp_extents::discard_all;
 
 impl<'m> World<'m> {
     ghost use Rattle.tatp_dispatch.specs.Serving.{IsWorld};
@@ -30,11 +21,11 @@ impl<'m> World<'m> {
             clients: _,
             completions: _,
             chapters,
-            ended: _,
+            buffer: _,
         } = self;
-        close_sites(sites);
-        parcels.discard();
-        discard_landings(landings);
+        discard_all(sites);
+        discard_all(parcels.into_items());
+        discard_all(landings);
         discard_all(chapters);
     }
 }

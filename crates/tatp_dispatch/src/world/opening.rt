@@ -9,12 +9,12 @@ use super::World;
 use crate::client::Client;
 use crate::queue::Queue;
 use std::alloc::{AllocError, Global};
-use tatp_extents::{OpenError, admit, discard, open_clean};
+use tatp_extents::{OpenError, admit, discard_all, open_clean};
 use tatp_limits::{MAX_CLIENTS, MAX_PARTITIONS, MAX_SUBSCRIBERS};
 use tatp_loader::Loaded;
 use tatp_logs::Completions;
 use tatp_move::Routes;
-use tatp_partition::{CompletionPlace, Slots, open_sites};
+use tatp_partition::{CompletionBuffer, Slots, open_sites};
 use tatp_tables::Rows;
 
 /// A queue for each partition, all empty.
@@ -127,14 +127,14 @@ impl<'m> World<'m> {
         let parcels = match Slots::empty(alloc, extents.len() as u32) {
             Ok(parcels) => parcels,
             Err(error) => {
-                discard(extents);
+                discard_all(extents);
                 return Err(error);
             }
         };
         let sites = match open_sites(alloc, loaded, partitions, extents) {
             Ok(sites) => sites,
             Err(error) => {
-                parcels.discard();
+                discard_all(parcels.into_items());
                 return Err(error);
             }
         };
@@ -151,7 +151,7 @@ impl<'m> World<'m> {
             clients: front.clients,
             completions: Completions::new(alloc),
             chapters: Vec::new(alloc),
-            ended: CompletionPlace::empty(),
+            buffer: CompletionBuffer::empty(),
         })
     }
 }

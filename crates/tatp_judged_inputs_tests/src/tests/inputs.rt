@@ -4,7 +4,7 @@ ghost use Rattle.tatp_tables.specs.Clean.{IsClean};
 use rand_pcg::Pcg64;
 use std::alloc::Global;
 use std::test::Fail;
-use tatp_judge::{Judge, Stakes};
+use tatp_judge::{Judge, Part, Stakes};
 use tatp_judged_inputs::{HistoryFault, Judged, judge_history};
 use tatp_population::generate;
 use tatp_procs::BadArgument;
@@ -17,7 +17,11 @@ fn judged(alloc: Global, rows: &Rows, most: usize, mut input: &[u8]) -> Result<J
 {
     let mut judge = Judge::new(alloc, rows, most)?;
     let mut lines = LineReader::new(alloc, MAX_INPUT_LIMIT);
-    Ok(judge_history(alloc, &mut judge, &mut lines, &mut input)?.judged)
+    let whole = Part {
+        number: 1,
+        count: 1,
+    };
+    Ok(judge_history(alloc, &whole, &mut judge, &mut lines, &mut input)?.judged)
 }
 
 /// What was at stake where all calls were answered.

@@ -393,7 +393,7 @@ fn legal(
         return Ok(None);
     }
     let explanations = Explanations::new(alloc, home, 8)?;
-    explanations.legal_replies(alloc, &events, &x, 5)
+    explanations.legal_replies(alloc, &events, &x, 5, 100)
 }
 
 #[test]

@@ -2,12 +2,12 @@
 ghost use Rattle.std.specs.Prelude.{◌≡◌, ◌+◌, ◌<◌, Some};
 ghost use Rattle.tatp_homes.specs.Home.{IsHome};
 ghost use Rattle.tatp_machine.specs.Instructions.{Stops, IsNext};
-ghost use Rattle.tatp_machine.specs.Machines.{Turns, Performs, told};
+ghost use Rattle.tatp_machine.specs.Machines.{Turns, Performs, progress_after};
 ghost use Rattle.tatp_machine.specs.Sound.{FitsAt};
 
 use super::Machine;
 use crate::change::{Change, byte};
-use crate::progress::Write;
+use crate::progress::WriteOutcome;
 use crate::{End, Progress, Trap};
 use tatp_homes::{Home, Refusal, what_holds_of_every_home};
 use tatp_instr::{Instr, Register, RowRegisters};
@@ -42,20 +42,20 @@ impl<'m> Machine<'m> {
     }
 
     #[inline(never)]
-    pub(super) fn put(&mut self, home: &mut Home, column: u32, a: Register) -> Write
+    pub(super) fn put(&mut self, home: &mut Home, column: u32, a: Register) -> WriteOutcome
         requires home { self.old.frame.home ≡ Some home.old.s_id }
         requires here { IsNext self.old.frame (Instr.Put a column) }
         requires fits { FitsAt self.old.frame (Instr.Put a column) }
         requires more { self.old.frame.steps + 1 < MAX_STEPS }
         requires room { self.old.frame.writes < MAX_WRITES }
         ensures performs { Performs (Instr.Put a column)
-            self.old home.old.tables (told result) self.new home.new.tables }
+            self.old home.old.tables (progress_after result) self.new home.new.tables }
         ensures same { home.new.s_id ≡ home.old.s_id }
         ensures rows { IsHome home.new }
     {
         let Some(key) = self.key_of_column(column) else {
             self.end_undone(home);
-            return Write::NoCurrent;
+            return WriteOutcome::NoCurrent;
         };
         what_holds_of_every_home(home);
         match home.put(column as u8, key, self.value(a)) {
@@ -67,28 +67,28 @@ impl<'m> Machine<'m> {
                     start_time: byte(key[2]),
                     before,
                 });
-                Write::Made
+                WriteOutcome::Made
             }
             Err(Refusal::Domain) => {
                 self.end_undone(home);
-                Write::Domain
+                WriteOutcome::Domain
             }
             Err(_) => {
                 self.end_undone(home);
-                Write::NoCurrent
+                WriteOutcome::NoCurrent
             }
         }
     }
 
     #[inline(never)]
-    pub(super) fn ins(&mut self, home: &mut Home, d: Register, a: RowRegisters) -> Write
+    pub(super) fn ins(&mut self, home: &mut Home, d: Register, a: RowRegisters) -> WriteOutcome
         requires home { self.old.frame.home ≡ Some home.old.s_id }
         requires here { IsNext self.old.frame (Instr.Ins d a) }
         requires fits { FitsAt self.old.frame (Instr.Ins d a) }
         requires more { self.old.frame.steps + 1 < MAX_STEPS }
         requires room { self.old.frame.writes < MAX_WRITES }
         ensures performs { Performs (Instr.Ins d a)
-            self.old home.old.tables (told result) self.new home.new.tables }
+            self.old home.old.tables (progress_after result) self.new home.new.tables }
         ensures same { home.new.s_id ≡ home.old.s_id }
         ensures rows { IsHome home.new }
     {
@@ -102,38 +102,38 @@ impl<'m> Machine<'m> {
                     sf_type: byte(row[1]),
                     start_time: byte(row[2]),
                 });
-                Write::Made
+                WriteOutcome::Made
             }
             Err(Refusal::Domain) => {
                 self.end_undone(home);
-                Write::Domain
+                WriteOutcome::Domain
             }
             Err(Refusal::NoParent) => {
                 self.set_written(d, 3);
-                Write::Made
+                WriteOutcome::Made
             }
             Err(_) => {
                 self.set_written(d, 2);
-                Write::Made
+                WriteOutcome::Made
             }
         }
     }
 
     #[inline(never)]
-    pub(super) fn del(&mut self, home: &mut Home) -> Write
+    pub(super) fn del(&mut self, home: &mut Home) -> WriteOutcome
         requires home { self.old.frame.home ≡ Some home.old.s_id }
         requires here { IsNext self.old.frame Instr.Del }
         requires fits { FitsAt self.old.frame Instr.Del }
         requires more { self.old.frame.steps + 1 < MAX_STEPS }
         requires room { self.old.frame.writes < MAX_WRITES }
         ensures performs { Performs Instr.Del
-            self.old home.old.tables (told result) self.new home.new.tables }
+            self.old home.old.tables (progress_after result) self.new home.new.tables }
         ensures same { home.new.s_id ≡ home.old.s_id }
         ensures rows { IsHome home.new }
     {
         let Some(key) = self.current(Table::CallForwarding) else {
             self.end_undone(home);
-            return Write::NoCurrent;
+            return WriteOutcome::NoCurrent;
         };
         what_holds_of_every_home(home);
         match home.delete_cf(key) {
@@ -146,11 +146,11 @@ impl<'m> Machine<'m> {
                     end_time: byte(row[3]),
                     numberx: row[4],
                 });
-                Write::Made
+                WriteOutcome::Made
             }
             Err(_) => {
                 self.end_undone(home);
-                Write::NoCurrent
+                WriteOutcome::NoCurrent
             }
         }
     }

@@ -79,7 +79,7 @@ impl<'m> Machine<'m> {
         requires more { self.old.frame.steps + 1 < MAX_STEPS }
         ensures { (v : Database) → Reads (Instr.Jmp t) self.old v result self.new }
     {
-        self.go(t as usize)
+        self.jump(t as usize)
     }
 
     pub(super) fn jz(&mut self, a: Register, t: u32) -> Progress
@@ -88,9 +88,9 @@ impl<'m> Machine<'m> {
         ensures { (v : Database) → Reads (Instr.Jz a t) self.old v result self.new }
     {
         if self.value(a) == 0 {
-            self.go(t as usize)
+            self.jump(t as usize)
         } else {
-            self.go_on()
+            self.advance()
         }
     }
 
@@ -112,10 +112,10 @@ impl<'m> Machine<'m> {
     {
         let left = self.value(a);
         if left == 0 {
-            self.go_on()
+            self.advance()
         } else {
             self.write(a, left - 1);
-            self.go(t as usize)
+            self.jump(t as usize)
         }
     }
 }

@@ -68,8 +68,8 @@ impl<'m> Site<'m> {
             return None;
         }
         match self.slots.get(e as u64) {
-            Some(extent) => return Some(extent),
-            None => return None,
+            Some(extent) => Some(extent),
+            None => None,
         }
     }
 
@@ -81,10 +81,7 @@ impl<'m> Site<'m> {
         if let Some(pinned) = pinned_extent(&self.running, e) {
             return pinned.home(s_id);
         }
-        match self.slots.get(e) {
-            Some(extent) => return extent.home(s_id),
-            None => return None,
-        }
+        self.slots.get(e)?.home(s_id)
     }
 
     /// Appends the rows of the homes of the extent of this number as they are now, home by home;

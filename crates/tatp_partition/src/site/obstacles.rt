@@ -34,18 +34,18 @@ impl<'m> Site<'m> {
                 if self.partition != 0 {
                     return Err(SiteRefusal::NotHere);
                 }
-                return stamp_left(item.seen, self.homeless.last_stamp());
+                stamp_left(item.seen, self.homeless.last_stamp())
             }
             Some(s_id) => match self.slots.get(extent_of(s_id)) {
-                None => return Err(SiteRefusal::NotHere),
+                None => Err(SiteRefusal::NotHere),
                 Some(extent) => match extent.home(s_id) {
-                    None => return Err(SiteRefusal::NotHere),
+                    None => Err(SiteRefusal::NotHere),
                     Some(home) => {
                         what_holds_of_every_home(home);
                         if !is_named(&item.ask, home) {
                             return Err(SiteRefusal::WrongHome);
                         }
-                        return stamp_left(item.seen, extent.last_stamp());
+                        stamp_left(item.seen, extent.last_stamp())
                     }
                 },
             },

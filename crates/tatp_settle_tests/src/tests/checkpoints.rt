@@ -4,7 +4,7 @@ use super::calls::told;
 use crate::sites::{begins, module, opened, spend_site};
 use std::alloc::Global;
 use std::test::Fail;
-use tatp_extents::Chapter;
+use tatp_extents::{Chapter, Discard};
 use tatp_numbers::Key;
 use tatp_partition::{Item, Site, SiteRefusal};
 use tatp_procs::{Ask, Call, Outputs, Raw, Reply};

@@ -5,7 +5,7 @@ use crate::sites::{module, spend_parcels};
 use std::alloc::{AllocError, Global};
 use std::test::Fail;
 use std::thread::Threads;
-use tatp_partition::{close_sites, discard_all};
+use tatp_extents::discard_all;
 use tatp_settle::{Closed, NotGathered, gather};
 
 /// How many sites, parcels and chapters came back, and the extent of the first parcel.
@@ -32,7 +32,7 @@ fn refused<R: Threads + Sync>(
         ) => {
             let first = parcels.first().map(|parcel| parcel.number());
             let back = (sites.len(), parcels.len(), chapters.len(), first);
-            close_sites(sites);
+            discard_all(sites);
             spend_parcels(parcels);
             discard_all(chapters);
             Ok(Some((format!(in alloc; "{error}")?, back)))

@@ -2,6 +2,7 @@
 
 use crate::sites::{lands, module, opened, refused_take, spend_site};
 use std::test::Fail;
+use tatp_extents::Discard;
 use tatp_partition::{NotGiven, Site, SiteRefusal};
 
 /// Takes an extent and gives it back, so often; how often that was done.
@@ -67,7 +68,7 @@ fn a_foreign_parcel_comes_back(rt: HostRuntime) -> Result<(), Fail> {
     match opened(rt.alloc(), &loaded, 130, 0) {
         Err(error) => {
             spend_site(site);
-            return Err(error.into());
+            Err(error.into())
         }
         Ok(mut other) => {
             let back = given_back(&mut site, &mut other, 3);

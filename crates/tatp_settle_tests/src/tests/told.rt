@@ -11,9 +11,8 @@ use std::process::Abort;
 use std::test::Fail;
 use std::thread::Threads;
 use tatp_audits::audit;
-use tatp_extents::Chapter;
+use tatp_extents::{Chapter, discard_all};
 use tatp_logs::Receipts;
-use tatp_partition::{close_sites, discard_all};
 use tatp_procs::Ask;
 use tatp_settle::{Closed, NotGathered, NotSettled, Settled, gather, settle};
 use tatp_tables::Rows;
@@ -81,7 +80,7 @@ fn chapters_of(
                 chapters,
             },
         ) => {
-            close_sites(sites);
+            discard_all(sites);
             spend_parcels(parcels);
             Ok(Some(chapters))
         }
@@ -101,7 +100,7 @@ fn gathered(
     } = left;
     let mut chapters = first;
     if chapters.append(&mut more).is_err() {
-        close_sites(sites);
+        discard_all(sites);
         spend_parcels(parcels);
         discard_all(chapters);
         discard_all(more);
@@ -118,7 +117,7 @@ fn gathered(
                 chapters,
             },
         ) => {
-            close_sites(sites);
+            discard_all(sites);
             spend_parcels(parcels);
             discard_all(chapters);
             Ok(None)

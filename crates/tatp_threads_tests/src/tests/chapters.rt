@@ -7,7 +7,7 @@ use tatp_extents::Chapter;
 use tatp_procs::{Ask, Call};
 use tatp_settle_tests::rows::clean_rows;
 use tatp_settle_tests::sites::module;
-use tatp_threads::{NoGate, Ran, RunPlan, run_calls};
+use tatp_threads::{NoGate, RunOutcome, RunPlan, run_calls};
 
 /// Whom the one client asks: two subscribers of extent 1, two of extent 2, two of extent 3, and
 /// again two of extent 1.
@@ -28,7 +28,7 @@ fn kept(alloc: Global, lists: &[Vec<Chapter>]) -> Result<Vec<Kept>, AllocError> 
 }
 
 /// The chapters of what a run leaves, which is spent.
-fn kept_by(alloc: Global, ran: Ran<'_>) -> Result<Vec<Kept>, AllocError> {
+fn kept_by(alloc: Global, ran: RunOutcome<'_>) -> Result<Vec<Kept>, AllocError> {
     let parts = ran.parts();
     let chapters = kept(alloc, &parts.chapters);
     spend(parts);

@@ -11,13 +11,14 @@ use std::test::*;
 use std::thread::Threads;
 use tatp_debug::Snapshot;
 use tatp_dispatch::World;
+use tatp_extents::discard_all;
 use tatp_logs::{ReceiptRef, Receipts};
-use tatp_partition::{Site, SiteRefusal, close_sites};
+use tatp_partition::{Site, SiteRefusal};
 use tatp_procs::{Ask, Call, ReplyRef};
 use tatp_settle_tests::rows::clean_rows;
 use tatp_settle_tests::sites::module;
 use tatp_tables::Rows;
-use tatp_threads::{Gate, Ran, RunPlan, run_calls};
+use tatp_threads::{Gate, RunOutcome, RunPlan, run_calls};
 
 /// How many subscribers there are, in three extents.
 const SUBSCRIBERS: u64 = 130;
@@ -196,10 +197,10 @@ struct Left {
 }
 
 /// The rows and the receipts of what a run leaves. None where a parcel is left.
-fn left_of(alloc: Global, ran: Ran<'_>) -> Result<Option<Left>, AllocError> {
+fn left_of(alloc: Global, ran: RunOutcome<'_>) -> Result<Option<Left>, AllocError> {
     let (sites, parcels, receipts) = unpack(ran);
     let rows = rows_at(alloc, &sites);
-    close_sites(sites);
+    discard_all(sites);
     let rows = rows?;
     if parcels == 0 {
         Ok(Some(Left { rows, receipts }))

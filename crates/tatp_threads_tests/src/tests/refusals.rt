@@ -4,8 +4,8 @@ use std::alloc::{AllocError, Global};
 use std::sync::Wait;
 use std::test::*;
 use std::thread::Threads;
+use tatp_extents::discard_all;
 use tatp_numbers::Key;
-use tatp_partition::close_sites;
 use tatp_procs::{Ask, Call, Raw};
 use tatp_settle_tests::rows::clean_rows;
 use tatp_settle_tests::sites::module;
@@ -26,7 +26,7 @@ fn told<R: Threads + Wait + Sync>(
         Err(refusal) => Ok(format!(in alloc; "{refusal}")?),
         Ok(ran) => {
             let (sites, _parcels, _receipts) = unpack(ran);
-            close_sites(sites);
+            discard_all(sites);
             Err("a run".into())
         }
     }

@@ -8,42 +8,40 @@ use std::process::Abort;
 use std::sync::{Mutex, Wait};
 use std::test::*;
 use std::thread::Threads;
-use tatp_extents::ExtentParts;
+use tatp_extents::{ExtentParts, discard_all};
 use tatp_logs::{ReceiptRef, Receipts};
-use tatp_partition::{Site, close_sites};
+use tatp_partition::Site;
 use tatp_procs::{Ask, Call, ReplyRef};
 use tatp_settle_tests::rows::clean_rows;
 use tatp_settle_tests::sites::{module, spend_parcels};
-use tatp_threads::{
-    Gate, NoGate, Ran, RanParts, RunPlan, copy_extent, discard_chapters, run_calls,
-};
+use tatp_threads::{Gate, NoGate, RunOutcome, RunOutcomeParts, RunPlan, copy_extent, run_calls};
 
 /// What a run of threads leaves: its sites, how many parcels, which are spent with its chapters,
 /// and its receipts.
-pub fn unpack<'m>(ran: Ran<'m>) -> (Vec<Site<'m>>, usize, Vec<Receipts>) {
-    let RanParts {
+pub fn unpack<'m>(ran: RunOutcome<'m>) -> (Vec<Site<'m>>, usize, Vec<Receipts>) {
+    let RunOutcomeParts {
         sites,
         parcels,
         chapters,
         receipts,
     } = ran.parts();
-    discard_chapters(chapters);
+    discard_all(chapters);
     let parcels_left = parcels.len();
     spend_parcels(parcels);
     (sites, parcels_left, receipts)
 }
 
 /// Spends what a run leaves.
-pub fn spend(parts: RanParts<'_>) {
-    let RanParts {
+pub fn spend(parts: RunOutcomeParts<'_>) {
+    let RunOutcomeParts {
         sites,
         parcels,
         chapters,
         receipts: _,
     } = parts;
-    discard_chapters(chapters);
+    discard_all(chapters);
     spend_parcels(parcels);
-    close_sites(sites);
+    discard_all(sites);
 }
 
 /// A plan over two partitions, where no log is long enough for a chapter.
@@ -125,7 +123,7 @@ fn look<R: Wait>(rt: &R, alloc: Global, sites: Vec<Site<'_>>, left: &mut Left) {
 }
 
 /// What a run leaves.
-fn left_by<R: Wait>(rt: &R, alloc: Global, ran: Ran<'_>) -> Left {
+fn left_by<R: Wait>(rt: &R, alloc: Global, ran: RunOutcome<'_>) -> Left {
     let (sites, parcels, receipts) = unpack(ran);
     let mut left = Left {
         stops: Vec::new(alloc),

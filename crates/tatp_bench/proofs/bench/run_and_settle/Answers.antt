@@ -1,11 +1,11 @@
 use Rattle.std.proofs.Common.{◌≡◌, ◌+◌, ◌*◌, ◌<◌, ◌^◌, None, length, vec_len, refl, sym, ap, ◌∙◌, subst, arith, inl, inr}
 use Rattle.std.proofs.lemmas.Result.{IfOk-weaker, IfErr-weaker}
 use Rattle.tatp_settle.specs.Runs.{Run, joined, lists_of}
-use Rattle.tatp_threads.specs.declared.outcome.RanParts.{RanParts}
+use Rattle.tatp_threads.specs.declared.outcome.RunOutcomeParts.{RunOutcomeParts}
 use Rattle.tatp_bench.specs.declared.closing.SettledRun.{SettledRun}
 use Rattle.tatp_bench.specs.Benching.{IsRunOf, RefusesBench, kinds_drawn}
 use Rattle.tatp_bench.specs.SettledRuns.{run_left, SettlesRun, RefusesToSettleRun}
-use Rattle.tatp_drawing.specs.Drawing.{rows_drawn, calls_drawn}
+use Rattle.tatp_workload.specs.Drawn.{rows_drawn, calls_drawn}
 use Rattle.tatp_bench.proofs.PlanLaws.{few_calls}
 use Rattle.tatp_bench.proofs.SettlingLaws.{left_of_plan, plan_settled, plan_refused, plan_counted, plan_kinds, received}
 use Rattle.tatp_bench.proofs.bench.run_and_settle.Given as given
@@ -35,8 +35,8 @@ of_plan g c =
     let parts = c.parts-parts.result in
     let same : lists_of lists ≡ calls_drawn plan = c.requires.work.calls in
     let population : c.args.population.now ≡ rows_drawn plan = c.requires.population in
-    let sites : vec_len parts.sites ≡ plan.partitions = ap (λ (p : RanParts). vec_len p.sites) c.parts-parts.ensures ∙ c.in-Ok.ensures.sites in
-    let receipts : vec_len parts.receipts ≡ plan.clients = ap (λ (p : RanParts). vec_len p.receipts) c.parts-parts.ensures ∙ c.in-Ok.ensures.receipts in
+    let sites : vec_len parts.sites ≡ plan.partitions = ap (λ (p : RunOutcomeParts). vec_len p.sites) c.parts-parts.ensures ∙ c.in-Ok.ensures.sites in
+    let receipts : vec_len parts.receipts ≡ plan.clients = ap (λ (p : RunOutcomeParts). vec_len p.receipts) c.parts-parts.ensures ∙ c.in-Ok.ensures.receipts in
     left_of_plan plan c.args.population.now parts lists population same sites receipts
 
 pub returns-in-Ok-clause-settled : goal.returns-in-Ok-clause-settled

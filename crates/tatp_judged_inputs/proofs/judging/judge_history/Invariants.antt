@@ -1,12 +1,11 @@
 use Rattle.std.specs.Prelude.{ℕ, []}
-use Rattle.tatp_tables.specs.Database.{Database}
 use Rattle.tatp_streams.specs.LineReading.{lines_left, steps_left}
-use Rattle.tatp_judge.specs.Followed.{HasFollowed}
+use Rattle.tatp_judged_inputs.specs.Views.{IsBegun, View}
 use Rattle.tatp_judged_inputs.proofs.HistoryLaws.{ReadSoFar}
 use Rattle.tatp_judged_inputs.proofs.judging.judge_history.Given as goal
 
 abbrev pub invariant-lines : goal.invariant-lines
-invariant-lines g l = (u : Database) (most : ℕ) → HasFollowed u most [] l.fn.judge
+invariant-lines g l = (u : View) (most : ℕ) → IsBegun u most l.fn.part l.fn.judge
     → ReadSoFar u most l.judge l.reading l.fn.lines.number l.lines.number (lines_left l.fn.lines (g.R.Read.remaining l.fn.reader)) (lines_left l.lines (g.R.Read.remaining l.reader))
 
 abbrev pub decreases-lines : goal.decreases-lines

@@ -2,13 +2,11 @@ use Rattle.std.specs.Prelude.{ℕ, List, [], IfSome}
 use Rattle.std.specs.Option.{option_map}
 use Rattle.std.proofs.Common.{◌≡◌, ◌∷◌, ◌++◌, ◌+◌, ◌-◌, Option, Ok, Some, None, refl, sym, ap, ◌∙◌, subst, arith}
 use Rattle.std.proofs.lemmas.Result.{err_from_is_err_and}
-use Rattle.tatp_tables.specs.Database.{Database}
 use Rattle.tatp_history.specs.declared.line.Line.{Line}
 use Rattle.tatp_streams.specs.LineReading.{lines_left, Stays, with_line}
 use Rattle.tatp_inputs.specs.Parts.{is_dot, before_dot}
 use Rattle.tatp_judge.specs.declared.judge.Verdict.{Verdict}
-use Rattle.tatp_judge.specs.Counted.{HasCounted}
-use Rattle.tatp_judge.specs.Followed.{HasFollowed}
+use Rattle.tatp_judged_inputs.specs.Views.{HasCounted, HasFollowed, IsBegun, View, seen}
 use Rattle.tatp_judged_inputs.specs.Judged.{IsJudgement, IsTold}
 use Rattle.tatp_judged_inputs.specs.Reading.{Decides, IsNumbered, told_by, told_of, RefusesHistory}
 use Rattle.tatp_judged_inputs.proofs.HistoryLaws.{by_all, one_numbered}
@@ -18,16 +16,16 @@ use Rattle.tatp_judged_inputs.proofs.to_rows.judge_to_dot.Goals as goal
 pub lines-init : goal.lines-init
 lines-init g c = λ u most is.
     let all = lines_left c.args.lines.now (g.R.Read.remaining c.args.reader.now) in
-    to_dot_starts u most c.args.judge.now (record { opened = c.new-2.result; numbers = c.new-3.result; counts = c.in_ok-counts.counts }) c.args.lines.now.number all is c.new-3.ensures.items c.new-2.ensures (c.in_ok-counts.ensures u most is)
+    to_dot_starts u most c.args.judge.now (record { opened = c.new-2.result; numbers = c.new-3.result; counts = c.in_ok-counts.counts; part = c.args.part.now }) c.args.lines.now.number all is c.new-3.ensures.items c.new-2.ensures (c.in_ok-counts.ensures u.rows most is.followed)
 
 pub finish-requires : goal.finish-requires
-finish-requires g c = let q = c.requires in let s = (c.lines.invariant q.0 q.1 q.2).so_far in (q.0, q.1, s.past, s.followed)
+finish-requires g c = let q = c.requires in let s = (c.lines.invariant q.0 q.1 q.2).so_far in (q.0.rows, q.1, seen q.0 s.past, s.followed)
 
 pub judgement-requires : goal.judgement-requires
 judgement-requires g c =
     let q = c.requires in
     let s = (c.lines.invariant q.0 q.1 q.2).so_far in
-    (q.0, q.1, s.past, s.numbered, c.in_ok-verdict.ensures.verdict q.0 q.1 s.past s.followed, λ line s_id e. c.finish.ensures.kept q.0 q.1 s.past s.followed, s.counted)
+    (q.0, q.1, s.past, s.numbered, c.in_ok-verdict.ensures.verdict q.0.rows q.1 (seen q.0 s.past) s.followed, λ line s_id e. c.finish.ensures.kept q.0.rows q.1 (seen q.0 s.past) s.followed, s.counted)
 
 pub take-requires : goal.take-requires
 take-requires g c = let q = c.requires in let s = (c.lines.invariant q.0 q.1 q.2).so_far in (q.0, q.1, s.past, s.followed, s.numbered, s.counted)
@@ -49,14 +47,14 @@ returns-then-is_dot-clause-judged g c =
     let left' = lines_left c.advance.new.self (g.R.Read.remaining c.advance.new.reader) in
     let advanced = c.in_ok-advance.ensures.line c.if-not-branch.false in
     let judgement = c.in_ok-judgement.field-0 in
-    by_all all (λ a. (u : Database) (most : ℕ) → HasFollowed u most [] c.args.judge.now → IsJudgement u most taken (before_dot a.lines) judgement.judged judgement.window.items) (λ a e. λ u most is.
+    by_all all (λ a. (u : View) (most : ℕ) → IsBegun u most c.args.part.now c.args.judge.now → IsJudgement u most taken (before_dot a.lines) judgement.judged judgement.window) (λ a e. λ u most is.
     let s = c.lines.invariant u most is in
     let text = c.line.result.now in
     let stays = subst (λ t. Stays left (option_map (with_line t) left')) (sym c.line.ensures) advanced.left in
-    let on = c.in_ok-verdict.ensures.verdict u most s.so_far.past s.so_far.followed in
-    judged_at_dot u most c.lines.judge c.lines.reading taken c.lines.lines.number (c.number-then-is_dot.result - 1) text all left left' a c.in_ok-verdict.verdict judgement.judged judgement.window.items s e (sym c.is_dot.ensures ∙ c.if-is_dot.true) stays
+    let on = c.in_ok-verdict.ensures.verdict u.rows most (seen u s.so_far.past) s.so_far.followed in
+    judged_at_dot u most c.lines.judge c.lines.reading taken c.lines.lines.number (c.number-then-is_dot.result - 1) text all left left' a c.in_ok-verdict.verdict judgement.judged judgement.window s e (sym c.is_dot.ensures ∙ c.if-is_dot.true) stays
     (omega (arith, c.number-then-is_dot.ensures.number, advanced.number)) on (c.in_ok-judgement.ensures.judged u s.so_far.past s.so_far.counted)
-    (c.in_ok-judgement.ensures.window u most s.so_far.past s.so_far.numbered on (λ line s_id e. c.finish.ensures.kept u most s.so_far.past s.so_far.followed)))
+    (c.in_ok-judgement.ensures.window u most s.so_far.past s.so_far.numbered on (λ line s_id e. c.finish.ensures.kept u.rows most (seen u s.so_far.past) s.so_far.followed)))
 
 pub returns-then-is_dot-clause-followed : goal.returns-then-is_dot-clause-followed
 returns-then-is_dot-clause-followed g c = λ _ _ u most is.
@@ -90,9 +88,9 @@ judgement-requires-in-Some g c =
     let q = c.requires in
     let s = (c.lines.invariant q.0 q.1 q.2).so_far in
     let verdict = c.in-Some.verdict in
-    let d = subst (λ found. IfSome found (λ v. (u : Database) (most : ℕ) (past : List Line) → HasFollowed u most past c.lines.judge → IsNumbered c.lines.reading past → HasCounted u past c.lines.reading.counts → Decides u most past c.number-in-lines.result c.line-in-lines.result.now v c.take.new.judge c.lines.reading c.take.new.self))
+    let d = subst (λ found. IfSome found (λ v. (u : View) (most : ℕ) (past : List Line) → HasFollowed u most past c.lines.judge → IsNumbered u c.lines.reading past → HasCounted u past c.lines.reading.counts → Decides u most past c.number-in-lines.result c.line-in-lines.result.now v c.take.new.judge c.lines.reading c.take.new.self))
     c.in-Some.is c.in_ok-verdict-2.ensures.decided q.0 q.1 s.past s.followed s.numbered s.counted in
-    (q.0, q.1, s.past ++ d.line ∷ [], one_numbered c.lines.reading c.take.new.self s.past c.number-in-lines.result d.line d.numbers_are s.numbered, d.decided, d.kept, d.counted)
+    (q.0, q.1, s.past ++ d.line ∷ [], one_numbered c.lines.reading c.take.new.self s.past c.number-in-lines.result d.line d.numbers_are d.part_same s.numbered, d.decided, d.kept, d.counted)
 
 pub returns-in-Some-clause-judged : goal.returns-in-Some-clause-judged
 returns-in-Some-clause-judged g c =
@@ -105,23 +103,23 @@ returns-in-Some-clause-judged g c =
     let number = c.number-in-lines.result in
     let text = c.line-in-lines.result.now in
     let other = ap is_dot (c.line-in-lines.ensures ∙ sym c.line.ensures) ∙ (sym c.is_dot.ensures ∙ c.if-is_dot.false) in
-    let decides = subst (λ found. IfSome found (λ v. (u : Database) (most : ℕ) (past : List Line) → HasFollowed u most past c.lines.judge → IsNumbered c.lines.reading past → HasCounted u past c.lines.reading.counts → Decides u most past number text v c.take.new.judge c.lines.reading c.take.new.self))
+    let decides = subst (λ found. IfSome found (λ v. (u : View) (most : ℕ) (past : List Line) → HasFollowed u most past c.lines.judge → IsNumbered u c.lines.reading past → HasCounted u past c.lines.reading.counts → Decides u most past number text v c.take.new.judge c.lines.reading c.take.new.self))
     c.in-Some.is c.in_ok-verdict-2.ensures.decided in
     let judgement = c.in_ok-judgement-2.field-0 in
-    by_all all (λ a. (u : Database) (most : ℕ) → HasFollowed u most [] c.args.judge.now → IsJudgement u most taken (before_dot a.lines) judgement.judged judgement.window.items) (λ a e. λ u most is.
+    by_all all (λ a. (u : View) (most : ℕ) → IsBegun u most c.args.part.now c.args.judge.now → IsJudgement u most taken (before_dot a.lines) judgement.judged judgement.window) (λ a e. λ u most is.
     let s = c.lines.invariant u most is in
     let stays = subst (λ t. Stays left (option_map (with_line t) left')) (sym c.line-in-lines.ensures) advanced.left in
     let d = decides u most s.so_far.past s.so_far.followed s.so_far.numbered s.so_far.counted in
-    judged_before_dot u most c.lines.judge c.take.new.judge c.lines.reading c.take.new.self taken c.lines.lines.number number text all left left' a verdict judgement.judged judgement.window.items s e other (c.number-in-lines.ensures.number ∙ advanced.number) stays
+    judged_before_dot u most c.lines.judge c.take.new.judge c.lines.reading c.take.new.self taken c.lines.lines.number number text all left left' a verdict judgement.judged judgement.window s e other (c.number-in-lines.ensures.number ∙ advanced.number) stays
     (λ legal. c.in_ok-verdict-2.ensures.never (ap Ok (c.in-Some.is ∙ ap Some legal))) d
     (subst (λ n. IsTold u (told_of c.take.new.self (s.so_far.past ++ d.line ∷ [])) n verdict judgement.judged) (c.number-in-Some.ensures.number ∙ sym c.number-in-lines.ensures.number) (c.in_ok-judgement-2.ensures.judged u (s.so_far.past ++ d.line ∷ []) d.counted))
-    (c.in_ok-judgement-2.ensures.window u most (s.so_far.past ++ d.line ∷ []) (one_numbered c.lines.reading c.take.new.self s.so_far.past number d.line d.numbers_are s.so_far.numbered) d.decided d.kept))
+    (c.in_ok-judgement-2.ensures.window u most (s.so_far.past ++ d.line ∷ []) (one_numbered c.lines.reading c.take.new.self s.so_far.past number d.line d.numbers_are d.part_same s.so_far.numbered) d.decided d.kept))
 
 pub returns-in-Some-clause-followed : goal.returns-in-Some-clause-followed
 returns-in-Some-clause-followed g c = λ stakes e u most is.
     let s = (c.lines.invariant u most is).so_far in
     let verdict = c.in-Some.verdict in
-    let decides = subst (λ found. IfSome found (λ v. (u : Database) (most : ℕ) (past : List Line) → HasFollowed u most past c.lines.judge → IsNumbered c.lines.reading past → HasCounted u past c.lines.reading.counts → Decides u most past c.number-in-lines.result c.line-in-lines.result.now v c.take.new.judge c.lines.reading c.take.new.self))
+    let decides = subst (λ found. IfSome found (λ v. (u : View) (most : ℕ) (past : List Line) → HasFollowed u most past c.lines.judge → IsNumbered u c.lines.reading past → HasCounted u past c.lines.reading.counts → Decides u most past c.number-in-lines.result c.line-in-lines.result.now v c.take.new.judge c.lines.reading c.take.new.self))
     c.in-Some.is c.in_ok-verdict-2.ensures.decided in
     let d = decides u most s.past s.followed s.numbered s.counted in
     let past = s.past ++ d.line ∷ [] in

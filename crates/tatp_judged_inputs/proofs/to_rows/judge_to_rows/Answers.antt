@@ -2,10 +2,9 @@ use Rattle.std.specs.Prelude.{ℕ, []}
 use Rattle.std.proofs.Common.{ap, sym, subst, ◌∙◌}
 use Rattle.std.proofs.lemmas.Option.{IfSome_then}
 use Rattle.std.proofs.lemmas.Result.{err_from_is_err_and}
-use Rattle.tatp_tables.specs.Database.{Database}
 use Rattle.tatp_streams.specs.LineReading.{lines_left}
 use Rattle.tatp_inputs.specs.Parts.{before_dot}
-use Rattle.tatp_judge.specs.Followed.{HasFollowed}
+use Rattle.tatp_judged_inputs.specs.Views.{IsBegun, View, seen}
 use Rattle.tatp_judged_inputs.specs.Judged.{IsJudgement}
 use Rattle.tatp_judged_inputs.specs.RowsAtEnd.{IsJudgementTo, told_by_rows}
 use Rattle.tatp_judged_inputs.proofs.HistoryLaws.{at_all, by_all}
@@ -32,7 +31,7 @@ pub finish_to-requires-clause-followed : goal.finish_to-requires-clause-followed
 finish_to-requires-clause-followed g c =
     let q = c.requires in
     let to = c.in_ok-judgement.ensures.followed c.in-Legal.stakes c.in-Legal.is q.0 q.1 q.2 in
-    (q.0, q.1, to.0, to.1)
+    (q.0.rows, q.1, seen q.0 to.0, to.1)
 
 pub returns-in_ok-finish_to-in-Legal-clause-judged : goal.returns-in_ok-finish_to-in-Legal-clause-judged
 returns-in_ok-finish_to-in-Legal-clause-judged g c =
@@ -41,18 +40,18 @@ returns-in_ok-finish_to-in-Legal-clause-judged g c =
     let left = lines_left c.judge_to_dot.new.lines (g.R.Read.remaining c.judge_to_dot.new.reader) in
     let dot = c.judge_to_dot.new.lines.number in
     let verdict = c.in_ok-finish_to-in-Legal.field-0 in
-    let window = c.in_ok-judgement.judgement.window.items in
+    let window = c.in_ok-judgement.judgement.window in
     let said = c.judged_to-judged.ensures ∙ ap (told_by_rows c.in-Legal.stakes verdict) c.number-dot.ensures.number in
-    by_all all (λ a. (u : Database) (most : ℕ) → HasFollowed u most [] c.args.judge.now → IsJudgementTo u most taken a.lines c.judged_to-judged.result window) (λ a e. λ u most is.
+    by_all all (λ a. (u : View) (most : ℕ) → IsBegun u most c.args.part.now c.args.judge.now → IsJudgementTo u most taken a.lines c.judged_to-judged.result window) (λ a e. λ u most is.
     let to = c.in_ok-judgement.ensures.followed c.in-Legal.stakes c.in-Legal.is u most is in
     let legal = IfSome_then all c.in_ok-judgement.ensures.judged (λ b h. subst (λ j. IsJudgement u most taken (before_dot b.lines) j window) c.in-Legal.is (h u most is)) in
     subst (λ j. IsJudgementTo u most taken a.lines j window) (sym said)
     (at_all all a (λ b. IsJudgementTo u most taken b.lines (told_by_rows c.in-Legal.stakes verdict dot) window) e
     (judged_by_rows u most taken dot to.0 all left c.in_ok-rows-in-Legal.rows c.in-Legal.stakes verdict window to.2 c.in_ok-rows-in-Legal.ensures.rows (record { few = c.in_ok-admit-in-Legal.ensures.few; clean = c.in_ok-admit-in-Legal.ensures.clean }) legal
-    (c.in_ok-finish_to-in-Legal.ensures u most to.0 to.1))))
+    (c.in_ok-finish_to-in-Legal.ensures u.rows most (seen u to.0) to.1))))
 
 pub returns-in_default-clause-judged : goal.returns-in_default-clause-judged
 returns-in_default-clause-judged g c =
     let taken = c.args.lines.now.number in
     IfSome_then (lines_left c.args.lines.now (g.R.Read.remaining c.args.reader.now)) c.in_ok-judgement.ensures.judged
-    (λ a h. λ u most is. judgement_before u most taken a.lines c.in_ok-judgement.judgement.judged c.in_ok-judgement.judgement.window.items c.in_default.not-Legal (h u most is))
+    (λ a h. λ u most is. judgement_before u most taken a.lines c.in_ok-judgement.judgement.judged c.in_ok-judgement.judgement.window c.in_default.not-Legal (h u most is))

@@ -1,10 +1,7 @@
 use Rattle.std.proofs.Common.{[]}
-use Rattle.tatp_linearization.specs.Held.{TakesLast, TakesOther}
-use Rattle.tatp_linearization.proofs.HeldLaws.{Gathered}
+use Rattle.tatp_linearization.proofs.TurnLaws.{TryingAll}
 use Rattle.tatp_linearization.proofs.effects.try_all.Given as goal
 
 abbrev pub invariant-configurations : goal.invariant-configurations
-invariant-configurations l = record {
-  answered : Gathered (TakesLast l.asked) l.set l.fn.answered.items l.i l.answered.items;
-  going : Gathered (TakesOther l.asked) l.set [] l.i l.going.items;
-}
+invariant-configurations l = TryingAll l.set l.asked (record { answered = l.fn.answered.items; tried = l.fn.tried.items; going = [] }) l.i
+    (record { answered = l.answered.items; tried = l.tried.items; going = l.going.items })

@@ -1,87 +1,99 @@
 use Rattle.std.proofs.Common.{◌+◌, ◌≤◌, length, Some, None, Vec, Global, sym, subst, true≢false, arith, ◌∙◌, inl, inr}
 use Rattle.std.proofs.lemmas.Result.{err_from_is_err_and}
 use Rattle.tatp_history.specs.JustInTime.{NoneAskedAt}
-use Rattle.tatp_history.specs.Configurations.{Configuration}
 use Rattle.tatp_linearization.specs.declared.configuration.Configuration.{Configuration as Held}
 use Rattle.tatp_linearization.specs.Held.{AreApart, Takes}
-use Rattle.tatp_linearization.proofs.HeldLaws.{Collected, collected_none, collected_refused, collected_other, collected_added, collected_all, collected_many, ready_after}
+use Rattle.tatp_linearization.specs.Covering.{Lists}
+use Rattle.tatp_linearization.proofs.HeldLaws.{ready_after}
+use Rattle.tatp_linearization.proofs.TurnLaws.{Trying, trying_none, trying_refused, trying_answered, trying_going, trying_all, trying_many}
 use Rattle.tatp_linearization.proofs.effects.try_each.Goals as goal
-use Rattle.tatp_linearization.proofs.effects.try_each.Goals.{in-Some+then-none_asked+in_ok-add-in-Some, in-Some+else-none_asked+in_ok-add-in-Some-2, in-None}
+use Rattle.tatp_linearization.proofs.effects.try_each.Goals.{in-Some+then-none_asked+in_ok-add-in-Some, in-Some+else-none_asked+in_ok-go_on-in-Some, in-None}
+
+pub calls-init : goal.calls-init
+calls-init c = trying_none c.args.c.now c.args.asked (record { answered = c.args.answered.now.items; tried = c.args.tried.now.items; going = c.args.going.now.items })
 
 pub calls-preserved : goal.calls-preserved
 calls-preserved c =
     let k = c.args.c.now in
     let i = c.calls.i in
-    let old = c.args.answered.now.items in
-    let old' = c.args.going.now.items in
+    let asked = c.args.asked in
+    let old : Lists = record { answered = c.args.answered.now.items; tried = c.args.tried.now.items; going = c.args.going.now.items } in
+    let before : Lists = record { answered = c.calls.answered.items; tried = c.calls.tried.items; going = c.calls.going.items } in
     let inv = c.calls.invariant in
-    let Last : Configuration → Type 0 = λ e. NoneAskedAt c.args.asked e.opened in
-    let Other : Configuration → Type 0 = λ e. NoneAskedAt c.args.asked e.opened → ⊥ in
+    let All : Vec Held Global → Vec Held Global → Vec Held Global → Type 0 = λ a t g. Trying c.args.c.now c.args.asked (record { answered = c.args.answered.now.items; tried = c.args.tried.now.items; going = c.args.going.now.items }) (c.calls.i + 1) (record { answered = a.items; tried = t.items; going = g.items }) in
     elim c.match-branch-2.branch [
       | in-Some+then-none_asked+in_ok-add-in-Some w ↦
           let taken : Takes c.args.c.now c.calls.i (Some w.in-Some.d) = subst (Takes c.args.c.now c.calls.i) w.in-Some.is c.in_ok-d.ensures in
           let last : NoneAskedAt c.args.asked w.in-Some.d.opened.items = w.none_asked.ensures.0 w.if-none_asked.true in
-          record {
-            answered = subst (λ (v : Vec Held Global). Collected Last k old (i + 1) v.items) (sym w.answered-is)
-                (collected_added Last k w.in-Some.d old i c.calls.answered.items w.add.new.set.items taken inv.answered last w.in_ok-add-in-Some.ensures.added w.in_ok-add-in-Some.ensures.ready w.in_ok-add-in-Some.ensures.apart);
-            going = subst (λ (v : Vec Held Global). Collected Other k old' (i + 1) v.items) (sym w.going-is)
-                (collected_other Other k w.in-Some.d old' i c.calls.going.items taken inv.going (λ other. other last));
-          }
-      | in-Some+else-none_asked+in_ok-add-in-Some-2 w ↦
+          subst (λ (a : Vec Held Global). All a c.match-branch-2.tried c.match-branch-2.going) (sym w.answered-is)
+          (subst (λ (t : Vec Held Global). All w.add.new.set t c.match-branch-2.going) (sym w.tried-is)
+          (subst (λ (g : Vec Held Global). All w.add.new.set c.calls.tried g) (sym w.going-is)
+          (trying_answered k w.in-Some.d asked i old before taken c.requires.accepted inv w.add.new.set.items last w.in_ok-add-in-Some.ensures.gained w.in_ok-add-in-Some.ensures.ready w.in_ok-add-in-Some.ensures.apart)))
+      | in-Some+else-none_asked+in_ok-go_on-in-Some w ↦
           let taken : Takes c.args.c.now c.calls.i (Some w.in-Some.d) = subst (Takes c.args.c.now c.calls.i) w.in-Some.is c.in_ok-d.ensures in
           let other : NoneAskedAt c.args.asked w.in-Some.d.opened.items → ⊥ = λ last. true≢false (sym (w.none_asked.ensures.1 last) ∙ w.if-none_asked.false) in
-          record {
-            answered = subst (λ (v : Vec Held Global). Collected Last k old (i + 1) v.items) (sym w.answered-is)
-                (collected_other Last k w.in-Some.d old i c.calls.answered.items taken inv.answered other);
-            going = subst (λ (v : Vec Held Global). Collected Other k old' (i + 1) v.items) (sym w.going-is)
-                (collected_added Other k w.in-Some.d old' i c.calls.going.items w.add-else-none_asked.new.set.items taken inv.going other w.in_ok-add-in-Some-2.ensures.added w.in_ok-add-in-Some-2.ensures.ready w.in_ok-add-in-Some-2.ensures.apart);
-          }
+          subst (λ (a : Vec Held Global). All a c.match-branch-2.tried c.match-branch-2.going) (sym w.answered-is)
+          (subst (λ (t : Vec Held Global). All c.calls.answered t c.match-branch-2.going) (sym w.tried-is)
+          (subst (λ (g : Vec Held Global). All c.calls.answered w.go_on.new.tried g) (sym w.going-is)
+          (trying_going k w.in-Some.d asked i old before taken c.requires.accepted inv w.go_on.new.tried.items w.go_on.new.going.items other w.in_ok-go_on-in-Some.ensures.gained w.in_ok-go_on-in-Some.ensures.goes w.in_ok-go_on-in-Some.ensures.ready w.in_ok-go_on-in-Some.ensures.apart)))
       | in-None w ↦
           let none : Takes c.args.c.now c.calls.i None = subst (Takes c.args.c.now c.calls.i) w.in-None.is c.in_ok-d.ensures in
-          record {
-            answered = subst (λ (v : Vec Held Global). Collected Last k old (i + 1) v.items) (sym w.answered-is) (collected_refused Last k old i c.calls.answered.items inv.answered none);
-            going = subst (λ (v : Vec Held Global). Collected Other k old' (i + 1) v.items) (sym w.going-is) (collected_refused Other k old' i c.calls.going.items inv.going none);
-          }
+          subst (λ (a : Vec Held Global). All a c.match-branch-2.tried c.match-branch-2.going) (sym w.answered-is)
+          (subst (λ (t : Vec Held Global). All c.calls.answered t c.match-branch-2.going) (sym w.tried-is)
+          (subst (λ (g : Vec Held Global). All c.calls.answered c.calls.tried g) (sym w.going-is)
+          (trying_refused k asked old i before inv none)))
     ]
-
-pub calls-init : goal.calls-init
-calls-init c = record {
-  answered = collected_none (λ (e : Configuration). NoneAskedAt c.args.asked e.opened) c.args.c.now c.args.answered.now.items;
-  going = collected_none (λ (e : Configuration). NoneAskedAt c.args.asked e.opened → ⊥) c.args.c.now c.args.going.now.items;
-}
 
 pub add-requires : goal.add-requires
 add-requires c = record { accepted = ready_after c.args.c.now c.in-Some.d c.calls.i (subst (Takes c.args.c.now c.calls.i) c.in-Some.is c.in_ok-d.ensures) c.requires.accepted }
 
-pub add-requires-else-none_asked : goal.add-requires-else-none_asked
-add-requires-else-none_asked c = record { accepted = ready_after c.args.c.now c.in-Some.d c.calls.i (subst (Takes c.args.c.now c.calls.i) c.in-Some.is c.in_ok-d.ensures) c.requires.accepted }
+pub go_on-requires : goal.go_on-requires
+go_on-requires c = record { accepted = ready_after c.args.c.now c.in-Some.d c.calls.i (subst (Takes c.args.c.now c.calls.i) c.in-Some.is c.in_ok-d.ensures) c.requires.accepted }
 
-pub returns-clause-answered : goal.returns-clause-answered
-returns-clause-answered c =
-    let all : length c.args.c.now.opened.items ≤ c.calls.i = omega (arith, c.calls-test.false, c.len-i-end.ensures, c.args.c.now.opened.ok.0) in
-    collected_all (λ (e : Configuration). NoneAskedAt c.args.asked e.opened) c.args.c.now c.args.answered.now.items c.calls.i c.calls.answered.items c.calls.invariant.answered all
+pub returns-clause-grown : goal.returns-clause-grown
+returns-clause-grown c = c.calls.invariant.grown
 
-pub returns-clause-going : goal.returns-clause-going
-returns-clause-going c =
+pub returns-clause-done : goal.returns-clause-done
+returns-clause-done c =
     let all : length c.args.c.now.opened.items ≤ c.calls.i = omega (arith, c.calls-test.false, c.len-i-end.ensures, c.args.c.now.opened.ok.0) in
-    collected_all (λ (e : Configuration). NoneAskedAt c.args.asked e.opened → ⊥) c.args.c.now c.args.going.now.items c.calls.i c.calls.going.items c.calls.invariant.going all
+    trying_all c.args.c.now c.args.asked (record { answered = c.args.answered.now.items; tried = c.args.tried.now.items; going = c.args.going.now.items }) c.calls.i
+    (record { answered = c.calls.answered.items; tried = c.calls.tried.items; going = c.calls.going.items }) c.calls.invariant all
+
+pub returns-clause-ready : goal.returns-clause-ready
+returns-clause-ready c = c.calls.invariant.ready
+
+pub returns-clause-left : goal.returns-clause-left
+returns-clause-left c = c.calls.invariant.left
+
+pub returns-clause-apart : goal.returns-clause-apart
+returns-clause-apart c = c.calls.invariant.apart
+
+pub returns-clause-distinct : goal.returns-clause-distinct
+returns-clause-distinct c = c.calls.invariant.distinct
+
+pub returns-clause-went : goal.returns-clause-went
+returns-clause-went c = c.calls.invariant.went
 
 pub returns-in_err-add-in-Some-clause-many : goal.returns-in_err-add-in-Some-clause-many
 returns-in_err-add-in-Some-clause-many c =
     let p = err_from_is_err_and c.from_residual-in_err-add-in-Some.result c.from_residual-in_err-add-in-Some.ensures.1 in
     let k = c.args.c.now in
     let d : Held = c.in-Some.d in
+    let old : Lists = record { answered = c.args.answered.now.items; tried = c.args.tried.now.items; going = c.args.going.now.items } in
+    let before : Lists = record { answered = c.calls.answered.items; tried = c.calls.tried.items; going = c.calls.going.items } in
     let taken : Takes c.args.c.now c.calls.i (Some d) = subst (Takes c.args.c.now c.calls.i) c.in-Some.is c.in_ok-d.ensures in
-    rw (p.1, p.2) (λ is answered going.
-    let apart : AreApart d.home.s_id c.calls.answered.items = subst (λ s. AreApart s c.calls.answered.items) (sym taken.1.own) (c.calls.invariant.answered.apart answered) in
-    inl (collected_many c.args.most (λ e. NoneAskedAt c.args.asked e.opened) k d c.args.answered.now.items c.calls.i c.calls.answered.items taken c.calls.invariant.answered (c.in_err-add-in-Some.ensures.many is apart)))
+    rw (p.1, p.2) (λ is answered tried.
+    let apart : AreApart d.home.s_id c.calls.answered.items = subst (λ s. AreApart s c.calls.answered.items) (sym taken.1.own) (c.calls.invariant.apart answered) in
+    inl ((trying_many c.args.most k d c.args.asked c.calls.i old before taken c.requires.accepted c.calls.invariant).0 (c.in_err-add-in-Some.ensures.many is apart)))
 
-pub returns-in_err-add-in-Some-2-clause-many : goal.returns-in_err-add-in-Some-2-clause-many
-returns-in_err-add-in-Some-2-clause-many c =
-    let p = err_from_is_err_and c.from_residual-in_err-add-in-Some-2.result c.from_residual-in_err-add-in-Some-2.ensures.1 in
+pub returns-in_err-go_on-in-Some-clause-many : goal.returns-in_err-go_on-in-Some-clause-many
+returns-in_err-go_on-in-Some-clause-many c =
+    let p = err_from_is_err_and c.from_residual-in_err-go_on-in-Some.result c.from_residual-in_err-go_on-in-Some.ensures.1 in
     let k = c.args.c.now in
     let d : Held = c.in-Some.d in
+    let old : Lists = record { answered = c.args.answered.now.items; tried = c.args.tried.now.items; going = c.args.going.now.items } in
+    let before : Lists = record { answered = c.calls.answered.items; tried = c.calls.tried.items; going = c.calls.going.items } in
     let taken : Takes c.args.c.now c.calls.i (Some d) = subst (Takes c.args.c.now c.calls.i) c.in-Some.is c.in_ok-d.ensures in
-    rw (p.1, p.2) (λ is answered going.
-    let apart : AreApart d.home.s_id c.calls.going.items = subst (λ s. AreApart s c.calls.going.items) (sym taken.1.own) (c.calls.invariant.going.apart going) in
-    inr (collected_many c.args.most (λ e. NoneAskedAt c.args.asked e.opened → ⊥) k d c.args.going.now.items c.calls.i c.calls.going.items taken c.calls.invariant.going (c.in_err-add-in-Some-2.ensures.many is apart)))
+    rw (p.1, p.2) (λ is answered tried.
+    let apart : AreApart d.home.s_id c.calls.tried.items = subst (λ s. AreApart s c.calls.tried.items) (sym taken.1.own) (c.calls.invariant.distinct tried) in
+    inr ((trying_many c.args.most k d c.args.asked c.calls.i old before taken c.requires.accepted c.calls.invariant).1 (c.in_err-go_on-in-Some.ensures.many is apart)))

@@ -1,9 +1,9 @@
-use Rattle.std.proofs.Common.{◌≡◌, ◌<◌, ◌≤◌, ◌+◌, ℕ, List, length, Some, Vec, Global, slice_get, sym, subst, arith, ◌++◌}
+use Rattle.std.proofs.Common.{◌≡◌, ◌<◌, ◌≤◌, ◌+◌, ℕ, List, length, Some, Vec, Global, slice_get, sym, subst, arith}
 use Rattle.std.proofs.lemmas.Result.{err_from_is_err_and}
 use Rattle.tatp_linearization.specs.declared.configuration.Configuration.{Configuration as Held}
-use Rattle.tatp_linearization.specs.Held.{AreApart, HoldsOfOne, IsTried, FollowAll}
+use Rattle.tatp_linearization.specs.Held.{AreApart}
+use Rattle.tatp_linearization.specs.Covering.{FollowSet, FromOne, MayBeTried}
 use Rattle.tatp_linearization.specs.Possible.{AreMoreThan}
-use Rattle.tatp_linearization.specs.Reached.{AreKept}
 use Rattle.tatp_linearization.proofs.PlaceLaws.{get_at}
 use Rattle.tatp_linearization.proofs.FollowLaws.{IsFollowed, followed_none, followed_more, followed_less, followed_all, followed_many}
 use Rattle.tatp_linearization.proofs.explanations.after_events.Goals as goal
@@ -28,11 +28,11 @@ events-preserved c =
       | then-not-leaves_all+in_ok-next w ↦
           subst (λ (v : Vec Held Global). IsFollowed set events (i + 1) v.items) (sym w.after-is)
           (followed_less set events (i + 1) w.in_ok-next.next.items w.drop_doomed.new.set.items (followed_more set events i event before w.in_ok-next.next.items at inv
-          (subst (λ cs. FollowAll event cs w.in_ok-next.next.items) w.as_slice-then-not-leaves_all.ensures.value w.in_ok-next.ensures.followed) w.in_ok-next.ensures.ready
+          (subst (λ cs. FollowSet event cs w.in_ok-next.next.items) w.as_slice-then-not-leaves_all.ensures.value w.in_ok-next.ensures.followed) w.in_ok-next.ensures.ready
           (subst (λ (cs : List Held). (s : ℕ) → AreApart s cs → AreApart s w.in_ok-next.next.items) w.as_slice-then-not-leaves_all.ensures.value w.in_ok-next.ensures.apart)) w.drop_doomed.ensures.kept w.drop_doomed.ensures.found w.drop_doomed.ensures.ready w.drop_doomed.ensures.apart)
       | else-not-leaves_all w ↦
           subst (λ (v : Vec Held Global). IsFollowed set events (i + 1) v.items) (sym w.after-is)
-          (followed_more set events i event before before at inv (subst (λ cs. FollowAll event cs cs) c.as_slice.ensures.value (c.leaves_all.ensures w.if-not-leaves_all.false)) inv.ready (λ s h. h))
+          (followed_more set events i event before before at inv (subst (λ cs. FollowSet event cs cs) c.as_slice.ensures.value (c.leaves_all.ensures w.if-not-leaves_all.false)) inv.ready (λ s h. h))
     ]
 
 pub returns-clause-kept : goal.returns-clause-kept
@@ -52,4 +52,4 @@ returns-in_err-next-clause-many c =
     let lt : c.events.i < length c.args.events.now = omega (arith, c.events-test.true) in
     let at : slice_get c.args.events.now c.events.i ≡ Some c.index-events-i.result = get_at c.args.events.now c.events.i c.index-events-i.result lt c.index-events-i.is in
     rw (p.1, p.2) (λ is. followed_many c.args.most c.args.set.now c.args.events.now c.events.i c.index-events-i.result c.events.after.items at c.events.invariant
-    (subst (λ (set : List Held). (s : ℕ) → AreApart s set → AreMoreThan c.args.most (HoldsOfOne (IsTried c.index-events-i.result) set)) c.as_slice-then-not-leaves_all.ensures.value (c.in_err-next.ensures.many is)))
+    (subst (λ (set : List Held). (s : ℕ) → AreApart s set → AreMoreThan c.args.most (FromOne (MayBeTried c.index-events-i.result) set)) c.as_slice-then-not-leaves_all.ensures.value (c.in_err-next.ensures.many is)))

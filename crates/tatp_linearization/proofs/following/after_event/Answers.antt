@@ -1,14 +1,12 @@
-use Rattle.std.proofs.Common.{◌≡◌, [], Some, Err, slice_get, sym, ap, subst}
+use Rattle.std.proofs.Common.{◌≡◌, Some, Err, slice_get, sym, ap, subst}
 use Rattle.std.proofs.lemmas.Result.{err_from_is_err_and}
 use Rattle.tatp_history.specs.declared.event.Event.{Event}
-use Rattle.tatp_linearization.specs.Held.{AreApart, HoldsOfOne, IsTried}
-use Rattle.tatp_linearization.proofs.FollowLaws.{follows_tried}
-use Rattle.tatp_linearization.specs.AtOnce.{FollowsAtOnce}
 use Rattle.tatp_history.specs.Locality.{AreAccepted}
 use Rattle.tatp_linearization.specs.declared.stopped.Stopped.TheVariants.{MoreThanMost}
 use Rattle.tatp_linearization.specs.declared.configuration.Configuration.{Configuration as Held}
+use Rattle.tatp_linearization.specs.Held.{AreApart}
 use Rattle.tatp_linearization.proofs.PlaceLaws.{get_at, all_get}
-use Rattle.tatp_linearization.proofs.HeldLaws.{gathered_more, gathered_all, gathered_from_none, gathered_many, old_or_none}
+use Rattle.tatp_linearization.proofs.GatheringLaws.{sharing_none, sharing_more, sharing_many, gathered_set}
 use Rattle.tatp_linearization.proofs.following.after_event.Goals as goal
 
 pub follow-requires : goal.follow-requires
@@ -16,20 +14,23 @@ follow-requires c =
     let at : slice_get c.args.set.now c.configurations.i ≡ Some c.index-set-i.result = get_at c.args.set.now c.configurations.i c.index-set-i.result c.configurations-test.true c.index-set-i.is in
     record { ready = all_get (λ (e : Held). AreAccepted e.opened.items) c.args.set.now c.configurations.i c.index-set-i.result c.requires.ready at; accepted = c.requires.accepted }
 
+pub configurations-init : goal.configurations-init
+configurations-init c = sharing_none c.args.event.now c.args.set.now c.new-after.result.items c.new-tried.result.items c.new-after.ensures.items c.new-tried.ensures.items
+
 pub configurations-preserved : goal.configurations-preserved
 configurations-preserved c =
     let at : slice_get c.args.set.now c.configurations.i ≡ Some c.index-set-i.result = get_at c.args.set.now c.configurations.i c.index-set-i.result c.configurations-test.true c.index-set-i.is in
-    gathered_more (FollowsAtOnce c.args.event.now) c.args.set.now [] c.configurations.i c.index-set-i.result c.configurations.after.items c.follow.new.after.items c.configurations.invariant at c.in_ok-follow.ensures.added c.in_ok-follow.ensures.ready c.in_ok-follow.ensures.apart
+    sharing_more c.args.event.now c.args.set.now c.configurations.i c.index-set-i.result c.configurations.after.items c.follow.new.after.items c.configurations.tried.items c.follow.new.tried.items at c.configurations.invariant
+    c.in_ok-follow.ensures.gained c.in_ok-follow.ensures.done c.in_ok-follow.ensures.tried c.in_ok-follow.ensures.ready c.in_ok-follow.ensures.apart c.in_ok-follow.ensures.distinct
 
 pub returns-clause-followed : goal.returns-clause-followed
-returns-clause-followed c = gathered_from_none (FollowsAtOnce c.args.event.now) c.args.set.now c.configurations.after.items
-    (gathered_all (FollowsAtOnce c.args.event.now) c.args.set.now [] c.configurations.i c.configurations.after.items c.configurations.invariant c.configurations-test.false)
+returns-clause-followed c = gathered_set c.args.event.now c.args.set.now c.configurations.i c.configurations.after.items c.configurations.invariant.gathered c.configurations-test.false
 
 pub returns-clause-ready : goal.returns-clause-ready
-returns-clause-ready c = c.configurations.invariant.ready tt
+returns-clause-ready c = c.configurations.invariant.gathered.ready tt
 
 pub returns-clause-apart : goal.returns-clause-apart
-returns-clause-apart c = λ s apart. c.configurations.invariant.apart s apart (record { own = tt; distinct = tt })
+returns-clause-apart c = λ s apart. c.configurations.invariant.gathered.apart s apart (record { own = tt; distinct = tt })
 
 pub returns-in_err-follow-clause-many : goal.returns-in_err-follow-clause-many
 returns-in_err-follow-clause-many c =
@@ -41,7 +42,7 @@ returns-in_err-follow-clause-many c =
     let at : slice_get c.args.set.now c.configurations.i ≡ Some k = get_at c.args.set.now c.configurations.i k c.configurations-test.true c.index-set-i.is in
     rw (p.1, p.2) (λ is s apart.
     let own : k.home.s_id ≡ s = all_get (λ (b : Held). b.home.s_id ≡ s) set c.configurations.i k apart.own at in
-    let after : AreApart k.home.s_id c.configurations.after.items = subst (λ t. AreApart t c.configurations.after.items) (sym own) (inv.apart s apart (record { own = tt; distinct = tt })) in
+    let after : AreApart k.home.s_id c.configurations.after.items = subst (λ t. AreApart t c.configurations.after.items) (sym own) (inv.gathered.apart s apart (record { own = tt; distinct = tt })) in
+    let tried : AreApart k.home.s_id c.configurations.tried.items = subst (λ t. AreApart t c.configurations.tried.items) (sym own) (inv.apart s apart) in
     let e : c.in_err-follow.field-0.0 ≡ MoreThanMost = cc in
-    old_or_none c.args.most (HoldsOfOne (IsTried event) set)
-    (gathered_many c.args.most (FollowsAtOnce event) (IsTried event) (follows_tried event) set [] c.configurations.i k c.configurations.after.items inv at (c.in_err-follow.ensures.many (ap Err e) after)))
+    sharing_many c.args.most event set c.configurations.i k c.configurations.after.items c.configurations.tried.items at inv (c.in_err-follow.ensures.many (ap Err e) after tried))

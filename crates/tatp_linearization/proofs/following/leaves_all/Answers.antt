@@ -1,10 +1,11 @@
-use Rattle.std.proofs.Common.{◌≡◌, ◌↔◌, Some, slice_get, sym, subst, arith, inl, inr}
+use Rattle.std.proofs.Common.{◌≡◌, ◌↔◌, Some, slice_get, refl, sym, subst, arith, inl, inr}
 use Rattle.tatp_history.specs.Configurations.{Configuration}
 use Rattle.tatp_linearization.specs.declared.configuration.Configuration.{Configuration as Held}
 use Rattle.tatp_linearization.specs.AtOnce.{FollowsAtOnce}
-use Rattle.tatp_linearization.specs.Held.{Has, seen}
+use Rattle.tatp_linearization.specs.Covering.{StandsFor, OneStandsFor}
 use Rattle.tatp_linearization.proofs.PlaceLaws.{get_at, below_or_is, same_item}
-use Rattle.tatp_linearization.proofs.HeldLaws.{get_has, has_get}
+use Rattle.tatp_linearization.proofs.CoveringLaws.{stands_get}
+use Rattle.tatp_linearization.proofs.GatheringLaws.{follows_may}
 use Rattle.tatp_linearization.proofs.following.leaves_all.Goals as goal
 
 pub loop-i-preserved : goal.loop-i-preserved
@@ -15,18 +16,19 @@ loop-i-preserved c =
       | inl less ↦ c.loop-i.invariant k b less there
       | inr is ↦
           let one : b ≡ own = same_item c.args.set.now c.loop-i.i b own (subst (λ n. slice_get c.args.set.now n ≡ Some b) is there) at in
-          subst (λ (q : Held). (d : Configuration) → (d ≡ seen q) ↔ FollowsAtOnce c.args.event.now (seen q) d) (sym one) (c.leaves.ensures c.if-not-leaves.false)
+          subst (λ (q : Held). (d : Configuration) → StandsFor q d → (e : Configuration) → (e ≡ d) ↔ FollowsAtOnce c.args.event.now d e) (sym one) (c.leaves.ensures c.if-not-leaves.false)
     ]
 
 pub returns : goal.returns
-returns c = λ _ d. (
-  λ h.
-      let there = has_get c.args.set.now d h in
+returns c = λ _. record {
+  sound = λ d h.
+      let there = stands_get c.args.set.now d h in
       let lt = there.1 in
-      (seen there.2, get_has c.args.set.now there.0 there.2 there.3, (c.loop-i.invariant there.0 there.2 (omega (arith, lt, c.loop-i-test.false)) there.3 d).0 there.4),
-  λ h.
-      let there = has_get c.args.set.now h.0 h.1 in
+      let law = c.loop-i.invariant there.0 there.2 (omega (arith, lt, c.loop-i-test.false)) there.3 d there.4 d in
+      (d, h, follows_may c.args.event.now d d (law.0 refl));
+  found = λ apart d h.
+      let there = stands_get c.args.set.now h.0 h.1 in
       let lt = there.1 in
-      let same : d ≡ seen there.2 = (c.loop-i.invariant there.0 there.2 (omega (arith, lt, c.loop-i-test.false)) there.3 d).1 (subst (λ (q : Configuration). FollowsAtOnce c.args.event.now q d) there.4 h.2) in
-      subst (Has c.args.set.now) (sym same) (get_has c.args.set.now there.0 there.2 there.3),
-)
+      let same : d ≡ h.0 = (c.loop-i.invariant there.0 there.2 (omega (arith, lt, c.loop-i-test.false)) there.3 h.0 there.4 d).1 h.2 in
+      subst (OneStandsFor c.args.set.now) (sym same) h.1;
+}

@@ -13,19 +13,19 @@ calls-preserved c =
     let inv = c.calls.invariant in
     let b : Held = c.index.result.now in
     let longer : length c.args.set.now.items ≤ length c.calls.set.items = first_longer c.args.set.now.items c.calls.set.items inv.first in
-    added_more c.args.most c.args.calls.now c.args.place c.args.set.now.items c.calls.i _ c.calls.set.items c.add.new.set.items b c.left_by-d.result c.requires.inside
+    added_more c.args.most c.args.calls.now c.args.place c.args.set.now.items c.calls.i _ c.calls.set.items c.add_once.new.set.items b c.left_by-d.result c.requires.inside
     (at_or c.args.calls.now c.calls.i _ c.calls-test.true) (get_at c.calls.set.items c.args.place b (omega (arith, c.requires.inside, longer)) c.index.ensures)
-    c.left_by-d.ensures.left c.left_by-d.ensures.own inv c.in_ok-add.ensures.added c.in_ok-add.ensures.first c.in_ok-add.ensures.apart c.in_ok-add.ensures.room
+    c.left_by-d.ensures.left c.left_by-d.ensures.own inv c.in_ok-add_once.ensures.added c.in_ok-add_once.ensures.first c.in_ok-add_once.ensures.apart c.in_ok-add_once.ensures.room
 
 pub returns-clause-left : goal.returns-clause-left
 returns-clause-left c = added_all c.args.most c.args.calls.now c.args.place c.args.set.now.items c.calls.i c.calls.set.items c.calls.invariant c.calls-test.false
 
-pub returns-in_err-add-clause-many : goal.returns-in_err-add-clause-many
-returns-in_err-add-clause-many c =
+pub returns-in_err-add_once-clause-many : goal.returns-in_err-add_once-clause-many
+returns-in_err-add_once-clause-many c =
     let p = err_from_is_err_and c.from_residual.result c.from_residual.ensures.1 in
     let inv = c.calls.invariant in
     let b : Held = c.index.result.now in
     let longer : length c.args.set.now.items ≤ length c.calls.set.items = first_longer c.args.set.now.items c.calls.set.items inv.first in
     rw (p.1, p.2) (λ is. added_many c.args.most c.args.calls.now c.args.place c.args.set.now.items c.calls.i _ c.calls.set.items b c.left_by-d.result
     (at_or c.args.calls.now c.calls.i _ c.calls-test.true) (get_at c.calls.set.items c.args.place b (omega (arith, c.requires.inside, longer)) c.index.ensures)
-    c.left_by-d.ensures.left c.left_by-d.ensures.own inv (c.in_err-add.ensures.many is))
+    c.left_by-d.ensures.left c.left_by-d.ensures.own inv (c.in_err-add_once.ensures.many is))

@@ -1,5 +1,5 @@
-use Rattle.tatp_linearization.proofs.HeldLaws.{Collected}
+use Rattle.tatp_linearization.proofs.GatheringLaws.{Taking}
 use Rattle.tatp_linearization.proofs.to_rows.add_taken.Given as goal
 
 abbrev pub invariant-calls : goal.invariant-calls
-invariant-calls l = Collected (λ d. Unit {0}) l.c l.fn.after.items l.i l.after.items
+invariant-calls l = Taking l.c l.fn.after.items l.i l.after.items

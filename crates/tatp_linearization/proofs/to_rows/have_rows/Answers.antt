@@ -3,7 +3,7 @@ use Rattle.tatp_homes.specs.Home.{SubscriberRows}
 use Rattle.tatp_linearization.specs.declared.configuration.Configuration.{Configuration as Held}
 use Rattle.tatp_linearization.specs.Held.{seen}
 use Rattle.tatp_linearization.proofs.PlaceLaws.{get_at, all_get, below_or_is, same_item}
-use Rattle.tatp_linearization.proofs.HeldLaws.{get_has, has_get}
+use Rattle.tatp_linearization.proofs.CoveringLaws.{seen_stands, get_stands, stands_get}
 use Rattle.tatp_linearization.proofs.to_rows.have_rows.Goals as goal
 
 pub loop-i-preserved : goal.loop-i-preserved
@@ -22,13 +22,13 @@ pub returns-then-eq-clause-there : goal.returns-then-eq-clause-there
 returns-then-eq-clause-there c = λ _.
     let d : Held = c.index-set-i.result in (
       seen d,
-      get_has c.args.set.now c.loop-i.i d (get_at c.args.set.now c.loop-i.i d c.loop-i-test.true c.index-set-i.is),
+      get_stands c.args.set.now c.loop-i.i d (seen d) (get_at c.args.set.now c.loop-i.i d c.loop-i-test.true c.index-set-i.is) (seen_stands d),
       ap (λ (q : Held). q.home.tables) c.index-set-i.is ∙ ap (λ (h : SubscriberRows). h.tables) (c.eq.ensures.same.0 c.if-eq.true),
     )
 
 pub returns-clause-other : goal.returns-clause-other
 returns-clause-other c = λ apart d has same.
-    let there = has_get c.args.set.now d has in
+    let there = stands_get c.args.set.now d has in
     let lt = there.1 in
     absurd (c.loop-i.invariant there.0 there.2 (omega (arith, lt, c.loop-i-test.false)) there.3
-    (all_get (λ (b : Held). b.home.s_id ≡ c.args.rows.now.s_id) c.args.set.now there.0 there.2 apart.own there.3) (sym (λ i. (there.4 i).rows) ∙ same))
+    (all_get (λ (b : Held). b.home.s_id ≡ c.args.rows.now.s_id) c.args.set.now there.0 there.2 apart.own there.3) (sym there.4.rows ∙ same))

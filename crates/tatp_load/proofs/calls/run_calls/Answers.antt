@@ -28,14 +28,14 @@ loop-preserved g c =
     record {
       written = calls_flushed plan.distribution plan.subscribers w _ (g.W.Write.contents c.args.writer.now) (g.W.Write.contents c.loop.writer) _ _ _ _
           (one_call plan.distribution plan.subscribers w c.loop.counter (g.W.Write.contents c.args.writer.now) (g.W.Write.contents c.loop.writer) _ _ _ _ c.next_call.result
-          so_far.written call c.in_ok-push_call.ensures c.next_call.ensures.left)
+          so_far.written call c.in_ok-push_call_line.ensures c.next_call.ensures.left)
           c.in_ok-write_if_full.ensures.ok;
       distribution = c.next_call.ensures.distribution ∙ so_far.distribution;
       subscribers = c.next_call.ensures.subscribers ∙ so_far.subscribers;
     }
 
-pub returns-in_err-push_call-clause-front : goal.returns-in_err-push_call-clause-front
-returns-in_err-push_call-clause-front g c =
+pub returns-in_err-push_call_line-clause-front : goal.returns-in_err-push_call_line-clause-front
+returns-in_err-push_call_line-clause-front g c =
     let p = err_from_is_err_and c.from_residual.result c.from_residual.ensures.1 in
     let plan = c.args.plan.now in
     rw p.1 (calls_held plan.distribution plan.subscribers (words_of (client_generator plan.seed plan.client)) c.loop.counter plan.calls (g.W.Write.contents c.args.writer.now) (g.W.Write.contents c.loop.writer) _ _
@@ -51,7 +51,7 @@ returns-in_err-write_if_full-clause-front g c =
     c.next_call.ensures.call ∙ (λ j. drawn_call (so_far.distribution j) (so_far.subscribers j) (next_words 7 (words_of c.loop.driver.generator)).0) in
     rw p.1 (calls_cut plan.distribution plan.subscribers w _ plan.calls (g.W.Write.contents c.args.writer.now) (g.W.Write.contents c.loop.writer) _ _ _
     (one_call plan.distribution plan.subscribers w c.loop.counter (g.W.Write.contents c.args.writer.now) (g.W.Write.contents c.loop.writer) _ _ _ _ c.next_call.result
-    so_far.written call c.in_ok-push_call.ensures c.next_call.ensures.left)
+    so_far.written call c.in_ok-push_call_line.ensures c.next_call.ensures.left)
     (omega arith) c.in_err-write_if_full.ensures.front)
 
 pub returns-in_err-write_last-clause-front : goal.returns-in_err-write_last-clause-front

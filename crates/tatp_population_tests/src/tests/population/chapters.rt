@@ -3,7 +3,7 @@
 use super::extents::clean_rows;
 use std::alloc::Global;
 use std::test::Fail;
-use tatp_extents::{Chapter, CheckpointError, Extent, Homeless, discard, open};
+use tatp_extents::{Chapter, CheckpointError, Discard, Extent, Homeless, discard_all, open};
 
 /// Why no chapter was handed out; one that was is discarded.
 fn refused(handed_out: Result<Chapter, CheckpointError>) -> Option<CheckpointError> {
@@ -65,7 +65,7 @@ fn calls_without_a_home_have_65535_chapters(rt: HostRuntime) -> Result<(), Fail>
     let first = shape(homeless.checkpoint(rt.alloc()));
     let full = chapters_without_homes(&mut homeless, rt.alloc());
     let left = (
-        homeless.mixed(),
+        homeless.is_mixed(),
         homeless.chapters(),
         homeless.log_len(),
         homeless.last_stamp(),
@@ -124,7 +124,7 @@ fn an_extent_has_65535_chapters(rt: HostRuntime) -> Result<(), Fail> {
         left = Some(state(&extent));
         ended = refused_when_mixed(extent, rt.alloc(), 65);
     }
-    discard(extents);
+    discard_all(extents);
     assert_eq!(rt; first, Some((2, 0, 1, 0, 1)));
     assert_eq!(rt; full, Some((65534, CheckpointError::ChapterCountFull)));
     assert_eq!(rt; left, Some((65535, 1, 1, 0, 0)));

@@ -2,7 +2,7 @@
 
 use std::alloc::{AllocError, Global};
 use std::test::Fail;
-use tatp_extents::{Extent, Homeless, discard, open};
+use tatp_extents::{Extent, Homeless, discard_all, open};
 use tatp_tables::{Row, Rows};
 
 /// Rows of this many subscribers, the last first, each with one row in Access_Info and one in
@@ -47,7 +47,7 @@ fn last_extents(rt: HostRuntime) -> Result<(), Fail> {
     ] {
         let (extents, _directory) = open(rt.alloc(), clean_rows(rt.alloc(), count)?, 16)?;
         let last = last_shape(&extents);
-        discard(extents);
+        discard_all(extents);
         assert_eq!(rt; last, Some(shape));
     }
     Ok(())
@@ -57,7 +57,7 @@ fn last_extents(rt: HostRuntime) -> Result<(), Fail> {
 fn is_just_opened(extent: &Extent) -> bool {
     extent.number() == 2
         && extent.moves() == 0
-        && !extent.mixed()
+        && !extent.is_mixed()
         && extent.last_stamp() == 0
         && extent.log().is_empty()
         && extent.opening().len() == 1
@@ -101,11 +101,11 @@ fn an_extent_and_calls_on_it(rt: HostRuntime) -> Result<(), Fail> {
     if let Some(extent) = extents.pop() {
         just_opened = is_just_opened(&extent);
         if let Some(extent) = after_two_calls(rt.alloc(), extent, 65) {
-            mixed = extent.mixed() && extent.log().is_empty();
+            mixed = extent.is_mixed() && extent.log().is_empty();
             let _ = extent.close();
         }
     }
-    discard(extents);
+    discard_all(extents);
     assert!(rt; just_opened && mixed);
     Ok(())
 }
@@ -114,9 +114,9 @@ fn an_extent_and_calls_on_it(rt: HostRuntime) -> Result<(), Fail> {
 fn calls_without_a_home(rt: HostRuntime) -> Result<(), Fail> {
     let mut homeless = Homeless::new(rt.alloc());
     homeless.reserve()?;
-    assert!(rt; !homeless.mixed() && homeless.log().is_empty() && homeless.last_stamp() == 0);
+    assert!(rt; !homeless.is_mixed() && homeless.log().is_empty() && homeless.last_stamp() == 0);
     homeless.end_mixed();
-    assert!(rt; homeless.mixed());
+    assert!(rt; homeless.is_mixed());
     let parts = homeless.close();
     assert!(rt; parts.mixed && parts.log.is_empty());
     Ok(())

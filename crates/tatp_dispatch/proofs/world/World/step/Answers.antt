@@ -14,7 +14,7 @@ use Rattle.tatp_events.specs.declared.refusal.Refusal.TheVariants.{NoPartition, 
 use Rattle.tatp_dispatch.specs.Fields.{world_of}
 use Rattle.tatp_dispatch.specs.Serving.{Tells}
 use Rattle.tatp_dispatch.specs.Worlds.{WorldState}
-use Rattle.tatp_dispatch.proofs.EventLaws.{StepsAt, no_site, told_same, with_sites, sound_with_place, sound_refused, refused_at, line_at, end_at, line_told, ending_client, room_to_end, some_completed, after_end, EndedFields, end_told, end_happens}
+use Rattle.tatp_dispatch.proofs.EventLaws.{StepsAt, no_site, told_same, with_sites, sound_with_buffer, sound_refused, refused_at, line_at, end_at, line_told, ending_client, room_to_end, some_completed, after_end, EndedFields, end_told, end_happens}
 use Rattle.tatp_dispatch.proofs.world.World.step.Goals as goal
 
 site_steps : (v : Vec SiteState Global) (p : ℕ) (obstacle : SiteState → Option SiteRefusal) (s s' : SiteState) (stepped : Result Stepped SiteRefusal) → slice_get v.items p ≡ Some s → AdvancesUnless (obstacle s) s stepped s' → IsSite s'
@@ -40,7 +40,7 @@ returns-in-Err c =
 pub invariant_of-self : goal.invariant_of-self
 invariant_of-self c =
     let r = refused_at (world_of c.self.inside) c.args.p (obstacle_to c.args.kind) c.in-Err.refusal (with_item c.self.inside.sites c.args.p c.step_into.new.self).items (refused c) in
-    sound_with_place (with_sites c.self.inside (with_item c.self.inside.sites c.args.p c.step_into.new.self)) c.step_into.new.ended (sound_refused c.self.inside (with_item c.self.inside.sites c.args.p c.step_into.new.self) c.self.invariant r.1) c.in-Err.ensures.refused
+    sound_with_buffer (with_sites c.self.inside (with_item c.self.inside.sites c.args.p c.step_into.new.self)) c.step_into.new.buffer (sound_refused c.self.inside (with_item c.self.inside.sites c.args.p c.step_into.new.self) c.self.invariant r.1) c.in-Err.ensures.refused
 
 -- ---- it goes on
 moved : (c : goal.In-None) → StepsAt (obstacle_to c.args.kind) c.self.inside.sites.items c.args.p (Ok Did_move) (with_item c.self.inside.sites c.args.p c.step_into.new.self).items
@@ -49,7 +49,7 @@ moved c = subst (λ (t : Option Completion). StepsAt (obstacle_to c.args.kind) c
 pub invariant_of-self-in-None : goal.invariant_of-self-in-None
 invariant_of-self-in-None c =
     let x = moved c in
-    sound_with_place (with_sites c.self.inside (with_item c.self.inside.sites c.args.p c.step_into.new.self)) c.step_into.new.ended (line_told c.self.inside (with_item c.self.inside.sites c.args.p c.step_into.new.self) c.args.p x.before x.after_it c.self.invariant x.after x.site x.whole x.steps.1).0 (sym c.get.ensures ∙ ap option_copied c.in-None.is)
+    sound_with_buffer (with_sites c.self.inside (with_item c.self.inside.sites c.args.p c.step_into.new.self)) c.step_into.new.buffer (line_told c.self.inside (with_item c.self.inside.sites c.args.p c.step_into.new.self) c.args.p x.before x.after_it c.self.invariant x.after x.site x.whole x.steps.1).0 (sym c.get.ensures ∙ ap option_copied c.in-None.is)
 
 pub returns-in-None : goal.returns-in-None
 returns-in-None c =
@@ -57,48 +57,48 @@ returns-in-None c =
     rw (← c.self.view_is) (line_at (world_of c.self.inside) c.args.p (obstacle_to c.args.kind) (with_item c.self.inside.sites c.args.p c.step_into.new.self).items x, (line_told c.self.inside (with_item c.self.inside.sites c.args.p c.step_into.new.self) c.args.p x.before x.after_it c.self.invariant x.after x.site x.whole x.steps.1).1)
 
 -- ---- it ends
-pub complete_ended-client-requires-clause-room : goal.complete_ended-client-requires-clause-room
-complete_ended-client-requires-clause-room c =
-    let x = end_told_of c.self.inside.sites c.args.p (obstacle_to c.args.kind) c.step_into.new.self c.step_into.new.ended c.in-Some.completion.now (sym c.get.ensures ∙ ap option_copied c.in-Some.is) (site_steps c.self.inside.sites c.args.p (obstacle_to c.args.kind) c.index_mut.result.now c.step_into.new.self _ (slice_get_read c.self.inside.sites.items (length c.self.inside.sites.items) c.args.p c.index_mut.result.now refl (omega arith) c.index_mut.ensures.value) c.in-Ok.ensures.steps c.in-Ok.ensures.site) in
+pub record_completion-client-requires-clause-room : goal.record_completion-client-requires-clause-room
+record_completion-client-requires-clause-room c =
+    let x = end_told_of c.self.inside.sites c.args.p (obstacle_to c.args.kind) c.step_into.new.self c.step_into.new.buffer c.in-Some.completion.now (sym c.get.ensures ∙ ap option_copied c.in-Some.is) (site_steps c.self.inside.sites c.args.p (obstacle_to c.args.kind) c.index_mut.result.now c.step_into.new.self _ (slice_get_read c.self.inside.sites.items (length c.self.inside.sites.items) c.args.p c.index_mut.result.now refl (omega arith) c.index_mut.ensures.value) c.in-Ok.ensures.steps c.in-Ok.ensures.site) in
     room_to_end c.self.inside c.args.p x.before x.after_it c.in-Some.completion.now c.self.invariant x.site x.steps.1
 
-pub complete_ended-client-requires-clause-client : goal.complete_ended-client-requires-clause-client
-complete_ended-client-requires-clause-client c = λ completion is.
-    let x = end_told_of c.self.inside.sites c.args.p (obstacle_to c.args.kind) c.step_into.new.self c.step_into.new.ended completion is (site_steps c.self.inside.sites c.args.p (obstacle_to c.args.kind) c.index_mut.result.now c.step_into.new.self _ (slice_get_read c.self.inside.sites.items (length c.self.inside.sites.items) c.args.p c.index_mut.result.now refl (omega arith) c.index_mut.ensures.value) c.in-Ok.ensures.steps c.in-Ok.ensures.site) in
+pub record_completion-client-requires-clause-client : goal.record_completion-client-requires-clause-client
+record_completion-client-requires-clause-client c = λ completion is.
+    let x = end_told_of c.self.inside.sites c.args.p (obstacle_to c.args.kind) c.step_into.new.self c.step_into.new.buffer completion is (site_steps c.self.inside.sites c.args.p (obstacle_to c.args.kind) c.index_mut.result.now c.step_into.new.self _ (slice_get_read c.self.inside.sites.items (length c.self.inside.sites.items) c.args.p c.index_mut.result.now refl (omega arith) c.index_mut.ensures.value) c.in-Ok.ensures.steps c.in-Ok.ensures.site) in
     let k = ending_client (world_of c.self.inside) c.args.p x.before x.after_it completion c.self.invariant.world x.site x.steps.1 in
     slice_get_within c.self.inside.clients.items completion.entry.client k.0 k.1
 
 pub last_reply-requires : goal.last_reply-requires
-last_reply-requires c = some_completed c.complete_ended-client.new.completions.entries c.self.inside.completions.entries c.in-Some.completion.now.entry (c.complete_ended-client.ensures.entries c.in-Some.completion.now (sym c.get.ensures ∙ ap option_copied c.in-Some.is))
+last_reply-requires c = some_completed c.record_completion-client.new.completions.entries c.self.inside.completions.entries c.in-Some.completion.now.entry (c.record_completion-client.ensures.entries c.in-Some.completion.now (sym c.get.ensures ∙ ap option_copied c.in-Some.is))
 
 ended : (c : goal.After-last_reply) → StepsAt (obstacle_to c.args.kind) c.self.inside.sites.items c.args.p (Ok (Did_end c.in-Some.completion.now)) (with_item c.self.inside.sites c.args.p c.step_into.new.self).items
-ended c = end_told_of c.self.inside.sites c.args.p (obstacle_to c.args.kind) c.step_into.new.self c.step_into.new.ended c.in-Some.completion.now (sym c.get.ensures ∙ ap option_copied c.in-Some.is) (site_steps c.self.inside.sites c.args.p (obstacle_to c.args.kind) c.index_mut.result.now c.step_into.new.self _ (slice_get_read c.self.inside.sites.items (length c.self.inside.sites.items) c.args.p c.index_mut.result.now refl (omega arith) c.index_mut.ensures.value) c.in-Ok.ensures.steps c.in-Ok.ensures.site)
+ended c = end_told_of c.self.inside.sites c.args.p (obstacle_to c.args.kind) c.step_into.new.self c.step_into.new.buffer c.in-Some.completion.now (sym c.get.ensures ∙ ap option_copied c.in-Some.is) (site_steps c.self.inside.sites c.args.p (obstacle_to c.args.kind) c.index_mut.result.now c.step_into.new.self _ (slice_get_read c.self.inside.sites.items (length c.self.inside.sites.items) c.args.p c.index_mut.result.now refl (omega arith) c.index_mut.ensures.value) c.in-Ok.ensures.steps c.in-Ok.ensures.site)
 
-fields : (c : goal.After-last_reply) → EndedFields c.self.inside (with_item c.self.inside.sites c.args.p c.step_into.new.self) c.complete_ended-client.new.completions c.complete_ended-client.new.clients c.args.p (ended c).before (ended c).after_it c.in-Some.completion.now
+fields : (c : goal.After-last_reply) → EndedFields c.self.inside (with_item c.self.inside.sites c.args.p c.step_into.new.self) c.record_completion-client.new.completions c.record_completion-client.new.clients c.args.p (ended c).before (ended c).after_it c.in-Some.completion.now
 fields c =
-    let e = c.complete_ended-client.ensures in
+    let e = c.record_completion-client.ensures in
     let is = sym c.get.ensures ∙ ap option_copied c.in-Some.is in
     record { sites = (ended c).after; pushed = e.entries c.in-Some.completion.now is; taken = e.room; freed = λ k at. e.clients c.in-Some.completion.now k is at }
 
 pub invariant_of-self-in-Some : goal.invariant_of-self-in-Some
 invariant_of-self-in-Some c =
     let x = ended c in
-    sound_with_place (after_end c.self.inside (with_item c.self.inside.sites c.args.p c.step_into.new.self) c.complete_ended-client.new.completions c.complete_ended-client.new.clients) c.complete_ended-client.new.ended
-    (end_told c.self.inside (with_item c.self.inside.sites c.args.p c.step_into.new.self) c.complete_ended-client.new.completions c.complete_ended-client.new.clients c.args.p x.before x.after_it c.in-Some.completion.now c.self.invariant (fields c) x.site x.whole x.steps.1).0 c.complete_ended-client.ensures.empty
+    sound_with_buffer (after_end c.self.inside (with_item c.self.inside.sites c.args.p c.step_into.new.self) c.record_completion-client.new.completions c.record_completion-client.new.clients) c.record_completion-client.new.buffer
+    (end_told c.self.inside (with_item c.self.inside.sites c.args.p c.step_into.new.self) c.record_completion-client.new.completions c.record_completion-client.new.clients c.args.p x.before x.after_it c.in-Some.completion.now c.self.invariant (fields c) x.site x.whole x.steps.1).0 c.record_completion-client.ensures.empty
 
 -- the reply is that of the last completion
 reply_is : (c : goal.After-last_reply) → c.last_reply.result ≡ c.in-Some.completion.now.entry.reply
-reply_is c = c.last_reply.ensures c.self.inside.completions.entries c.in-Some.completion.now.entry (c.complete_ended-client.ensures.entries c.in-Some.completion.now (sym c.get.ensures ∙ ap option_copied c.in-Some.is))
+reply_is c = c.last_reply.ensures c.self.inside.completions.entries c.in-Some.completion.now.entry (c.record_completion-client.ensures.entries c.in-Some.completion.now (sym c.get.ensures ∙ ap option_copied c.in-Some.is))
 
 pub returns-in-Some : goal.returns-in-Some
 returns-in-Some c =
     let x = ended c in
-    let client = c.complete_ended-client.ensures.client c.in-Some.completion.now (sym c.get.ensures ∙ ap option_copied c.in-Some.is) in
-    let told = (end_told c.self.inside (with_item c.self.inside.sites c.args.p c.step_into.new.self) c.complete_ended-client.new.completions c.complete_ended-client.new.clients c.args.p x.before x.after_it c.in-Some.completion.now c.self.invariant (fields c) x.site x.whole x.steps.1).1 in
-    let happens = end_happens c.self.inside (with_item c.self.inside.sites c.args.p c.step_into.new.self) c.complete_ended-client.new.completions c.complete_ended-client.new.clients c.args.p x.before x.after_it c.in-Some.completion.now c.self.invariant (fields c) x.site x.steps.1 in
-    let after : WorldState = world_of (after_end c.self.inside (with_item c.self.inside.sites c.args.p c.step_into.new.self) c.complete_ended-client.new.completions c.complete_ended-client.new.clients) in
+    let client = c.record_completion-client.ensures.client c.in-Some.completion.now (sym c.get.ensures ∙ ap option_copied c.in-Some.is) in
+    let told = (end_told c.self.inside (with_item c.self.inside.sites c.args.p c.step_into.new.self) c.record_completion-client.new.completions c.record_completion-client.new.clients c.args.p x.before x.after_it c.in-Some.completion.now c.self.invariant (fields c) x.site x.whole x.steps.1).1 in
+    let happens = end_happens c.self.inside (with_item c.self.inside.sites c.args.p c.step_into.new.self) c.record_completion-client.new.completions c.record_completion-client.new.clients c.args.p x.before x.after_it c.in-Some.completion.now c.self.invariant (fields c) x.site x.steps.1 in
+    let after : WorldState = world_of (after_end c.self.inside (with_item c.self.inside.sites c.args.p c.step_into.new.self) c.record_completion-client.new.completions c.record_completion-client.new.clients) in
     let told_client = subst (λ k. Tells (world_of c.self.inside) (Ok (Is_ended k c.in-Some.completion.now.entry.ask c.in-Some.completion.now.entry.reply)) after) (sym client) told in
-    let told_so = subst (λ reply. Tells (world_of c.self.inside) (Ok (Is_ended c.complete_ended-client.result c.in-Some.completion.now.entry.ask reply)) after) (sym (reply_is c)) told_client in
+    let told_so = subst (λ reply. Tells (world_of c.self.inside) (Ok (Is_ended c.record_completion-client.result c.in-Some.completion.now.entry.ask reply)) after) (sym (reply_is c)) told_client in
     rw (← c.self.view_is) (
       (end_at (world_of c.self.inside) c.args.p (obstacle_to c.args.kind) c.in-Some.completion.now (with_item c.self.inside.sites c.args.p c.step_into.new.self).items x, (c.in-Some.completion.now, client, refl, reply_is c, happens)),
       told_so,

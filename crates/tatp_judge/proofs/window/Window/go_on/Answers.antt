@@ -28,8 +28,8 @@ returns-in-Unexplained c = λ u most s lines is now.
           (subst (λ es. TimesRise (is.before ++ es)) same (rise_both u most s lines w is))
           (subst (λ es. HaveEnds (is.before ++ es)) same (end_both u most s lines w is))
           (subst (λ es. IsStrictlySerializable (of_subscriber u s) (asked_in (is.before ++ es))) same (unsaid u most s lines w is explained)),
-      inl (same_window u most s lines w (record { explanations = c.follow.new.self; from = w.from; events = w.events; numbers = w.numbers; waiting = w.waiting }) is
-          (c.in_ok-follow.ensures.same (λ e. let other = sym c.in-Unexplained.is in cc)) refl refl refl refl),
+      inl (same_window u most s lines w (record { explanations = c.follow.new.self; from = w.from; events = w.events; numbers = w.numbers; waiting = w.waiting; only = w.only }) is
+          (c.in_ok-follow.ensures.same (λ e. let other = sym c.in-Unexplained.is in cc)) refl refl refl refl refl),
     )
 
 pub returns-in-Undecided : goal.returns-in-Undecided

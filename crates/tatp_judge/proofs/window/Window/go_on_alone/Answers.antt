@@ -1,11 +1,13 @@
-use Rattle.std.proofs.Common.{◌≡◌, ap, subst, sym, inr, ◌++◌, ◌∙◌}
+use Rattle.std.proofs.Common.{◌≡◌, ◌<◌, ◌↔◌, ap, subst, sym, inr, length, ◌++◌, ◌∙◌}
 use Rattle.std.proofs.lemmas.Bool.{false≢true}
 use Rattle.tatp_tables.specs.Database.{of_subscriber}
 use Rattle.tatp_history.specs.Histories.{IsStrictlySerializable}
 use Rattle.tatp_history.specs.Events.{asked_in, TimesRise, HaveEnds}
 use Rattle.tatp_linearization.specs.declared.explanations.Explanations.{Explanations}
 use Rattle.tatp_linearization.specs.Reached.{AreOfSubscriber, AreReached}
-use Rattle.tatp_linearization.specs.Single.{events_alone}
+use Rattle.tatp_linearization.specs.Single.{answered_with, events_alone}
+use Rattle.tatp_judge.specs.Windows.{only_reply}
+use Rattle.tatp_judge.proofs.LegalReplyLaws.{alone_legal, kept_same}
 use Rattle.tatp_judge.proofs.ClosingLaws.{alone_began, closed, rise_both, end_both, unsaid, spent}
 use Rattle.tatp_judge.proofs.window.Window.go_on_alone.Goals as goal
 
@@ -20,20 +22,25 @@ returns-then-fits c = λ u most s lines is now.
       λ _. c.forget.ensures.forgotten,
     )
 
-pub returns-else-fits : goal.returns-else-fits
-returns-else-fits c = λ u most s lines is now.
+pub returns-in_ok-keep_only : goal.returns-in_ok-keep_only
+returns-in_ok-keep_only c = λ u most s lines is now.
     let w = c.args.self.now in
     let x = c.args.x.now in
     let alone = c.requires.alone in
-    let here = subst (λ k. w.events.items ≡ events_alone x k) now alone in (
-      λ explained. false≢true (sym c.if-fits.false ∙ (c.follow_alone-fits.ensures.explained c.args.number (of_subscriber u s) is.before is.reached
-          (subst (λ es. TimesRise (is.before ++ es)) alone (rise_both u most s lines w is))
-          (subst (λ es. HaveEnds (is.before ++ es)) alone (end_both u most s lines w is))).1
+    let here = subst (λ k. w.events.items ≡ events_alone x k) now alone in
+    let rise = subst (λ es. TimesRise (is.before ++ es)) alone (rise_both u most s lines w is) in
+    let have = subst (λ es. HaveEnds (is.before ++ es)) alone (end_both u most s lines w is) in (
+      λ explained. false≢true (sym c.if-fits.false ∙ (c.follow_alone-fits.ensures.explained c.args.number (of_subscriber u s) is.before is.reached rise have).1
           (subst (λ es. IsStrictlySerializable (of_subscriber u s) (asked_in (is.before ++ es))) alone (unsaid u most s lines w is explained))),
       inr (record {
-        none = c.new.ensures.items;
-        began = alone_began u most s lines w x is here;
-        numbers = record { numbers_are = is.numbers.numbers_are; none = is.numbers.none; last = is.numbers.last };
+        none = c.keep_only.ensures.events;
+        only = only_reply x c.follow_alone-fits.new.reply;
+        only_is = c.in_ok-keep_only.ensures.only;
+        legal = alone_legal u most s lines w x c.follow_alone-fits.new.reply is here
+            (λ other. subst (λ k. IsStrictlySerializable (of_subscriber u s) (asked_in (is.before ++ events_alone (answered_with x k other) k)) ↔ (other ≡ c.follow_alone-fits.new.reply)) now
+            (c.follow_alone-fits.ensures.only c.args.number other (of_subscriber u s) is.before is.reached rise have));
+        began = subst (λ k. k < length lines) (sym c.keep_only.ensures.from) (alone_began u most s lines w x is here);
+        numbers = kept_same u s lines w c.keep_only.new.self c.keep_only.ensures.from c.keep_only.ensures.numbers is.numbers;
         before = spent u most s lines w x is here;
       }),
     )

@@ -17,7 +17,7 @@ returns-clause-reached c =
     let items = c.args.self.now.configurations.items in
     let b : Held = c.index_mut.result.now in
     let same : b ≡ d = first_is items b d c.requires.single.1 (λ lt. get_at items 0 b lt c.index_mut.ensures.value) in
-    let after : Held = record { home = c.evaluate.new.home; opened = b.opened } in
+    let after : Held = record { home = c.evaluate.new.home; opened = b.opened; overwritten = b.overwritten } in
     let x = c.args.x.now in
     let reply : c.evaluate.new.reply ≡ (transaction x.call d.home.tables).reply = c.evaluate.ensures.reply ∙ ap (λ (q : Held). (transaction x.call q.home.tables).reply) same in
     let rows : c.evaluate.new.home.tables ≡ (transaction x.call d.home.tables).database = c.evaluate.ensures.rows ∙ ap (λ (q : Held). (transaction x.call q.home.tables).database) same in

@@ -25,7 +25,7 @@ rows_left-requires c =
 pub returns-in-Err-MoreThanMost-clause-unknown : goal.returns-in-Err-MoreThanMost-clause-unknown
 returns-in-Err-MoreThanMost-clause-unknown c = λ _ u past reached.
     let items = c.args.self.now.configurations.items in
-    let most = c.args.self.now.most in
+    let most = c.args.most_rows in
     let calls_are : c.as_slice.result.now ≡ all_calls items c.args.events.now = c.as_slice.ensures.value ∙ (c.in_ok-calls.ensures ∙ ap (λ cs. all_calls cs c.args.events.now) c.as_slice-set.ensures.value) in
     let apart = reached.kept.apart in
     let many = c.in-Err-MoreThanMost.ensures.many (ap Err c.in-Err-MoreThanMost.field-0-is) apart.0 (subst (AreApart apart.0) (sym c.as_slice-set.ensures.value) apart.1) in

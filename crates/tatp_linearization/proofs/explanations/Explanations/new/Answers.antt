@@ -6,7 +6,7 @@ use Rattle.tatp_linearization.proofs.explanations.Explanations.new.Goals as goal
 
 pub returns-clause-reached : goal.returns-clause-reached
 returns-clause-reached c =
-    let d : Held = record { home = c.copy.result; opened = c.new.result } in
+    let d : Held = record { home = c.copy.result; opened = c.new.result; overwritten = 0 } in
     let is : c.push.new.self.items ≡ d ∷ [] = c.in_ok-push.ensures.items ∙ ap (λ (xs : List Held). xs ++ d ∷ []) c.new-configurations.ensures.items in
     record {
       kept = kept_none c.args.home.now.tables c.push.new.self.items d is (ap (λ (h : SubscriberRows). h.tables) c.copy.ensures) c.new.ensures.items;

@@ -6,7 +6,7 @@ use Rattle.tatp_partition.proofs.site.Site.finish_by_steps.Given as goal
 abbrev pub invariant-steps : goal.invariant-steps
 invariant-steps l = record {
   gone : (k : ℕ) × GoesOnFor k l.fn.self l.self;
-  empty : l.ended ≡ None;
+  empty : l.buffer ≡ None;
 }
 
 abbrev pub decreases-steps : goal.decreases-steps

@@ -1,0 +1,172 @@
+-- Updates of the location, one right before another: the other alone leaves the same.
+use Rattle.std.proofs.Common.{◌≡◌, ℕ, ◌⊎◌, ◌↔◌, Bool, true, false, not, ◌||◌, ◌&&◌, is_some, ◌==◌, List, [], ◌∷◌, ◌++◌, Option, Some, None, Ok, slice_index, refl, sym, ap, ◌∙◌, subst, arith, true≢false, inl, inr}
+use Rattle.std.specs.Option.{option_map}
+use Rattle.std.proofs.lemmas.List.{get_or-set_other, set-set}
+use Rattle.tatp_tables.specs.Tuples.{Tuple, Tuples, same, has, replace_row, remove_row, rows_of}
+use Rattle.tatp_tables.specs.Keys.{row_with_number, has_number}
+use Rattle.tatp_tables.specs.Database.{Database}
+use Rattle.tatp_tables.specs.declared.table.Table.TheVariants.{Subscriber}
+use Rattle.tatp_tables.proofs.FindLaws.{found_in, found_passes}
+use Rattle.tatp_tables.proofs.KeyLaws.{key_is, has-found}
+use Rattle.tatp_tables.proofs.TupleLaws.{same_tuples, same_itself, same_is, has-insert_row, has-remove_row}
+use Rattle.tatp_homes.specs.Home.{SubscriberRows, IsHome}
+use Rattle.tatp_numbers.specs.declared.key.Key.TheVariants.{Number}
+use Rattle.tatp_numbers.specs.Homes.{s_id_of}
+use Rattle.tatp_procs.specs.Arguments.{arguments_accepted}
+use Rattle.tatp_procs.specs.declared.call.Call.{Call}
+use Rattle.tatp_procs.specs.Transactions.{Answer, replies, transaction, updates_location, with_vlr_location}
+use Rattle.tatp_procs.proofs.ConsistentLaws.{IsConsistent-home}
+use Rattle.tatp_procs.proofs.ConsistentAfterLaws.{keys_after}
+use Rattle.tatp_history.specs.declared.observed.Observed.{Observed}
+use Rattle.tatp_history.specs.Histories.{MayHaveReply}
+use Rattle.tatp_history.specs.Configurations.{Configuration}
+use Rattle.tatp_linearization.specs.Overwritten.{SetsLocation, IsBlind, AreButSome}
+use Rattle.tatp_linearization.proofs.SettlingLaws.{chooses_mid, shift}
+use Rattle.tatp_linearization.proofs.ButSomeLaws.{but_map}
+use Rattle.tatp_linearization.proofs.PossibleLaws.{SomeTakeEffect, some_on}
+
+-- ---- one row
+pub record IsOnly (r : Tuple) (rows : Tuples) : Type 0 where
+  pub there : has rows r ≡ true
+  pub only : (q : Tuple) → has rows q ≡ true → q ≡ r
+
+either : (b c : Bool) → (b || c) ≡ true → (b ≡ true) ⊎ (c ≡ true)
+either true c e = inl refl
+either false c e = inr e
+
+both : (b c : Bool) → (b && c) ≡ true → (b ≡ true) × (c ≡ true)
+both true c e = (refl, e)
+both false c e = absurd (true≢false (sym e))
+
+neither : (b : Bool) → not b ≡ true → b ≡ false
+neither true e = absurd (true≢false (sym e))
+neither false e = refl
+
+only_same : (r : Tuple) (rows others : Tuples) → IsOnly r rows → IsOnly r others → rows ≡ others
+only_same r rows others p o = same_tuples rows others (λ q. one q)
+  where
+    alike : (b c : Bool) → (b ≡ true → c ≡ true) → (c ≡ true → b ≡ true) → b ≡ c
+    alike true c f g = sym (f refl)
+    alike false true f g = g refl
+    alike false false f g = refl
+
+    one : (q : Tuple) → has rows q ≡ has others q
+    one q = alike (has rows q) (has others q) (λ h. subst (λ t. has others t ≡ true) (sym (p.only q h)) o.there) (λ h. subst (λ t. has rows t ≡ true) (sym (o.only q h)) p.there)
+
+only_replaced : (r new : Tuple) (rows : Tuples) → IsOnly r rows → IsOnly new (replace_row rows r new)
+only_replaced r new rows p = record {
+  there = has-insert_row (remove_row rows r) new new ∙ ap (λ b. b || has (remove_row rows r) new) (same_itself new);
+  only = λ q h. elim (either (same q new) (has (remove_row rows r) q) (sym (has-insert_row (remove_row rows r) new q) ∙ h)) [
+    | inl e ↦ same_is q new e
+    | inr e ↦
+        let parts = both (not (same q r)) (has rows q) (sym (has-remove_row rows r q) ∙ e) in
+        let is : q ≡ r = p.only q parts.1 in
+        absurd (true≢false (sym (subst (λ t. same q t ≡ true) is (same_itself q)) ∙ neither (same q r) parts.0))
+  ];
+}
+
+pub only_home : (home : SubscriberRows) (r : Tuple) → IsHome home → has home.tables.subscribers r ≡ true → IsOnly r home.tables.subscribers
+only_home home r is there = record {
+  there = there;
+  only = λ q h. let key : List ℕ = home.s_id ∷ [] in is.keys Subscriber q r h there (key_is key q (is.own Subscriber q h) ∙ sym (key_is key r (is.own Subscriber r there)));
+}
+
+-- ---- numbers
+named_row : (rows : Tuples) (n : ℕ) → is_some (row_with_number rows n) ≡ true → (r : Tuple) × (row_with_number rows n ≡ Some r)
+named_row rows n named = elim (row_with_number rows n) as (λ o. is_some o ≡ true → (r : Tuple) × (o ≡ Some r)) [
+  | None ↦ λ e. absurd (true≢false (sym e))
+  | Some r ↦ λ e. (r, refl)
+] named
+
+found_only : (r : Tuple) (rows : Tuples) (n : ℕ) → IsOnly r rows → has_number n r ≡ true → row_with_number rows n ≡ Some r
+found_only r rows n p passes = found_in (has_number n) rows r p.there passes (λ q h k. p.only q h)
+
+-- a number names the row, or none
+number_of : (r : Tuple) (rows : Tuples) (n : ℕ) → IsOnly r rows → is_some (row_with_number rows n) ≡ true → has_number n r ≡ true
+number_of r rows n p named =
+    let found = named_row rows n named in
+    subst (λ q. has_number n q ≡ true) (p.only found.0 (has-found (has_number n) rows found.0 found.1)) (found_passes (has_number n) (rows_of rows) found.0 found.1)
+
+-- ---- one update
+module _ (u : Database) (r : Tuple) (p : IsOnly r u.subscribers) where
+  abbrev at : ℕ → Database
+  at v = record u { subscribers = replace_row u.subscribers r (with_vlr_location r v) }
+
+  set_row : (call : Call) (s : SetsLocation u call) → transaction call u ≡ replies (at s.location) []
+  set_row call s =
+      let passes = number_of r u.subscribers s.number p s.named in
+      ap (λ (k : Call). transaction k u) s.updates ∙ ap (updates_location u s.location) (found_only r u.subscribers s.number p passes)
+
+  -- another one then sets it as it would have done before
+  set_again : (v : ℕ) (call : Call) → SetsLocation u call → SetsLocation (at v) call × (transaction call (at v) ≡ transaction call u)
+  set_again v call s =
+      let new : Tuple = with_vlr_location r v in
+      let passes = number_of r u.subscribers s.number p s.named in
+      let column : slice_index new 1 ≡ slice_index r 1 = get_or-set_other r 33 1 v 0 (λ d. omega (arith, d)) in
+      let passes' : has_number s.number new ≡ true = ap (λ (k : ℕ). k == s.number) column ∙ passes in
+      let one = only_replaced r new u.subscribers p in
+      let found : row_with_number (at v).subscribers s.number ≡ Some new = found_only new (at v).subscribers s.number one passes' in
+      let last : Tuple = with_vlr_location r s.location in
+      let twice : with_vlr_location new s.location ≡ last = set-set r 33 v s.location in
+      let rows : replace_row (at v).subscribers new (with_vlr_location new s.location) ≡ replace_row u.subscribers r last
+      = only_same last (replace_row (at v).subscribers new (with_vlr_location new s.location)) (replace_row u.subscribers r last)
+      (subst (λ q. IsOnly q (replace_row (at v).subscribers new (with_vlr_location new s.location))) twice (only_replaced new (with_vlr_location new s.location) (at v).subscribers one))
+      (only_replaced r last u.subscribers p) in
+      let after : transaction call (at v) ≡ replies (record u { subscribers = replace_row (at v).subscribers new (with_vlr_location new s.location) }) []
+      = ap (λ (k : Call). transaction k (at v)) s.updates ∙ ap (updates_location (at v) s.location) found in (
+        record { number = s.number; location = s.location; updates = s.updates; named = ap is_some found },
+        after ∙ (ap (λ q. replies (record u { subscribers = q }) []) rows ∙ sym (set_row call s)),
+      )
+
+-- ---- updates right before another
+-- updates that are left out take effect, and leave another one's answer and rows as they were
+pub blind_chain : (u : Database) (r : Tuple) → IsOnly r u.subscribers → (k : ℕ) (before xs mid : List Observed) → AreButSome (IsBlind u) k xs mid
+    → (v : Database) × SomeTakeEffect (record { rows = u; opened = before ++ xs }) (record { rows = v; opened = before ++ mid })
+    × ((call : Call) → SetsLocation u call → transaction call v ≡ transaction call u)
+blind_chain u r p k before [] mid a = (u, (0, λ i. record { rows = u; opened = before ++ a i }), λ call s. refl)
+blind_chain u r p k before (x ∷ xs) mid a = elim a [
+  | inl q ↦
+      let go = blind_chain u r p k (before ++ x ∷ []) xs q.0 q.2 in (
+        go.0,
+        subst (λ zs. SomeTakeEffect (record { rows = u; opened = zs }) (record { rows = go.0; opened = before ++ mid })) (sym (shift before x xs))
+            (subst (λ zs. SomeTakeEffect (record { rows = u; opened = (before ++ x ∷ []) ++ xs }) (record { rows = go.0; opened = zs })) (sym (shift before x q.0) ∙ ap (λ zs. before ++ zs) (sym q.1)) go.1),
+        go.2,
+      )
+  | inr q ↦
+      let s = q.1.sets in
+      let v : Database = record u { subscribers = replace_row u.subscribers r (with_vlr_location r s.location) } in
+      let is : transaction x.call u ≡ replies v [] = set_row u r p x.call s in
+      let again = set_again u r p s.location in
+      let go = blind_chain v (with_vlr_location r s.location) (only_replaced r (with_vlr_location r s.location) u.subscribers p) k before xs mid
+      (but_map (IsBlind u) (IsBlind v) (λ z b. record { sets = (again z.call b.sets).0; may = b.may }) k k (omega arith) xs mid q.2) in
+      let first : Configuration = record { rows = u; opened = before ++ x ∷ xs } in
+      let second : Configuration = record { rows = v; opened = before ++ xs } in
+      let may : MayHaveReply x.outcome (transaction x.call u).reply = subst (λ (a : Answer). MayHaveReply x.outcome a.reply) (sym is) q.1.may in
+      let one : SomeTakeEffect first second = (1, (second, (x, before ++ xs, chooses_mid before xs x, may, λ i. record { rows = (sym is i).database; opened = before ++ xs }), refl)) in (
+        go.0,
+        some_on first second (record { rows = go.0; opened = before ++ mid }) one go.1,
+        λ call t. go.2 call (again call t).0 ∙ (again call t).1,
+      )
+]
+
+-- ---- a subscriber stays there
+some_mapped : (o : Option Tuple) → is_some (option_map s_id_of o) ≡ is_some o
+some_mapped None = refl
+some_mapped (Some row) = refl
+
+pub named_after : (home : SubscriberRows) (call : Call) (n : ℕ) → IsHome home → arguments_accepted call ≡ Ok tt → is_some (row_with_number (transaction call home.tables).database.subscribers n) ≡ is_some (row_with_number home.tables.subscribers n)
+named_after home call n is accepted =
+    let after = keys_after call home.tables (Number n) (IsConsistent-home home is) accepted in
+    sym (some_mapped (row_with_number (transaction call home.tables).database.subscribers n)) ∙ (ap is_some after ∙ some_mapped (row_with_number home.tables.subscribers n))
+
+pub blind_after : (home : SubscriberRows) (call : Call) → IsHome home → arguments_accepted call ≡ Ok tt → (x : Observed) → IsBlind home.tables x ↔ IsBlind (transaction call home.tables).database x
+blind_after home call is accepted x = (
+  λ b. record { sets = record { number = b.sets.number; location = b.sets.location; updates = b.sets.updates; named = named_after home call b.sets.number is accepted ∙ b.sets.named }; may = b.may },
+  λ b. record { sets = record { number = b.sets.number; location = b.sets.location; updates = b.sets.updates; named = sym (named_after home call b.sets.number is accepted) ∙ b.sets.named }; may = b.may },
+)
+
+-- the row of a home whose location is set
+pub set_only : (home : SubscriberRows) (call : Call) → IsHome home → SetsLocation home.tables call → (r : Tuple) × IsOnly r home.tables.subscribers
+set_only home call is s =
+    let found = named_row home.tables.subscribers s.number s.named in
+    (found.0, only_home home found.0 is (has-found (has_number s.number) home.tables.subscribers found.0 found.1))

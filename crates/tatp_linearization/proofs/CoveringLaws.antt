@@ -1,0 +1,448 @@
+-- Configurations that one stands for.
+use Rattle.std.proofs.Common.{◌≡◌, ℕ, zero, suc, ◌<◌, ◌≤◌, ◌-◌, ◌⊎◌, ◌↔◌, Bool, true, false, nat_le, cond, leb-true, leb-false, List, [], ◌∷◌, ◌++◌, length, Some, None, Ok, slice_get, remove, refl, sym, ap, ◌∙◌, subst, arith, inl, inr}
+use Rattle.std.specs.List.{AllByRecursion, items_where_true}
+use Rattle.std.specs.List.Retain.{IsFiltered, ReturnsInTurn}
+use Rattle.tatp_tables.specs.Database.{Database}
+use Rattle.tatp_homes.specs.Home.{SubscriberRows}
+use Rattle.tatp_procs.specs.Transactions.{Answer, transaction}
+use Rattle.tatp_procs.specs.Arguments.{arguments_accepted}
+use Rattle.tatp_history.specs.declared.observed.Observed.{Observed}
+use Rattle.tatp_history.specs.Histories.{MayHaveReply}
+use Rattle.tatp_history.specs.Locality.{AreAccepted}
+use Rattle.tatp_history.specs.declared.event.Event.TheVariants.{Asks, Ends}
+use Rattle.tatp_history.specs.JustInTime.{NoneAskedAt}
+use Rattle.tatp_history.specs.Configurations.{Configuration}
+use Rattle.tatp_linearization.specs.declared.configuration.Configuration.{Configuration as Held}
+use Rattle.tatp_linearization.specs.AtOnce.{AreLeft, NeedsNoPlace, TakesWrite, TakesOne, FollowsAtOnce}
+use Rattle.tatp_linearization.specs.Possible.{AreDistinct, AreMoreThan}
+use Rattle.tatp_linearization.specs.Held.{seen, all_seen, Has, AreReady, AreApart, Takes, IsAsked, IsOldOr}
+use Rattle.tatp_linearization.specs.Overwritten.{IsBlind, AreButSome, least, without_place}
+use Rattle.tatp_linearization.specs.Covering.{StandsFor, OneStandsFor, Covers, IsOther, Opens, IsApart, From, FromOne, MayCome, MayFollow, MayBeTried, MayAnswer, IsLetGo, IsStoodOr, Gains, AreTriedOut, AreTriedOutAt, GainsAfter, GainsEnd, GainsTaken, GainsGone, IsGone}
+use Rattle.tatp_linearization.proofs.PlaceLaws.{all_get, all_more, all_of_get, all_remove, same_item}
+use Rattle.tatp_linearization.proofs.PossibleLaws.{some_on, one_takes, one_comes, come_none, more_than}
+use Rattle.tatp_linearization.proofs.AtOnceLaws.{one_settled}
+use Rattle.tatp_linearization.proofs.HeldLaws.{has_get, own_more, one_too_many}
+use Rattle.tatp_linearization.proofs.ButSomeLaws.{but_none_left_out, but_map, but_within, but_all, but_chosen, but_put, but_left, but_left_all, left_but, left_drop, removed_length, removed_none, but_gone, but_back, get_inside, without_last}
+use Rattle.tatp_linearization.proofs.BlindLaws.{blind_chain, blind_after, set_only}
+
+-- ---- those for which one of a list stands
+pub seen_stands : (c : Held) → StandsFor c (seen c)
+seen_stands c = record { rows = refl; opened = but_none_left_out (IsBlind c.home.tables) c.overwritten c.opened.items }
+
+pub get_stands : (set : List Held) (i : ℕ) (c : Held) (d : Configuration) → slice_get set i ≡ Some c → StandsFor c d → OneStandsFor set d
+get_stands [] i c d at h = absurd cc
+get_stands (b ∷ bs) zero c d at h = let is : b ≡ c = cc in inl (subst (λ (q : Held). StandsFor q d) (sym is) h)
+get_stands (b ∷ bs) (suc i) c d at h = inr (get_stands bs i c d at h)
+
+pub stands_get : (set : List Held) (d : Configuration) → OneStandsFor set d → (i : ℕ) × (i < length set) × (c : Held) × (slice_get set i ≡ Some c) × StandsFor c d
+stands_get [] d h = absurd h
+stands_get (b ∷ bs) d h = elim h [
+  | inl k ↦ (0, omega arith, b, refl, k)
+  | inr k ↦ let r = stands_get bs d k in let lt = r.1 in (suc r.0, omega (arith, lt), r.2, r.3, r.4)
+]
+
+pub held_inside : (set : List Held) (i : ℕ) (c : Held) → slice_get set i ≡ Some c → i < length set
+held_inside [] i c at = absurd cc
+held_inside (b ∷ bs) zero c at = omega arith
+held_inside (b ∷ bs) (suc i) c at = let lt = held_inside bs i c at in omega (arith, lt)
+
+pub has_stands : (set : List Held) (d : Configuration) → Has set d → OneStandsFor set d
+has_stands [] d h = absurd h
+has_stands (b ∷ bs) d h = elim h [ inl e ↦ inl (subst (StandsFor b) (sym e) (seen_stands b)) | inr k ↦ inr (has_stands bs d k) ]
+
+pub stands_more : (cs : List Held) (c : Held) (d : Configuration) → OneStandsFor (cs ++ c ∷ []) d ↔ (OneStandsFor cs d ⊎ StandsFor c d)
+stands_more [] c d = (λ h. elim h [ inl e ↦ inr e | inr k ↦ absurd k ], λ h. elim h [ inl k ↦ absurd k | inr e ↦ inl e ])
+stands_more (b ∷ bs) c d = let rest = stands_more bs c d in (
+  λ h. elim h [ inl e ↦ inl (inl e) | inr k ↦ elim (rest.0 k) [ inl q ↦ inl (inr q) | inr e ↦ inr e ] ],
+  λ h. elim h [ inl k ↦ elim k [ inl e ↦ inl e | inr q ↦ inr (rest.1 (inl q)) ] | inr e ↦ inr (rest.1 (inr e)) ],
+)
+
+pub from_one : (R : Configuration → Configuration → Type 0) (set : List Held) (i : ℕ) (c : Held) (d : Configuration) → slice_get set i ≡ Some c → From R c d → FromOne R set d
+from_one R set i c d at h = (h.0, get_stands set i c h.0 at h.1, h.2)
+
+pub one_from : (R : Configuration → Configuration → Type 0) (set : List Held) (d : Configuration) → FromOne R set d → (i : ℕ) × (i < length set) × (c : Held) × (slice_get set i ≡ Some c) × From R c d
+one_from R set d h = let there = stands_get set h.0 h.1 in (there.0, there.1, there.2, there.3, (h.0, there.4, h.2))
+
+-- ---- one that is alike
+pub alike_stands : (c d : Held) → seen d ≡ seen c → d.overwritten ≡ c.overwritten → (e : Configuration) → StandsFor d e ↔ StandsFor c e
+alike_stands c d same over e =
+    let Stands : Configuration → ℕ → Type 0 = λ b k. (e.rows ≡ b.rows) × AreButSome (IsBlind b.rows) k b.opened e.opened in (
+      λ h. let k : Stands (seen c) c.overwritten = subst (Stands (seen c)) over (subst (λ (b : Configuration). Stands b d.overwritten) same (h.rows, h.opened)) in record { rows = k.0; opened = k.1 },
+      λ h. let k : Stands (seen d) d.overwritten = subst (Stands (seen d)) (sym over) (subst (λ (b : Configuration). Stands b c.overwritten) (sym same) (h.rows, h.opened)) in record { rows = k.0; opened = k.1 },
+    )
+
+-- with no call open it stands for itself alone
+pub bare_stands : (c : Held) (d : Configuration) → c.opened.items ≡ [] → StandsFor c d ↔ (d ≡ seen c)
+bare_stands c d none = (
+  λ h.
+      let opened : d.opened ≡ c.opened.items = subst (λ xs. AreButSome (IsBlind c.home.tables) c.overwritten xs d.opened) none h.opened ∙ sym none in
+      λ i. record { rows = h.rows i; opened = opened i },
+  λ e. subst (StandsFor c) (sym e) (seen_stands c),
+)
+
+-- ---- lists without some
+pub record AreRetained (Gone Stays : Held → Type 0) (old new : List Held) : Type 0 where
+  pub kept : (d : Configuration) → OneStandsFor new d → OneStandsFor old d
+  pub found : (d : Configuration) → OneStandsFor old d → OneStandsFor new d ⊎ ((c : Held) × Gone c × StandsFor c d)
+  pub among : (i : ℕ) (c : Held) → slice_get new i ≡ Some c → (j : ℕ) × (slice_get old j ≡ Some c)
+  pub stay : AllByRecursion Stays new
+  pub ready : AreReady old → AreReady new
+  pub apart : (s : ℕ) → AreApart s old → AreApart s new
+
+module _ {F : Type 0} (R : F → Held → Bool → F → Type 0) (Gone Stays : Held → Type 0) (f : F) (tells : (c : Held) (b : Bool) (g : F) → R f c b g → (b ≡ false → Gone c) × ((b ≡ true → Stays c) × (g ≡ f))) where
+  kept_there : (bs : List Bool) (cs : List Held) (d : Configuration) → OneStandsFor (items_where_true bs cs) d → OneStandsFor cs d
+  kept_there [] cs d h = absurd h
+  kept_there (b ∷ bs) [] d h = absurd h
+  kept_there (true ∷ bs) (c ∷ cs) d h = elim h [ inl e ↦ inl e | inr k ↦ inr (kept_there bs cs d k) ]
+  kept_there (false ∷ bs) (c ∷ cs) d h = inr (kept_there bs cs d h)
+
+  among_there : (bs : List Bool) (cs : List Held) (i : ℕ) (c : Held) → slice_get (items_where_true bs cs) i ≡ Some c → (j : ℕ) × (slice_get cs j ≡ Some c)
+  among_there [] cs i c at = absurd cc
+  among_there (b ∷ bs) [] i c at = absurd cc
+  among_there (true ∷ bs) (e ∷ cs) zero c at = (0, at)
+  among_there (true ∷ bs) (e ∷ cs) (suc i) c at = let r = among_there bs cs i c at in (suc r.0, r.1)
+  among_there (false ∷ bs) (e ∷ cs) i c at = let r = among_there bs cs i c at in (suc r.0, r.1)
+
+  others_gone : (bs : List Bool) (cs : List Held) (q : F) → length bs ≡ length cs → ReturnsInTurn R f bs cs q → (d : Configuration) → OneStandsFor cs d → OneStandsFor (items_where_true bs cs) d ⊎ ((c : Held) × Gone c × StandsFor c d)
+  others_gone bs [] q same t d h = absurd h
+  others_gone [] (c ∷ cs) q same t d h = absurd (omega (arith, same))
+  others_gone (true ∷ bs) (c ∷ cs) q same t d h = let one = tells c true t.0 t.1 in elim h [
+    | inl e ↦ inl (inl e)
+    | inr k ↦ elim (others_gone bs cs q (omega (arith, same)) (subst (λ (g : F). ReturnsInTurn R g bs cs q) one.1.1 t.2) d k) [ inl p ↦ inl (inr p) | inr p ↦ inr p ]
+  ]
+  others_gone (false ∷ bs) (c ∷ cs) q same t d h = let one = tells c false t.0 t.1 in elim h [
+    | inl e ↦ inr (c, one.0 refl, e)
+    | inr k ↦ others_gone bs cs q (omega (arith, same)) (subst (λ (g : F). ReturnsInTurn R g bs cs q) one.1.1 t.2) d k
+  ]
+
+  all_stay : (bs : List Bool) (cs : List Held) (q : F) → length bs ≡ length cs → ReturnsInTurn R f bs cs q → AllByRecursion Stays (items_where_true bs cs)
+  all_stay [] cs q same t = tt
+  all_stay (b ∷ bs) [] q same t = absurd (omega (arith, same))
+  all_stay (true ∷ bs) (c ∷ cs) q same t = let one = tells c true t.0 t.1 in (one.1.0 refl, all_stay bs cs q (omega (arith, same)) (subst (λ (g : F). ReturnsInTurn R g bs cs q) one.1.1 t.2))
+  all_stay (false ∷ bs) (c ∷ cs) q same t = let one = tells c false t.0 t.1 in all_stay bs cs q (omega (arith, same)) (subst (λ (g : F). ReturnsInTurn R g bs cs q) one.1.1 t.2)
+
+  all_kept : (P : Held → Type 0) (bs : List Bool) (cs : List Held) → AllByRecursion P cs → AllByRecursion P (items_where_true bs cs)
+  all_kept P [] cs h = tt
+  all_kept P (b ∷ bs) [] h = tt
+  all_kept P (true ∷ bs) (c ∷ cs) h = (h.0, all_kept P bs cs h.1)
+  all_kept P (false ∷ bs) (c ∷ cs) h = all_kept P bs cs h.1
+
+  all_seen_kept : (P : Configuration → Type 0) (bs : List Bool) (cs : List Held) → AllByRecursion P (all_seen cs) → AllByRecursion P (all_seen (items_where_true bs cs))
+  all_seen_kept P [] cs h = tt
+  all_seen_kept P (b ∷ bs) [] h = tt
+  all_seen_kept P (true ∷ bs) (c ∷ cs) h = (h.0, all_seen_kept P bs cs h.1)
+  all_seen_kept P (false ∷ bs) (c ∷ cs) h = all_seen_kept P bs cs h.1
+
+  distinct_kept : (bs : List Bool) (cs : List Held) → AreDistinct (all_seen cs) → AreDistinct (all_seen (items_where_true bs cs))
+  distinct_kept [] cs h = tt
+  distinct_kept (b ∷ bs) [] h = tt
+  distinct_kept (true ∷ bs) (c ∷ cs) h = (all_seen_kept (λ (d : Configuration). seen c ≡ d → ⊥) bs cs h.0, distinct_kept bs cs h.1)
+  distinct_kept (false ∷ bs) (c ∷ cs) h = distinct_kept bs cs h.1
+
+  pub retained : (old new : List Held) → IsFiltered R f old new → AreRetained Gone Stays old new
+  retained old new k = subst (AreRetained Gone Stays old) (sym k.4) (record {
+    kept = kept_there k.0 old;
+    found = others_gone k.0 old k.1 k.2 k.3;
+    among = among_there k.0 old;
+    stay = all_stay k.0 old k.1 k.2 k.3;
+    ready = all_kept (λ (c : Held). AreAccepted c.opened.items) k.0 old;
+    apart = λ s h. record { own = all_kept (λ (c : Held). c.home.s_id ≡ s) k.0 old h.own; distinct = distinct_kept k.0 old h.distinct };
+  })
+
+-- ---- what is added
+pub pushed_ready : (mid : List Held) (d : Held) (new : List Held) → new ≡ mid ++ d ∷ [] → AreReady mid → AreAccepted d.opened.items → AreReady new
+pushed_ready mid d new pushed ready accepted = subst AreReady (sym pushed) (all_more (λ (c : Held). AreAccepted c.opened.items) mid d ready accepted)
+
+module _ (d : Held) (old mid : List Held) (r : AreRetained (Covers d) (IsOther d) old mid) where
+  pub gains_pushed : (new : List Held) → new ≡ mid ++ d ∷ [] → Gains (StandsFor d) (StandsFor d) old new
+  gains_pushed new pushed =
+      let among : (e : Configuration) → OneStandsFor new e ↔ (OneStandsFor mid e ⊎ StandsFor d e) = λ e. subst (λ cs. OneStandsFor cs e ↔ (OneStandsFor mid e ⊎ StandsFor d e)) (sym pushed) (stands_more mid d e) in
+      record {
+        kept = λ e h. (among e).1 (elim (r.found e h) [ inl k ↦ inl k | inr k ↦ inr (k.1 e k.2) ]);
+        sound = λ e h. elim ((among e).0 h) [ inl k ↦ inl (r.kept e k) | inr k ↦ inr k ];
+        found = λ e h. (among e).1 (inr h);
+      }
+
+  module _ (other : (i : ℕ) (c : Held) → slice_get old i ≡ Some c → c.home.s_id ≡ d.home.s_id → seen c ≡ seen d → d.overwritten ≤ c.overwritten → ⊥) (apart : AreApart d.home.s_id old) where
+    not_there : Has mid (seen d) → ⊥
+    not_there h =
+        let there = has_get mid (seen d) h in
+        let c = there.2 in
+        let from = r.among there.0 there.2 there.3 in
+        let own : there.2.home.s_id ≡ d.home.s_id = all_get (λ (b : Held). b.home.s_id ≡ d.home.s_id) old from.0 there.2 apart.own from.1 in
+        let stays : IsOther d there.2 = all_get (IsOther d) mid there.0 there.2 r.stay there.3 in
+        elim (nat_le d.overwritten there.2.overwritten) as (λ b. nat_le d.overwritten there.2.overwritten ≡ b → ⊥) [
+          | true ↦ λ e. other from.0 there.2 from.1 own (sym there.4) (leb-true d.overwritten there.2.overwritten e)
+          | false ↦ λ e. let lt = leb-false d.overwritten there.2.overwritten e in stays (sym own) there.4 (omega (arith, lt))
+        ] refl
+
+    pub pushed_apart : (new : List Held) → new ≡ mid ++ d ∷ [] → AreApart d.home.s_id new
+    pushed_apart new pushed = subst (AreApart d.home.s_id) (sym pushed) (own_more d.home.s_id mid d (r.apart d.home.s_id apart) refl not_there)
+
+    pub pushed_many : (most : ℕ) → most ≤ length mid → AreMoreThan most (IsStoodOr old (StandsFor d))
+    pushed_many most full = more_than most (IsOldOr mid (λ e. e ≡ seen d)) (IsStoodOr old (StandsFor d)) (λ e h. elim h [
+      | inl k ↦ inl (r.kept e (has_stands mid e k))
+      | inr k ↦ inr (subst (StandsFor d) (sym k) (seen_stands d))
+    ]) (one_too_many most d.home.s_id mid d full (r.apart d.home.s_id apart) not_there)
+
+-- ---- one call takes effect
+-- the configuration is what the open call at a place makes of one for which this stands
+pub record IsThere (Extra : Observed → Type 0) (c : Held) (i : ℕ) (e : Configuration) : Type 0 where
+  pub before : Configuration
+  pub call : Observed
+  pub left : List Observed
+  pub rows : before.rows ≡ c.home.tables
+  pub takes : TakesWrite before e call left
+  pub at : slice_get c.opened.items i ≡ Some call
+  pub opened : AreButSome (λ x. IsBlind c.home.tables x × Extra x) (without_place c.overwritten (length c.opened.items) i) (remove c.opened.items i) left
+
+pub there_some : (Extra : Observed → Type 0) (c : Held) (b e : Configuration) → b.rows ≡ c.home.tables → AreButSome (λ x. IsBlind c.home.tables x × Extra x) c.overwritten c.opened.items b.opened → TakesOne b e
+    → (i : ℕ) × (i < length c.opened.items) × IsThere Extra c i e
+there_some Extra c b e rows but one =
+    let go = but_chosen (λ x. IsBlind c.home.tables x × Extra x) c.overwritten c.opened.items b.opened one.0 one.1 but one.2.chosen in
+    (go.0, go.1, record { before = b; call = one.0; left = one.1; rows = rows; takes = one.2; at = go.2; opened = go.3 })
+
+pub there_none : (Extra : Observed → Type 0) (c : Held) (i : ℕ) (e : Configuration) → Takes c i None → IsThere Extra c i e → ⊥
+there_none Extra c i e none there = none there.call there.at there.takes.writes (subst (λ v. MayHaveReply there.call.outcome (transaction there.call.call v).reply) there.rows there.takes.may)
+
+module _ (c d : Held) (i : ℕ) (taken : Takes c i (Some d)) (accepted : AreAccepted c.opened.items) where
+  call_accepted : arguments_accepted taken.0.call ≡ Ok tt
+  call_accepted = all_get (λ (x : Observed). arguments_accepted x.call ≡ Ok tt) c.opened.items i taken.0 accepted taken.1.at
+
+  blind_on : (x : Observed) → IsBlind c.home.tables x → IsBlind d.home.tables x
+  blind_on x b = subst (λ v. IsBlind v x) (sym taken.1.rows) ((blind_after c.home taken.0.call taken.1.home call_accepted x).0 b)
+
+  blind_back : (x : Observed) → IsBlind d.home.tables x → IsBlind c.home.tables x
+  blind_back x b = (blind_after c.home taken.0.call taken.1.home call_accepted x).1 (subst (λ v. IsBlind v x) taken.1.rows b)
+
+  pub taken_there : (Extra : Observed → Type 0) (e : Configuration) → IsThere Extra c i e → (e.rows ≡ d.home.tables) × AreButSome (λ x. IsBlind d.home.tables x × Extra x) d.overwritten d.opened.items e.opened
+  taken_there Extra e there =
+      let F : Observed → Type 0 = λ x. IsBlind c.home.tables x × Extra x in
+      let G : Observed → Type 0 = λ x. IsBlind d.home.tables x × Extra x in
+      let one : there.call ≡ taken.0 = same_item c.opened.items i there.call taken.0 there.at taken.1.at in
+      let v : Database = (transaction taken.0.call c.home.tables).database in
+      let same : (transaction there.call.call there.before.rows).database ≡ v = λ k. (transaction (one k).call (there.rows k)).database in
+      let settled : AreLeft v there.left e.opened = subst (λ w. AreLeft w there.left e.opened) same there.takes.settled in
+      let many = without_place c.overwritten (length c.opened.items) i in
+      let opened : AreButSome F d.overwritten d.opened.items e.opened = elim taken.1.overwritten [
+        | inl p ↦ subst (λ n. AreButSome F n d.opened.items e.opened) (sym p.1) (but_left_all v F many (remove c.opened.items i) d.opened.items there.left e.opened taken.1.settled there.opened settled)
+        | inr p ↦ but_left v many F (remove c.opened.items i) d.overwritten d.opened.items there.left e.opened p there.opened settled
+      ] in
+      (there.takes.rows ∙ (same ∙ sym taken.1.rows), but_map F G (λ x f. (blind_on x f.0, f.1)) d.overwritten d.overwritten (omega arith) d.opened.items e.opened opened)
+
+  -- and back
+  pub taken_from : (e : Configuration) → StandsFor d e → From MayCome c e
+  taken_from e stands =
+      let u : Database = c.home.tables in
+      let x = taken.0 in
+      let v : Database = (transaction x.call u).database in
+      let F : Observed → Type 0 = IsBlind c.home.tables in
+      let but : AreButSome F d.overwritten d.opened.items e.opened = but_map (IsBlind d.home.tables) F blind_back d.overwritten d.overwritten (omega arith) d.opened.items e.opened stands.opened in
+      let rows : e.rows ≡ v = stands.rows ∙ taken.1.rows in
+      let others = remove c.opened.items i in
+      elim taken.1.overwritten [
+        | inl p ↦
+            let n : ℕ = length c.opened.items in
+            let row = set_only c.home x.call taken.1.home p.0 in
+            let mid = left_drop v F d.overwritten others d.opened.items e.opened taken.1.settled but in
+            let lt = get_inside c.opened.items i x taken.1.at in
+            let size = removed_length c.opened.items i lt in
+            let less : without_place n n i ≡ n - 1 = without_last n n i (omega arith) in
+            let fewer : length others ≤ without_place n n i = subst (λ m. length others ≤ m) (sym less) (omega (arith, size)) in
+            let put = but_put F n c.opened.items i x mid.0 taken.1.at (but_within F (length others) (without_place n n i) others mid.0 fewer mid.1) in
+            let chain = blind_chain u row.0 row.1 n [] c.opened.items put.0 put.1 in
+            let w = chain.0 in
+            let same : transaction x.call w ≡ transaction x.call u = chain.2 x.call p.0 in
+            let b : Configuration = record { rows = w; opened = put.0 } in
+            let one : TakesOne b e = (
+              x,
+              mid.0,
+              record {
+                chosen = put.2;
+                writes = taken.1.writes;
+                may = subst (λ (a : Answer). MayHaveReply x.outcome a.reply) (sym same) taken.1.may;
+                rows = rows ∙ ap (λ (a : Answer). a.database) (sym same);
+                settled = subst (λ (a : Answer). AreLeft a.database mid.0 e.opened) (sym same) mid.2;
+              },
+            ) in
+            (seen c, seen_stands c, record { calls = some_on (seen c) b e chain.1 (one_takes b e one); settled = λ _. one_settled b e one })
+        | inr p ↦
+            let many = without_place c.overwritten (length c.opened.items) i in
+            let ys = left_but v many F others d.overwritten d.opened.items e.opened p but in
+            let put = but_put F c.overwritten c.opened.items i x ys.0 taken.1.at ys.1 in
+            let b : Configuration = record { rows = u; opened = put.0 } in
+            let one : TakesOne b e = (x, ys.0, record { chosen = put.2; writes = taken.1.writes; may = taken.1.may; rows = rows; settled = ys.2 }) in
+            (b, record { rows = refl; opened = put.1 }, one_comes b e one)
+      ]
+
+-- ---- one call is asked
+least_most : (many size : ℕ) → least many size ≤ size
+least_most many size = elim (nat_le many size) as (λ b. nat_le many size ≡ b → cond b many size ≤ size) [
+  | true ↦ λ e. leb-true many size e
+  | false ↦ λ e. omega arith
+] refl
+
+least_within : (F : Observed → Type 0) (many : ℕ) (xs ys : List Observed) → AreButSome F (least many (length xs)) xs ys ↔ AreButSome F many xs ys
+least_within F many xs ys = elim (nat_le many (length xs)) as (λ b. nat_le many (length xs) ≡ b → AreButSome F (cond b many (length xs)) xs ys ↔ AreButSome F many xs ys) [
+  | true ↦ λ e. ((λ h. h), (λ h. h))
+  | false ↦ λ e. let lt = leb-false many (length xs) e in (
+    (λ h. raise xs ys many (length xs) e h),
+    (λ h. but_within F many (length xs) xs ys (omega arith) h),
+  )
+] refl
+  where
+    raise : (zs ws : List Observed) (m n : ℕ) → nat_le m n ≡ false → AreButSome F n zs ws → AreButSome F m zs ws
+    raise zs ws m n e h = let lt = leb-false m n e in but_map F F (λ x f. f) n m (omega (arith, lt)) zs ws h
+
+module _ (c d : Held) (x : Observed) (asked : IsAsked c x d) (over : d.overwritten ≡ least c.overwritten (length c.opened.items)) where
+  same_stands : seen d ≡ seen c → (e : Configuration) → StandsFor d e ↔ StandsFor c e
+  same_stands same e =
+      let F : Observed → Type 0 = IsBlind c.home.tables in
+      let Stands : Configuration → ℕ → Type 0 = λ b k. (e.rows ≡ b.rows) × AreButSome (IsBlind b.rows) k b.opened e.opened in
+      let law = least_within F c.overwritten c.opened.items e.opened in (
+        λ h. let k : Stands (seen c) (least c.overwritten (length c.opened.items)) = subst (Stands (seen c)) over (subst (λ (b : Configuration). Stands b d.overwritten) same (h.rows, h.opened)) in record { rows = k.0; opened = law.0 k.1 },
+        λ h.
+            let own : Stands (seen c) (least c.overwritten (length c.opened.items)) = (h.rows, law.1 h.opened) in
+            let k : Stands (seen d) d.overwritten = subst (λ n. Stands (seen d) n) (sym over) (subst (λ (b : Configuration). Stands b (least c.overwritten (length c.opened.items))) (sym same) own) in record { rows = k.0; opened = k.1 },
+      )
+
+  next_stands : seen d ≡ record { rows = c.home.tables; opened = x ∷ c.opened.items } → (e : Configuration) → StandsFor d e ↔ ((rest : List Observed) × (e ≡ record { rows = c.home.tables; opened = x ∷ rest }) × StandsFor c (record { rows = c.home.tables; opened = rest }))
+  next_stands same e =
+      let F : Observed → Type 0 = IsBlind c.home.tables in
+      let n : ℕ = least c.overwritten (length c.opened.items) in
+      let next : Configuration = record { rows = c.home.tables; opened = x ∷ c.opened.items } in
+      let Stands : Configuration → ℕ → Type 0 = λ b k. (e.rows ≡ b.rows) × AreButSome (IsBlind b.rows) k b.opened e.opened in (
+        λ h.
+            let k : Stands next n = subst (Stands next) over (subst (λ (b : Configuration). Stands b d.overwritten) same (h.rows, h.opened)) in
+            elim k.1 [
+              | inl p ↦ (p.0, (λ i. record { rows = k.0 i; opened = p.1 i }), record { rows = refl; opened = (least_within F c.overwritten c.opened.items p.0).0 p.2 })
+              | inr p ↦ let few = p.0 in let most = least_most c.overwritten (length c.opened.items) in absurd (omega (arith, few, most))
+            ],
+        λ h.
+            let own : Stands next n = ((λ i. (h.1 i).rows), inl (h.0, (λ i. (h.1 i).opened), (least_within F c.overwritten c.opened.items h.0).1 h.2.opened)) in
+            let k : Stands (seen d) d.overwritten = subst (λ m. Stands (seen d) m) (sym over) (subst (λ (b : Configuration). Stands b n) (sym same) own) in record { rows = k.0; opened = k.1 },
+      )
+
+  pub asked_from : (e : Configuration) → StandsFor d e → From (FollowsAtOnce (Asks x)) c e
+  asked_from e h = elim asked.follows [
+    | inl p ↦ let own = (same_stands p.1 e).0 h in (e, own, inl (subst (λ v. NeedsNoPlace v x) (sym own.rows) p.0, refl))
+    | inr p ↦ let q = (next_stands p.1 e).0 h in (record { rows = c.home.tables; opened = q.0 }, q.2, inr (p.0, q.1))
+  ]
+
+  pub asked_stands : (e : Configuration) → From (FollowsAtOnce (Asks x)) c e → StandsFor d e
+  asked_stands e h = elim asked.follows [
+    | inl p ↦ elim h.2 [
+      | inl q ↦ (same_stands p.1 e).1 (subst (StandsFor c) (sym q.1) h.1)
+      | inr q ↦ absurd (q.0 (subst (λ v. NeedsNoPlace v x) (sym h.1.rows) p.0))
+    ]
+    | inr p ↦ elim h.2 [
+      | inl q ↦ absurd (p.0 (subst (λ v. NeedsNoPlace v x) h.1.rows q.0))
+      | inr q ↦ (next_stands p.1 e).1 (h.0.opened, q.1 ∙ (λ i. record { rows = h.1.rows i; opened = x ∷ h.0.opened }), record { rows = refl; opened = h.1.opened })
+    ]
+  ]
+
+-- ---- what is gained at an event
+pub gains_map : (P Q R S : Configuration → Type 0) (old new : List Held) → ((d : Configuration) → P d → R d) → ((d : Configuration) → S d → Q d) → Gains P Q old new → Gains R S old new
+gains_map P Q R S old new f g gains = record {
+  kept = gains.kept;
+  sound = λ d h. elim (gains.sound d h) [ inl k ↦ inl k | inr k ↦ inr (f d k) ];
+  found = λ d h. gains.found d (g d h);
+}
+
+pub none_of : (c : Held) (asked : ℕ) → NoneAskedAt asked c.opened.items → (e : Configuration) → StandsFor c e → NoneAskedAt asked e.opened
+none_of c asked none e h = but_all (IsBlind c.home.tables) c.overwritten (λ (x : Observed). x.asked ≡ asked → ⊥) c.opened.items e.opened h.opened none
+
+-- a call ends that isn't open
+pub gains_same : (c d : Held) (asked at : ℕ) (old new : List Held) → NoneAskedAt asked c.opened.items → ((e : Configuration) → StandsFor d e ↔ StandsFor c e) → Gains (StandsFor d) (StandsFor d) old new → (tried : List Held) → GainsAfter (Ends asked at) c tried old new
+gains_same c d asked at old new none same gains tried = gains_map (StandsFor d) (StandsFor d) (From (MayFollow (Ends asked at)) c) (λ e. IsApart c × (AreTriedOutAt (Ends asked at) old tried × From (FollowsAtOnce (Ends asked at)) c e)) old new
+    (λ e h. let own = (same e).0 h in (e, own, (come_none e, none_of c asked none e own)))
+    (λ e h.
+    let b = h.1.1.0 in
+    let stands = h.1.1.1 in
+    elim h.1.1.2 [
+      | inl q ↦ subst (StandsFor d) (sym q.1) ((same b).1 stands)
+      | inr q ↦ absurd (q.0 (none_of c asked none b stands))
+    ]) gains
+
+-- a call is asked
+pub gains_asked : (c d : Held) (x : Observed) (old new : List Held) → IsAsked c x d → d.overwritten ≡ least c.overwritten (length c.opened.items) → Gains (StandsFor d) (StandsFor d) old new → (tried : List Held) → GainsAfter (Asks x) c tried old new
+gains_asked c d x old new asked over gains tried = gains_map (StandsFor d) (StandsFor d) (From (MayFollow (Asks x)) c) (λ e. IsApart c × (AreTriedOutAt (Asks x) old tried × From (FollowsAtOnce (Asks x)) c e)) old new
+    (λ e h. asked_from c d x asked over e h) (λ e h. asked_stands c d x asked over e h.1.1) gains
+
+pub asked_many : (most : ℕ) (c d : Held) (x : Observed) (old : List Held) → IsAsked c x d → d.overwritten ≡ least c.overwritten (length c.opened.items) → AreMoreThan most (IsStoodOr old (StandsFor d)) → AreMoreThan most (IsStoodOr old (From (MayBeTried (Asks x)) c))
+asked_many most c d x old asked over many = more_than most (IsStoodOr old (StandsFor d)) (IsStoodOr old (From (MayBeTried (Asks x)) c)) (λ e h. elim h [
+  | inl k ↦ inl k
+  | inr k ↦ inr (asked_from c d x asked over e k)
+]) many
+
+-- one that has to take effect yet
+pub gone_kept : (c : Held) (asked : ℕ) (old : List Held) → Opens asked (seen c) → IsLetGo asked c None → GainsGone asked c old old
+gone_kept c asked old opens none = record { kept = λ e h. h; sound = λ e h. inl h; found = λ e h. absurd (none opens e h.stands h.none) }
+
+-- one that may have done so
+pub gone_added : (c d : Held) (asked : ℕ) (old new : List Held) → IsLetGo asked c (Some d) → NoneAskedAt asked d.opened.items → Gains (StandsFor d) (StandsFor d) old new → GainsGone asked c old new
+gone_added c d asked old new go none gains = gains_map (StandsFor d) (StandsFor d) (From (MayAnswer asked) c) (IsGone asked c) old new
+    (λ e h. (e, go.0 e h, (come_none e, none_of d asked none e h))) (λ e h. go.4 e h.stands h.none) gains
+
+-- beside another one of its time it doesn't
+pub gone_other : (c d : Held) (asked : ℕ) (old : List Held) → IsLetGo asked c (Some d) → (NoneAskedAt asked d.opened.items → ⊥) → GainsGone asked c old old
+gone_other c d asked old go some = record { kept = λ e h. h; sound = λ e h. inl h; found = λ e h. absurd (some (go.3 h.apart)) }
+
+-- all that follows where it ends
+pub out_on : (asked : ℕ) (old new tried : List Held) → ((d : Configuration) → OneStandsFor old d → OneStandsFor new d) → AreTriedOut asked old tried → AreTriedOut asked new tried
+out_on asked old new tried kept out d h opens = λ e one. let k = out d h opens e one in ((λ none. kept e (k.0 none)), k.1)
+
+pub gone_taken : (c : Held) (asked : ℕ) (tried old mid new : List Held) → GainsGone asked c old mid → GainsTaken asked c tried mid new → GainsEnd asked c tried old new
+gone_taken c asked tried old mid new first second = record {
+  kept = λ e h. second.kept e (first.kept e h);
+  sound = λ e h. elim (second.sound e h) [ inl k ↦ first.sound e k | inr k ↦ inr k ];
+  found = λ e h.
+      let b = h.1.1.0 in
+      let stands = h.1.1.1 in
+      elim h.1.1.2 [
+        | inl q ↦ second.kept e (first.found e (record { apart = h.0; stands = subst (StandsFor c) (sym q.1) stands; none = subst (λ (d : Configuration). NoneAskedAt asked d.opened) (sym q.1) q.0 }))
+        | inr q ↦ second.found e (h.0, (out_on asked old mid tried first.kept h.1.0, (b, stands, (q.0, (length b.opened, q.1)))))
+      ];
+}
+
+pub taken_many : (most : ℕ) (c : Held) (asked : ℕ) (old mid : List Held) → GainsGone asked c old mid → AreMoreThan most (IsStoodOr mid (From MayCome c)) → AreMoreThan most (IsStoodOr old (From MayCome c))
+taken_many most c asked old mid gains many = more_than most (IsStoodOr mid (From MayCome c)) (IsStoodOr old (From MayCome c)) (λ e h. elim h [
+  | inl k ↦ elim (gains.sound e k) [ inl q ↦ inl q | inr q ↦ inr (q.0, q.1, q.2.0) ]
+  | inr k ↦ inr k
+]) many
+
+pub covered_many : (most : ℕ) (c d : Held) (old : List Held) → Covers c d → AreMoreThan most (IsStoodOr old (StandsFor d)) → AreMoreThan most (IsStoodOr old (From MayCome c))
+covered_many most c d old covers many = more_than most (IsStoodOr old (StandsFor d)) (IsStoodOr old (From MayCome c)) (λ e h. elim h [
+  | inl k ↦ inl k
+  | inr k ↦ inr (e, covers e k, come_none e)
+]) many
+
+-- ---- a call that is let go
+pub gone_some : (asked : ℕ) (c d : Held) (i : ℕ) (x : Observed) → slice_get c.opened.items i ≡ Some x → x.asked ≡ asked → length c.opened.items - i ≤ c.overwritten → IsBlind c.home.tables x
+    → d.home ≡ c.home → d.opened.items ≡ remove c.opened.items i → d.overwritten ≡ c.overwritten - 1 → IsLetGo asked c (Some d)
+gone_some asked c d i x at is last blind home opened over =
+    let F : Observed → Type 0 = IsBlind c.home.tables in
+    let others = remove c.opened.items i in
+    let n : ℕ = c.overwritten - 1 in (
+      λ e h. record {
+        rows = h.rows ∙ ap (λ (b : SubscriberRows). b.tables) home;
+        opened = but_back F c.overwritten c.opened.items i x e.opened at last blind
+            (subst (λ (b : SubscriberRows). AreButSome (IsBlind b.tables) n others e.opened) home (subst (λ m. AreButSome (IsBlind d.home.tables) m others e.opened) over (subst (λ xs. AreButSome (IsBlind d.home.tables) d.overwritten xs e.opened) opened h.opened)));
+      },
+      ap (λ (b : SubscriberRows). b.s_id) home,
+      (λ h. subst AreAccepted (sym opened) (all_remove (λ (z : Observed). arguments_accepted z.call ≡ Ok tt) c.opened.items i h)),
+      (λ apart. subst (NoneAskedAt asked) (sym opened) (subst (λ t. NoneAskedAt t others) is (removed_none c.opened.items i x apart at))),
+      λ e h none.
+          let gone = but_gone F c.overwritten asked c.opened.items i x e.opened at is none h.opened in
+          record {
+            rows = h.rows ∙ ap (λ (b : SubscriberRows). b.tables) (sym home);
+            opened = subst (λ (b : SubscriberRows). AreButSome (IsBlind b.tables) d.overwritten d.opened.items e.opened) (sym home)
+                (subst (λ m. AreButSome F m d.opened.items e.opened) (sym over) (subst (λ xs. AreButSome F n xs e.opened) (sym opened) gone.2));
+          },
+    )
+
+pub gone_none : (asked : ℕ) (c : Held) (i : ℕ) (x : Observed) → slice_get c.opened.items i ≡ Some x → x.asked ≡ asked → ((length c.opened.items - i ≤ c.overwritten) → IsBlind c.home.tables x → ⊥) → IsLetGo asked c None
+gone_none asked c i x at is other = λ opens e h none. let gone = but_gone (IsBlind c.home.tables) c.overwritten asked c.opened.items i x e.opened at is none h.opened in other gone.0 gone.1
+
+pub gone_nowhere : (asked : ℕ) (c : Held) → ((k : ℕ) (x : Observed) → slice_get c.opened.items k ≡ Some x → x.asked ≡ asked → ⊥) → IsLetGo asked c None
+gone_nowhere asked c none = λ opens e h k. opens (all_of_get (λ (x : Observed). x.asked ≡ asked → ⊥) c.opened.items none)

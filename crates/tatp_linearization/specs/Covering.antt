@@ -1,0 +1,212 @@
+-- Configurations that one stands for: open updates of the location that were overwritten may be
+-- left out.
+use Rattle.std.specs.Prelude.{◌≡◌, ℕ, ◌<◌, ◌≤◌, ◌-◌, ◌⊎◌, List, [], ◌∷◌, ◌++◌, length, Option, Some, None, slice_get}
+use Rattle.std.specs.List.{AllByRecursion}
+use Rattle.tatp_history.specs.declared.event.Event.{Event}
+use Rattle.tatp_history.specs.declared.event.Event.TheVariants.{Asks, Ends}
+use Rattle.tatp_history.specs.declared.observed.Observed.{Observed}
+use Rattle.tatp_history.specs.Histories.{AreAskedApart}
+use Rattle.tatp_history.specs.Locality.{AreAccepted}
+use Rattle.tatp_history.specs.JustInTime.{NoneAskedAt}
+use Rattle.tatp_history.specs.Configurations.{Configuration}
+use Rattle.tatp_linearization.specs.declared.configuration.Configuration.{Configuration as Held}
+use Rattle.tatp_linearization.specs.AtOnce.{IsSettled, TakesOne, TakeUntil, FollowsAtOnce}
+use Rattle.tatp_linearization.specs.Possible.{CallsTakeEffect}
+use Rattle.tatp_linearization.specs.Held.{seen, Takes}
+use Rattle.tatp_linearization.specs.Overwritten.{IsBlind, AreButSome}
+
+-- the configuration is the one that is held, without some of its updates that were overwritten
+pub record StandsFor (c : Held) (d : Configuration) : Type 0 where
+  pub rows : d.rows ≡ c.home.tables
+  pub opened : AreButSome (IsBlind c.home.tables) c.overwritten c.opened.items d.opened
+
+-- one of these stands for it
+abbrev pub OneStandsFor : List Held → Configuration → Type 0
+OneStandsFor [] d = ⊥
+OneStandsFor (c ∷ cs) d = StandsFor c d ⊎ OneStandsFor cs d
+
+-- the first stands for each for which the second does
+abbrev pub Covers : Held → Held → Type 0
+Covers c d = (e : Configuration) → StandsFor d e → StandsFor c e
+
+-- they aren't alike, or less may be left out of the first
+abbrev pub IsOther : Held → Held → Type 0
+IsOther c d = c.home.s_id ≡ d.home.s_id → seen c ≡ seen d → d.overwritten ≤ c.overwritten → ⊥
+
+-- each for which it stands is one for which one of these does
+abbrev pub AreCovered : List Held → Held → Type 0
+AreCovered set d = (e : Configuration) → StandsFor d e → OneStandsFor set e
+
+-- the open calls at two places are the same, and where the second may be left out the first may
+pub record IsKept (c : Held) (i : ℕ) (d : Held) (j : ℕ) : Type 0 where
+  pub call : Observed
+  pub inside : j < length d.opened.items
+  pub first : slice_get c.opened.items i ≡ Some call
+  pub second : slice_get d.opened.items j ≡ Some call
+  pub last : length d.opened.items - j ≤ d.overwritten
+      → length c.opened.items - i ≤ c.overwritten
+
+-- a call was asked at this time, and is open
+abbrev pub Opens : ℕ → Configuration → Type 0
+Opens asked d = NoneAskedAt asked d.opened → ⊥
+
+-- no two of the open calls were asked at one time
+abbrev pub IsApart : Held → Type 0
+IsApart c = AreAskedApart c.opened.items
+
+abbrev pub AreEachApart : List Held → Type 0
+AreEachApart set = AllByRecursion IsApart set
+
+-- a call that ends may be let go, and has taken effect: the second configuration is the first
+-- without it. Where there is none, it has to take effect yet
+abbrev pub IsLetGo : ℕ → Held → Option Held → Type 0
+IsLetGo asked c (Some d) =
+    Covers c d × (d.home.s_id ≡ c.home.s_id)
+    × (AreAccepted c.opened.items → AreAccepted d.opened.items)
+    × (IsApart c → NoneAskedAt asked d.opened.items)
+    × ((e : Configuration) → StandsFor c e → NoneAskedAt asked e.opened → StandsFor d e)
+IsLetGo asked c None =
+    Opens asked (seen c) → (e : Configuration) → StandsFor c e → Opens asked e
+
+-- ---- what becomes of one
+-- this holds of one that is stood for and the configuration
+abbrev pub From : (Configuration → Configuration → Type 0) → Held → Configuration → Type 0
+From Holds c d = (e : Configuration) × StandsFor c e × Holds e d
+
+abbrev pub FromOne
+    : (Configuration → Configuration → Type 0) → List Held → Configuration → Type 0
+FromOne Holds set d = (e : Configuration) × OneStandsFor set e × Holds e d
+
+-- open calls take effect, and then no read is open whose reply fits
+pub record MayCome (c d : Configuration) : Type 0 where
+  pub calls : (n : ℕ) × CallsTakeEffect n c d
+  pub settled : IsSettled c → IsSettled d
+
+-- open calls take effect before an event at which the second may follow on the first
+abbrev pub MayFollow : Event → Configuration → Configuration → Type 0
+MayFollow (Asks x) c d = FollowsAtOnce (Asks x) c d
+MayFollow (Ends asked at) c d = MayCome c d × NoneAskedAt asked d.opened
+
+-- what is tried at an event
+abbrev pub MayBeTried : Event → Configuration → Configuration → Type 0
+MayBeTried (Asks x) c d = FollowsAtOnce (Asks x) c d
+MayBeTried (Ends asked at) c d = MayCome c d
+
+-- ---- lists of them
+-- those that are stood for now were so before, or this holds of them
+abbrev pub IsStoodOr : List Held → (Configuration → Type 0) → Configuration → Type 0
+IsStoodOr old Holds d = OneStandsFor old d ⊎ Holds d
+
+-- the new list stands for all for which the old one does, for others of which this holds, and for
+-- each of these
+pub record Gains (May Has : Configuration → Type 0) (old new : List Held) : Type 0 where
+  pub kept : (d : Configuration) → OneStandsFor old d → OneStandsFor new d
+  pub sound : (d : Configuration) → OneStandsFor new d → IsStoodOr old May d
+  pub found : (d : Configuration) → Has d → OneStandsFor new d
+
+-- the new list has what may follow on those of the set, and all that follows just in time
+pub record FollowSet (event : Event) (set new : List Held) : Type 0 where
+  pub sound : (d : Configuration) → OneStandsFor new d → FromOne (MayFollow event) set d
+  pub found : AreEachApart set → (d : Configuration) → FromOne (FollowsAtOnce event) set d
+      → OneStandsFor new d
+
+-- the homes are of this s_id
+abbrev pub AreOf : ℕ → List Held → Type 0
+AreOf s set = AllByRecursion (λ (c : Held). c.home.s_id ≡ s) set
+
+-- ---- turns
+-- those where the call was answered, those that were tried, and those that go on
+pub record Lists : Type 0 where
+  pub answered : List Held
+  pub tried : List Held
+  pub going : List Held
+
+-- what one open call makes of it is answered, or was tried
+abbrev pub IsDone : ℕ → List Held → List Held → Configuration → Type 0
+IsDone asked answered tried d = (e : Configuration) → TakesOne d e
+    → (NoneAskedAt asked e.opened → OneStandsFor answered e)
+    × (Opens asked e → OneStandsFor tried e)
+
+-- so is what one open call makes of each for which it stands, where the call is open
+abbrev pub AreDone : ℕ → Held → List Held → List Held → Type 0
+AreDone asked c answered tried =
+    (d : Configuration) → StandsFor c d → Opens asked d → IsDone asked answered tried d
+
+abbrev pub AreAllDone : ℕ → List Held → List Held → List Held → Type 0
+AreAllDone asked set answered tried =
+    (d : Configuration) → OneStandsFor set d → Opens asked d → IsDone asked answered tried d
+
+-- and of all that was tried
+abbrev pub AreTriedOut : ℕ → List Held → List Held → Type 0
+AreTriedOut asked answered tried = AreAllDone asked tried answered tried
+
+abbrev pub AreTriedOutAt : Event → List Held → List Held → Type 0
+AreTriedOutAt (Asks x) answered tried = Unit {0}
+AreTriedOutAt (Ends asked at) answered tried = AreTriedOut asked answered tried
+
+-- the lists have got more, of which this holds; what is tried anew goes on
+pub record Grow (Holds : Configuration → Type 0) (asked : ℕ) (old new : Lists) : Type 0 where
+  pub answers : (d : Configuration) → OneStandsFor old.answered d → OneStandsFor new.answered d
+  pub tries : (d : Configuration) → OneStandsFor old.tried d → OneStandsFor new.tried d
+  pub goes : (d : Configuration) → OneStandsFor old.going d → OneStandsFor new.going d
+  pub answered : (d : Configuration) → OneStandsFor new.answered d
+      → IsStoodOr old.answered (λ e. Holds e × NoneAskedAt asked e.opened) d
+  pub tried : (d : Configuration) → OneStandsFor new.tried d → IsStoodOr old.tried Holds d
+  pub went : (d : Configuration) → OneStandsFor new.going d → IsStoodOr old.going Holds d
+  pub next : (d : Configuration) → OneStandsFor new.tried d
+      → OneStandsFor old.tried d ⊎ OneStandsFor new.going d
+
+-- each of the new list is of the old one, or what one open call makes of the configuration
+abbrev pub WentFrom : Held → List Held → List Held → Type 0
+WentFrom c old new = (k : ℕ) (d : Held) → slice_get new k ≡ Some d
+    → ((j : ℕ) × (slice_get old j ≡ Some d)) ⊎ ((i : ℕ) × Takes c i (Some d))
+
+-- each of the list is what one open call makes of one of the set
+abbrev pub WentFromOne : List Held → List Held → Type 0
+WentFromOne set new = (k : ℕ) (d : Held) → slice_get new k ≡ Some d
+    → (j : ℕ) × (c : Held) × (slice_get set j ≡ Some c) × ((i : ℕ) × Takes c i (Some d))
+
+-- it goes on, unless others that were tried stand for all for which it does
+abbrev pub GoesOn : Held → List Held → List Held → List Held → Type 0
+GoesOn d tried old new = ((new ≡ old) × AreCovered tried d) ⊎ (new ≡ old ++ d ∷ [])
+
+-- what may come before the end of the call that was asked at this time
+abbrev pub MayAnswer : ℕ → Configuration → Configuration → Type 0
+MayAnswer asked c d = MayCome c d × NoneAskedAt asked d.opened
+
+-- open calls take effect one after another until the call isn't open any more
+abbrev pub TakesUntil : ℕ → Configuration → Configuration → Type 0
+TakesUntil asked c d = Opens asked c × ((n : ℕ) × TakeUntil n asked c d)
+
+-- what open calls make of one is gained, up to the effect of the call, beside what was tried
+abbrev pub GainsTaken : ℕ → Held → List Held → List Held → List Held → Type 0
+GainsTaken asked c tried old new =
+    Gains (From (MayAnswer asked) c)
+    (λ d. IsApart c × (AreTriedOut asked old tried × From (TakesUntil asked) c d)) old new
+
+-- what follows just in time where the call ends
+abbrev pub EndsAtOnce : ℕ → Configuration → Configuration → Type 0
+EndsAtOnce asked c d =
+    (NoneAskedAt asked c.opened × (d ≡ c))
+    ⊎ (Opens asked c × TakeUntil (length c.opened) asked c d)
+
+abbrev pub GainsEnd : ℕ → Held → List Held → List Held → List Held → Type 0
+GainsEnd asked c tried old new =
+    Gains (From (MayAnswer asked) c)
+    (λ d. IsApart c × (AreTriedOut asked old tried × From (EndsAtOnce asked) c d)) old new
+
+-- what may follow on one at an event is gained, and all that follows just in time, beside what was
+-- tried
+abbrev pub GainsAfter : Event → Held → List Held → List Held → List Held → Type 0
+GainsAfter event c tried old new =
+    Gains (From (MayFollow event) c)
+    (λ d. IsApart c × (AreTriedOutAt event old tried × From (FollowsAtOnce event) c d)) old new
+
+-- it stands for one where the call isn't open
+pub record IsGone (asked : ℕ) (c : Held) (d : Configuration) : Type 0 where
+  pub apart : IsApart c
+  pub stands : StandsFor c d
+  pub none : NoneAskedAt asked d.opened
+
+abbrev pub GainsGone : ℕ → Held → List Held → List Held → Type 0
+GainsGone asked c old new = Gains (From (MayAnswer asked) c) (IsGone asked c) old new

@@ -23,6 +23,17 @@ fn location(sub_nbr: u64, vlr_location: u64) -> Call {
     }
 }
 
+/// A forwarding of subscriber 3 from this time to 24.
+fn insert(start_time: u64) -> Call {
+    Call::InsertCallForwarding {
+        sub_nbr: 3,
+        sf_type: 2,
+        start_time,
+        end_time: 24,
+        numberx: 7,
+    }
+}
+
 fn ask(client: u64, call: Call) -> Line {
     Line::Ask { client, call }
 }
@@ -244,15 +255,11 @@ fn a_call_that_names_none_fails(rt: HostRuntime) -> Result<(), Fail> {
     Ok(())
 }
 
-/// After the first of two updates that overlap is answered, two configurations are possible.
+/// After the first of two inserts that overlap is answered, two configurations are possible.
 #[test]
 fn one_configuration_is_too_few(rt: HostRuntime) -> Result<(), Fail> {
     let rows = generate(rt.alloc(), 3, &mut Pcg64::new(1, 0))?;
-    let lines = [
-        ask(1, location(3, 7)),
-        ask(2, location(3, 8)),
-        end(1, SUCCESS),
-    ];
+    let lines = [ask(1, insert(8)), ask(2, insert(16)), end(1, SUCCESS)];
     assert_eq!(rt;
         verdict(rt.alloc(), &rows, 1, &lines)?,
         Some(Verdict::Undecided { line: 3, s_id: 3 })

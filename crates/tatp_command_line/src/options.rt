@@ -148,7 +148,7 @@ pub(crate) fn parts_with(final_rows: bool) -> NumberOption
     }
 }
 
-/// The option for one of so many parts. Where there are several it has to be given.
+/// The option for one of `parts` parts. Where there are several it has to be given.
 pub(crate) fn part_of(parts: u64) -> NumberOption
     ensures { asked_by result ≡ part parts }
 {

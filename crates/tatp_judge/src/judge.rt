@@ -65,8 +65,8 @@ pub struct Judge {
 }
 
 impl Judge {
-    /// That of a history which begins with these rows. At most so many configurations of one
-    /// subscriber are kept.
+    /// The judge of a history that begins with these rows. It keeps at most `most` configurations
+    /// of one subscriber.
     pub fn new(alloc: Global, rows: &Rows, most: usize) -> Result<Judge, AllocError>
         requires { IsClean rows.now }
         ensures { IfOk result (HasFollowed (database_of rows.now) most []) }

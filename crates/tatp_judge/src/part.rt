@@ -13,7 +13,7 @@ use crate::asked::subscriber_of;
 use crate::judge::Judge;
 use tatp_history::Line;
 
-/// One of so many parts of a history: the calls on every so many-th subscriber.
+/// One of `count` parts of a history: the calls on each `count`-th subscriber.
 #[derive(Clone, Copy, Debug, PartialEq, Eq)]
 pub struct Part {
     /// Its number, from 1 on.

@@ -85,7 +85,7 @@ impl Judge {
 }
 
 impl Counts {
-    /// Those of a history of which no line came yet.
+    /// The counts of a history of which no line has come yet.
     pub fn new(alloc: Global, judge: &Judge) -> Result<Counts, AllocError>
         ensures { IfOk result (λ counts. (u : Database) (most : ℕ)
             → HasFollowed u most [] judge.now → HasCounted u [] counts) }
@@ -139,7 +139,7 @@ impl Counts {
         }
     }
 
-    /// Counts a call on a subscriber on which so many others are open.
+    /// Counts a call on a subscriber on which `others` other calls are open.
     fn ask_on(&mut self, s_id: u64, others: u64)
         requires within { (1 ≤ s_id) × (s_id ≤ length self.old.called.items) }
         requires subscribers { self.old.subscribers + 1 < 2 ^ 64 }

@@ -64,7 +64,7 @@ pub struct Judgement {
 }
 
 impl Reading {
-    /// A verdict by the numbers of the lines in the input, of which so many were read.
+    /// A verdict by the numbers of the lines in the input, of which `number` were read.
     pub(crate) fn judged(&self, verdict: &Verdict, number: u64) -> Judged
         requires { (u : View) × (most : ℕ) × (past : List ALine) × IsNumbered u self.now past
             × IsVerdictOn u most past verdict.now × HasCounted u past self.now.counts }
@@ -81,7 +81,7 @@ impl Reading {
         }
     }
 
-    /// A verdict by the numbers of the lines in the input, of which so many were read, and the
+    /// A verdict by the numbers of the lines in the input, of which `number` were read, and the
     /// lines that are told with it.
     pub(crate) fn judgement(
         &self,

@@ -78,8 +78,8 @@ impl<'m> Partition<'m> {
         offered
     }
 
-    /// Makes steps of the running call, the gate before each. Where the call ends, its completion
-    /// is left in its place, and the answer is how many entries the log of its extent has then.
+    /// Makes steps of the running call, and calls the gate before each. Where the call ends, its
+    /// completion is in the buffer then, and the answer is how many entries its extent's log has.
     pub(crate) fn slice<R: Wait, G: Gate>(
         &self,
         rt: &R,

@@ -17,7 +17,7 @@ pub enum AsmFaultKind {
     /// An earlier line of the procedure is the same label.
     #[error("11 LabelTwice")]
     LabelTwice = 11,
-    /// The seventeenth procedure, or the 257th instruction of one.
+    /// More than `MAX_PROCEDURES` procedures, or more than `MAX_INSTRUCTIONS` instructions in one.
     #[error("12 TooLong")]
     TooLong = 12,
 }

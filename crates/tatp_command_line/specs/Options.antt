@@ -2,15 +2,12 @@
 use Rattle.std.specs.Prelude.{ℕ, ◌^◌, ◌-◌, ◌==◌, Bool, true, false, List, Option, Some, None, codes, bytes_eq, if◌then◌else◌}
 use Rattle.std.specs.Option.{option_map_or}
 use Rattle.clap.specs.Walk.{Row, first_of}
-use Rattle.tatp_limits.specs.declared.limits.TheConstants.{MAX_BENCH_CALLS, MAX_BENCH_CHAPTER, MAX_BENCH_MOVES, MAX_BENCH_STOPS, MAX_CLIENTS, MAX_PARTITIONS, MAX_SUBSCRIBERS}
-use Rattle.tatp_streams.specs.declared.limit.TheConstants.{MAX_INPUT_LIMIT}
+use Rattle.tatp_limits.specs.declared.limits.TheConstants.{MAX_BENCH_CALLS, MAX_BENCH_CHAPTER, MAX_BENCH_MOVES, MAX_BENCH_STOPS, MAX_CLIENTS, MAX_CONFIGURATIONS, MAX_DRAWN_CALLS, MAX_INPUT_LIMIT, MAX_PARTITIONS, MAX_PARTS, MAX_SUBSCRIBERS}
 use Rattle.tatp_driver.specs.declared.distribution.Distribution.{Distribution}
 use Rattle.tatp_driver.specs.declared.distribution.Distribution.TheVariants.{Skewed, Uniform}
 use Rattle.tatp_tasks.specs.declared.judging.JudgePlan.{JudgePlan}
-use Rattle.tatp_tasks.specs.declared.judging.TheConstants.{MAX_CONFIGURATIONS, MAX_PARTS}
 use Rattle.tatp_tasks.specs.declared.load.CallsPlan.{CallsPlan}
 use Rattle.tatp_tasks.specs.declared.load.RowsPlan.{RowsPlan}
-use Rattle.tatp_tasks.specs.declared.load.TheConstants.{MAX_DRAWN_CALLS}
 use Rattle.tatp_tasks.specs.declared.plan.BenchPlan.{BenchPlan}
 use Rattle.tatp_tasks.specs.declared.population.Population.{Population}
 use Rattle.tatp_tasks.specs.declared.population.Population.TheVariants.{Read, Generated}

@@ -19,7 +19,7 @@ mod submitting;
 use crate::Refusal;
 use crate::client::Client;
 use crate::queue::Queue;
-pub use getters::what_holds_of_every_world;
+pub(crate) use getters::what_holds_of_every_world;
 use std::marker::Model;
 use tatp_extents::Chapter;
 use tatp_loader::Loaded;

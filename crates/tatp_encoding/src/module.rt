@@ -128,13 +128,4 @@ impl Module {
     {
         self.procs.as_slice()
     }
-
-    /// The procedures, out of the module.
-    pub fn into_procs(self) -> Vec<Proc>
-        ensures value { result.items ≡ self.procedures }
-        ensures module { is_module self ≡ true }
-    {
-        let Self { version: _, procs } = self;
-        procs
-    }
 }

@@ -23,7 +23,7 @@ pub use homeless::{Homeless, what_holds_of_every_homeless_log};
 pub use open_error::OpenError;
 pub use opening::{admit, open, open_clean, reserve_logs};
 pub use parts::{ExtentParts, HomelessParts};
-pub use pinned::{Pinned, what_holds_of_every_pinned_extent};
+pub use pinned::Pinned;
 pub use shared_homes::SharedHomes;
 pub use theorems::{
     homes_are_parts_of_their_database, homes_are_put_in_their_places, homes_stand_in_their_places,

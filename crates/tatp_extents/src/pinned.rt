@@ -4,7 +4,7 @@ ghost use Rattle.std.specs.Option.{option_copied};
 ghost use Rattle.std.specs.Borrow.{sem};
 ghost use Rattle.tatp_extents.specs.Parts.{state_of, pinned_state_of};
 ghost use Rattle.tatp_extents.specs.Extents.{IsExtent, LiesIn, last_stamp_of, home_at, with_entry, as_mixed};
-ghost use Rattle.tatp_extents.specs.Pinning.{IsPinned, Logs, HasItsHome};
+ghost use Rattle.tatp_extents.specs.Pinning.{Logs, HasItsHome};
 ghost use Rattle.tatp_extents.specs.HomeRows.{with_homes};
 
 use crate::extent_numbers::first_subscriber;
@@ -164,11 +164,4 @@ impl Pinned {
         let Pinned { parts, place: _ } = self;
         Extent::of_parts(parts)
     }
-}
-
-/// With some home in the place of its subscriber, a pinned extent is an extent.
-pub fn what_holds_of_every_pinned_extent(pinned: &Pinned)
-    ensures { IsPinned pinned.now }
-{
-    let _ = &pinned.parts;
 }

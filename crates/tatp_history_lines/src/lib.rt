@@ -11,5 +11,4 @@ mod words;
 
 pub use fault::LineFault;
 pub use open_calls::OpenCalls;
-pub use recordings::read_recorded;
 pub use theorems::lines_are_read_exactly;

@@ -73,7 +73,7 @@ impl Instr {
         ensures value { result ≡ parts_of self.now }
         ensures shape { IsSomeAnd (shape_at result.op) (HasShape result) }
 
-        // Each register operand is among the sixteen, and so are the three of a key (op 0x0E) and
+        // Each register operand is one of a call, and so are the three of a key (op 0x0E) and
         // the five of a row (op 0x11).
         ensures registers { All (λ number. number < REGISTERS) result.registers }
         ensures key { result.op ≡ 0x0E → slice_index result.registers 1 + 3 ≤ REGISTERS }

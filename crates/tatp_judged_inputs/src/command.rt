@@ -20,8 +20,9 @@ use std::io::{Read, Write};
 use tatp_extents::{OpenError, admit};
 use tatp_inputs::work_of;
 use tatp_judge::{Judge, Part, Stakes};
+use tatp_limits::MAX_INPUT_LIMIT;
 use tatp_lines::push_decimal;
-use tatp_streams::{LineReader, MAX_INPUT_LIMIT, write_last};
+use tatp_streams::{LineReader, write_last};
 use tatp_tables::Rows;
 use tatp_tasks::{JudgePlan, Population};
 

@@ -48,8 +48,11 @@ pub const MAX_ARGUMENTS: usize = 8;
 /// The most bytes of a procedure's name, and of a label in assembly text.
 pub const MAX_NAME_BYTES: usize = 24;
 
-/// The most bytes that are read from one input.
+/// The most bytes that are read from one input, where no other limit is asked for.
 pub const MAX_INPUT_BYTES: usize = 134_217_728;
+
+/// The most bytes that can be asked to be read from an input that is read line by line.
+pub const MAX_INPUT_LIMIT: usize = 1_099_511_627_776;
 
 /// The most calls that each client of `bench` makes.
 pub const MAX_BENCH_CALLS: u64 = 100_000;
@@ -62,6 +65,15 @@ pub const MAX_BENCH_STOPS: u64 = 100_000;
 
 /// The most calls after which `bench` hands out an extent's log.
 pub const MAX_BENCH_CHAPTER: u64 = 1_000_000;
+
+/// The most calls of one client that can be drawn and written.
+pub const MAX_DRAWN_CALLS: u64 = 1_000_000_000;
+
+/// The most configurations of one subscriber that `judge` can be asked to keep.
+pub const MAX_CONFIGURATIONS: usize = 1_000_000;
+
+/// The most parts of a history of which `judge` can be asked to judge one.
+pub const MAX_PARTS: u64 = 4_294_967_295;
 
 /// The number that each limit is. Nothing runs here: the clauses are what an edit of a number
 /// breaks.
@@ -82,8 +94,12 @@ pub fn numbers()
     ensures arguments { MAX_ARGUMENTS ≡ 8 }
     ensures name { MAX_NAME_BYTES ≡ 24 }
     ensures input { MAX_INPUT_BYTES ≡ 134217728 }
+    ensures asked_input { MAX_INPUT_LIMIT ≡ 1099511627776 }
     ensures bench_calls { MAX_BENCH_CALLS ≡ 100000 }
     ensures bench_moves { MAX_BENCH_MOVES ≡ 100000 }
     ensures bench_stops { MAX_BENCH_STOPS ≡ 100000 }
     ensures bench_chapter { MAX_BENCH_CHAPTER ≡ 1000000 }
+    ensures drawn_calls { MAX_DRAWN_CALLS ≡ 1000000000 }
+    ensures configurations { MAX_CONFIGURATIONS ≡ 1000000 }
+    ensures parts { MAX_PARTS ≡ 4294967295 }
 {}

@@ -29,12 +29,7 @@ pub enum First {
 
 impl Explanations {
     /// Whether an order explains the calls up to a time within a window.
-    pub fn explain_by(
-        &self,
-        alloc: Global,
-        events: &[Event],
-        time: u64,
-    ) -> Result<Standing, AllocError>
+    fn explain_by(&self, alloc: Global, events: &[Event], time: u64) -> Result<Standing, AllocError>
         requires reached { (u : Database) × (past : List Event) × AreReached u past self.now }
         requires accepted { AllByRecursion IsAcceptedEvent events.now }
         ensures explained { result ≡ Ok Standing.Explained → (u : Database) (past : List Event)

@@ -15,7 +15,7 @@ use tatp_procs::{Entry, Reply, ReplyRef};
 const MOST_VALUES: usize = MAX_OUTPUTS + MAX_ARGUMENTS;
 
 /// Completed calls, in the order of their ends. One takes as much memory as its arguments and
-/// outputs need, where an [`Entry`] of its own has places for forty. Contracts see the entries,
+/// outputs need, where an [`Entry`] of its own has places for the most. Contracts see the entries,
 /// and for how many more memory is reserved.
 #[derive(Debug, Drop)]
 pub struct Completions {

@@ -9,7 +9,7 @@ use tatp_machine::Trap;
 use tatp_procs::{Outputs, Reply, ReplyRef};
 
 /// A reply whose outputs are in a list of the outputs of many. A [`Reply`] of its own has room
-/// for forty.
+/// for the most.
 #[derive(Clone, Copy, Debug)]
 pub(crate) enum KeptReply {
     /// It ended with `count` outputs, which are from the place `first` on.

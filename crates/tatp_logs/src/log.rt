@@ -29,7 +29,7 @@ pub(crate) struct LoggedCall {
 }
 
 /// Completed transactions, in the order of their stamps, and the last stamp before them. An entry
-/// takes as much memory as its outputs need, where an [`Entry`] of its own has places for forty.
+/// takes as much memory as its outputs need, where an [`Entry`] of its own has places for the most.
 #[derive(Debug, Drop)]
 pub struct Log {
     kept_stamp: u64,

@@ -27,7 +27,7 @@ pub(crate) enum KeptReceipt {
 }
 
 /// Receipts, in the order in which a client got them. One takes as much memory as its outputs need,
-/// where a [`Receipt`] of its own has places for forty. Contracts see the receipts, and for how
+/// where a [`Receipt`] of its own has places for the most. Contracts see the receipts, and for how
 /// many more memory is reserved.
 #[derive(Debug, Drop)]
 pub struct Receipts {

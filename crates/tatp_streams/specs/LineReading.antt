@@ -2,7 +2,7 @@
 use Rattle.std.specs.Prelude.{◌≡◌, ℕ, ◌+◌, ◌-◌, ◌*◌, ◌<◌, ◌≤◌, ◌==◌, Bool, true, false, List, [], ◌∷◌, ◌++◌, length, take, drop, position, Option, None, Some, IfSome, IsSomeAnd, if◌then◌else◌, ⊤}
 use Rattle.std.specs.Option.{option_map}
 use Rattle.tatp_lines.specs.Lines.{lines_of}
-use Rattle.tatp_streams.specs.declared.limit.TheConstants.{MAX_INPUT_LIMIT}
+use Rattle.tatp_limits.specs.declared.limits.TheConstants.{MAX_INPUT_LIMIT}
 
 -- what a LineReader has read and taken
 pub record LineReaderState : Type 0 where

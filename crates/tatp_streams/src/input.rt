@@ -3,10 +3,10 @@ ghost use Rattle.std.specs.Prelude.{◌≡◌, ℕ, ◌≤◌, ◌<◌, ◌++◌
 ghost use Rattle.std.specs.Io.KnownBytes.{Consumes, IsAtEnd};
 ghost use Rattle.tatp_streams.specs.declared.fault.StreamFault.TheVariants.{ReadFault, NoMemory};
 
-use crate::{MAX_INPUT_LIMIT, StreamFault};
+use crate::StreamFault;
 use std::alloc::Global;
 use std::io::Read;
-use tatp_limits::MAX_INPUT_BYTES;
+use tatp_limits::{MAX_INPUT_BYTES, MAX_INPUT_LIMIT};
 
 /// The most bytes that one read asks for.
 pub(crate) const PIECE: usize = 65_536;

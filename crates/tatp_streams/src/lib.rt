@@ -4,14 +4,12 @@
 
 mod fault;
 mod input;
-mod limit;
 mod line_reader;
 mod output;
 mod text;
 
 pub use fault::StreamFault;
 pub use input::read_all;
-pub use limit::MAX_INPUT_LIMIT;
 pub use line_reader::LineReader;
 pub use output::{write_if_full, write_last};
 pub use text::text_of;

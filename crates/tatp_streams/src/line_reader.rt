@@ -3,11 +3,12 @@ ghost use Rattle.std.specs.Prelude.{◌≡◌, ℕ, ◌≤◌, ◌⊎◌, ◌==�
 ghost use Rattle.tatp_streams.specs.declared.fault.StreamFault.TheVariants.{ReadFault, NoMemory};
 ghost use Rattle.tatp_streams.specs.LineReading.{nothing_taken, HasNoLineFeed, IsFirstLine, HoldsNoLine, TakesLine, MeetsEnd, ReadsMore};
 
+use crate::StreamFault;
 use crate::input::{PIECE, read_piece};
-use crate::{MAX_INPUT_LIMIT, StreamFault};
 use std::alloc::Global;
 use std::io::Read;
 use std::marker::Model;
+use tatp_limits::MAX_INPUT_LIMIT;
 
 /// The lines of a reader, taken one after another.
 ///

@@ -2,7 +2,7 @@
 use Rattle.std.specs.Prelude.{◌≤◌}
 use Rattle.tatp_tasks.specs.Populations.{IsPopulation}
 use Rattle.tatp_tasks.specs.declared.judging.JudgePlan.{JudgePlan}
-use Rattle.tatp_tasks.specs.declared.judging.TheConstants.{MAX_CONFIGURATIONS}
+use Rattle.tatp_limits.specs.declared.limits.TheConstants.{MAX_CONFIGURATIONS}
 
 -- the rows can be drawn, this many configurations can be asked to be kept, and there is the part
 pub record IsJudgePlan (plan : JudgePlan) : Type 0 where

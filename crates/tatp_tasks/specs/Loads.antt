@@ -1,9 +1,8 @@
 -- Rows and calls that can be drawn and written.
 use Rattle.std.specs.Prelude.{◌≤◌, ◌<◌}
-use Rattle.tatp_limits.specs.declared.limits.TheConstants.{MAX_CLIENTS, MAX_SUBSCRIBERS}
+use Rattle.tatp_limits.specs.declared.limits.TheConstants.{MAX_CLIENTS, MAX_DRAWN_CALLS, MAX_SUBSCRIBERS}
 use Rattle.tatp_tasks.specs.declared.load.CallsPlan.{CallsPlan}
 use Rattle.tatp_tasks.specs.declared.load.RowsPlan.{RowsPlan}
-use Rattle.tatp_tasks.specs.declared.load.TheConstants.{MAX_DRAWN_CALLS}
 
 -- there can be this many subscribers
 pub record IsRowsPlan (plan : RowsPlan) : Type 0 where

@@ -9,8 +9,8 @@ mod procedures;
 mod setup;
 mod task;
 
-pub use judging::{JudgePlan, MAX_CONFIGURATIONS, MAX_PARTS};
-pub use load::{CallsPlan, MAX_DRAWN_CALLS, RowsPlan};
+pub use judging::JudgePlan;
+pub use load::{CallsPlan, RowsPlan};
 pub use plan::BenchPlan;
 pub use population::Population;
 pub use procedures::Procedures;

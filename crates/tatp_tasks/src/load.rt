@@ -1,9 +1,6 @@
 //! Rows, or the calls of one client, that are to be drawn for another database.
 use tatp_driver::Distribution;
 
-/// The most calls of one client that can be drawn and written.
-pub const MAX_DRAWN_CALLS: u64 = 1_000_000_000;
-
 /// A population to be drawn and written.
 #[derive(Clone, Copy, Debug, PartialEq, Eq)]
 pub struct RowsPlan {
@@ -18,7 +15,7 @@ pub struct RowsPlan {
 pub struct CallsPlan {
     /// How many subscribers are called, 1 to `MAX_SUBSCRIBERS`.
     pub subscribers: u64,
-    /// How many calls there are, 1 to [`MAX_DRAWN_CALLS`].
+    /// How many calls there are, 1 to `MAX_DRAWN_CALLS`.
     pub calls: u64,
     /// Which client makes them, counted from 0, below `MAX_CLIENTS`.
     pub client: u64,

@@ -6,9 +6,10 @@ use std::alloc::Global;
 use std::test::Fail;
 use tatp_judge::{Judge, Part, Stakes};
 use tatp_judged_inputs::{HistoryFault, Judged, judge_history};
+use tatp_limits::MAX_INPUT_LIMIT;
 use tatp_population::generate;
 use tatp_procs::BadArgument;
-use tatp_streams::{LineReader, MAX_INPUT_LIMIT};
+use tatp_streams::LineReader;
 use tatp_tables::Rows;
 
 /// The verdict on an input, where so many configurations are kept of a subscriber.

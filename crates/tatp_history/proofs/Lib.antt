@@ -8,7 +8,8 @@ pub mod EventLaws
 pub mod RemainingLaws
 pub mod LeadLaws
 pub mod JustInTimeLaws
-pub mod ReadLaws
+pub mod ChangeLaws
+pub mod UnchangingLaws
 pub mod PrefixLaws
 pub mod LineLaws
 pub mod SubscriberEventLaws

@@ -2,8 +2,6 @@
 use Rattle.std.specs.Prelude.{◌≡◌, ◌⊎◌, List, [], ◌∷◌, length}
 use Rattle.std.specs.List.{AllByRecursion}
 use Rattle.tatp_tables.specs.Database.{Database}
-use Rattle.tatp_procs.specs.declared.call.Call.{Call}
-use Rattle.tatp_procs.specs.Transactions.{transaction}
 use Rattle.tatp_history.specs.declared.event.Event.{Event}
 use Rattle.tatp_history.specs.declared.event.Event.TheVariants.{Asks, Ends}
 use Rattle.tatp_history.specs.declared.observed.Observed.{Observed}
@@ -38,7 +36,3 @@ LeadToSome events c Holds = (d : Configuration) × Lead events c d × Holds d
 -- none of these calls was answered
 abbrev pub AreUnanswered : List Observed → Type 0
 AreUnanswered calls = AllByRecursion (λ (x : Observed). IsAnswered x.outcome → ⊥) calls
-
--- a call that changes no database
-abbrev pub IsRead : Call → Type 0
-IsRead call = (v : Database) → (transaction call v).database ≡ v

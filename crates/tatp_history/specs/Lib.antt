@@ -4,6 +4,7 @@ pub mod Locality
 pub mod Prefixes
 pub mod Events
 pub mod JustInTime
+pub mod Changes
 pub mod Configurations
 pub mod SubscriberEvents
 pub mod Outcomes

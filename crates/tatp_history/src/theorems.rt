@@ -1,7 +1,6 @@
 //! What is proved of the definitions. Nothing runs here: a clause is the theorem.
-ghost use Rattle.std.specs.Prelude.{◌≡◌, ◌↔◌, ℕ, suc, List, [], ◌++◌, length};
+ghost use Rattle.std.specs.Prelude.{◌≡◌, ◌↔◌, ℕ, suc, true, List, [], ◌++◌, length};
 ghost use Rattle.tatp_tables.specs.Database.{Database, of_subscriber};
-ghost use Rattle.tatp_procs.specs.declared.call.Call.TheVariants.{GetSubscriberData, GetNewDestination, GetAccessData};
 ghost use Rattle.tatp_procs.specs.declared.call.Call.{Call};
 ghost use Rattle.tatp_procs.specs.declared.reply.Reply.{Reply};
 ghost use Rattle.tatp_procs.specs.Order.{in_order};
@@ -12,13 +11,14 @@ ghost use Rattle.tatp_history.specs.declared.line.Line.{Line};
 ghost use Rattle.tatp_history.specs.declared.observed.Observed.{Observed};
 ghost use Rattle.tatp_history.specs.Histories.{MayHaveReply, AreAnsweredInOrder, IsStrictlySerializable, rows_after, IsStrictlySerializableTo};
 ghost use Rattle.tatp_history.specs.HistoryLines.{calls_of, AreAcceptedLines};
+ghost use Rattle.tatp_history.specs.Changes.{LeavesRows, changes_nothing};
 ghost use Rattle.tatp_history.specs.Outcomes.{without_aborted, answered_alone};
 ghost use Rattle.tatp_history.specs.Turns.{AreInTurn, lines_in_turn, calls_made, replies_had};
 ghost use Rattle.tatp_history.specs.Locality.{AreInTime, AreAccepted, AreCalls, calls_on, FailWithout, IsSerializableAtEach, IsSerializableToEach};
 ghost use Rattle.tatp_history.specs.Prefixes.{calls_by};
 ghost use Rattle.tatp_history.specs.Events.{asked_in, TimesRise, HaveEnds};
 ghost use Rattle.tatp_history.specs.JustInTime.{Chooses, AreOpen, Explains};
-ghost use Rattle.tatp_history.specs.Configurations.{Configuration, starting, Lead, LeadToSome, AreUnanswered, IsRead};
+ghost use Rattle.tatp_history.specs.Configurations.{Configuration, starting, Lead, LeadToSome, AreUnanswered};
 ghost use Rattle.tatp_history.specs.SubscriberEvents.{NothingIsOpen, events_of, events_from};
 
 /// Strict serializability is local (Herlihy and Wing, 1990): calls are strictly serializable
@@ -92,16 +92,15 @@ pub fn the_search_leads_to_configurations()
         → (Explains events c.rows c.opened ↔ ((d : Configuration) × Lead events c d)) }
 {}
 
-/// An open read whose reply fits may take effect at once: nothing is lost.
-pub fn reads_may_take_effect_at_once()
+/// An open call that changes nothing, and whose reply fits, may take effect at once: nothing is
+/// lost. Such calls are those that only read, and those that failed.
+pub fn calls_that_change_nothing_may_take_effect_at_once()
     ensures once { (events : List Event) (u : Database) (opened left : List Observed)
         (x : Observed)
         → TimesRise events → HaveEnds events → AreOpen events opened → Chooses opened x left
-        → IsRead x.call → MayHaveReply x.outcome (transaction x.call u).reply
+        → LeavesRows x → MayHaveReply x.outcome (transaction x.call u).reply
         → (Explains events u opened ↔ Explains events u left) }
-    ensures subscriber { (s : ℕ) → IsRead (GetSubscriberData s) }
-    ensures destination { (s t b e : ℕ) → IsRead (GetNewDestination s t b e) }
-    ensures access { (s t : ℕ) → IsRead (GetAccessData s t) }
+    ensures unchanged { (x : Observed) → changes_nothing x ≡ true → LeavesRows x }
 {}
 
 /// Where all that clients saw is strictly serializable, so is what they had seen by any time. The

@@ -10,6 +10,7 @@ use Rattle.tatp_history.specs.declared.observed.Outcome.{Outcome}
 use Rattle.tatp_history.specs.declared.observed.Outcome.TheVariants.{Answered, Aborted, Unknown}
 use Rattle.tatp_history.specs.declared.observed.Observed.{Observed}
 use Rattle.tatp_history.specs.Histories.{IsIn, IsAnswered, MayHaveReply, AreAnsweredInOrder, IsStrictlySerializable, rows_after}
+use Rattle.tatp_history.specs.Changes.{changes_nothing}
 use Rattle.tatp_history.specs.Outcomes.{may_take_effect}
 use Rattle.tatp_history.specs.Events.{asked_in, TimesRise, HaveEnds}
 use Rattle.tatp_history.specs.JustInTime.{AreOpen}
@@ -17,12 +18,13 @@ use Rattle.tatp_history.specs.Configurations.{Configuration, starting}
 use Rattle.tatp_history.proofs.OrderLaws.{all_in, in_all}
 use Rattle.tatp_history.proofs.ChoiceLaws.{chooses_some, chooses_length, find_asked}
 use Rattle.tatp_history.proofs.EventLaws.{answered_at}
-use Rattle.tatp_history.proofs.ReadLaws.{without_read}
+use Rattle.tatp_history.proofs.ChangeLaws.{unchanged}
+use Rattle.tatp_history.proofs.UnchangingLaws.{without_unchanging}
 use Rattle.tatp_history.proofs.RemainingLaws.{IsLeft, IsOrderFrom, HasOrder, open_asked, open_chosen, open_ended, taken_off, first_opens, asks_order, ends_order}
 use Rattle.tatp_history.proofs.JustInTimeLaws.{Any, serial_is, none_open}
-use Rattle.tatp_linearization.specs.AtOnce.{only_reads, FitsAtOnce, IsSettled, NeedsNoPlace, TakesOne, TakeUntil, FollowsAtOnce, LeadAtOnce}
+use Rattle.tatp_linearization.specs.AtOnce.{FitsAtOnce, IsSettled, NeedsNoPlace, TakesOne, TakeUntil, FollowsAtOnce, LeadAtOnce}
 use Rattle.tatp_linearization.proofs.DecisionLaws.{fits_or_not}
-use Rattle.tatp_linearization.proofs.SettlingLaws.{left_exists, left_settled, left_shorter, left_open, left_order, reads_leave}
+use Rattle.tatp_linearization.proofs.SettlingLaws.{left_exists, left_settled, left_shorter, left_open, left_order}
 
 pub have_more : (event : Event) (more : List Event) → HaveEnds (event ∷ more) → HaveEnds more
 have_more (Asks x) more h = h.2
@@ -126,7 +128,7 @@ module _ (Q : Database → Type 0) where
       let some = chooses_some c.opened x opens in
       let size : length c.opened ≡ suc (length some.0) = chooses_length c.opened x some.0 some.1 in
       let v : Database = (transaction x.call c.rows).database in
-      let writes : only_reads x.call ≡ false = elim (only_reads x.call) as (λ b. only_reads x.call ≡ b → b ≡ false) [
+      let writes : changes_nothing x ≡ false = elim (changes_nothing x) as (λ b. changes_nothing x ≡ b → b ≡ false) [
         | true ↦ λ r. absurd (in_all (λ (w : Observed). FitsAtOnce c.rows w → ⊥) x c.opened settled opens (r, ok.replies.0))
         | false ↦ λ r. refl
       ] refl in
@@ -185,7 +187,7 @@ module _ (Q : Database → Type 0) where
       ]
     where
       read_out : (x : Observed) (more : List Event) (c : Configuration) → AreOpen more (x ∷ c.opened) → FitsAtOnce c.rows x → HasOrder Q c.rows more (x ∷ c.opened) → HasOrder Q c.rows more c.opened
-      read_out x more c on k asked = without_read more (x ∷ c.opened) x c.opened (inl (refl, refl)) on Q c.rows (reads_leave x.call k.0) asked
+      read_out x more c on k asked = without_unchanging more (x ∷ c.opened) x c.opened (inl (refl, refl)) on Q c.rows (unchanged x k.0) asked
   event_complete (Ends asked at) more rise have c settled are order = elim (find_asked asked c.opened) [
     | inl none ↦ (c, inl (none, refl), ends_order Q c.rows asked at more c.opened order)
     | inr some ↦

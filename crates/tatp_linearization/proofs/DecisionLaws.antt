@@ -16,7 +16,8 @@ use Rattle.tatp_history.specs.declared.observed.Outcome.{Outcome}
 use Rattle.tatp_history.specs.declared.observed.Outcome.TheVariants.{Answered, Aborted, Unknown}
 use Rattle.tatp_history.specs.declared.observed.Observed.{Observed}
 use Rattle.tatp_history.specs.Histories.{IsAsRecorded, MayHaveReply}
-use Rattle.tatp_linearization.specs.AtOnce.{only_reads, FitsAtOnce}
+use Rattle.tatp_history.specs.Changes.{changes_nothing}
+use Rattle.tatp_linearization.specs.AtOnce.{FitsAtOnce}
 
 decided : (P : Type 0) (b : Bool) → Decides b P → P ⊎ (P → ⊥)
 decided P true d = inl (d.0 refl)
@@ -86,7 +87,7 @@ may_have_reply (Aborted at) reply = inr (λ h. h)
 may_have_reply Unknown reply = inl tt
 
 pub fits_or_not : (u : Database) (x : Observed) → FitsAtOnce u x ⊎ (FitsAtOnce u x → ⊥)
-fits_or_not u x = elim (only_reads x.call) as (λ b. only_reads x.call ≡ b → FitsAtOnce u x ⊎ (FitsAtOnce u x → ⊥)) [
+fits_or_not u x = elim (changes_nothing x) as (λ b. changes_nothing x ≡ b → FitsAtOnce u x ⊎ (FitsAtOnce u x → ⊥)) [
   | true ↦ λ e. elim (may_have_reply x.outcome (transaction x.call u).reply) [ inl m ↦ inl (e, m) | inr n ↦ inr (λ f. n f.1) ]
   | false ↦ λ e. inr (λ f. true≢false (sym f.0 ∙ e))
 ] refl

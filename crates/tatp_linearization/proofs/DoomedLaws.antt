@@ -1,5 +1,5 @@
 -- No configuration follows on a doomed one up to the end of its window.
-use Rattle.std.proofs.Common.{◌≡◌, ℕ, zero, suc, ◌⊎◌, true, false, ◌==◌, List, [], ◌∷◌, length, Option, Some, None, set, get_or, slice_index, slice_get, refl, sym, ◌∙◌, ap, subst, arith, eq-eqb, true≢false, inl, inr}
+use Rattle.std.proofs.Common.{◌≡◌, ℕ, zero, suc, ◌⊎◌, true, false, cond, ◌==◌, List, [], ◌∷◌, length, Option, Some, None, set, get_or, slice_index, slice_get, refl, sym, ◌∙◌, ap, subst, arith, eq-eqb, true≢false, inl, inr}
 use Rattle.std.specs.Option.{option_map}
 use Rattle.std.proofs.lemmas.List.{get_or-set_other}
 use Rattle.tatp_tables.specs.Tuples.{Tuple, Tuples, has, replace_row, remove_row}
@@ -22,17 +22,19 @@ use Rattle.tatp_history.specs.declared.observed.Observed.{Observed}
 use Rattle.tatp_history.specs.declared.observed.Recorded.TheVariants.{Exactly}
 use Rattle.tatp_history.specs.declared.observed.Outcome.TheVariants.{Answered}
 use Rattle.tatp_history.specs.Histories.{IsIn, MayHaveReply}
+use Rattle.tatp_history.specs.Changes.{only_reads, has_failed, changes_nothing}
 use Rattle.tatp_history.specs.JustInTime.{Chooses, NoneAskedAt}
 use Rattle.tatp_history.specs.Configurations.{Configuration}
+use Rattle.tatp_history.proofs.ChangeLaws.{reading_leaves}
 use Rattle.tatp_history.proofs.OrderLaws.{in_all}
 use Rattle.tatp_history.proofs.ChoiceLaws.{in_cases}
 use Rattle.tatp_linearization.specs.declared.configuration.Configuration.{Configuration as Held}
 use Rattle.tatp_linearization.specs.Held.{seen}
 use Rattle.tatp_linearization.specs.Overwritten.{IsBlind, AreButSome}
 use Rattle.tatp_linearization.specs.Covering.{StandsFor}
-use Rattle.tatp_linearization.specs.AtOnce.{only_reads, FitsAtOnce, AreLeft, TakesOne, TakeUntil, FollowsAtOnce}
+use Rattle.tatp_linearization.specs.AtOnce.{FitsAtOnce, AreLeft, TakesOne, TakeUntil, FollowsAtOnce}
 use Rattle.tatp_linearization.specs.Doomed.{NoneHasLocation, sets_location, SawLocation, NoneSets, IsStuck, IsDoomed}
-use Rattle.tatp_linearization.proofs.SettlingLaws.{left_all, reads_leave}
+use Rattle.tatp_linearization.proofs.SettlingLaws.{left_all}
 use Rattle.tatp_linearization.proofs.ButSomeLaws.{but_all}
 
 -- ---- locations
@@ -79,9 +81,9 @@ NoRowHas v rows = (row : Tuple) → has rows row ≡ true → slice_index row 33
 
 -- a transaction that doesn't set the location leaves no row with it, where there was none
 pub none_after : (call : Call) (v : ℕ) (u : Database) → sets_location v call ≡ false → NoneHasLocation v u → NoneHasLocation v (transaction call u).database
-none_after (GetSubscriberData s) v u other none = subst (NoneHasLocation v) (sym (reads_leave (GetSubscriberData s) refl u)) none
-none_after (GetNewDestination s t b e) v u other none = subst (NoneHasLocation v) (sym (reads_leave (GetNewDestination s t b e) refl u)) none
-none_after (GetAccessData s t) v u other none = subst (NoneHasLocation v) (sym (reads_leave (GetAccessData s t) refl u)) none
+none_after (GetSubscriberData s) v u other none = subst (NoneHasLocation v) (sym (reading_leaves (GetSubscriberData s) refl u)) none
+none_after (GetNewDestination s t b e) v u other none = subst (NoneHasLocation v) (sym (reading_leaves (GetNewDestination s t b e) refl u)) none
+none_after (GetAccessData s t) v u other none = subst (NoneHasLocation v) (sym (reading_leaves (GetAccessData s t) refl u)) none
 none_after (UpdateSubscriberData s x t y) v u other none = keeps_both v u x y (row_at u.subscribers (s ∷ [])) (row_at u.facilities (s ∷ t ∷ [])) (λ q e. row_at-has u.subscribers (s ∷ []) q e) none
 none_after (UpdateLocation n w) v u other none = keeps_location v u w (row_with_number u.subscribers n) other (λ q e. has-found (has_number n) u.subscribers q e) none
 none_after (InsertCallForwarding n t b e x) v u other none = subst (NoRowHas v) (sym (inserts_for_keep u t b e x (home_of_key u.subscribers (Number n)))) none
@@ -124,8 +126,8 @@ one_stuck events c d r v h stuck =
     let none : NoneHasLocation v u = none_after h.0.call v c.rows sets.0 stuck.rows in
     let stays : IsIn r h.1 = elim (in_cases c.opened h.0 h.1 h.2.chosen r stuck.there) [
       | inl e ↦
-          let reads : only_reads r.call ≡ true = ap only_reads stuck.saw.reads in
-          let writes : only_reads r.call ≡ false = ap (λ (z : Observed). only_reads z.call) e ∙ h.2.writes in
+          let reads : changes_nothing r ≡ true = ap (λ call. cond (only_reads call) true (has_failed r.outcome)) stuck.saw.reads in
+          let writes : changes_nothing r ≡ false = ap changes_nothing e ∙ h.2.writes in
           absurd (true≢false (sym reads ∙ writes))
       | inr k ↦ k
     ] in

@@ -12,13 +12,14 @@ use Rattle.tatp_history.specs.Histories.{MayHaveReply}
 use Rattle.tatp_history.specs.Outcomes.{may_take_effect}
 use Rattle.tatp_history.specs.JustInTime.{NoneAskedAt}
 use Rattle.tatp_history.specs.Configurations.{Configuration, starting}
+use Rattle.tatp_history.proofs.ChangeLaws.{unchanged}
 use Rattle.tatp_history.proofs.OrderLaws.{all_map}
 use Rattle.tatp_linearization.specs.declared.configuration.Configuration.{Configuration as Held}
 use Rattle.tatp_linearization.specs.AtOnce.{FitsAtOnce, AreLeft, IsSettled, TakesOne, TakeUntil, FollowsAtOnce, LeadAtOnce}
 use Rattle.tatp_linearization.specs.Possible.{CallTakesEffect, CallsTakeEffect, Passes, MayBecome, AreMoreThan, IsPossible, NeedMore}
 use Rattle.tatp_linearization.specs.Held.{TakeMany}
 use Rattle.tatp_linearization.specs.Covering.{OneStandsFor, FromOne, MayCome, MayFollow, MayBeTried}
-use Rattle.tatp_linearization.proofs.SettlingLaws.{chooses_mid, shift, reads_leave}
+use Rattle.tatp_linearization.proofs.SettlingLaws.{chooses_mid, shift}
 use Rattle.tatp_linearization.proofs.AtOnceLaws.{one_settled, event_settled}
 
 pub more_than : (most : ℕ) (P R : Configuration → Type 0) → ((d : Configuration) → P d → R d) → AreMoreThan most P → AreMoreThan most R
@@ -38,23 +39,23 @@ some_on c d e first second = calls_on first.0 c d e first.1 second
 one_call : (c d : Configuration) → CallTakesEffect c d → SomeTakeEffect c d
 one_call c d h = (1, (d, h, refl))
 
--- a read takes effect, and leaves the rows
-read_call : (u : Database) (opened left : List Observed) (x : Observed) → FitsAtOnce u x → ((d : Configuration) → d ≡ record { rows = (transaction x.call u).database; opened = left } → CallTakesEffect (record { rows = u; opened = opened }) d)
+-- a call that changes nothing takes effect, and leaves the rows
+unchanging_call : (u : Database) (opened left : List Observed) (x : Observed) → FitsAtOnce u x → ((d : Configuration) → d ≡ record { rows = (transaction x.call u).database; opened = left } → CallTakesEffect (record { rows = u; opened = opened }) d)
     → SomeTakeEffect (record { rows = u; opened = opened }) (record { rows = u; opened = left })
-read_call u opened left x f takes =
-    let same = reads_leave x.call f.0 u in
+unchanging_call u opened left x f takes =
+    let same = unchanged x f.0 u f.1 in
     one_call (record { rows = u; opened = opened }) (record { rows = u; opened = left }) (takes (record { rows = u; opened = left }) (λ i. record { rows = sym same i; opened = left }))
 
-reads_take : (u : Database) (before xs left : List Observed) → AreLeft u xs left → SomeTakeEffect (record { rows = u; opened = before ++ xs }) (record { rows = u; opened = before ++ left })
-reads_take u before [] left a = (0, λ i. record { rows = u; opened = before ++ a i })
-reads_take u before (x ∷ xs) left a = elim a [
+unchanging_take : (u : Database) (before xs left : List Observed) → AreLeft u xs left → SomeTakeEffect (record { rows = u; opened = before ++ xs }) (record { rows = u; opened = before ++ left })
+unchanging_take u before [] left a = (0, λ i. record { rows = u; opened = before ++ a i })
+unchanging_take u before (x ∷ xs) left a = elim a [
   | inl k ↦ some_on (record { rows = u; opened = before ++ x ∷ xs }) (record { rows = u; opened = before ++ xs }) (record { rows = u; opened = before ++ left })
-      (read_call u (before ++ x ∷ xs) (before ++ xs) x k.0 (λ d e. (x, before ++ xs, chooses_mid before xs x, k.0.1, e)))
-      (reads_take u before xs left k.1)
+      (unchanging_call u (before ++ x ∷ xs) (before ++ xs) x k.0 (λ d e. (x, before ++ xs, chooses_mid before xs x, k.0.1, e)))
+      (unchanging_take u before xs left k.1)
   | inr k ↦
       subst (λ zs. SomeTakeEffect (record { rows = u; opened = zs }) (record { rows = u; opened = before ++ left })) (sym (shift before x xs))
       (subst (λ zs. SomeTakeEffect (record { rows = u; opened = (before ++ x ∷ []) ++ xs }) (record { rows = u; opened = zs })) (sym (shift before x k.1.0) ∙ ap (λ zs. before ++ zs) (sym k.1.1))
-      (reads_take u (before ++ x ∷ []) xs k.1.0 k.1.2))
+      (unchanging_take u (before ++ x ∷ []) xs k.1.0 k.1.2))
 ]
 
 pub one_takes : (c d : Configuration) → TakesOne c d → SomeTakeEffect c d
@@ -62,7 +63,7 @@ one_takes c d h =
     let v : Database = (transaction h.0.call c.rows).database in
     let mid : Configuration = record { rows = v; opened = h.1 } in
     let end : record { rows = v; opened = d.opened } ≡ d = λ i. record { rows = sym h.2.rows i; opened = d.opened } in
-    some_on c mid d (one_call c mid (h.0, h.1, h.2.chosen, h.2.may, refl)) (subst (SomeTakeEffect mid) end (reads_take v [] h.1 d.opened h.2.settled))
+    some_on c mid d (one_call c mid (h.0, h.1, h.2.chosen, h.2.may, refl)) (subst (SomeTakeEffect mid) end (unchanging_take v [] h.1 d.opened h.2.settled))
 
 pub until_takes : (n asked : ℕ) (c d : Configuration) → TakeUntil n asked c d → SomeTakeEffect c d × NoneAskedAt asked d.opened
 until_takes zero asked c d h = absurd h
@@ -105,7 +106,7 @@ event_becomes past (Asks x) s c d may h = elim h [
         let asked : Configuration = record { rows = c.rows; opened = x ∷ c.opened } in
         becomes_on (past ++ Asks x ∷ []) s asked c
         (becomes_passed past (Asks x) s c asked may (asked_passes x c true (no_abort x.outcome x c.rows f.1)))
-        (read_call c.rows (x ∷ c.opened) c.opened x f (λ e same. (x, c.opened, inl (refl, refl), f.1, same)))
+        (unchanging_call c.rows (x ∷ c.opened) c.opened x f (λ e same. (x, c.opened, inl (refl, refl), f.1, same)))
   ])
   | inr k ↦ subst (MayBecome (past ++ Asks x ∷ []) s) (sym k.1)
       (becomes_passed past (Asks x) s c (record { rows = c.rows; opened = x ∷ c.opened }) may (asked_passes x c true (not_false (may_take_effect x.outcome) (λ e. k.0 (inl e)))))

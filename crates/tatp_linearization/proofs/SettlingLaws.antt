@@ -1,27 +1,16 @@
--- Open calls without the reads whose reply fits.
+-- Open calls without those that change nothing and whose reply fits.
 use Rattle.std.proofs.Common.{◌≡◌, suc, ◌≤◌, true, List, [], ◌∷◌, ◌++◌, length, refl, sym, ◌∙◌, ap, subst, arith, true≢false, inl, inr}
 use Rattle.std.specs.List.{AllByRecursion}
 use Rattle.tatp_tables.specs.Database.{Database}
-use Rattle.tatp_procs.specs.declared.call.Call.{Call}
-use Rattle.tatp_procs.specs.declared.call.Call.TheVariants.{GetSubscriberData, GetNewDestination, GetAccessData, UpdateSubscriberData, UpdateLocation, InsertCallForwarding, DeleteCallForwarding}
 use Rattle.tatp_history.specs.declared.event.Event.{Event}
 use Rattle.tatp_history.specs.declared.observed.Observed.{Observed}
 use Rattle.tatp_history.specs.Events.{HaveEnds}
 use Rattle.tatp_history.specs.JustInTime.{Chooses, AreOpen}
-use Rattle.tatp_history.specs.Configurations.{IsRead}
 use Rattle.tatp_history.proofs.RemainingLaws.{HasOrder, open_chosen}
-use Rattle.tatp_history.proofs.ReadLaws.{without_read, subscriber_data_is_read, new_destination_is_read, access_data_is_read}
-use Rattle.tatp_linearization.specs.AtOnce.{only_reads, FitsAtOnce, AreLeft}
+use Rattle.tatp_history.proofs.ChangeLaws.{unchanged}
+use Rattle.tatp_history.proofs.UnchangingLaws.{without_unchanging}
+use Rattle.tatp_linearization.specs.AtOnce.{FitsAtOnce, AreLeft}
 use Rattle.tatp_linearization.proofs.DecisionLaws.{fits_or_not}
-
-pub reads_leave : (call : Call) → only_reads call ≡ true → IsRead call
-reads_leave (GetSubscriberData s) e = subscriber_data_is_read s
-reads_leave (GetNewDestination s t b e) _ = new_destination_is_read s t b e
-reads_leave (GetAccessData s t) e = access_data_is_read s t
-reads_leave (UpdateSubscriberData s x t y) e = absurd (true≢false (sym e))
-reads_leave (UpdateLocation n v) e = absurd (true≢false (sym e))
-reads_leave (InsertCallForwarding n t b e x) h = absurd (true≢false (sym h))
-reads_leave (DeleteCallForwarding n t b) e = absurd (true≢false (sym e))
 
 -- ---- lists
 pub chooses_mid : (before more : List Observed) (x : Observed) → Chooses (before ++ x ∷ more) x (before ++ more)
@@ -89,7 +78,7 @@ module _ (Q : Database → Type 0) (events : List Event) (have : HaveEnds events
   left_order before (x ∷ xs) left a are h = elim a [
     | inl k ↦ let c = chooses_mid before xs x in
         left_order before xs left k.1 (open_chosen events (before ++ x ∷ xs) x (before ++ xs) c are)
-        (without_read events (before ++ x ∷ xs) x (before ++ xs) c are Q u (reads_leave x.call k.0.0) h)
+        (without_unchanging events (before ++ x ∷ xs) x (before ++ xs) c are Q u (reads_leave x.call k.0.0) h)
     | inr k ↦ subst (λ zs. HasOrder Q u events (before ++ zs)) (sym k.1.1) (subst (λ zs. HasOrder Q u events zs) (sym (shift before x k.1.0))
         (left_order (before ++ x ∷ []) xs k.1.0 k.1.2 (subst (AreOpen events) (shift before x xs) are) (subst (λ zs. HasOrder Q u events zs) (shift before x xs) h)))
   ]

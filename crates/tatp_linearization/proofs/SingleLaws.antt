@@ -12,15 +12,16 @@ use Rattle.tatp_history.specs.Histories.{IsAnswered, IsStrictlySerializable, May
 use Rattle.tatp_history.specs.Outcomes.{may_take_effect}
 use Rattle.tatp_history.specs.Locality.{AreAccepted}
 use Rattle.tatp_history.specs.Events.{asked_in, time_of, AreAfter, TimesRise, IsAnsweredAt, EndsIn, EndsFit, HaveEnds}
+use Rattle.tatp_history.specs.Changes.{changes_nothing}
 use Rattle.tatp_history.specs.Configurations.{Configuration, starting}
+use Rattle.tatp_history.proofs.ChangeLaws.{unchanged}
 use Rattle.tatp_linearization.specs.declared.configuration.Configuration.{Configuration as Held}
-use Rattle.tatp_linearization.specs.AtOnce.{only_reads, AreLeft, TakeUntil, FollowsAtOnce, LeadAtOnce}
+use Rattle.tatp_linearization.specs.AtOnce.{AreLeft, TakeUntil, FollowsAtOnce, LeadAtOnce}
 use Rattle.tatp_linearization.specs.Possible.{IsPossible}
 use Rattle.tatp_linearization.specs.Held.{seen, AreReady, AreApart}
 use Rattle.tatp_linearization.specs.Covering.{OneStandsFor}
 use Rattle.tatp_linearization.specs.Reached.{AreKept}
 use Rattle.tatp_linearization.specs.Single.{events_alone, answered_with}
-use Rattle.tatp_linearization.proofs.SettlingLaws.{reads_leave}
 use Rattle.tatp_linearization.proofs.AtOnceLaws.{lead_by, lead_settled, at_once_complete}
 use Rattle.tatp_linearization.proofs.PossibleLaws.{lead_becomes}
 use Rattle.tatp_linearization.proofs.SerialLaws.{possible_serial}
@@ -47,11 +48,11 @@ module _ (x : Observed) (at : ℕ) (u : Database) where
 
   -- where the reply fits, they lead to the rows that its transaction leaves
   pub alone_leads : MayHaveReply x.outcome (transaction x.call u).reply → LeadAtOnce (events_alone x at) before after
-  alone_leads may = elim (only_reads x.call) as (λ b. only_reads x.call ≡ b → LeadAtOnce (events_alone x at) before after) [
-    | true ↦ λ reads. (
+  alone_leads may = elim (changes_nothing x) as (λ b. changes_nothing x ≡ b → LeadAtOnce (events_alone x at) before after) [
+    | true ↦ λ leaves. (
       before,
-      inl (inr (reads, may), refl),
-      (after, inl (tt, λ i. record { rows = reads_leave x.call reads u i; opened = [] }), refl),
+      inl (inr (leaves, may), refl),
+      (after, inl (tt, λ i. record { rows = unchanged x leaves u may i; opened = [] }), refl),
     )
     | false ↦ λ writes. (
       record { rows = u; opened = x ∷ [] },
@@ -73,7 +74,7 @@ module _ (x : Observed) (at : ℕ) (u : Database) where
     | inl k ↦ elim k.0 [
       | inl aborted ↦ absurd (can aborted)
       | inr fits ↦
-          let same : h.0 ≡ after = k.1 ∙ (λ i. record { rows = sym (reads_leave x.call fits.0 u) i; opened = [] }) in
+          let same : h.0 ≡ after = k.1 ∙ (λ i. record { rows = sym (unchanged x fits.0 u fits.1) i; opened = [] }) in
           let next : FollowsAtOnce (Ends x.asked at) after h.2.0 = subst (λ (b : Configuration). FollowsAtOnce (Ends x.asked at) b h.2.0) same h.2.1 in
           (fits.1, elim next [ inl q ↦ h.2.2 ∙ q.1 | inr q ↦ absurd (q.0 tt) ])
     ]

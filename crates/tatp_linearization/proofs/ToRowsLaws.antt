@@ -7,6 +7,7 @@ use Rattle.tatp_procs.specs.Transactions.{transaction}
 use Rattle.tatp_history.specs.declared.event.Event.{Event}
 use Rattle.tatp_history.specs.declared.observed.Observed.{Observed}
 use Rattle.tatp_history.specs.Histories.{IsIn, IsStrictlySerializableTo, rows_after}
+use Rattle.tatp_history.specs.Changes.{changes_nothing}
 use Rattle.tatp_history.specs.Events.{asked_in, TimesRise, HaveEnds}
 use Rattle.tatp_history.specs.JustInTime.{AreOpen}
 use Rattle.tatp_history.specs.Configurations.{Configuration, starting}
@@ -15,7 +16,7 @@ use Rattle.tatp_history.proofs.ChoiceLaws.{chooses_some, chooses_length}
 use Rattle.tatp_history.proofs.RemainingLaws.{IsOrderFrom, HasOrder, open_chosen, taken_off}
 use Rattle.tatp_history.proofs.JustInTimeLaws.{serial_is, none_open}
 use Rattle.tatp_linearization.specs.declared.configuration.Configuration.{Configuration as Held}
-use Rattle.tatp_linearization.specs.AtOnce.{only_reads, FitsAtOnce, IsSettled, TakesOne, LeadAtOnce}
+use Rattle.tatp_linearization.specs.AtOnce.{FitsAtOnce, IsSettled, TakesOne, LeadAtOnce}
 use Rattle.tatp_linearization.specs.Possible.{AreMoreThan}
 use Rattle.tatp_linearization.specs.Held.{AreReady, AreApart, TakeMany, TakeSome}
 use Rattle.tatp_linearization.specs.Overwritten.{IsBlind}
@@ -43,7 +44,7 @@ module _ (Q : Database → Type 0) where
       let some = chooses_some c.opened x opens in
       let size : length c.opened ≡ suc (length some.0) = chooses_length c.opened x some.0 some.1 in
       let v : Database = (transaction x.call c.rows).database in
-      let writes : only_reads x.call ≡ false = elim (only_reads x.call) as (λ b. only_reads x.call ≡ b → b ≡ false) [
+      let writes : changes_nothing x ≡ false = elim (changes_nothing x) as (λ b. changes_nothing x ≡ b → b ≡ false) [
         | true ↦ λ r. absurd (in_all (λ (w : Observed). FitsAtOnce c.rows w → ⊥) x c.opened settled opens (r, ok.replies.0))
         | false ↦ λ r. refl
       ] refl in

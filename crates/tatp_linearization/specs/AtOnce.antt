@@ -1,57 +1,46 @@
--- Just-in-time linearization in which a read takes effect as soon as its reply fits, so that only
--- writes are tried.
+-- Just-in-time linearization in which a call that changes nothing takes effect as soon as its reply
+-- fits, so that only the others are tried.
 use Rattle.std.specs.Prelude.{◌≡◌, ℕ, zero, suc, ◌⊎◌, Bool, true, false, List, [], ◌∷◌, length}
 use Rattle.std.specs.List.{AllByRecursion}
 use Rattle.tatp_tables.specs.Database.{Database}
-use Rattle.tatp_procs.specs.declared.call.Call.{Call}
-use Rattle.tatp_procs.specs.declared.call.Call.TheVariants.{GetSubscriberData, GetNewDestination, GetAccessData, UpdateSubscriberData, UpdateLocation, InsertCallForwarding, DeleteCallForwarding}
 use Rattle.tatp_procs.specs.Transactions.{transaction}
 use Rattle.tatp_history.specs.declared.event.Event.{Event}
 use Rattle.tatp_history.specs.declared.event.Event.TheVariants.{Asks, Ends}
 use Rattle.tatp_history.specs.declared.observed.Observed.{Observed}
 use Rattle.tatp_history.specs.Histories.{MayHaveReply}
+use Rattle.tatp_history.specs.Changes.{changes_nothing}
 use Rattle.tatp_history.specs.Outcomes.{may_take_effect}
 use Rattle.tatp_history.specs.JustInTime.{Chooses, NoneAskedAt}
 use Rattle.tatp_history.specs.Configurations.{Configuration}
 
--- whether a call only reads
-abbrev pub only_reads : Call → Bool
-only_reads (GetSubscriberData s) = true
-only_reads (GetNewDestination s t b e) = true
-only_reads (GetAccessData s t) = true
-only_reads (UpdateSubscriberData s x t y) = false
-only_reads (UpdateLocation n v) = false
-only_reads (InsertCallForwarding n t b e x) = false
-only_reads (DeleteCallForwarding n t b) = false
-
--- a read whose reply on these rows is one with which it may have ended
+-- a call that changes nothing, and whose reply on these rows is one with which it may have ended
 abbrev pub FitsAtOnce : Database → Observed → Type 0
-FitsAtOnce u x = (only_reads x.call ≡ true) × MayHaveReply x.outcome (transaction x.call u).reply
+FitsAtOnce u x = (changes_nothing x ≡ true) × MayHaveReply x.outcome (transaction x.call u).reply
 
--- `left` are the open calls without such reads
+-- `left` are the open calls without such calls
 abbrev pub AreLeft : Database → List Observed → List Observed → Type 0
 AreLeft u [] left = left ≡ []
 AreLeft u (x ∷ more) left =
     (FitsAtOnce u x × AreLeft u more left)
     ⊎ ((FitsAtOnce u x → ⊥) × ((rest : List Observed) × (left ≡ x ∷ rest) × AreLeft u more rest))
 
--- where the call is such a read `Taken` holds, and else `Kept`
+-- where the call is such a call `Taken` holds, and else `Kept`
 abbrev pub IsSettledAt : Database → Observed → Type 0 → Type 0 → Type 0
 IsSettledAt u x Taken Kept = (FitsAtOnce u x × Taken) ⊎ ((FitsAtOnce u x → ⊥) × Kept)
 
--- no such read is open
+-- no such call is open
 abbrev pub IsSettled : Configuration → Type 0
 IsSettled c = AllByRecursion (λ (x : Observed). FitsAtOnce c.rows x → ⊥) c.opened
 
--- a call that needn't be open: it was aborted, or it is such a read
+-- a call that needn't be open: it was aborted, or it is such a call
 abbrev pub NeedsNoPlace : Database → Observed → Type 0
 NeedsNoPlace u x = (may_take_effect x.outcome ≡ false) ⊎ FitsAtOnce u x
 
--- the second is the first after an open call that writes took effect, and after it the reads whose
--- reply fits the new rows
+-- the second is the first after an open call that writes took effect, and after it those that
+-- change nothing and whose reply fits the new rows
 pub record TakesWrite (c d : Configuration) (x : Observed) (left : List Observed) : Type 0 where
   pub chosen : Chooses c.opened x left
-  pub writes : only_reads x.call ≡ false
+  pub writes : changes_nothing x ≡ false
   pub may : MayHaveReply x.outcome (transaction x.call c.rows).reply
   pub rows : d.rows ≡ (transaction x.call c.rows).database
   pub settled : AreLeft (transaction x.call c.rows).database left d.opened

@@ -8,10 +8,11 @@ use Rattle.tatp_history.specs.declared.event.Event.{Event}
 use Rattle.tatp_history.specs.declared.event.Event.TheVariants.{Asks, Ends}
 use Rattle.tatp_history.specs.declared.observed.Observed.{Observed}
 use Rattle.tatp_history.specs.Histories.{MayHaveReply}
+use Rattle.tatp_history.specs.Changes.{changes_nothing}
 use Rattle.tatp_history.specs.Locality.{AreAccepted}
 use Rattle.tatp_history.specs.Configurations.{Configuration}
 use Rattle.tatp_linearization.specs.declared.configuration.Configuration.{Configuration as Held}
-use Rattle.tatp_linearization.specs.AtOnce.{only_reads, AreLeft, TakesOne, FollowsAtOnce}
+use Rattle.tatp_linearization.specs.AtOnce.{AreLeft, TakesOne, FollowsAtOnce}
 use Rattle.tatp_linearization.specs.Overwritten.{SetsLocation, AreLeftOf, without_place}
 use Rattle.tatp_linearization.specs.Possible.{AreDistinct}
 
@@ -58,7 +59,7 @@ IsOverwritten c d i x =
 
 pub record TakesAt (c d : Held) (i : ℕ) (x : Observed) : Type 0 where
   pub at : slice_get c.opened.items i ≡ Some x
-  pub writes : only_reads x.call ≡ false
+  pub writes : changes_nothing x ≡ false
   pub may : MayHaveReply x.outcome (transaction x.call c.home.tables).reply
   pub rows : d.home.tables ≡ (transaction x.call c.home.tables).database
   pub settled : AreLeft (transaction x.call c.home.tables).database
@@ -68,11 +69,11 @@ pub record TakesAt (c d : Held) (i : ℕ) (x : Observed) : Type 0 where
   pub overwritten : IsOverwritten c d i x
 
 -- the second is the first after its open call at this place, which writes, took effect. There is
--- none where that call reads, or can't have ended with its reply here
+-- none where that call changes nothing, or can't have ended with its reply here
 abbrev pub Takes : Held → ℕ → Option Held → Type 0
 Takes c i (Some d) = (x : Observed) × TakesAt c d i x
 Takes c i None =
-    (x : Observed) → slice_get c.opened.items i ≡ Some x → only_reads x.call ≡ false
+    (x : Observed) → slice_get c.opened.items i ≡ Some x → changes_nothing x ≡ false
     → MayHaveReply x.outcome (transaction x.call c.home.tables).reply → ⊥
 
 -- ---- lists of configurations

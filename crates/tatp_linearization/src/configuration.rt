@@ -10,7 +10,7 @@ ghost use Rattle.tatp_linearization.specs.Held.{Adds, AreApart, AreReady, Has, I
 
 use crate::comparing::{are_asked_alike, are_same};
 use crate::covering::may_be_left_out;
-use crate::reading::{needs_no_place, only_reads, settle};
+use crate::reading::{needs_no_place, settle};
 use crate::stopped::Stopped;
 use std::alloc::{AllocError, Global};
 use tatp_evaluation::evaluate;
@@ -170,7 +170,7 @@ fn updates_location(home: &Home, call: &Call) -> bool
 }
 
 /// The configuration after its open call at the place `i` took effect. `None` means that this call
-/// only reads, or that it can't have ended with the reply that it has there.
+/// changes nothing, or that it can't have ended with the reply that it has there.
 pub(crate) fn take(
     alloc: Global,
     c: &Configuration,
@@ -181,7 +181,7 @@ pub(crate) fn take(
     ensures { IfOk result (Takes c.now i) }
 {
     let x = c.opened[i];
-    if only_reads(&x.call) {
+    if x.changes_nothing() {
         return Ok(None);
     }
     let mut home = c.home.copy();

@@ -1,44 +1,33 @@
-//! Reads that take effect at once.
+//! Calls that change nothing, and take effect at once.
 ghost use Rattle.std.specs.Prelude.{◌≡◌, ◌<◌, ◌↔◌, IsTrue, Ok, Some, false, length, remove, slice_get};
 ghost use Rattle.tatp_history.specs.declared.observed.Observed.{Observed as Asked};
 ghost use Rattle.tatp_procs.specs.Arguments.{arguments_accepted};
 ghost use Rattle.tatp_history.specs.Locality.{AreAccepted};
-ghost use Rattle.tatp_linearization.specs.AtOnce.{FitsAtOnce, IsSettledAt, NeedsNoPlace, only_reads as reads};
+ghost use Rattle.tatp_linearization.specs.AtOnce.{FitsAtOnce, IsSettledAt, NeedsNoPlace};
 ghost use Rattle.tatp_linearization.specs.Overwritten.{AreLeftOf};
 
 use tatp_evaluation::evaluate;
-use tatp_history::{Observed, Outcome};
+use tatp_history::{Observed, Outcome, only_reads};
 use tatp_homes::Home;
-use tatp_procs::{Call, Reply};
+use tatp_procs::Reply;
 
-/// Whether a call changes nothing, whatever the rows.
-pub(crate) fn only_reads(call: &Call) -> bool
-    ensures { result ≡ reads call.now }
-{
-    match call {
-        Call::GetSubscriberData { .. } => true,
-        Call::GetNewDestination { .. } => true,
-        Call::GetAccessData { .. } => true,
-        Call::UpdateSubscriberData { .. } => false,
-        Call::UpdateLocation { .. } => false,
-        Call::InsertCallForwarding { .. } => false,
-        Call::DeleteCallForwarding { .. } => false,
-    }
-}
-
-/// Whether a call only reads, and may have ended with the reply that it has on this home. The home
-/// keeps its rows.
+/// Whether a call changes nothing, and may have ended with the reply that it has on this home. The
+/// home keeps its rows.
 fn fits_at_once(home: &mut Home, x: &Observed) -> bool
     requires accepted { arguments_accepted x.now.call ≡ Ok tt }
     ensures fits { IsTrue result ↔ FitsAtOnce home.old.tables x.now }
     ensures rows { home.new.tables ≡ home.old.tables }
     ensures own { home.new.s_id ≡ home.old.s_id }
 {
-    if !only_reads(&x.call) {
+    if !x.changes_nothing() {
         return false;
     }
     let mut reply = Reply::Refused;
-    evaluate(home, &x.call, &mut reply);
+    if only_reads(&x.call) {
+        evaluate(home, &x.call, &mut reply);
+    } else {
+        evaluate(&mut home.copy(), &x.call, &mut reply);
+    }
     x.outcome.allows(&reply)
 }
 
@@ -55,8 +44,8 @@ pub(crate) fn needs_no_place(home: &mut Home, x: &Observed) -> bool
     }
 }
 
-/// Takes an open call out, if it is a read whose reply fits, and tells whether it is one. The home
-/// keeps its rows.
+/// Takes an open call out, if it changes nothing and its reply fits, and tells whether it does. The
+/// home keeps its rows.
 fn settle_at(home: &mut Home, opened: &mut Vec<Observed>, place: usize) -> bool
     requires inside { place < length opened.old.items }
     requires accepted { AreAccepted opened.old.items }
@@ -74,8 +63,8 @@ fn settle_at(home: &mut Home, opened: &mut Vec<Observed>, place: usize) -> bool
     true
 }
 
-/// Takes the reads whose reply fits out of the open calls, and tells how many of the last `many`
-/// are left. The home keeps its rows.
+/// Takes the calls that change nothing and whose reply fits out of the open calls, and tells how
+/// many of the last `many` are left. The home keeps its rows.
 pub(crate) fn settle(home: &mut Home, opened: &mut Vec<Observed>, many: usize) -> usize
     requires accepted { AreAccepted opened.old.items }
     ensures left { AreLeftOf home.old.tables many opened.old.items result opened.new.items }

@@ -3,7 +3,7 @@ use Rattle.tatp_homes.specs.Home.{SubscriberRows}
 use Rattle.tatp_history.specs.declared.observed.Observed.{Observed}
 use Rattle.tatp_history.specs.Histories.{MayHaveReply}
 use Rattle.tatp_procs.specs.Transactions.{transaction}
-use Rattle.tatp_linearization.specs.AtOnce.{only_reads}
+use Rattle.tatp_history.specs.Changes.{changes_nothing}
 use Rattle.tatp_linearization.specs.Overwritten.{without_place, AreLeftOf}
 use Rattle.tatp_linearization.proofs.ButSomeLaws.{left_of}
 use Rattle.tatp_linearization.proofs.PlaceLaws.{get_at, same_item}
@@ -29,7 +29,7 @@ returns c =
       x,
       record {
         at = at;
-        writes = sym c.only_reads.ensures ∙ c.if-only_reads.false;
+        writes = sym c.changes_nothing.ensures ∙ c.if-changes_nothing.false;
         may = subst (MayHaveReply x.outcome) reply (c.allows.ensures.0 c.if-not-allows.false);
         rows = c.settle-still.ensures.rows ∙ rows;
         settled = left_of (transaction x.call c.args.c.now.home.tables).database (without_place c.args.c.now.overwritten (length c.args.c.now.opened.items) c.args.i) (remove c.args.c.now.opened.items c.args.i) still left counted;
@@ -42,12 +42,12 @@ returns c =
       },
     )
 
-pub returns-then-only_reads : goal.returns-then-only_reads
-returns-then-only_reads c = λ y there writes may.
+pub returns-then-changes_nothing : goal.returns-then-changes_nothing
+returns-then-changes_nothing c = λ y there writes may.
     let x : Observed = c.index.result.now in
     let at : slice_get c.args.c.now.opened.items c.args.i ≡ Some x = get_at _ _ _ c.requires.inside c.index.ensures in
     let one : y ≡ x = same_item c.args.c.now.opened.items c.args.i y x there at in
-    true≢false (sym c.if-only_reads.true ∙ (c.only_reads.ensures ∙ (ap (λ (z : Observed). only_reads z.call) (sym one) ∙ writes)))
+    true≢false (sym c.if-changes_nothing.true ∙ (c.changes_nothing.ensures ∙ (ap changes_nothing (sym one) ∙ writes)))
 
 pub returns-then-not-allows : goal.returns-then-not-allows
 returns-then-not-allows c = λ y there writes may.

@@ -1,5 +1,5 @@
 -- Where a client stands in its conversation.
-use Rattle.std.specs.Prelude.{◌≡◌, ℕ, List, ◌++◌, length, Option, Some, None, slice_get, true, ◌≤◌, ◌+◌, Vec}
+use Rattle.std.specs.Prelude.{◌≡◌, ℕ, List, [], ◌++◌, length, Option, Some, None, slice_get, true, ◌≤◌, ◌+◌, Vec}
 use Rattle.std.specs.declared.alloc.Global.{Global}
 use Rattle.tatp_procs.specs.declared.ask.Ask.{Ask}
 use Rattle.tatp_numbers.specs.Listing.{Listing}
@@ -58,8 +58,9 @@ module _ {E : Type 0} where
     -- a client goes on: wherever its conversation began, it stands in it where it stood in it
     pub record GoesOn (lists : List (Vec Ask Global)) (before after : Client E) : Type 0 where
       pub number : after.number ≡ before.number
-      pub stands : (start : Beginning) → Stands (asks_of lists before.number) start before
-      → Stands (asks_of lists before.number) start after
+      pub stands : (start : Beginning)
+          → Stands (asks_of lists before.number) start before
+          → Stands (asks_of lists before.number) start after
 
     -- a client's conversation, from before its first call to the end
     abbrev pub HasConversed : List Ask → Client E → Client E → Type 0
@@ -73,4 +74,4 @@ module _ {E : Type 0} where
     pub record IsAsked (lists : List (Vec Ask Global)) (before after : Client E) : Type 0 where
       pub number : after.number ≡ before.number
       pub conversed : IsReady (asks_of lists before.number) before
-      → HasConversed (asks_of lists before.number) before after
+          → HasConversed (asks_of lists before.number) before after

@@ -1,8 +1,10 @@
 //! What clients do: each asks its calls one after another, and a thread goes on with those of its
 //! clients whose receipts have come.
-ghost use Rattle.std.specs.Prelude.{◌≡◌, ◌++◌, ◌∷◌, [], ◌<◌, List, All, Some, true, length, slice_get};
+ghost use Rattle.std.specs.Prelude.{◌≡◌, ◌++◌, ◌∷◌, [], ◌<◌, List, Vec, All, IfSome, IfNone, Some, None, true, length, slice_get};
 ghost use Rattle.std.specs.List.{AllZip};
-ghost use Rattle.std.specs.Option.{option_map};
+ghost use Rattle.std.specs.declared.alloc.Global.{Global};
+ghost use Rattle.tatp_numbers.specs.Listing.{Listing};
+ghost use Rattle.tatp_procs.specs.declared.ask.Ask.{Ask};
 ghost use Rattle.tatp_logs.specs.declared.receipt.Receipt.{Receipt};
 ghost use Rattle.tatp_workers.specs.Asking.{item_of, seen_after};
 ghost use Rattle.tatp_workers.specs.Standing.{asks_of, GoesOn, IsAsked};
@@ -45,10 +47,12 @@ fn seen_after(seen: u64, receipts: &Receipts) -> u64
 }
 
 /// The call of this number in a client's list, if there is one.
-fn call_of(lists: &[Vec<Ask>], client: u64, number: usize) -> Option<Ask>
-    ensures { result ≡ slice_get (asks_of lists.now client) number }
+fn call_of(lists: &[Vec<Ask>], client: u64, number: usize) -> Option<&Ask>
+    ensures some { IfSome result
+        (λ ask. slice_get (asks_of lists.now client) number ≡ Some ask.now) }
+    ensures none { IfNone result (slice_get (asks_of lists.now client) number ≡ None) }
 {
-    lists.get(client as usize)?.get(number).copied()
+    lists.get(client as usize)?.get(number)
 }
 
 impl<E> Client<E> {
@@ -71,7 +75,7 @@ impl<E> Client<E> {
             self.standing = Standing::Ended;
             return;
         }
-        let item = item_of(directory, self.number, self.answered as u64, self.seen, &ask);
+        let item = item_of(directory, self.number, self.answered as u64, self.seen, ask);
         if requester.ask(&mut self.end, &item) {
             self.receipts.touch_next();
             self.standing = Standing::Waiting;
@@ -81,9 +85,10 @@ impl<E> Client<E> {
     }
 
     /// Looks for the outcome of the call for which the client waits. Whether it has come.
-    fn look<Q: Requester<E>>(&mut self, requester: &Q, directory: &Directory, lists: &[Vec<Ask>]) -> bool
+    fn look<Q: Requester<E>>(&mut self, requester: &Q) -> bool
         requires { self.old.standing ≡ Waiting }
-        ensures { GoesOn Q.effects directory.now lists.now self.old self.new }
+        ensures { (listing : Listing) (lists : List (Vec Ask Global))
+            → GoesOn Q.effects listing lists self.old self.new }
     {
         let number = self.answered as u64;
         match requester.look(&mut self.end, self.number, number, &mut self.receipts) {
@@ -112,7 +117,7 @@ impl<E> Client<E> {
     {
         let has_come = match self.standing {
             Standing::Free => true,
-            Standing::Waiting => self.look(requester, directory, lists),
+            Standing::Waiting => self.look(requester),
             Standing::Ended => false,
         };
         if self.standing == Standing::Free {

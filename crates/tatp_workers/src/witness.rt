@@ -249,7 +249,13 @@ fn ask_each<R: Wait>(
         × (result.receipts.receipts ≡ receipts.receipts ++ conversation.receipts) }
 {
     let mut client = Client::new(0, Record::new(alloc), receipts);
-    ask_all(rt, &Dropping, directory, lists, slice::from_mut(&mut client));
+    ask_all(
+        rt,
+        &Dropping,
+        directory,
+        lists,
+        slice::from_mut(&mut client),
+    );
     client
 }
 

@@ -74,12 +74,12 @@ class Run:
 class Span:
     """The samples of the time in which a run's clients were there."""
 
-    def __init__(self, run, partitions, clients):
+    def __init__(self, run, partitions, client_threads):
         threads = run.most_threads()
-        if len(threads) < partitions + clients:
-            raise SystemExit("there are %d threads, not %d executors and %d clients"
-                             % (len(threads), partitions, clients))
-        self.executors, self.clients = threads[:partitions], threads[-clients:]
+        if len(threads) < partitions + client_threads:
+            raise SystemExit("there are %d threads, not %d executors and %d with clients"
+                             % (len(threads), partitions, client_threads))
+        self.executors, self.clients = threads[:partitions], threads[-client_threads:]
         self.began = min(run.began[thread] for thread in self.clients)
         self.ended = max(run.ended[thread] for thread in self.clients)
         self.samples = [sample for sample in run.samples if self.began <= sample.time <= self.ended]

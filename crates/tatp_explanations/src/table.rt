@@ -448,7 +448,7 @@ pub(crate) fn about_logs(number: u64) -> Explanation
             "  Take the home from the directory: Directory::home_of the key."
         57 "NoThread" "a thread can't be started"
             "  bench, where ulimit -u allows 10 threads in all."
-            "  bench starts a thread for each partition and each client, and two more: take
-  fewer of --partitions and --clients, or allow more (ulimit -u)."
+            "  bench starts a thread for each partition, threads for the clients, and two
+  more: take fewer of --partitions and --clients, or allow more (ulimit -u)."
     )
 }

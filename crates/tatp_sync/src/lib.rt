@@ -10,7 +10,7 @@ mod start;
 pub use inbox::{MessageRule, Port, Reader, ends_of, open_inboxes};
 pub use locks::lock;
 pub use mailbox::{Mailbox, Taken};
-pub use start::{Start, pause};
+pub use start::{Start, pause, rest};
 
 /// How often a thread looks for what it waits for, and yields, before it sleeps.
 ///

@@ -1,10 +1,8 @@
-//! Where a thread waits for what others hand to it.
+//! Where a thread finds what others hand to it.
 
-use crate::LOOKS;
 use crate::locks::lock;
 use crossbeam_utils::CachePadded;
-use std::sync::{Condvar, Mutex, MutexGuard, Wait};
-use std::thread;
+use std::sync::{Mutex, MutexGuard, Wait};
 
 /// The place of a message, which stays when it is taken: messages may be large, and are written and
 /// read where they are.
@@ -14,12 +12,12 @@ struct Place<T> {
     message: T,
 }
 
-/// Where the messages to one thread come, one after another.
+/// Where the messages to one client of a thread come, one after another. A thread may have several,
+/// so none of them is a place to sleep at.
 #[derive(Drop)]
 pub struct Mailbox<T> {
     /// The place has a cache line of its own: its thread looks at it while others look at theirs.
     place: CachePadded<Mutex<Place<T>>>,
-    filled: Condvar,
 }
 
 /// A message that was taken, in its place: the next is put there when this is dropped.
@@ -43,7 +41,6 @@ impl<T: Copy> Mailbox<T> {
                 is_filled: false,
                 message,
             })),
-            filled: Condvar::new(),
         }
     }
 
@@ -52,28 +49,16 @@ impl<T: Copy> Mailbox<T> {
         requires { F.IsAlwaysCallable writing }
     {
         fill(&mut lock(rt, &self.place), writing);
-        self.filled.notify_one();
     }
 
-    /// Takes the next message: looks for it, and then sleeps until it comes.
-    pub fn take<R: Wait>(&self, rt: &R) -> Taken<'_, T> {
-        let mut place = self.filled_place(rt);
-        place.is_filled = false;
-        Taken { place }
-    }
-
-    /// Waits until the place is filled.
-    fn filled_place<R: Wait>(&self, rt: &R) -> MutexGuard<'_, Place<T>> {
-        for _ in 0..LOOKS {
-            let place = lock(rt, &self.place);
-            if place.is_filled {
-                return place;
-            }
-            drop(place);
-            thread::yield_now();
+    /// Takes the next message, if it has come. It hasn't where it is just being put there.
+    pub fn try_take(&self) -> Option<Taken<'_, T>> {
+        let mut place = self.place.try_lock()?;
+        if !place.is_filled {
+            return None;
         }
-        self.filled
-            .wait_while(rt, self.place.lock(rt), |place| !place.is_filled)
+        place.is_filled = false;
+        Some(Taken { place })
     }
 }
 

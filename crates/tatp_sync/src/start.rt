@@ -1,8 +1,13 @@
-//! Threads that begin together.
+//! Threads that begin together, and that wait.
 
+use crate::LOOKS;
 use std::sync::atomic::AtomicU64;
 use std::sync::{Condvar, Mutex, Wait};
+use std::thread;
 use std::time::Duration;
+
+/// For how many milliseconds a thread sleeps that has looked often enough. Nobody has to wake it.
+const NAP: u64 = 1;
 
 /// Where threads wait until all of them may begin.
 #[derive(Drop)]
@@ -37,4 +42,14 @@ impl Start {
 /// Does nothing for some time, or for less.
 pub fn pause<R: Wait>(rt: &R, time: Duration) {
     AtomicU64::new(0).park_timeout(rt, 0, time);
+}
+
+/// Waits a little, between two looks of a thread that has looked so often in vain: it yields, and
+/// once it has looked many times it sleeps.
+pub fn rest<R: Wait>(rt: &R, looks: u32) {
+    if looks < LOOKS {
+        thread::yield_now();
+    } else {
+        pause(rt, Duration::from_millis(NAP));
+    }
 }

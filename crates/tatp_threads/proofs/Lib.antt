@@ -2,4 +2,3 @@ mod RefusalLaws
 pub mod ObstacleLaws
 pub mod SendingLaws
 pub mod SeatLaws
-pub mod ReceivingLaws

@@ -9,8 +9,7 @@ use Rattle.std.proofs.lemmas.List.Elements.{All-push}
 use Rattle.tatp_sync.specs.Inboxes.{End}
 use Rattle.tatp_workers.specs.declared.message.Message.{Message}
 use Rattle.tatp_procs.specs.declared.ask.Ask.{Ask}
-use Rattle.tatp_threads.specs.declared.reserved.ClientSeat.{ClientSeat}
-use Rattle.tatp_threads.specs.Seats.{AreEndsAt, HasRoomFor, HaveRoomFor}
+use Rattle.tatp_threads.specs.Seats.{AreEndsAt, ClientSeat, IsReadyFor, AreReadyFor}
 
 -- one more seat: its ports are ends at all inboxes, as those of the others
 pub one_more_with_ends : {S : Type 0} (ports_of : S → Vec (End Message) Global) (inboxes inboxes' : List (End Message)) (seats seats' : List S) (seat : S)
@@ -29,14 +28,14 @@ one_more_numbered place number numbers are is =
     sym (map-id (range_with_len 0 (place + 1))) ∙ (map-range_with_len_more (λ n. n) 0 place place (omega arith) ∙ ap (λ xs. xs ++ place ∷ []) (map-id (range_with_len 0 place))) in
     ap (λ xs. xs ++ number ∷ []) are ∙ (ap (λ n. range_with_len 0 place ++ n ∷ []) is ∙ sym more)
 
--- one more seat: it has room for the receipts of the list at its place, as the others have
-pub one_more_with_room : {A : Type 0} (lists : List (Vec Ask Global)) (seats seats' : List (ClientSeat A)) (list : Vec Ask Global) (seat : ClientSeat A)
-    → seats' ≡ seats ++ seat ∷ [] → HaveRoomFor lists seats → slice_get lists (length seats) ≡ Some list → HasRoomFor list seat → HaveRoomFor lists seats'
-one_more_with_room {A = A} lists seats seats' list seat is all at here = subst (HaveRoomFor lists) (sym is) (by lists seats all at)
+-- one more seat: it is ready for the list at its place, as the others are
+pub one_more_ready : (lists : List (Vec Ask Global)) (seats seats' : List ClientSeat) (list : Vec Ask Global) (seat : ClientSeat)
+    → seats' ≡ seats ++ seat ∷ [] → AreReadyFor lists seats → slice_get lists (length seats) ≡ Some list → IsReadyFor list seat → AreReadyFor lists seats'
+one_more_ready lists seats seats' list seat is all at here = subst (AreReadyFor lists) (sym is) (by lists seats all at)
   where
-    by : (lists : List (Vec Ask Global)) (seats : List (ClientSeat A)) → HaveRoomFor lists seats → slice_get lists (length seats) ≡ Some list → HaveRoomFor lists (seats ++ seat ∷ [])
+    by : (lists : List (Vec Ask Global)) (seats : List ClientSeat) → AreReadyFor lists seats → slice_get lists (length seats) ≡ Some list → AreReadyFor lists (seats ++ seat ∷ [])
     by [] [] all at = absurd cc
-    by (l ∷ lists) [] all at = (subst (λ (calls : Vec Ask Global). HasRoomFor calls seat) (sym (same_Some l list at)) here, tt)
+    by (l ∷ lists) [] all at = (subst (λ (calls : Vec Ask Global). IsReadyFor calls seat) (sym (same_Some l list at)) here, tt)
     by [] (s ∷ seats) all at = absurd all
     by (l ∷ lists) (s ∷ seats) all at = (all.0, by lists seats all.1 at)
 

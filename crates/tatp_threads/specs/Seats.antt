@@ -6,7 +6,8 @@ use Rattle.tatp_procs.specs.declared.ask.Ask.{Ask}
 use Rattle.tatp_sync.specs.Inboxes.{End, end_beside}
 use Rattle.tatp_workers.specs.declared.message.Message.{Message}
 use Rattle.tatp_threads.specs.declared.reserved.ExecutorSeat.{ExecutorSeat}
-use Rattle.tatp_threads.specs.declared.reserved.ClientSeat.{ClientSeat}
+use Rattle.tatp_workers.specs.declared.client.Client.{Client}
+use Rattle.tatp_workers.specs.Standing.{IsReady}
 
 -- a new end at each inbox
 abbrev pub AreEndsAt : List (End Message) → Vec (End Message) Global → Type 0
@@ -25,26 +26,31 @@ module _ {A : Type 0} where
     pub readers : readers_of seats ≡ inboxes
     pub ports : All (AreEndsAt inboxes) (executors_ports seats)
 
-  abbrev pub numbers_of : List (ClientSeat A) → List ℕ
-  numbers_of = map (λ (seat : ClientSeat A). seat.number)
+-- a client whose ends are these ports
+abbrev pub ClientSeat : Type 0
+ClientSeat = Client (Vec (End Message) Global)
 
-  abbrev pub clients_ports : List (ClientSeat A) → List (Vec (End Message) Global)
-  clients_ports = map (λ (seat : ClientSeat A). seat.ports)
+abbrev pub numbers_of : List ClientSeat → List ℕ
+numbers_of = map (λ (seat : ClientSeat). seat.number)
 
-  -- a client has no receipts yet, and capacity for one of each of its calls
-  abbrev pub HasRoomFor : Vec Ask Global → ClientSeat A → Type 0
-  HasRoomFor list seat = (seat.receipts.receipts ≡ []) × (length list.items ≤ seat.receipts.room)
+abbrev pub clients_ports : List ClientSeat → List (Vec (End Message) Global)
+clients_ports = map (λ (seat : ClientSeat). seat.end)
 
-  -- so has each client for the calls of the list at its place
-  abbrev pub HaveRoomFor : List (Vec Ask Global) → List (ClientSeat A) → Type 0
-  HaveRoomFor lists [] = Unit {0}
-  HaveRoomFor [] (seat ∷ seats) = ⊥
-  HaveRoomFor (list ∷ lists) (seat ∷ seats) = HasRoomFor list seat × HaveRoomFor lists seats
+-- a client has no receipts yet, has asked nothing, and has capacity for a receipt of each of its
+-- calls
+abbrev pub IsReadyFor : Vec Ask Global → ClientSeat → Type 0
+IsReadyFor list seat = (seat.receipts.receipts ≡ []) × IsReady list.items seat
 
-  -- a seat for each client: its number is its place, it puts into all inboxes, and it has capacity
-  -- for the receipts of its calls
-  pub record AreClients (lists : List (Vec Ask Global)) (inboxes : List (End Message))
-      (seats : List (ClientSeat A)) : Type 0 where
-    pub numbers : numbers_of seats ≡ range_with_len 0 (length lists)
-    pub ports : All (AreEndsAt inboxes) (clients_ports seats)
-    pub room : HaveRoomFor lists seats
+-- so is each client for the calls of the list at its place
+abbrev pub AreReadyFor : List (Vec Ask Global) → List ClientSeat → Type 0
+AreReadyFor lists [] = Unit {0}
+AreReadyFor [] (seat ∷ seats) = ⊥
+AreReadyFor (list ∷ lists) (seat ∷ seats) = IsReadyFor list seat × AreReadyFor lists seats
+
+-- a seat for each client: its number is its place, it puts into all inboxes, and it is ready for its
+-- calls
+pub record AreClients (lists : List (Vec Ask Global)) (inboxes : List (End Message))
+    (seats : List ClientSeat) : Type 0 where
+  pub numbers : numbers_of seats ≡ range_with_len 0 (length lists)
+  pub ports : All (AreEndsAt inboxes) (clients_ports seats)
+  pub ready : AreReadyFor lists seats

@@ -15,7 +15,7 @@ use tatp_logs::Receipts;
 use tatp_partition::{Parcel, Site};
 use tatp_procs::Ask;
 use tatp_sync::{Mailbox, ends_of, open_inboxes};
-use tatp_workers::Delivery;
+use tatp_workers::{Client, Delivery};
 
 /// An empty list with capacity for values that can't be dropped.
 pub(crate) struct ReservedList<T> {
@@ -55,13 +55,8 @@ pub(crate) struct ExecutorSeat<A: Arities> {
     pub(crate) ports: Vec<Port<A>>,
 }
 
-/// What a client has for itself: its number, an end at each inbox, and its receipts.
-#[derive(Drop)]
-pub(crate) struct ClientSeat<A: Arities> {
-    pub(crate) number: u64,
-    pub(crate) ports: Vec<Port<A>>,
-    pub(crate) receipts: Receipts,
-}
+/// What a client has for itself: an end at each inbox, and its receipts.
+pub(crate) type ClientSeat<A> = Client<Vec<Port<A>>>;
 
 /// A seat for each reader.
 fn seat_executors<A: Arities>(
@@ -95,11 +90,9 @@ fn seat_clients<A: Arities>(
 {
     let mut seats = Vec::with_capacity(alloc, lists.len())?;
     for list in lists {
-        seats.push(ClientSeat {
-            number: seats.len() as u64,
-            ports: ends_of(alloc, ports)?,
-            receipts: Receipts::with_room(alloc, list.len())?,
-        })?;
+        let ends = ends_of(alloc, ports)?;
+        let receipts = Receipts::with_room(alloc, list.len())?;
+        seats.push(Client::new(seats.len() as u64, ends, receipts))?;
     }
     Ok(seats)
 }

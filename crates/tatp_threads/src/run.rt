@@ -83,7 +83,7 @@ fn receipts_of<A: Arities>(clients: Vec<ClientSeat<A>>, room: Vec<Receipts>) -> 
 {
     let mut receipts = room;
     for client in clients {
-        receipts.push_reserved(client.receipts);
+        receipts.push_reserved(client.into_receipts());
     }
     receipts
 }
@@ -216,7 +216,7 @@ pub fn run_clean_calls<'m, R: Threads + Wait + Sync, G: Gate + Sync>(
     run_ruled::<R, G, Brand>(rt, alloc, setup, gate)
 }
 
-/// Runs a plan on these rows, by an executor for each partition, a thread for each client, a mover
+/// Runs a plan on these rows, by an executor for each partition, threads for the clients, a mover
 /// and a debugger, and gives back what they leave. After the end of a call the executor hands out
 /// the log of its extent, where it has as many entries as the plan says, or more; where memory for
 /// the chapter is refused, or the site refuses, the run goes on without it. The rows are consumed,

@@ -1,10 +1,10 @@
 //! Starts the threads of a run, and waits for their ends.
 ghost use denote.Param.Send.{IsSend};
-ghost use Rattle.std.specs.Prelude.{◌≡◌, length, vec_len};
+ghost use Rattle.std.specs.Prelude.{◌≡◌, ◌<◌, length, vec_len};
 ghost use Rattle.tatp_threads.specs.Seats.{AreExecutors, AreClients};
 
 use crate::admission::{Arities, Port};
-use crate::client::run_client;
+use crate::client::ask_calls;
 use crate::debugger::debug_partitions;
 use crate::executor::execute;
 use crate::mover::move_extents;
@@ -21,6 +21,9 @@ use tatp_workers::{Gate, Message};
 /// For how many milliseconds the executors run alone. In that time the system gives each of them a
 /// processor, if there are enough, and leaves it there as long as the executor doesn't sleep.
 const ALONE: u64 = 20;
+
+/// How many clients a thread sees to at most.
+const MOST_CLIENTS_A_THREAD: usize = 4;
 
 /// Runs all threads to their ends: the executors until all clients, the mover and the debugger have
 /// ended. Each inbox then gets Quit, by the ends in `quit`. Whether each thread could be started;
@@ -68,6 +71,14 @@ pub(crate) fn run_threads<R: Threads + Wait + Sync, G: Gate + Sync, A: Arities +
     )
 }
 
+/// To how many clients a thread sees: a few clients have a thread each. More share the threads, of
+/// which the processors are then not taken up by those that only look for what hasn't come.
+fn clients_a_thread(clients: usize) -> usize
+    ensures { 0 < result }
+{
+    (clients / MOST_CLIENTS_A_THREAD).clamp(1, MOST_CLIENTS_A_THREAD)
+}
+
 /// Runs the clients, the mover and the debugger to their ends. They begin together, when all are
 /// started or one couldn't be. Whether each could.
 fn run_clients<R: Threads + Wait + Sync, G: Gate + Sync, A: Arities + Send + Sync>(
@@ -76,17 +87,12 @@ fn run_clients<R: Threads + Wait + Sync, G: Gate + Sync, A: Arities + Send + Syn
     clients: &mut [ClientSeat<A>],
     hand: &mut Vec<Parcel>,
 ) -> bool {
+    let many = clients_a_thread(clients.len());
     thread::scope(thread::scope_env(), rt, |inner| -> bool {
         let mut started = inner.spawn(move || move_extents(rt, shared, hand)).is_ok()
             && inner.spawn(move || debug_partitions(rt, shared)).is_ok();
-        let lists = shared.plan.lists.iter();
-        for ((list, mailbox), seat) in lists.zip(shared.mailboxes).zip(clients.iter_mut()) {
-            let asks = list.as_slice();
-            if started
-                && inner
-                    .spawn(move || run_client(rt, shared, mailbox, asks, seat))
-                    .is_err()
-            {
+        for seats in clients.chunks_mut(many) {
+            if started && inner.spawn(move || ask_calls(rt, shared, seats)).is_err() {
                 started = false;
             }
         }

@@ -7,7 +7,10 @@ use Rattle.tatp_procs.specs.Asked.{key_asked}
 use Rattle.tatp_logs.specs.declared.receipt.Receipt.{Receipt}
 use Rattle.tatp_logs.specs.declared.receipt.Receipt.TheVariants.{Done, Refused}
 use Rattle.tatp_logs.specs.Receipts.{ReceiptsState}
-use Rattle.tatp_workers.specs.declared.client.Exchange.{Exchange}
+use Rattle.tatp_workers.specs.declared.requester.AskEffect.{AskEffect}
+use Rattle.tatp_workers.specs.declared.requester.AskEffect.TheVariants.{Asks, Gets}
+use Rattle.tatp_workers.specs.declared.requester.Looked.{Looked}
+use Rattle.tatp_workers.specs.declared.requester.Looked.TheVariants as looked
 use Rattle.tatp_workers.specs.declared.delivery.Delivery.{Delivery}
 use Rattle.tatp_workers.specs.declared.delivery.Delivery.TheVariants.{Got, Dropped}
 
@@ -36,30 +39,41 @@ abbrev pub receipt_delivered : Delivery → Option Receipt
 receipt_delivered (Got receipt) = Some receipt
 receipt_delivered Dropped = None
 
--- the receipt that a call got is appended to the others; or it got none, and the others are kept
-abbrev pub Receives : Option Receipt → Bool → ReceiptsState → ReceiptsState → Type 0
-Receives None is_got before after = (is_got ≡ false) × (after.receipts ≡ before.receipts)
-Receives (Some receipt) is_got before after =
-    (is_got ≡ true)
+-- a look found nothing yet, and changed nothing; or the receipt came, and is appended to the others;
+-- or it is known that the call was dropped
+abbrev pub Finds : Looked → ReceiptsState → ReceiptsState → List AskEffect → Type 0
+Finds looked.NotYet before after effects = (effects ≡ []) × (after ≡ before)
+Finds looked.Received before after effects =
+    (receipt : Receipt)
+    × (effects ≡ Gets (Some receipt) ∷ [])
     × (after.receipts ≡ before.receipts ++ receipt ∷ [])
     × (before.room ≤ after.room + 1)
+Finds looked.Dropped before after effects = (effects ≡ Gets None ∷ []) × (after ≡ before)
 
--- what a client exchanged, and the receipts that it keeps
+-- what was done for a client, and the receipts that it keeps
 pub record Conversation : Type 0 where
-  pub exchanges : List Exchange
+  pub effects : List AskEffect
   pub receipts : List Receipt
 
--- one more call, which got this receipt
-abbrev pub with_receipt : Conversation → Item → Receipt → Conversation
-with_receipt c item receipt = record {
-  exchanges = c.exchanges ++ record { item = item; receipt = Some receipt } ∷ [];
+-- one more call was asked, and whether an inbox took it
+abbrev pub with_asked : Conversation → Item → Bool → Conversation
+with_asked c item is_taken = record c { effects = c.effects ++ Asks item is_taken ∷ [] }
+
+-- its receipt came
+abbrev pub with_receipt : Conversation → Receipt → Conversation
+with_receipt c receipt = record {
+  effects = c.effects ++ Gets (Some receipt) ∷ [];
   receipts = c.receipts ++ receipt ∷ [];
 }
 
--- one more call, which got no receipt
-abbrev pub with_nothing : Conversation → Item → Conversation
-with_nothing c item =
-    record c { exchanges = c.exchanges ++ record { item = item; receipt = None } ∷ [] }
+-- it was dropped
+abbrev pub with_nothing : Conversation → Conversation
+with_nothing c = record c { effects = c.effects ++ Gets None ∷ [] }
+
+-- one more call came to nothing: no inbox took it, or it was dropped
+abbrev pub ComesToNothing : Item → Conversation → Conversation → Type 0
+ComesToNothing item before c =
+    (c ≡ with_asked before item false) ⊎ (c ≡ with_nothing (with_asked before item true))
 
 -- the first n calls were asked one after another, and each got a receipt; the last stamp that was
 -- seen then
@@ -70,12 +84,13 @@ Answered listing client asks (suc n) c seen =
     (before : Conversation) × (seen_before : ℕ) × (ask : Ask) × (receipt : Receipt)
     × Answered listing client asks n before seen_before
     × (slice_get asks n ≡ Some ask)
-    × (c ≡ with_receipt before
-    (item_of listing client (record { number = n; seen = seen_before }) ask) receipt)
+    × (c ≡ with_receipt
+    (with_asked before
+    (item_of listing client (record { number = n; seen = seen_before }) ask) true) receipt)
     × (seen ≡ seen_after seen_before receipt)
 
 -- all calls were asked one after another, and got their receipts; or the first few did, and the
--- next got none
+-- next came to nothing
 pub record Converses (listing : Listing) (client : ℕ) (asks : List Ask) (c : Conversation)
     : Type 0 where
   pub answered : ℕ
@@ -84,5 +99,5 @@ pub record Converses (listing : Listing) (client : ℕ) (asks : List Ask) (c : C
   pub first : Answered listing client asks answered before seen
   pub rest : ((answered ≡ length asks) × (c ≡ before))
       ⊎ ((ask : Ask) × (slice_get asks answered ≡ Some ask)
-      × (c ≡ with_nothing before
-      (item_of listing client (record { number = answered; seen = seen }) ask)))
+      × ComesToNothing
+      (item_of listing client (record { number = answered; seen = seen }) ask) before c)

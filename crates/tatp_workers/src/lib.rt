@@ -4,6 +4,7 @@
 //! made, which an observer sees, and a full log is handed out.
 #![tactic(auto)]
 
+mod asking;
 mod checkpoints;
 mod client;
 mod debugger;
@@ -15,11 +16,13 @@ mod message;
 mod mover;
 mod observer;
 mod offers;
+mod requester;
 mod slices;
 mod witness;
 
+pub use asking::ask_all;
 pub use checkpoints::{Checkpointed, checkpoint_full};
-pub use client::{Exchange, Requester, ask_all};
+pub use client::{Client, Standing};
 pub use debugger::{Debugging, debug_all};
 pub use delivery::Delivery;
 pub use effects::{Answering, Effect, Executing};
@@ -29,4 +32,5 @@ pub use message::Message;
 pub use mover::{Carrying, MoveEffect, move_all, plan};
 pub use observer::{Gated, Observer, StepAhead};
 pub use offers::{Offered, offer};
+pub use requester::{AskEffect, Looked, Requester};
 pub use slices::{is_wanted, slice};

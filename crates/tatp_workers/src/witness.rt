@@ -5,6 +5,7 @@ ghost use Rattle.std.specs.Prelude.{◌≡◌, [], ◌∷◌, List, None, Ok, fa
 ghost use Rattle.tatp_extents.specs.Extents.{ExtentState};
 ghost use Rattle.tatp_workers.specs.Growing.{Grows, InTurn, known_unless};
 ghost use Rattle.tatp_workers.specs.Asking.{Conversation, Converses};
+ghost use Rattle.tatp_workers.specs.Standing.{asks_of};
 ghost use Rattle.tatp_workers.specs.Carrying.{MakesMoves};
 ghost use Rattle.tatp_workers.specs.Debugging.{IsDebugged};
 ghost use Rattle.tatp_workers.specs.Executing.{ExecutesUntilQuit};
@@ -13,11 +14,12 @@ ghost use Rattle.tatp_partition.specs.Running.{stepped_of};
 ghost use Rattle.tatp_workers.specs.Slices.{IsSlice};
 
 use crate::{
-    Answering, Carrying, Checkpointed, Debugging, Delivery, Effect, Exchange, Executing, Message,
-    MoveEffect, Observer, Offered, Requester, StepAhead, ask_all, debug_all, move_all, slice,
-    take_calls,
+    Answering, AskEffect, Carrying, Checkpointed, Client, Debugging, Delivery, Effect, Executing,
+    Looked, Message, MoveEffect, Observer, Offered, Requester, StepAhead, ask_all, debug_all,
+    move_all, slice as make_slice, take_calls,
 };
 use std::alloc::Global;
+use std::slice;
 use std::sync::Wait;
 use std::sync::atomic::AtomicU64;
 use tatp_debug::Snapshot;
@@ -71,17 +73,29 @@ impl Observer for Record<StepAhead> {
     }
 }
 
-impl Requester for Record<Exchange> {
-    ghost exchanges = { λ r. known_unless r.is_lost r.kept.items };
+/// Keeps what is done for a client at its end. Each call is taken, and dropped.
+struct Dropping;
 
-    /// No call gets a receipt.
-    fn ask(&mut self, item: &Item, _receipts: &mut Receipts) -> bool {
-        self.keep(Exchange {
-            item: *item,
-            receipt: None,
-        });
-        false
+impl Requester<Record<AskEffect>> for Dropping {
+    ghost effects = { λ r. known_unless r.is_lost r.kept.items };
+
+    fn ask(&self, end: &mut Record<AskEffect>, item: &Item) -> bool {
+        end.keep(AskEffect::Asks(*item, true));
+        true
     }
+
+    fn look(
+        &self,
+        end: &mut Record<AskEffect>,
+        _client: u64,
+        _number: u64,
+        _receipts: &mut Receipts,
+    ) -> Looked {
+        end.keep(AskEffect::Gets(None));
+        Looked::Dropped
+    }
+
+    fn wait(&self, _rounds: u32) {}
 }
 
 impl Carrying for Record<MoveEffect> {
@@ -221,20 +235,28 @@ fn move_each(alloc: Global, moves: &[(u32, u8)], hand: &mut Vec<Parcel>) -> Reco
 
 /// A client asks calls.
 #[tactic(auto, using(crate::proofs::GrowthLaws::all_recorded))]
-fn ask_each(
+fn ask_each<R: Wait>(
+    rt: &R,
     alloc: Global,
     directory: &Directory,
-    asks: &[Ask],
-    receipts: &mut Receipts,
-) -> Record<Exchange>
-    requires room { length asks.now ≤ receipts.old.room }
-    ensures { (conversation : Conversation) × Converses directory.now 0 asks.now conversation
-        × (result.is_lost ≡ false → result.kept.items ≡ conversation.exchanges)
-        × (receipts.new.receipts ≡ receipts.old.receipts ++ conversation.receipts) }
+    lists: &[Vec<Ask>],
+    receipts: Receipts,
+) -> Client<Record<AskEffect>>
+    requires room { length (asks_of lists.now 0) ≤ receipts.room }
+    ensures { (conversation : Conversation)
+        × Converses directory.now 0 (asks_of lists.now 0) conversation
+        × (result.end.is_lost ≡ false → result.end.kept.items ≡ conversation.effects)
+        × (result.receipts.receipts ≡ receipts.receipts ++ conversation.receipts) }
 {
-    let mut requester = Record::new(alloc);
-    ask_all(&mut requester, directory, 0, asks, receipts);
-    requester
+    let mut client = Client::new(0, Record::new(alloc), receipts);
+    ask_all(
+        rt,
+        &Dropping,
+        directory,
+        lists,
+        slice::from_mut(&mut client),
+    );
+    client
 }
 
 /// A call makes steps at a site.
@@ -251,6 +273,6 @@ fn slice_once(
         result.0.kept.items }
 {
     let mut observer = Record::new(alloc);
-    let made = slice(site, &mut observer, wanted, buffer);
+    let made = make_slice(site, &mut observer, wanted, buffer);
     (observer, made)
 }

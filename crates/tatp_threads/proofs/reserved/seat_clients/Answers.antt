@@ -2,7 +2,7 @@ use Rattle.std.proofs.Common.{◌+◌, length, slice_get, refl, ap, ◌∙◌, a
 use Rattle.std.proofs.lemmas.List.{length_push, map_push}
 use Rattle.std.proofs.lemmas.Option.{slice_get_read}
 use Rattle.tatp_threads.specs.Seats.{numbers_of}
-use Rattle.tatp_threads.proofs.SeatLaws.{one_more_with_ends, one_more_numbered, one_more_with_room}
+use Rattle.tatp_threads.proofs.SeatLaws.{one_more_with_ends, one_more_numbered, one_more_ready}
 use Rattle.tatp_threads.proofs.reserved.seat_clients.Goals as goal
 
 pub loop-list-preserved : goal.loop-list-preserved
@@ -11,10 +11,17 @@ loop-list-preserved g c = record {
   numbers = ap numbers_of c.in_ok-push.ensures.items ∙ (map_push (λ seat. seat.number) c.loop-list.seats.items _
       ∙ one_more_numbered c.loop-list.list-index _ (numbers_of c.loop-list.seats.items) c.loop-list.invariant.numbers
       (omega (arith, c.len-in-loop-list.ensures, c.loop-list.invariant.count, c.loop-list.seats.ok.0)));
-  ports = one_more_with_ends (λ seat. seat.ports) c.loop-list.ports c.ends_of.new.ports c.loop-list.seats.items c.push.new.self.items _ c.in_ok-push.ensures.items c.ends_of.ensures.same c.loop-list.invariant.ports c.in_ok-ends_of.ensures.beside;
-  room = one_more_with_room c.args.lists.now c.loop-list.seats.items c.push.new.self.items c.list-item.result _ c.in_ok-push.ensures.items c.loop-list.invariant.room
+  ports = one_more_with_ends (λ seat. seat.end) c.loop-list.ports c.ends_of.new.ports c.loop-list.seats.items c.push.new.self.items _ c.in_ok-push.ensures.items c.ends_of.ensures.same c.loop-list.invariant.ports c.in_ok-ends_of.ensures.beside;
+  ready = one_more_ready c.args.lists.now c.loop-list.seats.items c.push.new.self.items c.list-item.result _ c.in_ok-push.ensures.items c.loop-list.invariant.ready
       (ap (slice_get c.args.lists.now) c.loop-list.invariant.count
-      ∙ slice_get_read c.args.lists.now (length c.args.lists.now) c.loop-list.list-index c.list-item.result refl c.loop-list-test.true c.list-item.is)
-      (c.in_ok-with_room.ensures.receipts, omega (arith, c.in_ok-with_room.ensures.room, c.len.ensures, c.len-in-loop-list.ensures, c.list-item.result.ok.0));
+      ∙ slice_get_read c.args.lists.now (length c.args.lists.now) c.loop-list.list-index c.list-item.result refl c.loop-list-test.true c.list-item.is) (
+        ?,
+        record {
+          answered = c.new.ensures.answered;
+          seen = c.new.ensures.seen;
+          standing = c.new.ensures.standing;
+          room = ?;
+        },
+      );
   same = c.ends_of.ensures.same ∙ c.loop-list.invariant.same;
 }

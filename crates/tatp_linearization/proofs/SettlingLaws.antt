@@ -78,7 +78,7 @@ module _ (Q : Database → Type 0) (events : List Event) (have : HaveEnds events
   left_order before (x ∷ xs) left a are h = elim a [
     | inl k ↦ let c = chooses_mid before xs x in
         left_order before xs left k.1 (open_chosen events (before ++ x ∷ xs) x (before ++ xs) c are)
-        (without_unchanging events (before ++ x ∷ xs) x (before ++ xs) c are Q u (reads_leave x.call k.0.0) h)
+        (without_unchanging events (before ++ x ∷ xs) x (before ++ xs) c are Q u (unchanged x k.0.0) h)
     | inr k ↦ subst (λ zs. HasOrder Q u events (before ++ zs)) (sym k.1.1) (subst (λ zs. HasOrder Q u events zs) (sym (shift before x k.1.0))
         (left_order (before ++ x ∷ []) xs k.1.0 k.1.2 (subst (AreOpen events) (shift before x xs) are) (subst (λ zs. HasOrder Q u events zs) (shift before x xs) h)))
   ]

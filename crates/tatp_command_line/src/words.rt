@@ -196,7 +196,11 @@ fn task_in<'a>(matches: &ArgMatches<'a>) -> Result<Option<Task<'a>>, BadNumber<'
         "audit" => Ok(Some(Task::Audit {
             input_limit: input_limit_of(options)?,
         })),
-        "judge" => Ok(Some(Task::Judge(judge_plan_of(options)?))),
+        "judge" => {
+            let progress = is_given(options, "progress");
+            let plan = judge_plan_of(options)?;
+            Ok(Some(Task::Judge { plan, progress }))
+        }
         "bench" => Ok(Some(Task::Bench {
             plan: plan_of(options)?,
             progress: is_given(options, "progress"),

@@ -24,7 +24,7 @@ use indexmap::IndexMap;
 use std::alloc::{AllocError, Global};
 use tatp_history::{Line, Observed, Outcome};
 use tatp_homes::homes;
-use tatp_linearization::Standing;
+use tatp_linearization::{Standing, only_reads};
 use tatp_numbers::Directory;
 use tatp_procs::Call;
 use tatp_tables::Rows;
@@ -189,7 +189,15 @@ impl Judge {
             self.old.windows.items self.new.windows.items) }
     {
         let s_id = subscriber_of(&self.directory, call);
-        self.asked.insert(client, Asked { s_id, number })?;
+        let reads = only_reads(call);
+        self.asked.insert(
+            client,
+            Asked {
+                s_id,
+                number,
+                reads,
+            },
+        )?;
         let x = Observed {
             asked: number,
             call: *call,

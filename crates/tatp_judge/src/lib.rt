@@ -4,6 +4,7 @@
 mod accepted;
 mod asked;
 mod closing;
+mod conflicts;
 mod explaining;
 mod finishing;
 mod judge;

@@ -19,3 +19,4 @@ mod to_rows;
 
 pub use explanations::{Explanations, Standing};
 pub use first::First;
+pub use reading::only_reads;

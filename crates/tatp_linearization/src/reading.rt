@@ -12,7 +12,7 @@ use tatp_homes::Home;
 use tatp_procs::{Call, Reply};
 
 /// Whether a call changes nothing, whatever the rows.
-pub(crate) fn only_reads(call: &Call) -> bool
+pub fn only_reads(call: &Call) -> bool
     ensures { result ≡ reads call.now }
 {
     match call {

@@ -111,7 +111,7 @@ fn judge_to_rows<R: Read, P: Progress>(
             let dot = lines.number();
             let rows = read_rows_to_end(alloc, lines, reader)?;
             admit(alloc, &rows)?;
-            let judged = judged_to(stakes, judge.finish_to(alloc, &rows)?, dot);
+            let judged = judged_to(stakes, judge.finish_to(alloc, part, &rows)?, dot);
             Ok(Judgement {
                 judged,
                 window: judgement.window,

@@ -130,8 +130,8 @@ before the call is sent, and the end when its reply has come.
 
 Prints LEGAL where the calls have an order that keeps the order of time and gives every answer. Then
 lines tell what was at stake: how many calls were ANSWERED, ABORTED and UNANSWERED, how many
-SUBSCRIBERS they are on, how many OVERLAPPED another one there when they were asked, how many of them
-CONFLICTED, as one of the two writes, and with WIDEST how many were open there at once.
+SUBSCRIBERS they are on, how many OVERLAPPED another one there when they were asked, how many of
+these CONFLICTED, since one of the two writes, and with WIDEST how many were open there at once.
 
 Otherwise prints ILLEGAL L: up to line L of the input they have none, and up to the line before they
 have one; then the status is 1. A line SUBSCRIBER S names the subscriber whose calls have none, and

@@ -71,8 +71,8 @@ pub record HasOpen (u : Database) (s : ℕ) (lines : List Line) (client : ℕ) (
   pub still : opened_after u s 1 no_calls lines client ≡ Some number
   pub asked : slice_get lines (number - 1) ≡ Some (Ask client call)
 
--- after so many lines a client asks a call, while another client has one open on its subscriber, and
--- one of the two writes
+-- after so many lines a client asks a call, while another client has one open on its subscriber,
+-- and one of the two writes
 pub record MeetsConflict (u : Database) (lines : List Line) (before : ℕ) : Type 0 where
   pub s : ℕ
   pub client : ℕ

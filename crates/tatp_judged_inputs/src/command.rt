@@ -177,8 +177,8 @@ fn lines_that_tell(alloc: Global, judgement: &Judgement) -> Result<String, Alloc
 }
 
 /// Reads rows and a history, or a history alone, and writes what is said of it, which it gives
-/// back. The rows are tested before the first line of the history is read. What `progress` does with
-/// its lines changes nothing of that.
+/// back. The rows are tested before the first line of the history is read. What `progress` does
+/// with each line changes nothing of that.
 pub fn run_judge<R: Read, W: Write, P: Progress>(
     alloc: Global,
     reader: &mut R,

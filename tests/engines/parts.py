@@ -252,9 +252,9 @@ def of_calls(tally):
 # Histories on the one subscriber of seed 1, the location that the subscriber has at the end, where that is another, how
 # many configurations the judge may keep, and what it says.
 def at_stake(answered, overlapped, widest):
-    """What is told behind LEGAL, of answered calls on one subscriber."""
+    """What is told behind LEGAL, of answered calls on one subscriber that all write."""
     return ["ANSWERED %d" % answered, "ABORTED 0", "UNANSWERED 0", "SUBSCRIBERS 1", "OVERLAPPED %d" % overlapped,
-            "WIDEST %d" % widest]
+            "CONFLICTED %d" % overlapped, "WIDEST %d" % widest]
 
 
 UPDATE = "ask 0 UPDATE_LOCATION 000000000000001 7\n"

@@ -167,9 +167,26 @@ def most_open(rows, texts, subscriber):
     return max([count for _, _, count in lines_on(rows, texts, subscriber)], default=0)
 
 
+def conflicts(rows, texts):
+    """How many calls are asked while another client has one open on their subscriber, and one of the two writes."""
+    opened, count = {}, 0
+    for text in texts:
+        word, client, *said = text.split(" ", 2) + [""]
+        if word in ("ask", "end", "abort", "lost"):
+            opened.pop(client, None)
+        if word == "ask":
+            subscriber = rows.subscriber_of(read_call(said[0]))
+            writes = not said[0].startswith("GET_")
+            count += any(other == subscriber and (writes or wrote) for other, wrote in opened.values())
+            if subscriber is not None:
+                opened[client] = subscriber, writes
+    return count
+
+
 def stakes(rows, texts):
     """What was at stake in a history: the lines that tell how many calls ended in each way, how many subscribers they
-    are on, how many met another call there, and how many were open there at once at most."""
+    are on, how many met another call there, how many of these a conflict, and how many were open there at once at
+    most."""
     calls = calls_of(texts)
     ended = [sum(call.outcome.kind == kind for call in calls) for kind in (ANSWERED, ABORTED, UNKNOWN)]
     called = {rows.subscriber_of(call.ask) for call in calls} - {None}
@@ -178,8 +195,9 @@ def stakes(rows, texts):
         lines = list(lines_on(rows, texts, subscriber))
         met += sum(is_own and texts[number - 1].startswith("ask ") and count > 1 for number, is_own, count in lines)
         widest = max([widest] + [count for _, _, count in lines])
-    words = "ANSWERED", "ABORTED", "UNANSWERED", "SUBSCRIBERS", "OVERLAPPED", "WIDEST"
-    return ["%s %d" % told for told in zip(words, (*ended, len(called), met, widest))]
+    words = "ANSWERED", "ABORTED", "UNANSWERED", "SUBSCRIBERS", "OVERLAPPED", "CONFLICTED", "WIDEST"
+    told = (*ended, len(called), met, conflicts(rows, texts), widest)
+    return ["%s %d" % line for line in zip(words, told)]
 
 
 def window(rows, texts, subscriber):

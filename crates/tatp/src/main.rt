@@ -18,7 +18,7 @@ use tatp_command_line::{Asked, not_explained, not_text, task_of};
 use tatp_console::{run_call, run_trace};
 use tatp_explanations::{run_explain, run_explain_all};
 use tatp_inputs::run_audit;
-use tatp_judged_inputs::{Judged, run_judge};
+use tatp_judged_inputs::{JudgeFault, Judged, LineReporter, NoProgress, run_judge};
 use tatp_load::{run_calls, run_rows};
 use tatp_streams::StreamFault;
 use tatp_tasks::Task;
@@ -124,6 +124,17 @@ fn bench<R: Print + Eprint + Threads + Wait + Sync, P: Progress + Sync>(
     }
 }
 
+/// The status of a command that judged a history, or stops.
+fn judged(rt: &impl Eprint, ended: Result<Judged, JudgeFault>) -> ExitCode {
+    match ended {
+        Ok(Judged::Legal(_)) => ExitCode::SUCCESS,
+        Ok(Judged::Illegal { .. }) => ExitCode::from(STOPPED),
+        Ok(Judged::Unreached { .. }) => ExitCode::from(STOPPED),
+        Ok(Judged::Undecided { .. }) => ExitCode::from(UNDECIDED),
+        Err(fault) => tell(rt, &fault),
+    }
+}
+
 /// Runs a command over the standard streams.
 fn run<R: Input + Print + Eprint + Threads + Wait + Sync>(
     rt: &R,
@@ -161,13 +172,17 @@ fn run<R: Input + Print + Eprint + Threads + Wait + Sync>(
             Ok(false) => ExitCode::from(STOPPED),
             Err(fault) => tell(rt, &fault),
         },
-        Task::Judge(plan) => match run_judge(alloc, reader, writer, &plan) {
-            Ok(Judged::Legal(_)) => ExitCode::SUCCESS,
-            Ok(Judged::Illegal { .. }) => ExitCode::from(STOPPED),
-            Ok(Judged::Unreached { .. }) => ExitCode::from(STOPPED),
-            Ok(Judged::Undecided { .. }) => ExitCode::from(UNDECIDED),
-            Err(fault) => tell(rt, &fault),
-        },
+        Task::Judge {
+            plan,
+            progress: false,
+        } => judged(rt, run_judge(alloc, reader, writer, &plan, &mut NoProgress)),
+        Task::Judge {
+            plan,
+            progress: true,
+        } => judged(
+            rt,
+            run_judge(alloc, reader, writer, &plan, &mut LineReporter::new(rt)),
+        ),
         Task::Bench {
             plan,
             progress: false,

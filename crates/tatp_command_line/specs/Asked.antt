@@ -27,7 +27,9 @@ IsAskedBy given (Trace setup echo) =
     HasSetup given × (setup ≡ setup_asked given) × (echo ≡ is_given (codes "echo") given)
 IsAskedBy given (Audit limit) =
     HasNumber input_limit given × (limit ≡ number_asked input_limit given)
-IsAskedBy given (Judge plan) = HasJudgePlan given × (plan ≡ judge_plan_asked given)
+IsAskedBy given (Judge plan progress) =
+    HasJudgePlan given × (plan ≡ judge_plan_asked given)
+    × (progress ≡ is_given (codes "progress") given)
 IsAskedBy given (Bench plan progress history) =
     HasPlan given × (plan ≡ plan_asked given) × (progress ≡ is_given (codes "progress") given)
     × (history ≡ is_given (codes "history") given)

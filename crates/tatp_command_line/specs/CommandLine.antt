@@ -46,10 +46,10 @@ audit_rules = number_rule input_limit ∷ []
 
 abbrev pub judge_rules : List Rule
 judge_rules = number_rule gen ∷ number_rule seed ∷ number_rule most
-    ∷ switch_rule (codes "final") ∷ []
+    ∷ switch_rule (codes "final") ∷ switch_rule (codes "progress") ∷ []
 
 abbrev pub part_rules : List Rule
-part_rules = number_rule any_part ∷ number_rule (parts false) ∷ []
+part_rules = number_rule any_part ∷ number_rule parts ∷ []
 
 abbrev pub bench_rules : List Rule
 bench_rules = number_rule subscribers ∷ number_rule partitions ∷ number_rule clients

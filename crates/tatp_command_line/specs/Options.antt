@@ -83,15 +83,14 @@ input_limit = optional_from 1 MAX_INPUT_LIMIT (Some (codes "134217728")) (codes 
 abbrev pub most : Ranged
 most = optional_from 1 MAX_CONFIGURATIONS (Some (codes "65536")) (codes "most")
 
--- how many parts a history has: one where the rows at its end follow it
-abbrev pub parts : Bool → Ranged
-parts final =
-    optional_from 1 (if final then 1 else MAX_PARTS) (Some (codes "1")) (codes "parts")
+-- how many parts a history has
+abbrev pub parts : Ranged
+parts = optional_from 1 MAX_PARTS (Some (codes "1")) (codes "parts")
 
 -- one of so many parts, which has to be named where there are several
 abbrev pub part : ℕ → Ranged
-part parts =
-    optional_from 1 parts (if parts == 1 then Some (codes "1") else None) (codes "part")
+part count =
+    optional_from 1 count (if count == 1 then Some (codes "1") else None) (codes "part")
 
 -- ... as the parse of the words looks for it
 abbrev pub any_part : Ranged
@@ -170,12 +169,12 @@ plan_asked given = record {
 
 -- ---- a history that is judged
 abbrev pub parts_asked : List Row → ℕ
-parts_asked given = number_asked (parts (is_given (codes "final") given)) given
+parts_asked given = number_asked parts given
 
 pub record HasJudgePlan (given : List Row) : Type 0 where
   pub population : HasPopulation given
   pub most : HasNumber most given
-  pub parts : HasNumber (parts (is_given (codes "final") given)) given
+  pub parts : HasNumber parts given
   pub part : HasNumber (part (parts_asked given)) given
 
 abbrev pub judge_plan_asked : List Row → JudgePlan

@@ -109,7 +109,8 @@ fn judge<'a>(alloc: Global) -> Result<Command<'a>, AllocError>
             alloc,
             "final",
             "After the history read a line with a dot and the rows at its end",
-        ))
+        ))?
+        .arg(switch(alloc, "progress", "Tell on standard error how it goes on"))
 }
 
 /// The same command, with the options for a part of it.

@@ -130,8 +130,8 @@ before the call is sent, and the end when its reply has come.
 
 Prints LEGAL where the calls have an order that keeps the order of time and gives every answer. Then
 lines tell what was at stake: how many calls were ANSWERED, ABORTED and UNANSWERED, how many
-SUBSCRIBERS they are on, how many OVERLAPPED another one there when they were asked, and with WIDEST
-how many were open there at once.
+SUBSCRIBERS they are on, how many OVERLAPPED another one there when they were asked, how many of
+these CONFLICTED, since one of the two writes, and with WIDEST how many were open there at once.
 
 Otherwise prints ILLEGAL L: up to line L of the input they have none, and up to the line before they
 have one; then the status is 1. A line SUBSCRIBER S names the subscriber whose calls have none, and
@@ -143,9 +143,9 @@ Prints UNDECIDED L and a line SUBSCRIBER S where it doesn't know: by line L more
 configurations of subscriber S are possible, each of them rows that it may have and open calls that
 may still take effect. Then the status is 3, and a larger --most may help.
 
-With --part I --parts K only the calls on the subscribers S are judged of which S mod K is I - 1;
-those that name no subscriber are of part 1. A history is LEGAL where each of its K parts is, and
-ILLEGAL where one is. So several processes or machines can judge it.
+With --part I --parts K only the calls on the subscribers S are judged of which S mod K is I - 1,
+and their rows at the end; calls that name no subscriber are of part 1. A history is LEGAL where
+each of its K parts is, and ILLEGAL where one is. So several processes or machines can judge it.
 
 With --final a line with a dot and the rows at the end follow the history, and the order has to lead
 to these rows. Where the calls have an order and none leads to the rows, prints ILLEGAL L, of which

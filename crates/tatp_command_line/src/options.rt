@@ -6,7 +6,7 @@ ghost use Rattle.clap.specs.Matches.{found_of};
 ghost use Rattle.clap.specs.Walk.{rows_of, rule_of, first_of};
 ghost use Rattle.tatp_command_line.specs.CommandLine.{number_rule};
 ghost use Rattle.tatp_command_line.specs.Numbers.{IsNumberIn, asked_by, text_asked, HasNumber, number_asked, HasNumberIfGiven, number_if_given};
-ghost use Rattle.tatp_command_line.specs.Options.{is_given, part, parts};
+ghost use Rattle.tatp_command_line.specs.Options.{is_given, part};
 
 use clap::{Arg, ArgMatches};
 use std::alloc::Global;
@@ -130,23 +130,8 @@ pub(crate) const PART: NumberOption = number_option!(
 /// How many parts there are.
 pub(crate) const PARTS: NumberOption = number_option!(
     "parts" "K" in 1 to 4294967295, Some("1"), false,
-    "Let a history have K parts; with --final 1"
+    "Let a history have K parts"
 );
-
-/// The option for how many parts there are. Rows at the end are those of all parts.
-pub(crate) fn parts_with(final_rows: bool) -> NumberOption
-    ensures { asked_by result ≡ parts final_rows }
-{
-    NumberOption {
-        name: PARTS.name,
-        value: PARTS.value,
-        least: PARTS.least,
-        most: if final_rows { 1 } else { PARTS.most },
-        default: PARTS.default,
-        required: PARTS.required,
-        help: PARTS.help,
-    }
-}
 
 /// The option for one of `parts` parts. Where there are several it has to be given.
 pub(crate) fn part_of(parts: u64) -> NumberOption

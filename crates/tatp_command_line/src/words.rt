@@ -18,7 +18,7 @@ use crate::Asked;
 use crate::commands::{command, command_named};
 use crate::options::{
     BadNumber, CALLS, CHAPTER, CLIENT, CLIENTS, DRAWN_CALLS, GEN, INPUT_LIMIT, MOST, MOVES,
-    PARTITIONS, ROWS_GEN, SEED, STOPS, SUBSCRIBERS, given, is_given, part_of, parts_with,
+    PARTITIONS, PARTS, ROWS_GEN, SEED, STOPS, SUBSCRIBERS, given, is_given, part_of,
 };
 use clap::error::ErrorKind;
 use clap::{ArgMatches, Command, Error};
@@ -132,7 +132,7 @@ fn judge_plan_of<'a>(options: &ArgMatches<'a>) -> Result<JudgePlan, BadNumber<'a
     ensures possible { IfOk result IsJudgePlan }
 {
     let final_rows = is_given(options, "final");
-    let parts = parts_with(final_rows).number(options)?;
+    let parts = PARTS.number(options)?;
     Ok(JudgePlan {
         population: population_of(options)?,
         most: MOST.number(options)? as usize,
@@ -196,7 +196,11 @@ fn task_in<'a>(matches: &ArgMatches<'a>) -> Result<Option<Task<'a>>, BadNumber<'
         "audit" => Ok(Some(Task::Audit {
             input_limit: input_limit_of(options)?,
         })),
-        "judge" => Ok(Some(Task::Judge(judge_plan_of(options)?))),
+        "judge" => {
+            let progress = is_given(options, "progress");
+            let plan = judge_plan_of(options)?;
+            Ok(Some(Task::Judge { plan, progress }))
+        }
         "bench" => Ok(Some(Task::Bench {
             plan: plan_of(options)?,
             progress: is_given(options, "progress"),

@@ -7,10 +7,9 @@ use Rattle.tatp_history.specs.declared.observed.Outcome.{Outcome}
 use Rattle.tatp_history.specs.declared.observed.Outcome.TheVariants.{Answered, Aborted, Unknown}
 use Rattle.tatp_history.specs.declared.observed.Observed.{Observed}
 use Rattle.tatp_history.specs.HistoryLines.{client_of, end_at, end_of, call_at, calls_from, calls_of}
-use Rattle.tatp_history.specs.Locality.{subscriber_of}
 use Rattle.tatp_history.proofs.SubscriberEventLaws.{same_or_not}
 use Rattle.tatp_judge.specs.declared.asked.Asked.{Asked}
-use Rattle.tatp_judge.specs.Asked.{AskedCalls, none_asked, with_asked, asked_by, asked_after, asked_in_all}
+use Rattle.tatp_judge.specs.Asked.{AskedCalls, none_asked, with_asked, asked_call, asked_by, asked_after, asked_in_all}
 use Rattle.tatp_judge.specs.Counted.{has_call}
 use Rattle.tatp_judge.specs.Stakes.{how_many, was_answered, was_aborted, is_unknown}
 use Rattle.tatp_judge.proofs.NextLineLaws.{own_end, other_end}
@@ -108,7 +107,7 @@ module _ (u : Database) (ended : Outcome → Bool) (never : ended Unknown ≡ fa
   own_first : (number client : ℕ) (asked : AskedCalls) (first : Line) (more : List Line) → client_of first ≡ client
       → how_many ended (calls_from number (first ∷ more)) ≡ one_if (asked_by u number asked first client) (ended (end_of client (suc number) more)) + how_many ended (calls_from (suc number) more)
   own_first number client asked (Ask other call) more e =
-      let one : Option Asked = Some (record { s_id = subscriber_of u call; number = number }) in
+      let one : Option Asked = Some (asked_call u number call) in
       let rest = how_many ended (calls_from (suc number) more) in
       one_of ended (call_at number other call more) (calls_from (suc number) more)
       ∙ (ap (λ c. bit (ended (end_of c (suc number) more)) + rest) e

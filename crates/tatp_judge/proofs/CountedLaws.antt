@@ -20,7 +20,7 @@ use Rattle.tatp_judge.specs.Asked.{asked_in_all, asked_on}
 use Rattle.tatp_judge.specs.Followed.{HasFollowed}
 use Rattle.tatp_judge.specs.Population.{IsDirectoryOf}
 use Rattle.tatp_judge.specs.Steps.{fewer}
-use Rattle.tatp_judge.specs.Counted.{AreMarked, AreOthersOn, HasCounted}
+use Rattle.tatp_judge.specs.Counted.{AreMarked, AreOthersOn, HasCountedCalls}
 use Rattle.tatp_judge.specs.declared.stakes.Counts.{Counts}
 use Rattle.tatp_judge.specs.Stakes.{was_answered, was_aborted, IsNumberOf, IsCalled, MeetsOthers, IsWidest}
 use Rattle.tatp_judge.specs.Windows.{IsAmong, AreCounted, IsWindowAfter}
@@ -28,7 +28,7 @@ use Rattle.tatp_judge.proofs.CountLaws.{asks_one, asked_next_line, one_if, none_
 use Rattle.tatp_judge.proofs.JudgeLaws.{opened_is}
 use Rattle.tatp_judge.proofs.PlaceLaws.{got_other}
 use Rattle.tatp_judge.proofs.SearchLaws.{named_within}
-use Rattle.tatp_judge.proofs.StakeLaws.{number_same, number_more, got_now, got_within, or_got, got_written, AsksNone, called_before, called_either, meets_before, meets_either, meets_now, MeetsNow, widest_next, no_wider, now_open, no_more_open}
+use Rattle.tatp_judge.proofs.StakeLaws.{some_among, among_some, number_same, number_more, got_now, got_within, or_got, got_written, AsksNone, called_before, called_either, meets_before, meets_either, meets_now, MeetsNow, widest_next, no_wider, now_open, no_more_open}
 use Rattle.tatp_judge.proofs.WindowLaws.{AreOthers, others_of, fewer_at_most}
 
 -- ---- a line that asks no call on any subscriber
@@ -39,10 +39,10 @@ module _ (u : Database) (lines : List Line) (line : Line) (none : AsksNone u lin
   meets_back : (before : ℕ) → MeetsOthers u (lines ++ line ∷ []) before → MeetsOthers u lines before
   meets_back before h = elim (meets_either u lines line before h) [ inl now ↦ absurd (false≢true (sym (none now.1.0) ∙ now.1.2)) | inr m ↦ m ]
 
-  pub none_counted : (old new : Counts) → HasCounted u lines old → new.asked ≡ old.asked + asks_one line
+  pub none_counted : (old new : Counts) → HasCountedCalls u lines old → new.asked ≡ old.asked + asks_one line
       → new.answered ≡ old.answered + one_if (asked_in_all u lines (client_of line)) (was_answered (end_at (suc (length lines)) line))
       → new.aborted ≡ old.aborted + one_if (asked_in_all u lines (client_of line)) (was_aborted (end_at (suc (length lines)) line))
-      → new.called.items ≡ old.called.items → new.subscribers ≡ old.subscribers → new.overlapped ≡ old.overlapped → new.widest ≡ old.widest → HasCounted u (lines ++ line ∷ []) new
+      → new.called.items ≡ old.called.items → new.subscribers ≡ old.subscribers → new.overlapped ≡ old.overlapped → new.widest ≡ old.widest → HasCountedCalls u (lines ++ line ∷ []) new
   none_counted old new h asked answered aborted called subscribers overlapped widest =
       let longer : length (lines ++ line ∷ []) ≡ suc (length lines) = length-append lines (line ∷ []) ∙ omega arith in
       let few_s = h.subscribers_few in
@@ -67,14 +67,6 @@ module _ (u : Database) (lines : List Line) (line : Line) (none : AsksNone u lin
       }
 
 -- ---- a call that is asked on a subscriber
-some_among : (xs : List ℕ) → 0 < length xs → (x : ℕ) × IsAmong x xs
-some_among [] lt = absurd (omega (arith, lt))
-some_among (x ∷ xs) lt = (x, inl refl)
-
-among_some : (x : ℕ) (xs : List ℕ) → IsAmong x xs → 0 < length xs
-among_some x [] h = absurd h
-among_some x (y ∷ ys) h = omega arith
-
 module _ (u : Database) (lines : List Line) (client s : ℕ) (call : Call) (others : ℕ) (named : subscriber_of u call ≡ Some s) (there : AreOthersOn u s client lines others) where
   abbrev after : List Line
   after = lines ++ Ask client call ∷ []
@@ -187,16 +179,16 @@ module _ (u : Database) (lines : List Line) (client s : ℕ) (call : Call) (othe
       now_is = subst (AreOpenThen s) (ap (λ k. k + 1) (sym there.others)) (now_open u lines client s there.all call on there.counted)
 
 -- ---- all that is counted of a line that asks
-module _ (u : Database) (lines : List Line) (client : ℕ) (call : Call) (old new : Counts) (h : HasCounted u lines old) (asked : new.asked ≡ old.asked + 1) (answered : new.answered ≡ old.answered) (aborted : new.aborted ≡ old.aborted) where
+module _ (u : Database) (lines : List Line) (client : ℕ) (call : Call) (old new : Counts) (h : HasCountedCalls u lines old) (asked : new.asked ≡ old.asked + 1) (answered : new.answered ≡ old.answered) (aborted : new.aborted ≡ old.aborted) where
   open_ends : (b : Bool) → b ≡ false → one_if (asked_in_all u lines client) b ≡ 0
   open_ends b e = ap (one_if (asked_in_all u lines client)) e ∙ none_if (asked_in_all u lines client)
 
-  pub asked_of_none : subscriber_of u call ≡ None → new.called.items ≡ old.called.items → new.subscribers ≡ old.subscribers → new.overlapped ≡ old.overlapped → new.widest ≡ old.widest → HasCounted u (lines ++ Ask client call ∷ []) new
+  pub asked_of_none : subscriber_of u call ≡ None → new.called.items ≡ old.called.items → new.subscribers ≡ old.subscribers → new.overlapped ≡ old.overlapped → new.widest ≡ old.widest → HasCountedCalls u (lines ++ Ask client call ∷ []) new
   asked_of_none named = none_counted u lines (Ask client call) (λ s. ap (is_this s) named) old new h asked
       (let none = open_ends false refl in omega (arith, answered, none)) (let none = open_ends false refl in omega (arith, aborted, none))
 
   pub asked_of_one : (s others : ℕ) → subscriber_of u call ≡ Some s → AreOthersOn u s client lines others → new.called.items ≡ set old.called.items (s - 1) true → new.subscribers ≡ cond (get_or old.called.items (s - 1) false) old.subscribers (old.subscribers + 1)
-      → new.overlapped ≡ cond (nat_lt 0 others) (old.overlapped + 1) old.overlapped → new.widest ≡ cond (nat_lt old.widest (others + 1)) (others + 1) old.widest → HasCounted u (lines ++ Ask client call ∷ []) new
+      → new.overlapped ≡ cond (nat_lt 0 others) (old.overlapped + 1) old.overlapped → new.widest ≡ cond (nat_lt old.widest (others + 1)) (others + 1) old.widest → HasCountedCalls u (lines ++ Ask client call ∷ []) new
   asked_of_one s others named there called subscribers overlapped widest =
       let longer : length (lines ++ Ask client call ∷ []) ≡ suc (length lines) = length-append lines (Ask client call ∷ []) ∙ omega arith in
       let none = open_ends false refl in

@@ -1,7 +1,7 @@
 -- Whether some order of the calls leads to rows, subscriber by subscriber.
 use Rattle.std.proofs.Common.{◌≡◌, ℕ, zero, suc, ◌+◌, ◌-◌, ◌<◌, ◌≤◌, ◌∙◌, ◌&&◌, sym, ap, subst, nat_le, true, false, List, [], ◌∷◌, length, set, get_or, slice_get, take, refl, arith, Option, Some, None, Ok, cond, is_some, inl, inr}
 use Rattle.std.specs.Option.{option_map}
-use Rattle.std.proofs.lemmas.Bool.{cases_lt}
+use Rattle.std.proofs.lemmas.Bool.{cases_lt, false≢true}
 use Rattle.std.proofs.lemmas.List.{length-set}
 use Rattle.std.proofs.lemmas.Option.{none-some}
 use Rattle.tatp_tables.specs.Tuples.{Tuple, Tuples, has, set_of}
@@ -31,12 +31,13 @@ use Rattle.tatp_history.specs.declared.observed.Observed.{Observed}
 use Rattle.tatp_history.specs.Histories.{IsIn, IsStrictlySerializableTo, rows_after}
 use Rattle.tatp_history.specs.HistoryLines.{calls_of, AreAcceptedLines}
 use Rattle.tatp_history.specs.Locality.{AreAccepted, calls_on, is_on}
-use Rattle.tatp_history.proofs.FinalLaws.{combined_to, parted_to}
 use Rattle.tatp_history.proofs.LineLaws.{are_calls}
 use Rattle.tatp_history.proofs.OrderLaws.{all_filter, all_map, in_all}
 use Rattle.tatp_judge.specs.declared.judge.Judge.{Judge}
 use Rattle.tatp_judge.specs.declared.window.Window.{Window}
-use Rattle.tatp_judge.specs.Finishing.{LeadsTo, Leaves, IsFirstUnreached}
+use Rattle.tatp_judge.specs.declared.part.Part.{Part}
+use Rattle.tatp_judge.specs.Finishing.{Leaves, LeaveInPart, IsFirstUnreached}
+use Rattle.tatp_judge.specs.Parts.{is_of_part}
 use Rattle.tatp_judge.specs.Followed.{HasFollowed}
 use Rattle.tatp_judge.specs.Population.{IsDirectoryOf}
 use Rattle.tatp_judge.specs.Windows.{IsWindowAfter}
@@ -123,60 +124,68 @@ listed_none u n s d is out = sym (is.keys (Id s)) ∙ elim (nat_le 1 s && nat_le
 ] refl
 
 -- ---- the loop over subscribers
--- of those up to a place some order leaves the rows; the windows of the others are as they were
-pub record LeavesSoFar (u : Database) (lines : List Line) (after : Database) (i : ℕ) (old now : List Window) : Type 0 where
+-- of those of the part up to a place some order leaves the rows; the windows of the others are as they were
+pub record LeavesSoFar (u : Database) (part : Part) (lines : List Line) (after : Database) (i : ℕ) (old now : List Window) : Type 0 where
   pub count : length now ≡ length old
-  pub within : i ≤ length old
   pub later : (place : ℕ) → i ≤ place → slice_get now place ≡ slice_get old place
-  pub each : (place : ℕ) → place < i → Leaves u (suc place) lines (of_subscriber after (suc place))
+  pub each : (place : ℕ) → place < i → is_of_part part (Some (suc place)) ≡ true → Leaves u (suc place) lines (of_subscriber after (suc place))
 
-pub none_left_yet : (u : Database) (lines : List Line) (after : Database) (ws : List Window) → LeavesSoFar u lines after 0 ws ws
-none_left_yet u lines after ws = record { count = refl; within = omega arith; later = λ place le. refl; each = λ place lt. absurd (omega (arith, lt)) }
+pub none_left_yet : (u : Database) (part : Part) (lines : List Line) (after : Database) (ws : List Window) → LeavesSoFar u part lines after 0 ws ws
+none_left_yet u part lines after ws = record { count = refl; later = λ place le. refl; each = λ place lt. absurd (omega (arith, lt)) }
 
-pub one_left_more : (u : Database) (lines : List Line) (after : Database) (i : ℕ) (old now : List Window) (new : Window) → LeavesSoFar u lines after i old now → i < length now → Leaves u (suc i) lines (of_subscriber after (suc i))
-    → LeavesSoFar u lines after (i + 1) old (set now i new)
-one_left_more u lines after i old now new is lt here = record {
+pub one_left_more : (u : Database) (part : Part) (lines : List Line) (after : Database) (i : ℕ) (old now : List Window) (new : Window) → LeavesSoFar u part lines after i old now → i < length now → Leaves u (suc i) lines (of_subscriber after (suc i))
+    → LeavesSoFar u part lines after (i + 1) old (set now i new)
+one_left_more u part lines after i old now new is lt here = record {
   count = length-set now i new ∙ is.count;
-  within = omega (arith, lt, is.count);
   later = λ place le. got_other now i place new (λ e. omega (arith, e, le)) ∙ is.later place (omega (arith, le));
-  each = λ place early. elim (cases_lt place i) [
-    | inl before ↦ is.each place before
+  each = λ place early own. elim (cases_lt place i) [
+    | inl before ↦ is.each place before own
     | inr late ↦ let same : i ≡ place = omega (arith, early, late) in subst (λ p. Leaves u (suc p) lines (of_subscriber after (suc p))) same here
   ];
 }
 
-pub window_there : (u : Database) (most : ℕ) (lines : List Line) (after : Database) (i : ℕ) (judge : Judge) (now : List Window) (w : Window) → HasFollowed u most lines judge → LeavesSoFar u lines after i judge.windows.items now → i < length now → w ≡ get_or now i w
+pub one_passed_over : (u : Database) (part : Part) (lines : List Line) (after : Database) (i : ℕ) (old now : List Window) → LeavesSoFar u part lines after i old now → is_of_part part (Some (suc i)) ≡ false → LeavesSoFar u part lines after (i + 1) old now
+one_passed_over u part lines after i old now is other = record {
+  count = is.count;
+  later = λ place le. is.later place (omega (arith, le));
+  each = λ place early own. elim (cases_lt place i) [
+    | inl before ↦ is.each place before own
+    | inr late ↦ let same : place ≡ i = omega (arith, early, late) in absurd (false≢true (sym other ∙ (ap (λ p. is_of_part part (Some (suc p))) (sym same) ∙ own)))
+  ];
+}
+
+pub window_there : (u : Database) (part : Part) (most : ℕ) (lines : List Line) (after : Database) (i : ℕ) (judge : Judge) (now : List Window) (w : Window) → HasFollowed u most lines judge → LeavesSoFar u part lines after i judge.windows.items now → i < length now → w ≡ get_or now i w
     → IsWindowAfter u most (suc i) lines w
-window_there u most lines after i judge now w is so_far lt at = is.noted.windows_are i w (sym (so_far.later i (omega arith)) ∙ found_at now i w lt at)
+window_there u part most lines after i judge now w is so_far lt at = is.noted.windows_are i w (sym (so_far.later i (omega arith)) ∙ found_at now i w lt at)
 
 -- ---- the verdict
-pub not_reached : (u : Database) (most : ℕ) (lines : List Line) (after : Database) (i : ℕ) (judge : Judge) (now : List Window) → HasFollowed u most lines judge → LeavesSoFar u lines after i judge.windows.items now
-    → (Leaves u (suc i) lines (of_subscriber after (suc i)) → ⊥) → IsFirstUnreached u lines after (i + 1)
-not_reached u most lines after i judge now is so_far never =
-    let read = is.noted.read in
+pub not_reached : (u : Database) (part : Part) (lines : List Line) (after : Database) (i : ℕ) (old now : List Window) → LeavesSoFar u part lines after i old now → is_of_part part (Some (suc i)) ≡ true
+    → (Leaves u (suc i) lines (of_subscriber after (suc i)) → ⊥) → IsFirstUnreached u part lines after (i + 1)
+not_reached u part lines after i old now so_far own never =
     let next : suc i ≡ i + 1 = omega arith in
-    subst (IsFirstUnreached u lines after) next (record {
+    subst (IsFirstUnreached u part lines after) next (record {
       first = omega arith;
-      none = λ whole. never ((parted_to u (calls_of lines) after read.consistent (are_calls 1 lines read.accepted) whole).each (suc i));
+      own = own;
       here = never;
-      before = λ t least lt. let one : suc (t - 1) ≡ t = omega (arith, least) in subst (λ s. Leaves u s lines (of_subscriber after s)) one (so_far.each (t - 1) (omega (arith, least, lt)));
+      before = λ t least lt there. let one : suc (t - 1) ≡ t = omega (arith, least) in
+          subst (λ s. Leaves u s lines (of_subscriber after s)) one (so_far.each (t - 1) (omega (arith, least, lt)) (ap (λ s. is_of_part part (Some s)) one ∙ there));
     })
 
 -- there are more subscribers at the end
-pub more_at_end : (u : Database) (most : ℕ) (lines : List Line) (r : Rows) (i : ℕ) (judge : Judge) (now : List Window) → HasFollowed u most lines judge → IsClean r → LeavesSoFar u lines (database_of r) i judge.windows.items now
-    → i < length r.subscribers → length now ≤ i → IsFirstUnreached u lines (database_of r) (i + 1)
-more_at_end u most lines r i judge now is clean so_far lt all =
+pub more_at_end : (u : Database) (part : Part) (most : ℕ) (lines : List Line) (r : Rows) (i : ℕ) (judge : Judge) (now : List Window) → HasFollowed u most lines judge → IsClean r → LeavesSoFar u part lines (database_of r) i judge.windows.items now
+    → is_of_part part (Some (suc i)) ≡ true → i < length r.subscribers → length now ≤ i → IsFirstUnreached u part lines (database_of r) (i + 1)
+more_at_end u part most lines r i judge now is clean so_far own lt all =
     let read = is.noted.read in
-    not_reached u most lines (database_of r) i judge now is so_far (λ leaves.
+    not_reached u part lines (database_of r) i judge.windows.items now so_far own (λ leaves.
     none-some (suc i) (sym (listed_none u (length judge.windows.items) (suc i) judge.directory read.directory_is (λ within. omega (arith, within.1, all, so_far.count)))
     ∙ (sym (same_subscriber u (suc i) lines (database_of r) read.consistent read.accepted leaves) ∙ clean_there r (suc i) clean (omega arith) (omega (arith, lt)))))
 
 -- there are fewer
-pub fewer_at_end : (u : Database) (most : ℕ) (lines : List Line) (r : Rows) (i : ℕ) (judge : Judge) (now : List Window) → HasFollowed u most lines judge → IsClean r → LeavesSoFar u lines (database_of r) i judge.windows.items now
-    → i ≡ length r.subscribers → i < length now → IsFirstUnreached u lines (database_of r) (i + 1)
-fewer_at_end u most lines r i judge now is clean so_far end lt =
+pub fewer_at_end : (u : Database) (part : Part) (most : ℕ) (lines : List Line) (r : Rows) (i : ℕ) (judge : Judge) (now : List Window) → HasFollowed u most lines judge → IsClean r → LeavesSoFar u part lines (database_of r) i judge.windows.items now
+    → is_of_part part (Some (suc i)) ≡ true → length r.subscribers ≤ i → i < length now → IsFirstUnreached u part lines (database_of r) (i + 1)
+fewer_at_end u part most lines r i judge now is clean so_far own end lt =
     let read = is.noted.read in
-    not_reached u most lines (database_of r) i judge now is so_far (λ leaves.
+    not_reached u part lines (database_of r) i judge.windows.items now so_far own (λ leaves.
     none-some (suc i) (sym (clean_none r (suc i) clean (λ _. omega (arith, end)))
     ∙ (same_subscriber u (suc i) lines (database_of r) read.consistent read.accepted leaves ∙ (sym (read.directory_is.keys (Id (suc i))) ∙ read.directory_is.each (suc i) (omega arith) (omega (arith, lt, so_far.count))))))
 
@@ -185,25 +194,18 @@ no_calls_leave : (u : Database) (s : ℕ) (lines : List Line) (after : Database)
 no_calls_leave u s lines after none same =
     subst (λ calls. IsStrictlySerializableTo (of_subscriber u s) calls (of_subscriber after s)) (sym none) ([], record { made = tt; once = tt; all = λ x h a. h; real_time = tt; replies = tt }, same)
 
-outside : (u : Database) (most : ℕ) (lines : List Line) (r : Rows) (judge : Judge) (s : ℕ) → HasFollowed u most lines judge → IsClean r → length judge.windows.items ≡ length r.subscribers → ((1 ≤ s) × (s ≤ length r.subscribers) → ⊥) → Leaves u s lines (of_subscriber (database_of r) s)
-outside u most lines r judge s is clean count out =
+outside : (u : Database) (most : ℕ) (lines : List Line) (r : Rows) (judge : Judge) (s : ℕ) → HasFollowed u most lines judge → IsClean r → (1 ≤ s → length judge.windows.items < s) → (1 ≤ s → length r.subscribers < s) → Leaves u s lines (of_subscriber (database_of r) s)
+outside u most lines r judge s is clean out out_at_end =
     let read = is.noted.read in
     let n = length judge.windows.items in
-    let out_there : (1 ≤ s) × (s ≤ n) → ⊥ = λ within. out (within.0, omega (arith, within.1, count)) in
-    no_calls_leave u s lines (database_of r) (none_on u s (not_on u n judge.directory s read.directory_is out_there) (calls_of lines))
-    (nothing_of u (database_of r) s read.consistent (IsConsistent-clean r clean) (listed_none u n s judge.directory read.directory_is out_there)
-    (clean_none r s clean (λ least. elim (cases_lt (length r.subscribers) s) [ inl lt ↦ lt | inr le ↦ absurd (out (least, le)) ])))
+    let nobody : (1 ≤ s) × (s ≤ n) → ⊥ = λ within. let lt = out within.0 in omega (arith, within.1, lt) in
+    no_calls_leave u s lines (database_of r) (none_on u s (not_on u n judge.directory s read.directory_is nobody) (calls_of lines))
+    (nothing_of u (database_of r) s read.consistent (IsConsistent-clean r clean) (listed_none u n s judge.directory read.directory_is nobody) (clean_none r s clean out_at_end))
 
-pub all_reached : (u : Database) (most : ℕ) (lines : List Line) (r : Rows) (i : ℕ) (judge : Judge) (now : List Window) → HasFollowed u most lines judge → IsClean r → LeavesSoFar u lines (database_of r) i judge.windows.items now
-    → i ≡ length r.subscribers → length now ≤ i → LeadsTo u lines (database_of r)
-all_reached u most lines r i judge now is clean so_far end all =
-    let read = is.noted.read in
-    let count : length judge.windows.items ≡ length r.subscribers = omega (arith, end, all, so_far.count, so_far.within) in
-    combined_to u (calls_of lines) (database_of r) read.consistent (are_calls 1 lines read.accepted) (IsConsistent-clean r clean) (record { each = each count; none = is.none })
-  where
-    each : length judge.windows.items ≡ length r.subscribers → (s : ℕ) → Leaves u s lines (of_subscriber (database_of r) s)
-    each count zero = outside u most lines r judge 0 is clean count (λ within. omega (arith, within.0))
-    each count (suc p) = elim (cases_lt p i) [
-      | inl lt ↦ so_far.each p lt
-      | inr le ↦ outside u most lines r judge (suc p) is clean count (λ within. omega (arith, within.1, le, end))
-    ]
+pub all_reached : (u : Database) (part : Part) (most : ℕ) (lines : List Line) (r : Rows) (i : ℕ) (judge : Judge) (now : List Window) → HasFollowed u most lines judge → IsClean r → LeavesSoFar u part lines (database_of r) i judge.windows.items now
+    → length r.subscribers ≤ i → length now ≤ i → LeaveInPart u part lines (database_of r)
+all_reached u part most lines r i judge now is clean so_far end all zero own = outside u most lines r judge 0 is clean (λ le. absurd (omega (arith, le))) (λ le. absurd (omega (arith, le)))
+all_reached u part most lines r i judge now is clean so_far end all (suc p) own = elim (cases_lt p i) [
+  | inl lt ↦ so_far.each p lt own
+  | inr le ↦ let count = so_far.count in outside u most lines r judge (suc p) is clean (λ _. omega (arith, le, all, count)) (λ _. omega (arith, le, end))
+]

@@ -11,7 +11,7 @@ use Rattle.tatp_history.specs.declared.line.Line.TheVariants.{Ask, End, Abort, L
 use Rattle.tatp_history.specs.HistoryLines.{client_of, end_at, calls_of, AreAcceptedLines}
 use Rattle.tatp_history.specs.Events.{TimesRise}
 use Rattle.tatp_history.specs.Histories.{IsStrictlySerializable}
-use Rattle.tatp_history.specs.Locality.{subscriber_of, calls_on, FailsWithout, FailWithout}
+use Rattle.tatp_history.specs.Locality.{calls_on, FailsWithout, FailWithout}
 use Rattle.tatp_history.specs.SubscriberEvents.{OpenCalls, no_calls, opened_by, opened_after, events_of}
 use Rattle.tatp_history.proofs.SubscriberEventLaws.{same_or_not}
 use Rattle.tatp_linearization.specs.Possible.{NeedMore}
@@ -21,7 +21,7 @@ use Rattle.tatp_judge.specs.declared.judge.Verdict.{Verdict}
 use Rattle.tatp_judge.specs.declared.judge.Verdict.TheVariants.{Legal, Illegal, Undecided}
 use Rattle.tatp_judge.specs.declared.window.Window.{Window}
 use Rattle.tatp_judge.specs.Accepted.{IsAcceptedLine}
-use Rattle.tatp_judge.specs.Asked.{AskedCalls, none_asked, with_asked, asked_by, asked_after, asked_in_all, asked_on}
+use Rattle.tatp_judge.specs.Asked.{AskedCalls, none_asked, with_asked, asked_call, asked_by, asked_after, asked_in_all, asked_on}
 use Rattle.tatp_judge.specs.Followed.{HasNoted, HasFollowed, EndsAs}
 use Rattle.tatp_judge.specs.NextLine.{asks_of}
 use Rattle.tatp_judge.specs.Population.{IsDirectoryOf}
@@ -48,7 +48,7 @@ on_cond s false one other = refl
 
 module _ (u : Database) where
   opened_on : (s number : ℕ) (asked : AskedCalls) (line : Line) → opened_by u s number (λ c. asked_on s (asked c)) line ≡ (λ c. asked_on s (asked_by u number asked line c))
-  opened_on s number asked (Ask client call) = λ i c. on_cond s (c == client) (Some (record { s_id = subscriber_of u call; number = number })) (asked c) i
+  opened_on s number asked (Ask client call) = λ i c. on_cond s (c == client) (Some (asked_call u number call)) (asked c) i
   opened_on s number asked (End client recorded) = λ i c. on_cond s (c == client) None (asked c) i
   opened_on s number asked (Abort client) = λ i c. on_cond s (c == client) None (asked c) i
   opened_on s number asked (Lost client) = λ i c. on_cond s (c == client) None (asked c) i
@@ -74,8 +74,8 @@ module _ (u : Database) where
   ] h
 
   by_within : (n number : ℕ) (directory : Listing) (asked : AskedCalls) (line : Line) → IsDirectoryOf u n directory → AreWithin n asked → AreWithin n (asked_by u number asked line)
-  by_within n number directory asked (Ask client call) d within = with_within n asked client (Some (record { s_id = subscriber_of u call; number = number })) within
-      (λ a s h e. named_within u n directory call s d (ap (λ (x : Asked). x.s_id) (same_Some (record { s_id = subscriber_of u call; number = number }) a h) ∙ e))
+  by_within n number directory asked (Ask client call) d within = with_within n asked client (Some (asked_call u number call)) within
+      (λ a s h e. named_within u n directory call s d (ap (λ (x : Asked). x.s_id) (same_Some (asked_call u number call) a h) ∙ e))
   by_within n number directory asked (End client recorded) d within = with_within n asked client None within (λ a s h e. absurd (none-some a h))
   by_within n number directory asked (Abort client) d within = with_within n asked client None within (λ a s h e. absurd (none-some a h))
   by_within n number directory asked (Lost client) d within = with_within n asked client None within (λ a s h e. absurd (none-some a h))
@@ -90,7 +90,7 @@ module _ (u : Database) where
 
   -- ---- one line more
   asked_both : (number : ℕ) (asked : AskedCalls) (line : Line) (c : ℕ) → also_asked u number (with_asked asked (client_of line) None) line c ≡ asked_by u number asked line c
-  asked_both number asked (Ask client call) c = elim (c == client) as (λ b. cond b (Some (record { s_id = subscriber_of u call; number = number })) (cond b None (asked c)) ≡ cond b (Some (record { s_id = subscriber_of u call; number = number })) (asked c)) [ true ↦ refl | false ↦ refl ]
+  asked_both number asked (Ask client call) c = elim (c == client) as (λ b. cond b (Some (asked_call u number call)) (cond b None (asked c)) ≡ cond b (Some (asked_call u number call)) (asked c)) [ true ↦ refl | false ↦ refl ]
   asked_both number asked (End client recorded) c = refl
   asked_both number asked (Abort client) c = refl
   asked_both number asked (Lost client) c = refl

@@ -17,4 +17,5 @@ pub mod FinishingLaws
 pub mod LeavingLaws
 pub mod CountLaws
 pub mod StakeLaws
+pub mod ConflictLaws
 pub mod CountedLaws

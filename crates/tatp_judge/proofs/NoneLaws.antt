@@ -12,7 +12,7 @@ use Rattle.tatp_history.specs.Prefixes.{outcome_by, call_by, calls_by}
 use Rattle.tatp_history.proofs.LineLaws.{calls_of_first}
 use Rattle.tatp_history.proofs.SubscriberEventLaws.{same_or_not}
 use Rattle.tatp_judge.specs.declared.asked.Asked.{Asked}
-use Rattle.tatp_judge.specs.Asked.{AskedCalls, none_asked, with_asked, asked_by, asked_after, asked_in_all}
+use Rattle.tatp_judge.specs.Asked.{AskedCalls, none_asked, with_asked, asked_call, asked_by, asked_after, asked_in_all}
 use Rattle.tatp_judge.proofs.NextLineLaws.{own_end, other_end}
 
 -- ---- open calls
@@ -24,7 +24,7 @@ asked_other asked client other one n = ap (λ b. cond b one (asked other)) (ne_e
 
 module _ (u : Database) where
   pub by_other : (number : ℕ) (asked : AskedCalls) (line : Line) (client : ℕ) → client_of line ≢ client → asked_by u number asked line client ≡ asked client
-  by_other number asked (Ask other call) client n = asked_other asked other client (Some (record { s_id = subscriber_of u call; number = number })) (λ e. n (sym e))
+  by_other number asked (Ask other call) client n = asked_other asked other client (Some (asked_call u number call)) (λ e. n (sym e))
   by_other number asked (End other recorded) client n = asked_other asked other client None (λ e. n (sym e))
   by_other number asked (Abort other) client n = asked_other asked other client None (λ e. n (sym e))
   by_other number asked (Lost other) client n = asked_other asked other client None (λ e. n (sym e))
@@ -70,7 +70,7 @@ module _ (u : Database) where
   fail_next [] (Lost client) number last asked n fail may = tt
   fail_next (Ask client call ∷ more) line number last asked n fail may =
       let m : number + suc (length more) ≡ last = n in
-      let one : Asked = record { s_id = subscriber_of u call; number = number } in (
+      let one : Asked = asked_call u number call in (
         end_fails more line (suc number) last client (with_asked asked client (Some one)) one (omega (arith, m)) (asked_same asked client (Some one)) fail.0 may,
         fail_next more line (suc number) last (with_asked asked client (Some one)) (omega (arith, m)) fail.1 may,
       )
@@ -108,7 +108,7 @@ module _ (u : Database) where
       own : (first : Line) → client_of first ≡ client_of line → end_of (client_of line) (suc number) (more ++ line ∷ []) ≡ end_at last line → FailWithout u (calls_from number (first ∷ (more ++ line ∷ [])))
           → MayEnd (asked_by u number asked first (client_of line)) (end_at last line)
       own (Ask client call) e is h =
-          let one : Asked = record { s_id = subscriber_of u call; number = number } in
+          let one : Asked = asked_call u number call in
           subst (λ o. MayEnd o (end_at last line)) (sym (ap (with_asked asked client (Some one)) (sym e) ∙ asked_same asked client (Some one)))
           (subst (FailsWithout (subscriber_of u call)) (ap (λ c. end_of c (suc number) (more ++ line ∷ [])) e ∙ is) h.0)
       own (End client recorded) e is h = subst (λ o. MayEnd o (end_at last line)) (sym (ap (with_asked asked client None) (sym e) ∙ asked_same asked client None)) tt

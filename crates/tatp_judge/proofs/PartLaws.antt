@@ -7,13 +7,15 @@ use Rattle.tatp_history.specs.declared.line.Line.{Line}
 use Rattle.tatp_history.specs.declared.line.Line.TheVariants.{Ask, End, Abort, Lost}
 use Rattle.tatp_history.specs.declared.observed.Outcome.{Outcome}
 use Rattle.tatp_history.specs.declared.observed.Observed.{Observed}
-use Rattle.tatp_history.specs.Histories.{IsStrictlySerializable}
+use Rattle.tatp_history.specs.Histories.{IsStrictlySerializable, IsStrictlySerializableTo}
 use Rattle.tatp_history.specs.HistoryLines.{client_of, end_at, end_of, call_at, calls_from, calls_of, AreAcceptedLines}
 use Rattle.tatp_history.specs.Locality.{subscriber_of, is_this, is_on, calls_on, FailsWithout, FailWithout, IsSerializableAtEach}
+use Rattle.tatp_history.proofs.FinalLaws.{combined_to, parted_to}
 use Rattle.tatp_history.proofs.LineLaws.{are_calls}
 use Rattle.tatp_history.proofs.LocalityLaws.{combined, parted}
 use Rattle.tatp_history.proofs.OrderLaws.{all_filter}
 use Rattle.tatp_judge.specs.declared.part.Part.{Part}
+use Rattle.tatp_judge.specs.Finishing.{LeadsInPart, LeadsTo, Leaves}
 use Rattle.tatp_judge.specs.Parts.{is_of_part, line_of_part, lines_of_part, part_of, whole}
 use Rattle.tatp_judge.specs.Verdicts.{IsLegal}
 
@@ -132,6 +134,21 @@ module _ (u : Database) (part : Part) where
         none = subst (FailWithout u) (sym (calls_here 1 lines)) (all_filter (λ (x : Observed). FailsWithout (subscriber_of u x.call) x.outcome) is_here (calls_of lines) all.none);
       })
 
+-- ---- rows at the end
+module _ (u : Database) (part : Part) (after : Database) where
+  same_leaves : (s : ℕ) (lines : List Line) → is_of_part part (Some s) ≡ true → calls_on u s (calls_of (lines_of_part u part lines)) ≡ calls_on u s (calls_of lines)
+  same_leaves s lines own = ap (calls_on u s) (calls_here u part 1 lines) ∙ on_here u part s (calls_of lines) own
+
+  pub leaves_here : (s : ℕ) (lines : List Line) → is_of_part part (Some s) ≡ true → Leaves u s (lines_of_part u part lines) (of_subscriber after s) → Leaves u s lines (of_subscriber after s)
+  leaves_here s lines own = subst (λ calls. IsStrictlySerializableTo (of_subscriber u s) calls (of_subscriber after s)) (same_leaves s lines own)
+
+  pub leads_here : (lines : List Line) → IsConsistent u → AreAcceptedLines lines → LeadsTo u lines after → LeadsInPart u part (lines_of_part u part lines) after
+  leads_here lines consistent accepted h = record {
+    legal = legal_here u part lines consistent accepted (h.0, h.1);
+    leave = λ s own. subst (λ calls. IsStrictlySerializableTo (of_subscriber u s) calls (of_subscriber after s)) (sym (same_leaves s lines own))
+        ((parted_to u (calls_of lines) after consistent (are_calls 1 lines accepted) h).each s);
+  }
+
 -- ---- all parts
 pub legal_in_parts : (u : Database) (count : ℕ) (lines : List Line) → IsConsistent u → AreAcceptedLines lines → 1 ≤ count → ((number : ℕ) → 1 ≤ number → number ≤ count → IsLegal u (lines_of_part u (part_of count number) lines)) → IsLegal u lines
 legal_in_parts u count lines consistent accepted some each =
@@ -142,6 +159,19 @@ legal_in_parts u count lines consistent accepted some each =
           let own : s % count ≡ number - 1 = omega arith in
           each_here u (part_of count number) lines consistent accepted (each number (omega arith) (omega (arith, rest))) s (eq-eqb (s % count) (number - 1) own);
       none = none_here u (part_of count 1) lines consistent accepted refl (each 1 (omega arith) some);
+    })
+
+pub leads_in_parts : (u after : Database) (count : ℕ) (lines : List Line) → IsConsistent u → IsConsistent after → AreAcceptedLines lines → 1 ≤ count
+    → ((number : ℕ) → 1 ≤ number → number ≤ count → LeadsInPart u (part_of count number) (lines_of_part u (part_of count number) lines) after) → LeadsTo u lines after
+leads_in_parts u after count lines consistent consistent_after accepted some each =
+    combined_to u (calls_of lines) after consistent (are_calls 1 lines accepted) consistent_after (record {
+      each = λ s.
+          let rest : s % count < count = omega (arith, some) in
+          let number = s % count + 1 in
+          let own : s % count ≡ number - 1 = omega arith in
+          let here = eq-eqb (s % count) (number - 1) own in
+          leaves_here u (part_of count number) after s lines here ((each number (omega arith) (omega (arith, rest))).leave s here);
+      none = none_here u (part_of count 1) lines consistent accepted refl (each 1 (omega arith) some).legal;
     })
 
 -- the one part

@@ -53,8 +53,16 @@ count_at_most opened a b x y =
     let second = y.count in
     omega (arith, le, first, second)
 
+pub some_among : (xs : List ℕ) → 0 < length xs → (x : ℕ) × IsAmong x xs
+some_among [] lt = absurd (omega (arith, lt))
+some_among (x ∷ xs) lt = (x, inl refl)
+
+pub among_some : (x : ℕ) (xs : List ℕ) → IsAmong x xs → 0 < length xs
+among_some x [] h = absurd h
+among_some x (y ∷ ys) h = omega arith
+
 -- ---- places of a list
-got_before : {X : Type 0} (xs : List X) (y x : X) (k : ℕ) → slice_get xs k ≡ Some x → slice_get (xs ++ y ∷ []) k ≡ Some x
+pub got_before : {X : Type 0} (xs : List X) (y x : X) (k : ℕ) → slice_get xs k ≡ Some x → slice_get (xs ++ y ∷ []) k ≡ Some x
 got_before [] y x k h = absurd (none-some x h)
 got_before (z ∷ zs) y x zero h = h
 got_before (z ∷ zs) y x (suc k) h = got_before zs y x k h
@@ -63,7 +71,7 @@ pub got_now : {X : Type 0} (xs : List X) (y : X) → slice_get (xs ++ y ∷ []) 
 got_now [] y = refl
 got_now (z ∷ zs) y = got_now zs y
 
-got_either : {X : Type 0} (xs : List X) (y x : X) (k : ℕ) → slice_get (xs ++ y ∷ []) k ≡ Some x → (slice_get xs k ≡ Some x) ⊎ ((k ≡ length xs) × (y ≡ x))
+pub got_either : {X : Type 0} (xs : List X) (y x : X) (k : ℕ) → slice_get (xs ++ y ∷ []) k ≡ Some x → (slice_get xs k ≡ Some x) ⊎ ((k ≡ length xs) × (y ≡ x))
 got_either [] y x zero h = inr (refl, same_Some y x h)
 got_either [] y x (suc k) h = absurd (none-some x h)
 got_either (z ∷ zs) y x zero h = inl h
@@ -130,7 +138,7 @@ module _ (u : Database) (lines : List Line) (line : Line) where
         still = λ none. h.still (subst (λ ls. opened_after u h.s 1 no_calls ls h.other ≡ None) (front before lines (line ∷ []) (omega (arith, lt))) none);
       }
 
-  all_before : take (length lines) after ≡ lines
+  pub all_before : take (length lines) after ≡ lines
   all_before = front (length lines) lines (line ∷ []) (omega arith) ∙ take_all (length lines) lines (omega arith)
 
   -- a call that met others before is one of these, or it is asked now

@@ -181,7 +181,7 @@ counted_asked client n number opened c =
       ];
     }
 
-counted_next : (u : Database) (s number n : ℕ) (opened : OpenCalls) (line : Line) → AreCounted opened n → AreCounted (opened_by u s number opened line) (fewer (opened (client_of line)) n + length (asks_of u s number line))
+pub counted_next : (u : Database) (s number n : ℕ) (opened : OpenCalls) (line : Line) → AreCounted opened n → AreCounted (opened_by u s number opened line) (fewer (opened (client_of line)) n + length (asks_of u s number line))
 counted_next u s number n opened (Ask client call) c = elim (is_on u s call) as (λ b. AreCounted (with_call opened client (cond b (Some number) None)) (fewer (opened client) n + length (cond b (Asks (call_at number client call []) ∷ []) []))) [
   | true ↦ counted_asked client n number opened c
   | false ↦ counted_closed client n opened c

@@ -1,9 +1,11 @@
 -- The calls that clients have open, whichever subscriber they are on.
 use Rattle.std.specs.Prelude.{ℕ, suc, ◌==◌, if◌then◌else◌, List, [], ◌∷◌, Option, Some, None}
 use Rattle.tatp_tables.specs.Database.{Database}
+use Rattle.tatp_procs.specs.declared.call.Call.{Call}
 use Rattle.tatp_history.specs.declared.line.Line.{Line}
 use Rattle.tatp_history.specs.declared.line.Line.TheVariants.{Ask, End, Abort, Lost}
 use Rattle.tatp_history.specs.Locality.{subscriber_of, is_this}
+use Rattle.tatp_history.specs.Changes.{only_reads}
 use Rattle.tatp_judge.specs.declared.asked.Asked.{Asked}
 
 -- of each client, if it has one
@@ -16,10 +18,15 @@ none_asked client = None
 abbrev pub with_asked : AskedCalls → ℕ → Option Asked → AskedCalls
 with_asked asked client one = λ other. if other == client then one else asked other
 
+-- the call that the line of this number asks
+abbrev pub asked_call : Database → ℕ → Call → Asked
+asked_call u number call =
+    record { s_id = subscriber_of u call; number = number; reads = only_reads call }
+
 -- those after the line of this number
 abbrev pub asked_by : Database → ℕ → AskedCalls → Line → AskedCalls
 asked_by u number asked (Ask client call) =
-    with_asked asked client (Some (record { s_id = subscriber_of u call; number = number }))
+    with_asked asked client (Some (asked_call u number call))
 asked_by u number asked (End client recorded) = with_asked asked client None
 asked_by u number asked (Abort client) = with_asked asked client None
 asked_by u number asked (Lost client) = with_asked asked client None

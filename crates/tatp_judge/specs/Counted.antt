@@ -8,6 +8,7 @@ use Rattle.tatp_history.specs.Locality.{subscriber_of}
 use Rattle.tatp_history.specs.SubscriberEvents.{no_calls, opened_after}
 use Rattle.tatp_judge.specs.declared.asked.Asked.{Asked}
 use Rattle.tatp_judge.specs.declared.stakes.Counts.{Counts}
+use Rattle.tatp_judge.specs.Conflicts.{HasConflicts}
 use Rattle.tatp_judge.specs.Steps.{fewer}
 use Rattle.tatp_judge.specs.Windows.{AreCounted}
 use Rattle.tatp_judge.specs.Stakes.{how_many, was_answered, was_aborted, IsNumberOf, IsCalled, MeetsOthers, IsWidest}
@@ -33,8 +34,8 @@ pub record AreMarked (u : Database) (lines : List Line) (called : List Bool) : T
   pub all : (place : ℕ) → place < length called → IsCalled u lines (suc place)
       → slice_get called place ≡ Some true
 
--- so many lines
-pub record HasCounted (u : Database) (lines : List Line) (counts : Counts) : Type 0 where
+-- so many of the lines' calls, whether or not they conflict
+pub record HasCountedCalls (u : Database) (lines : List Line) (counts : Counts) : Type 0 where
   pub asked_is : counts.asked ≡ length (calls_of lines)
   pub answered_is : counts.answered ≡ how_many was_answered (calls_of lines)
   pub aborted_is : counts.aborted ≡ how_many was_aborted (calls_of lines)
@@ -45,3 +46,8 @@ pub record HasCounted (u : Database) (lines : List Line) (counts : Counts) : Typ
   pub overlapped_few : counts.overlapped ≤ length lines
   pub widest_is : IsWidest u lines counts.widest
   pub widest_few : counts.widest ≤ length lines
+
+-- and so many that met a conflict
+pub record HasCounted (u : Database) (lines : List Line) (counts : Counts) : Type 0 where
+  pub calls : HasCountedCalls u lines counts
+  pub conflicts : HasConflicts u lines counts.conflicts

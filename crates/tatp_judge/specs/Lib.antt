@@ -13,4 +13,5 @@ pub mod Finishing
 pub mod Leaving
 pub mod Explained
 pub mod Stakes
+pub mod Conflicts
 pub mod Counted

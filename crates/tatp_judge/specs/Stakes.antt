@@ -1,6 +1,6 @@
 -- trusted: read it
 -- What was at stake in a history: how many calls it has, how they ended, and how many met others.
-use Rattle.std.specs.Prelude.{◌≡◌, ℕ, ◌≤◌, Bool, true, false, List, length, take, filter, slice_get, Some, None}
+use Rattle.std.specs.Prelude.{◌≡◌, ℕ, ◌-◌, ◌≤◌, ◌⊎◌, Bool, true, false, List, length, take, filter, slice_get, Some, None}
 use Rattle.tatp_tables.specs.Database.{Database}
 use Rattle.tatp_procs.specs.declared.call.Call.{Call}
 use Rattle.tatp_history.specs.declared.line.Line.{Line}
@@ -11,6 +11,7 @@ use Rattle.tatp_history.specs.declared.observed.Observed.{Observed}
 use Rattle.tatp_history.specs.HistoryLines.{calls_of}
 use Rattle.tatp_history.specs.Locality.{is_on}
 use Rattle.tatp_history.specs.SubscriberEvents.{no_calls, opened_after}
+use Rattle.tatp_history.specs.Changes.{only_reads}
 use Rattle.tatp_judge.specs.declared.stakes.Stakes.{Stakes}
 use Rattle.tatp_judge.specs.Windows.{IsAmong, AreEachOnce, AreCounted}
 
@@ -63,6 +64,25 @@ pub record MeetsOthers (u : Database) (lines : List Line) (before : ℕ) : Type 
   pub apart : other ≡ client → ⊥
   pub still : opened_after u s 1 no_calls (take before lines) other ≡ None → ⊥
 
+-- after these lines a client has this call open, which is on the subscriber
+pub record HasOpen (u : Database) (s : ℕ) (lines : List Line) (client : ℕ) (call : Call)
+    : Type 0 where
+  pub number : ℕ
+  pub still : opened_after u s 1 no_calls lines client ≡ Some number
+  pub asked : slice_get lines (number - 1) ≡ Some (Ask client call)
+
+-- after so many lines a client asks a call, while another client has one open on its subscriber,
+-- and one of the two writes
+pub record MeetsConflict (u : Database) (lines : List Line) (before : ℕ) : Type 0 where
+  pub s : ℕ
+  pub client : ℕ
+  pub asks : Asks u s lines before client
+  pub other : ℕ
+  pub apart : other ≡ client → ⊥
+  pub met : Call
+  pub still : HasOpen u s (take before lines) other met
+  pub conflict : (only_reads asks.call ≡ false) ⊎ (only_reads met ≡ false)
+
 -- on one subscriber so many calls were open at once, and never more
 pub record IsWidest (u : Database) (lines : List Line) (n : ℕ) : Type 0 where
   pub most : (before s k : ℕ) → before ≤ length lines
@@ -79,4 +99,5 @@ pub record AreStakes (u : Database) (lines : List Line) (stakes : Stakes) : Type
   pub unanswered : stakes.unanswered ≡ how_many is_unknown (calls_of lines)
   pub subscribers : IsNumberOf stakes.subscribers (IsCalled u lines)
   pub overlapped : IsNumberOf stakes.overlapped (MeetsOthers u lines)
+  pub conflicted : IsNumberOf stakes.conflicted (MeetsConflict u lines)
   pub widest : IsWidest u lines stakes.widest

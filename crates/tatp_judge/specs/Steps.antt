@@ -7,14 +7,14 @@ use Rattle.tatp_history.specs.declared.event.Event.{Event}
 use Rattle.tatp_history.specs.declared.event.Event.TheVariants.{Asks}
 use Rattle.tatp_history.specs.declared.observed.Observed.{Observed}
 use Rattle.tatp_history.specs.declared.line.Line.TheVariants.{Ask, End, Abort, Lost}
-use Rattle.tatp_history.specs.Locality.{subscriber_of, is_this}
+use Rattle.tatp_history.specs.Locality.{is_this}
 use Rattle.tatp_history.specs.Events.{time_of}
 use Rattle.tatp_linearization.specs.declared.explanations.Standing.{Standing}
 use Rattle.tatp_linearization.specs.declared.explanations.Standing.TheVariants.{Explained, Unexplained, Undecided}
 use Rattle.tatp_judge.specs.declared.window.Window.{Window}
 use Rattle.tatp_judge.specs.declared.asked.Asked.{Asked}
 use Rattle.tatp_judge.specs.declared.judge.Judge.{Judge}
-use Rattle.tatp_judge.specs.Asked.{AskedCalls, with_asked, asked_on}
+use Rattle.tatp_judge.specs.Asked.{AskedCalls, with_asked, asked_call, asked_on}
 use Rattle.tatp_judge.specs.NextLine.{closed_by, number_closed_by, asks_of}
 use Rattle.tatp_judge.specs.Verdicts.{NeedMoreBy}
 use Rattle.tatp_judge.specs.Windows.{IsWindowAfter, IsExplainedBy, IsForgotten, IsSpent}
@@ -65,7 +65,7 @@ pub record IsNoted (one : Option ℕ) (asks : List Event) (number : ℕ) (line :
 -- the open calls, where the line of this number asks one more
 abbrev pub also_asked : Database → ℕ → AskedCalls → Line → AskedCalls
 also_asked u number asked (Ask client call) =
-    with_asked asked client (Some (record { s_id = subscriber_of u call; number = number }))
+    with_asked asked client (Some (asked_call u number call))
 also_asked u number asked (End client recorded) = asked
 also_asked u number asked (Abort client) = asked
 also_asked u number asked (Lost client) = asked

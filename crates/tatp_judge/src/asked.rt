@@ -17,6 +17,8 @@ pub(crate) struct Asked {
     pub(crate) s_id: Option<u64>,
     /// The number of the line that asked it.
     pub(crate) number: u64,
+    /// Whether it only reads.
+    pub(crate) reads: bool,
 }
 
 /// No client has a call open.

@@ -6,9 +6,11 @@ ghost use Rattle.tatp_history.specs.declared.line.Line.{Line as ALine};
 ghost use Rattle.tatp_judge.specs.Finishing.{IsFinalVerdictOn};
 ghost use Rattle.tatp_judge.specs.Followed.{HasFollowed};
 ghost use Rattle.tatp_judge.specs.Leaving.{GoesToEnd, SaysLeft};
+ghost use Rattle.tatp_judge.specs.Parts.{IsPart};
 ghost use Rattle.tatp_judge.specs.Windows.{IsWindowAfter};
 
 use crate::judge::Judge;
+use crate::part::Part;
 use crate::window::Window;
 use std::alloc::{AllocError, Global};
 use tatp_homes::{Home, homes};
@@ -20,7 +22,8 @@ use tatp_tables::Rows;
 pub enum FinalVerdict {
     /// Some order of its calls leads to them.
     Reached,
-    /// None does. This subscriber is the first of whose calls no order leaves its rows.
+    /// None does. Of the part's subscribers this is the first of whose calls no order leaves its
+    /// rows.
     Unreached(u64),
     /// It isn't known, since more configurations of this subscriber are possible than may be kept.
     Undecided(u64),
@@ -59,30 +62,39 @@ impl Window {
 }
 
 impl Judge {
-    /// Whether some order of the calls that were followed leads to these rows. After this the judge
-    /// follows no more lines.
-    pub fn finish_to(&mut self, alloc: Global, rows: &Rows) -> Result<FinalVerdict, AllocError>
+    /// Whether some order of the calls that were followed leads to these rows of the part's
+    /// subscribers. After this the judge follows no more lines.
+    pub fn finish_to(
+        &mut self,
+        alloc: Global,
+        part: &Part,
+        rows: &Rows,
+    ) -> Result<FinalVerdict, AllocError>
+        requires part { IsPart part.now }
         requires followed { (u : Database) × (most : ℕ) × (lines : List ALine)
             × HasFollowed u most lines self.old }
         requires clean { IsClean rows.now }
         ensures { IfOk result (λ verdict. (u : Database) (most : ℕ) (lines : List ALine)
             → HasFollowed u most lines self.old
-            → IsFinalVerdictOn u most lines (database_of rows.now) verdict) }
+            → IsFinalVerdictOn u part.now most lines (database_of rows.now) verdict) }
     {
         let homes = homes(alloc, rows)?;
-        'homes: for i in 0..homes.len() {
+        let count = homes.len().max(self.windows.len());
+        'homes: for i in 0..count {
             let s_id = i as u64 + 1;
-            if i >= self.windows.len() {
-                return Ok(FinalVerdict::Unreached(s_id));
+            if part.has(Some(s_id)) {
+                if i >= self.windows.len() {
+                    return Ok(FinalVerdict::Unreached(s_id));
+                }
+                if i >= homes.len() {
+                    return Ok(FinalVerdict::Unreached(s_id));
+                }
+                match self.windows[i].leads_to(alloc, &homes[i])? {
+                    Standing::Explained => {}
+                    Standing::Unexplained => return Ok(FinalVerdict::Unreached(s_id)),
+                    Standing::Undecided => return Ok(FinalVerdict::Undecided(s_id)),
+                }
             }
-            match self.windows[i].leads_to(alloc, &homes[i])? {
-                Standing::Explained => {}
-                Standing::Unexplained => return Ok(FinalVerdict::Unreached(s_id)),
-                Standing::Undecided => return Ok(FinalVerdict::Undecided(s_id)),
-            }
-        }
-        if homes.len() < self.windows.len() {
-            return Ok(FinalVerdict::Unreached(homes.len() as u64 + 1));
         }
         Ok(FinalVerdict::Reached)
     }

@@ -22,7 +22,7 @@ use crate::window::Window;
 use crate::windows::{ask_in, close_in, end_in, windows_of};
 use indexmap::IndexMap;
 use std::alloc::{AllocError, Global};
-use tatp_history::{Line, Observed, Outcome};
+use tatp_history::{Line, Observed, Outcome, only_reads};
 use tatp_homes::homes;
 use tatp_linearization::Standing;
 use tatp_numbers::Directory;
@@ -189,7 +189,15 @@ impl Judge {
             self.old.windows.items self.new.windows.items) }
     {
         let s_id = subscriber_of(&self.directory, call);
-        self.asked.insert(client, Asked { s_id, number })?;
+        let reads = only_reads(call);
+        self.asked.insert(
+            client,
+            Asked {
+                s_id,
+                number,
+                reads,
+            },
+        )?;
         let x = Observed {
             asked: number,
             call: *call,

@@ -4,6 +4,7 @@
 mod accepted;
 mod asked;
 mod closing;
+mod conflicts;
 mod explaining;
 mod finishing;
 mod judge;
@@ -19,5 +20,7 @@ pub use accepted::is_accepted;
 pub use finishing::FinalVerdict;
 pub use judge::{Judge, Verdict};
 pub use legal::LegalReplies;
-pub use part::{Part, a_history_is_legal_where_each_part_is};
+pub use part::{
+    Part, a_history_is_legal_where_each_part_is, a_history_leads_to_rows_where_each_part_does,
+};
 pub use stakes::{Counts, Stakes};

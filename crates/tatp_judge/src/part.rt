@@ -5,6 +5,7 @@ ghost use Rattle.tatp_procs.specs.Consistent.{IsConsistent};
 ghost use Rattle.tatp_history.specs.declared.line.Line.{Line as ALine};
 ghost use Rattle.tatp_history.specs.declared.line.Line.TheVariants.{Lost};
 ghost use Rattle.tatp_history.specs.HistoryLines.{AreAcceptedLines};
+ghost use Rattle.tatp_judge.specs.Finishing.{LeadsInPart, LeadsTo};
 ghost use Rattle.tatp_judge.specs.Followed.{HasFollowed};
 ghost use Rattle.tatp_judge.specs.Parts.{IsPart, is_of_part, line_of_part, lines_of_part, part_of, whole};
 ghost use Rattle.tatp_judge.specs.Verdicts.{IsLegal};
@@ -24,7 +25,7 @@ pub struct Part {
 
 impl Part {
     /// Whether calls on the subscriber are of the part.
-    fn has(&self, s_id: Option<u64>) -> bool
+    pub(crate) fn has(&self, s_id: Option<u64>) -> bool
         requires { IsPart self.now }
         ensures { result ≡ is_of_part self.now s_id }
     {
@@ -71,4 +72,19 @@ pub fn a_history_is_legal_where_each_part_is()
         → IsConsistent u → AreAcceptedLines lines
         → IsLegal u lines → IsLegal u (lines_of_part u (part_of count number) lines) }
     ensures one { (u : Database) (lines : List ALine) → lines_of_part u whole lines ≡ lines }
+{}
+
+/// Some order of a history's calls leads to the rows at its end exactly where those of each of its
+/// parts lead to the rows of the part's subscribers.
+pub fn a_history_leads_to_rows_where_each_part_does()
+    ensures leads { (u after : Database) (count : ℕ) (lines : List ALine)
+        → IsConsistent u → IsConsistent after → AreAcceptedLines lines → 1 ≤ count
+        → ((number : ℕ) → 1 ≤ number → number ≤ count
+        → let part = part_of count number in
+        LeadsInPart u part (lines_of_part u part lines) after)
+        → LeadsTo u lines after }
+    ensures part { (u after : Database) (count number : ℕ) (lines : List ALine)
+        → IsConsistent u → AreAcceptedLines lines → LeadsTo u lines after
+        → let part = part_of count number in
+        LeadsInPart u part (lines_of_part u part lines) after }
 {}

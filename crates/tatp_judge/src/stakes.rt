@@ -5,11 +5,12 @@ ghost use Rattle.tatp_history.specs.declared.line.Line.{Line as ALine};
 ghost use Rattle.tatp_history.specs.declared.line.Line.TheVariants.{Ask};
 ghost use Rattle.tatp_history.specs.Locality.{is_this};
 ghost use Rattle.tatp_judge.specs.Asked.{asked_in_all};
-ghost use Rattle.tatp_judge.specs.Counted.{AreOthersOn, HasCounted, has_call};
+ghost use Rattle.tatp_judge.specs.Counted.{AreOthersOn, HasCounted, HasCountedCalls, has_call};
 ghost use Rattle.tatp_judge.specs.Followed.{HasFollowed};
 ghost use Rattle.tatp_judge.specs.Stakes.{AreStakes};
 
 use crate::asked::{Asked, subscriber_of};
+use crate::conflicts::Conflicts;
 use crate::judge::Judge;
 use std::alloc::{AllocError, Global};
 use tatp_history::Line;
@@ -26,6 +27,8 @@ pub struct Stakes {
     pub subscribers: u64,
     /// Calls that were asked while another one was open on their subscriber.
     pub overlapped: u64,
+    /// Those of them of which one of the two calls writes.
+    pub conflicted: u64,
     /// The most calls that were open at once on one subscriber.
     pub widest: u64,
 }
@@ -40,6 +43,7 @@ pub struct Counts {
     pub(crate) called: Vec<bool>,
     pub(crate) subscribers: u64,
     pub(crate) overlapped: u64,
+    pub(crate) conflicts: Conflicts,
     pub(crate) widest: u64,
 }
 
@@ -63,7 +67,7 @@ impl Judge {
     }
 
     /// How many calls of other clients are open on the subscriber.
-    fn others_on(&self, client: u64, s_id: u64) -> u64
+    pub(crate) fn others_on(&self, client: u64, s_id: u64) -> u64
         requires followed { (u : Database) × (most : ℕ) × (lines : List ALine)
             × HasFollowed u most lines self.now }
         requires within { (1 ≤ s_id) × (s_id ≤ length self.now.windows.items) }
@@ -97,6 +101,7 @@ impl Counts {
             called: vec![in alloc; false; judge.windows.len()]?,
             subscribers: 0,
             overlapped: 0,
+            conflicts: Conflicts::new(alloc, judge)?,
             widest: 0,
         })
     }
@@ -108,6 +113,19 @@ impl Counts {
         ensures { (u : Database) (most : ℕ) (lines : List ALine)
             → HasFollowed u most lines judge.now → HasCounted u lines self.old
             → HasCounted u (lines ++ line.now ∷ []) self.new }
+    {
+        self.count_call(judge, line);
+        self.conflicts.count(judge, line);
+    }
+
+    /// Counts the call that the line asks or ends, whether or not it conflicts with another.
+    fn count_call(&mut self, judge: &Judge, line: &Line)
+        requires { (u : Database) × (most : ℕ) × (lines : List ALine)
+            × HasFollowed u most lines judge.now × HasCountedCalls u lines self.old }
+        ensures calls { (u : Database) (most : ℕ) (lines : List ALine)
+            → HasFollowed u most lines judge.now → HasCountedCalls u lines self.old
+            → HasCountedCalls u (lines ++ line.now ∷ []) self.new }
+        ensures conflicts { self.new.conflicts ≡ self.old.conflicts }
     {
         match line {
             Line::Ask { client, call } => self.ask(judge, *client, call),
@@ -128,10 +146,11 @@ impl Counts {
     /// Counts a call that a client asks.
     fn ask(&mut self, judge: &Judge, client: u64, call: &Call)
         requires { (u : Database) × (most : ℕ) × (lines : List ALine)
-            × HasFollowed u most lines judge.now × HasCounted u lines self.old }
-        ensures { (u : Database) (most : ℕ) (lines : List ALine)
-            → HasFollowed u most lines judge.now → HasCounted u lines self.old
-            → HasCounted u (lines ++ Ask client call.now ∷ []) self.new }
+            × HasFollowed u most lines judge.now × HasCountedCalls u lines self.old }
+        ensures calls { (u : Database) (most : ℕ) (lines : List ALine)
+            → HasFollowed u most lines judge.now → HasCountedCalls u lines self.old
+            → HasCountedCalls u (lines ++ Ask client call.now ∷ []) self.new }
+        ensures conflicts { self.new.conflicts ≡ self.old.conflicts }
     {
         self.asked += 1;
         if let Some(s_id) = subscriber_of(&judge.directory, call) {
@@ -148,6 +167,7 @@ impl Counts {
         ensures asked { self.new.asked ≡ self.old.asked }
         ensures answered { self.new.answered ≡ self.old.answered }
         ensures aborted { self.new.aborted ≡ self.old.aborted }
+        ensures conflicts { self.new.conflicts ≡ self.old.conflicts }
         ensures called { self.new.called.items ≡ set self.old.called.items (s_id - 1) true }
         ensures subscribers { self.new.subscribers ≡ (if get_or self.old.called.items (s_id - 1)
             false then self.old.subscribers else self.old.subscribers + 1) }
@@ -181,6 +201,7 @@ impl Counts {
             unanswered: self.asked - self.answered - self.aborted,
             subscribers: self.subscribers,
             overlapped: self.overlapped,
+            conflicted: self.conflicts.conflicted,
             widest: self.widest,
         }
     }

@@ -24,9 +24,10 @@ use Rattle.tatp_judge.specs.declared.judge.Judge.{Judge}
 use Rattle.tatp_judge.specs.declared.judge.Verdict.{Verdict}
 use Rattle.tatp_judge.specs.declared.judge.Verdict.TheVariants as verdicts
 use Rattle.tatp_judge.specs.declared.stakes.Stakes.{Stakes}
-use Rattle.tatp_judged_inputs.specs.Views.{HasCounted, IsBegun, IsFinalVerdictOn, IsFirstUnreached, IsVerdictOn, LeadsTo, NeedMoreBy, View, seen}
+use Rattle.tatp_judged_inputs.specs.Views.{HasCounted, IsBegun, IsFinalVerdictOn, IsFirstUnreached, IsLegal, IsVerdictOn, LeadsTo, NeedMoreBy, View, seen}
 use Rattle.tatp_judge.specs.Verdicts.{NeedMoreBy as NeedMoreByAll}
 use Rattle.tatp_judged_inputs.proofs.ViewLaws.{seen_length}
+use Rattle.tatp_judged_inputs.proofs.VerdictLaws.{same_told}
 use Rattle.tatp_judged_inputs.specs.declared.judging.Window.{Window}
 use Rattle.tatp_judged_inputs.specs.HistoryTexts.{Told, history_from, none_open}
 use Rattle.tatp_judged_inputs.specs.Judged.{Tell, IsUntold, IsJudged, IsJudgement, IsTold, IsUndecidedAt, IsWindowBy, IsWindowOf}
@@ -206,7 +207,10 @@ undecided_by_rows u most taken dot s past a l reads many = record {
 
 said_by_rows : (u : View) (most taken dot : ℕ) (past : List Line) (a l : LinesLeft) (rows : Rows) (stakes : Stakes) (verdict : FinalVerdict) → ReadsToDot past taken dot a l → rows_of_lines (dot + 1) l.lines ≡ Ok rows → AreAdmitted rows → IsJudged u most taken (before_dot a.lines) (Legal stakes)
     → IsFinalVerdictOn u most past (database_of rows) verdict → IsJudgedTo u most taken a.lines (told_by_rows stakes verdict dot)
-said_by_rows u most taken dot past a l rows stakes final.Reached reads read admitted legal is = (brings taken dot past a l rows (LeadsTo u) reads read admitted is, legal.1)
+said_by_rows u most taken dot past a l rows stakes final.Reached reads read admitted legal is =
+    let told = same_told (history_from none_open (taken + 1) (before_dot a.lines)) legal.0.0 reads.told legal.0.1 reads.tell in
+    let explained = subst (λ lines. IsLegal u lines) (ap (λ (t : Told). t.lines) told ∙ reads.lines_are) legal.0.2 in
+    (brings taken dot past a l rows (LeadsTo u) reads read admitted (record { legal = explained; leave = is }), legal.1)
 said_by_rows u most taken dot past a l rows stakes (final.Unreached s) reads read admitted legal is =
     record { number_is = reads.counted; legal = legal.0; unreached = brings taken dot past a l rows (λ lines after. IsFirstUnreached u lines after s) reads read admitted is }
 said_by_rows u most taken dot past a l rows stakes (final.Undecided s) reads read admitted legal is = undecided_by_rows u most taken dot s past a l reads (subst (λ k. NeedMoreByAll u.rows most (seen u past) k s) (seen_length u past) is)

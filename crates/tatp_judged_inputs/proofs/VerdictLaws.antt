@@ -80,7 +80,7 @@ illegal_at_one u taken texts n m a b = elim (cases_lt n m) [
 same_rows : (r : Result Rows ℕ) (a b : Rows) → r ≡ Ok a → r ≡ Ok b → a ≡ b
 same_rows r a b e h = cc
 
-same_told : (r : Result Told BadText) (a b : Told) → r ≡ Ok a → r ≡ Ok b → a ≡ b
+pub same_told : (r : Result Told BadText) (a b : Told) → r ≡ Ok a → r ≡ Ok b → a ≡ b
 same_told r a b e h = cc
 
 -- what holds of what the texts bring holds of it anywhere
@@ -91,12 +91,14 @@ brought_once taken texts P Q a b =
 
 pub legal_nowhere_unreached : (u : View) (most taken : ℕ) (texts : List (List ℕ)) (stakes : Stakes) (number s : ℕ) → IsJudgedTo u most taken texts (Legal stakes) → IsUnreachedAt u taken texts number s → ⊥
 legal_nowhere_unreached u most taken texts stakes number s legal is =
-    is.unreached.holds.2.none (brought_once taken texts (LeadsTo u) (λ lines after. IsFirstUnreached u lines after s) legal.0 is.unreached)
+    let leads = brought_once taken texts (LeadsTo u) (λ lines after. IsFirstUnreached u lines after s) legal.0 is.unreached in
+    let unreached = is.unreached.holds.2 in
+    unreached.here (leads.leave s unreached.own)
 
 not_earlier : (u : View) (taken : ℕ) (texts : List (List ℕ)) (n m s t : ℕ) → IsUnreachedAt u taken texts n s → IsUnreachedAt u taken texts m t → s < t → ⊥
 not_earlier u taken texts n m s t a b lt =
     let here = brought_once taken texts (λ lines after. IsFirstUnreached u lines after s) (λ lines after. IsFirstUnreached u lines after t) a.unreached b.unreached in
-    here.here (b.unreached.holds.2.before s here.first lt)
+    here.here (b.unreached.holds.2.before s here.first lt here.own)
 
 pub unreached_at_one : (u : View) (taken : ℕ) (texts : List (List ℕ)) (n m s t : ℕ) → IsUnreachedAt u taken texts n s → IsUnreachedAt u taken texts m t → s ≡ t
 unreached_at_one u taken texts n m s t a b = elim (cases_lt s t) [

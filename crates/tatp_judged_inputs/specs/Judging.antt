@@ -149,7 +149,8 @@ stakes_lines stakes =
     ++ (number_line (codes "UNANSWERED ") stakes.unanswered
     ++ (number_line (codes "SUBSCRIBERS ") stakes.subscribers
     ++ (number_line (codes "OVERLAPPED ") stakes.overlapped
-    ++ number_line (codes "WIDEST ") stakes.widest))))
+    ++ (number_line (codes "CONFLICTED ") stakes.conflicted
+    ++ number_line (codes "WIDEST ") stakes.widest)))))
 
 -- the lines that say it, each with its line feed
 abbrev pub judged_lines : Judged → Window → List ℕ

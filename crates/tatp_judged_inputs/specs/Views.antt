@@ -13,7 +13,7 @@ use Rattle.tatp_judge.specs.declared.stakes.Counts.{Counts}
 use Rattle.tatp_judge.specs.declared.stakes.Stakes.{Stakes}
 use Rattle.tatp_judge.specs.Counted.{HasCounted as HasCountedAll}
 use Rattle.tatp_judge.specs.Explained.{AreWindowNumbers}
-use Rattle.tatp_judge.specs.Finishing.{IsFinalVerdictOn as IsFinalVerdictOnAll, IsFirstUnreached as IsFirstUnreachedOfAll, LeadsTo as LeadToAll}
+use Rattle.tatp_judge.specs.Finishing.{IsFinalVerdictOn as IsFinalVerdictOnAll, IsFirstUnreached as IsFirstUnreachedOfAll, LeadsInPart}
 use Rattle.tatp_judge.specs.Followed.{HasFollowed as HasFollowedAll, HasKept as HasKeptAll}
 use Rattle.tatp_judge.specs.Legal.{AreLegalReplies}
 use Rattle.tatp_judge.specs.Parts.{IsPart, lines_of_part}
@@ -47,14 +47,15 @@ AreStakes v lines stakes = AreStakesOfAll v.rows (seen v lines) stakes
 
 -- ---- the rows at the end
 abbrev pub LeadsTo : View → List Line → Database → Type 0
-LeadsTo v lines after = LeadToAll v.rows (seen v lines) after
+LeadsTo v lines after = LeadsInPart v.rows v.part (seen v lines) after
 
 abbrev pub IsFirstUnreached : View → List Line → Database → ℕ → Type 0
-IsFirstUnreached v lines after s = IsFirstUnreachedOfAll v.rows (seen v lines) after s
+IsFirstUnreached v lines after s =
+    IsFirstUnreachedOfAll v.rows v.part (seen v lines) after s
 
 abbrev pub IsFinalVerdictOn : View → ℕ → List Line → Database → FinalVerdict → Type 0
 IsFinalVerdictOn v most lines after verdict =
-    IsFinalVerdictOnAll v.rows most (seen v lines) after verdict
+    IsFinalVerdictOnAll v.rows v.part most (seen v lines) after verdict
 
 -- ---- what is told of the last of the lines
 abbrev pub AreNumbersTold : View → ℕ → List Line → List ℕ → Type 0

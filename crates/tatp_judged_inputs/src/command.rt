@@ -14,7 +14,7 @@ ghost use Rattle.tatp_judged_inputs.specs.Judging.{JudgesInput, RefusesInput, nu
 use crate::judging::Window;
 use crate::legal_replies::push_legal;
 use crate::to_rows::judge_lines;
-use crate::{JudgeFault, Judged, Judgement};
+use crate::{JudgeFault, Judged, Judgement, Progress};
 use std::alloc::{AllocError, Global};
 use std::io::{Read, Write};
 use tatp_extents::{OpenError, admit};
@@ -52,7 +52,12 @@ fn part_of(plan: &JudgePlan) -> Part
 }
 
 /// What is said of the history that an input is.
-fn judged<R: Read>(alloc: Global, reader: &mut R, plan: &JudgePlan) -> Result<Judgement, JudgeFault>
+fn judged<R: Read, P: Progress>(
+    alloc: Global,
+    reader: &mut R,
+    plan: &JudgePlan,
+    progress: &mut P,
+) -> Result<Judgement, JudgeFault>
     requires { IsJudgePlan plan.now }
     ensures judged { IfOk result (λ judgement. IfSome (R.remaining reader.old) (λ input.
         JudgesInput plan.now (lines_of input) judgement.judged judgement.window)) }
@@ -71,6 +76,7 @@ fn judged<R: Read>(alloc: Global, reader: &mut R, plan: &JudgePlan) -> Result<Ju
         &mut judge,
         &mut lines,
         reader,
+        progress,
     )
 }
 
@@ -108,6 +114,7 @@ fn push_stakes(text: &mut String, stakes: &Stakes) -> Result<(), AllocError>
     push_number_line(text, "UNANSWERED ", stakes.unanswered)?;
     push_number_line(text, "SUBSCRIBERS ", stakes.subscribers)?;
     push_number_line(text, "OVERLAPPED ", stakes.overlapped)?;
+    push_number_line(text, "CONFLICTED ", stakes.conflicted)?;
     push_number_line(text, "WIDEST ", stakes.widest)
 }
 
@@ -171,12 +178,14 @@ fn lines_that_tell(alloc: Global, judgement: &Judgement) -> Result<String, Alloc
 }
 
 /// Reads rows and a history, or a history alone, and writes what is said of it, which it gives
-/// back. The rows are tested before the first line of the history is read.
-pub fn run_judge<R: Read, W: Write>(
+/// back. The rows are tested before the first line of the history is read. What `progress` does
+/// with each line changes nothing of that.
+pub fn run_judge<R: Read, W: Write, P: Progress>(
     alloc: Global,
     reader: &mut R,
     writer: &mut W,
     plan: &JudgePlan,
+    progress: &mut P,
 ) -> Result<Judged, JudgeFault>
     requires { IsJudgePlan plan.now }
     ensures written { IfOk result (λ judged. IfSome (R.remaining reader.old) (λ input.
@@ -186,7 +195,7 @@ pub fn run_judge<R: Read, W: Write>(
         LeavesJudged plan.now input
         (W.contents writer.old) (W.contents writer.new) fault)) }
 {
-    let judgement = judged(alloc, reader, plan)?;
+    let judgement = judged(alloc, reader, plan, progress)?;
     let lines = lines_that_tell(alloc, &judgement)?;
     write_last(writer, lines.as_bytes())?;
     Ok(judgement.judged)

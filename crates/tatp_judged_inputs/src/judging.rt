@@ -7,9 +7,9 @@ ghost use Rattle.tatp_judged_inputs.specs.HistoryTexts.{history_from, none_open}
 ghost use Rattle.tatp_judged_inputs.specs.Judged.{IsJudgement, IsTold, IsWindowBy};
 ghost use Rattle.tatp_judged_inputs.specs.Reading.{IsKeptFor, IsNumbered, RefusesHistory, told_of};
 
-use crate::HistoryFault;
 use crate::line_numbers::LineNumbers;
 use crate::reading::Reading;
+use crate::{HistoryFault, Progress};
 use std::alloc::{AllocError, Global};
 use std::io::Read;
 use tatp_history_lines::OpenCalls;
@@ -110,12 +110,13 @@ impl Reading {
 
 /// The verdict on a part of the history that all lines left of an input are. Lines after that which
 /// decides it aren't read.
-pub fn judge_history<R: Read>(
+pub fn judge_history<R: Read, P: Progress>(
     alloc: Global,
     part: &Part,
     judge: &mut Judge,
     lines: &mut LineReader,
     reader: &mut R,
+    progress: &mut P,
 ) -> Result<Judgement, HistoryFault>
     requires { (u : View) × (most : ℕ) × IsBegun u most part.now judge.old }
     ensures judged { IfOk result (λ judgement.
@@ -141,5 +142,6 @@ pub fn judge_history<R: Read>(
         if let Some(verdict) = reading.take(alloc, judge, lines.number(), lines.line())? {
             return Ok(reading.judgement(alloc, judge, &verdict, lines.number())?);
         }
+        progress.after_line();
     }
 }

@@ -12,7 +12,7 @@ ghost use Rattle.tatp_judged_inputs.specs.RowsAtEnd.{IsJudgementTo, told_by_rows
 
 use crate::line_numbers::LineNumbers;
 use crate::reading::Reading;
-use crate::{HistoryFault, JudgeFault, Judged, Judgement, judge_history};
+use crate::{HistoryFault, JudgeFault, Judged, Judgement, Progress, judge_history};
 use std::alloc::Global;
 use std::io::Read;
 use tatp_extents::admit;
@@ -23,12 +23,13 @@ use tatp_streams::LineReader;
 
 /// The verdict on the history that the lines up to a line `.` are. Where it is legal, the lines
 /// after that are left; else lines after that which decides it aren't read.
-fn judge_to_dot<R: Read>(
+fn judge_to_dot<R: Read, P: Progress>(
     alloc: Global,
     part: &Part,
     judge: &mut Judge,
     lines: &mut LineReader,
     reader: &mut R,
+    progress: &mut P,
 ) -> Result<Judgement, HistoryFault>
     requires { (u : View) × (most : ℕ) × IsBegun u most part.now judge.old }
     ensures judged { IfOk result (λ judgement.
@@ -66,6 +67,7 @@ fn judge_to_dot<R: Read>(
         if let Some(verdict) = reading.take(alloc, judge, lines.number(), lines.line())? {
             return Ok(reading.judgement(alloc, judge, &verdict, lines.number())?);
         }
+        progress.after_line();
     }
 }
 
@@ -86,12 +88,13 @@ fn judged_to(stakes: Stakes, verdict: FinalVerdict, dot: u64) -> Judged
 
 /// The verdict on the history that the lines left of an input are, up to a line `.`, and on the
 /// rows after it. These aren't read where the history decides.
-fn judge_to_rows<R: Read>(
+fn judge_to_rows<R: Read, P: Progress>(
     alloc: Global,
     part: &Part,
     judge: &mut Judge,
     lines: &mut LineReader,
     reader: &mut R,
+    progress: &mut P,
 ) -> Result<Judgement, JudgeFault>
     requires { (u : View) × (most : ℕ) × IsBegun u most part.now judge.old }
     ensures judged { IfOk result (λ judgement.
@@ -102,13 +105,13 @@ fn judge_to_rows<R: Read>(
         IfSome (lines_left lines.old (R.remaining reader.old)) (λ all.
         RefusesTexts true lines.old.number all.lines fault)) }
 {
-    let judgement = judge_to_dot(alloc, part, judge, lines, reader)?;
+    let judgement = judge_to_dot(alloc, part, judge, lines, reader, progress)?;
     match judgement.judged {
         Judged::Legal(stakes) => {
             let dot = lines.number();
             let rows = read_rows_to_end(alloc, lines, reader)?;
             admit(alloc, &rows)?;
-            let judged = judged_to(stakes, judge.finish_to(alloc, &rows)?, dot);
+            let judged = judged_to(stakes, judge.finish_to(alloc, part, &rows)?, dot);
             Ok(Judgement {
                 judged,
                 window: judgement.window,
@@ -120,13 +123,14 @@ fn judge_to_rows<R: Read>(
 
 /// The verdict on the history that the lines left of an input are, with the rows at its end where
 /// these follow it.
-pub(crate) fn judge_lines<R: Read>(
+pub(crate) fn judge_lines<R: Read, P: Progress>(
     alloc: Global,
     final_rows: bool,
     part: &Part,
     judge: &mut Judge,
     lines: &mut LineReader,
     reader: &mut R,
+    progress: &mut P,
 ) -> Result<Judgement, JudgeFault>
     requires { (u : View) × (most : ℕ) × IsBegun u most part.now judge.old }
     ensures judged { IfOk result (λ judgement.
@@ -138,8 +142,8 @@ pub(crate) fn judge_lines<R: Read>(
         RefusesTexts final_rows lines.old.number all.lines fault)) }
 {
     if final_rows {
-        judge_to_rows(alloc, part, judge, lines, reader)
+        judge_to_rows(alloc, part, judge, lines, reader, progress)
     } else {
-        Ok(judge_history(alloc, part, judge, lines, reader)?)
+        Ok(judge_history(alloc, part, judge, lines, reader, progress)?)
     }
 }

@@ -16,7 +16,7 @@ IsTask (Call population partitions rows input_limit) =
     × IsInputLimit input_limit
 IsTask (Trace setup echo) = IsSetup setup
 IsTask (Audit input_limit) = IsInputLimit input_limit
-IsTask (Judge plan) = IsJudgePlan plan
+IsTask (Judge plan progress) = IsJudgePlan plan
 IsTask (Bench plan progress history) = IsPlan plan
 IsTask (Rows plan) = IsRowsPlan plan
 IsTask (Calls plan) = IsCallsPlan plan
@@ -30,7 +30,7 @@ name_of Asm = codes "asm"
 name_of Dis = codes "dis"
 name_of Check = codes "check"
 name_of (Audit input_limit) = codes "audit"
-name_of (Judge plan) = codes "judge"
+name_of (Judge plan progress) = codes "judge"
 name_of (Bench plan progress history) = codes "bench"
 name_of (Rows plan) = codes "rows"
 name_of (Calls plan) = codes "calls"

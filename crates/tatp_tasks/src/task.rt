@@ -27,8 +27,11 @@ pub enum Task<'a> {
     Audit {
         input_limit: usize,
     },
-    /// Judge a history.
-    Judge(JudgePlan),
+    /// Judge a history; `progress` says whether to report how it goes on.
+    Judge {
+        plan: JudgePlan,
+        progress: bool,
+    },
     /// Run the benchmark; `progress` says whether to report how it goes on, `history` whether to
     /// write its history.
     Bench {

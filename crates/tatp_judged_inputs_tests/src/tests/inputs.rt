@@ -5,7 +5,7 @@ use rand_pcg::Pcg64;
 use std::alloc::Global;
 use std::test::Fail;
 use tatp_judge::{Judge, Part, Stakes};
-use tatp_judged_inputs::{HistoryFault, Judged, judge_history};
+use tatp_judged_inputs::{HistoryFault, Judged, NoProgress, judge_history};
 use tatp_limits::MAX_INPUT_LIMIT;
 use tatp_population::generate;
 use tatp_procs::BadArgument;
@@ -22,17 +22,32 @@ fn judged(alloc: Global, rows: &Rows, most: usize, mut input: &[u8]) -> Result<J
         number: 1,
         count: 1,
     };
-    Ok(judge_history(alloc, &whole, &mut judge, &mut lines, &mut input)?.judged)
+    let judgement = judge_history(
+        alloc,
+        &whole,
+        &mut judge,
+        &mut lines,
+        &mut input,
+        &mut NoProgress,
+    )?;
+    Ok(judgement.judged)
 }
 
 /// What was at stake where all calls were answered.
-fn at_stake(answered: u64, subscribers: u64, overlapped: u64, widest: u64) -> Stakes {
+fn at_stake(
+    answered: u64,
+    subscribers: u64,
+    overlapped: u64,
+    conflicted: u64,
+    widest: u64,
+) -> Stakes {
     Stakes {
         answered,
         aborted: 0,
         unanswered: 0,
         subscribers,
         overlapped,
+        conflicted,
         widest,
     }
 }
@@ -44,7 +59,7 @@ fn the_line_of_the_input_is_told(rt: HostRuntime) -> Result<(), Fail> {
     let legal = "# nobody has this s_id\nask 0 GET_SUBSCRIBER_DATA 9\nend 0 FAILED 1\n";
     assert_eq!(rt;
         judged(alloc, &rows, 1, legal.as_bytes()),
-        Ok(Judged::Legal(at_stake(1, 0, 0, 0)))
+        Ok(Judged::Legal(at_stake(1, 0, 0, 0, 0)))
     );
     let illegal =
         "# nobody has it\nask 0 GET_SUBSCRIBER_DATA 9\n\nend 0 OK ?\nask 0 GET_SUBSCRIBER_DATA 9\n";
@@ -86,7 +101,7 @@ fn too_many_configurations_are_told(rt: HostRuntime) -> Result<(), Fail> {
     );
     assert_eq!(rt;
         judged(alloc, &rows, 2, input.as_bytes()),
-        Ok(Judged::Legal(at_stake(2, 1, 1, 2)))
+        Ok(Judged::Legal(at_stake(2, 1, 1, 1, 2)))
     );
     Ok(())
 }

@@ -10,4 +10,5 @@ returns c =
     let one = one_option_more _ _ _ _ _ none c.in_ok-arg.ensures c.arg.ensures.rule c.arg.ensures.own in
     let two = one_option_more _ _ _ _ _ one c.in_ok-arg-2.ensures c.arg-3.ensures.rule c.arg-3.ensures.own in
     let three = one_option_more _ _ _ _ _ two c.in_ok-arg-3.ensures c.arg-5.ensures.rule c.arg-5.ensures.own in
-    IfOk-weaker c.arg-7.result _ _ (λ command adds. one_option_more _ _ _ _ _ three adds c.switch.ensures.rule c.switch.ensures.own) c.arg-7.ensures
+    let four = one_option_more _ _ _ _ _ three c.in_ok-arg-4.ensures c.switch.ensures.rule c.switch.ensures.own in
+    IfOk-weaker c.arg-8.result _ _ (λ command adds. one_option_more _ _ _ _ _ four adds c.switch-2.ensures.rule c.switch-2.ensures.own) c.arg-8.ensures

@@ -13,6 +13,7 @@ returns c =
     let unanswered = number_line (codes "UNANSWERED ") stakes.unanswered in
     let subscribers = number_line (codes "SUBSCRIBERS ") stakes.subscribers in
     let overlapped = number_line (codes "OVERLAPPED ") stakes.overlapped in
+    let conflicted = number_line (codes "CONFLICTED ") stakes.conflicted in
     let widest = number_line (codes "WIDEST ") stakes.widest in
     let old = string_bytes c.args.text.now in
     let one = string_bytes c.push_number_line.new.text in
@@ -20,11 +21,13 @@ returns c =
     let three = string_bytes c.push_number_line-3.new.text in
     let four = string_bytes c.push_number_line-4.new.text in
     let five = string_bytes c.push_number_line-5.new.text in
-    let all = string_bytes c.push_number_line-6.new.text in
-    on_ok_weaker c.push_number_line-6.result
-    (λ is. both_told old one all answered (aborted ++ (unanswered ++ (subscribers ++ (overlapped ++ widest)))) c.in_ok-push_number_line.ensures
-    (both_told one two all aborted (unanswered ++ (subscribers ++ (overlapped ++ widest))) c.in_ok-push_number_line-2.ensures
-    (both_told two three all unanswered (subscribers ++ (overlapped ++ widest)) c.in_ok-push_number_line-3.ensures
-    (both_told three four all subscribers (overlapped ++ widest) c.in_ok-push_number_line-4.ensures
-    (both_told four five all overlapped widest c.in_ok-push_number_line-5.ensures is)))))
-    c.push_number_line-6.ensures
+    let six = string_bytes c.push_number_line-6.new.text in
+    let all = string_bytes c.push_number_line-7.new.text in
+    on_ok_weaker c.push_number_line-7.result
+    (λ is. both_told old one all answered (aborted ++ (unanswered ++ (subscribers ++ (overlapped ++ (conflicted ++ widest))))) c.in_ok-push_number_line.ensures
+    (both_told one two all aborted (unanswered ++ (subscribers ++ (overlapped ++ (conflicted ++ widest)))) c.in_ok-push_number_line-2.ensures
+    (both_told two three all unanswered (subscribers ++ (overlapped ++ (conflicted ++ widest))) c.in_ok-push_number_line-3.ensures
+    (both_told three four all subscribers (overlapped ++ (conflicted ++ widest)) c.in_ok-push_number_line-4.ensures
+    (both_told four five all overlapped (conflicted ++ widest) c.in_ok-push_number_line-5.ensures
+    (both_told five six all conflicted widest c.in_ok-push_number_line-6.ensures is))))))
+    c.push_number_line-7.ensures

@@ -4,6 +4,8 @@ use Rattle.std.proofs.lemmas.Option.{IfSome_then}
 use Rattle.std.proofs.lemmas.Result.{err_from_is_err_and}
 use Rattle.tatp_streams.specs.LineReading.{lines_left}
 use Rattle.tatp_inputs.specs.Parts.{before_dot}
+use Rattle.tatp_tables.specs.Database.{database_of}
+use Rattle.tatp_judge.specs.Finishing.{IsFinalVerdictOn as IsFinalVerdictOnAll}
 use Rattle.tatp_judged_inputs.specs.Views.{IsBegun, View, seen}
 use Rattle.tatp_judged_inputs.specs.Judged.{IsJudgement}
 use Rattle.tatp_judged_inputs.specs.RowsAtEnd.{IsJudgementTo, told_by_rows}
@@ -27,6 +29,9 @@ returns-in_err-admit-in-Legal-clause-faults g c =
     rw (p.1, p.2) (rows_not_admitted c.args.lines.now.number c.judge_to_dot.new.lines.number to.0 (lines_left c.args.lines.now (g.R.Read.remaining c.args.reader.now)) (lines_left c.judge_to_dot.new.lines (g.R.Read.remaining c.judge_to_dot.new.reader))
     c.in_ok-rows-in-Legal.rows c.in_err-admit-in-Legal.field-0.0 to.2 c.in_ok-rows-in-Legal.ensures.rows c.in_err-admit-in-Legal.ensures.refusal)
 
+pub finish_to-requires-clause-part : goal.finish_to-requires-clause-part
+finish_to-requires-clause-part g c = let q = c.requires in q.2.possible
+
 pub finish_to-requires-clause-followed : goal.finish_to-requires-clause-followed
 finish_to-requires-clause-followed g c =
     let q = c.requires in
@@ -48,7 +53,7 @@ returns-in_ok-finish_to-in-Legal-clause-judged g c =
     subst (λ j. IsJudgementTo u most taken a.lines j window) (sym said)
     (at_all all a (λ b. IsJudgementTo u most taken b.lines (told_by_rows c.in-Legal.stakes verdict dot) window) e
     (judged_by_rows u most taken dot to.0 all left c.in_ok-rows-in-Legal.rows c.in-Legal.stakes verdict window to.2 c.in_ok-rows-in-Legal.ensures.rows (record { few = c.in_ok-admit-in-Legal.ensures.few; clean = c.in_ok-admit-in-Legal.ensures.clean }) legal
-    (c.in_ok-finish_to-in-Legal.ensures u.rows most (seen u to.0) to.1))))
+    (subst (λ part. IsFinalVerdictOnAll u.rows part most (seen u to.0) (database_of c.in_ok-rows-in-Legal.rows) verdict) (sym is.part_is) (c.in_ok-finish_to-in-Legal.ensures u.rows most (seen u to.0) to.1)))))
 
 pub returns-in_default-clause-judged : goal.returns-in_default-clause-judged
 returns-in_default-clause-judged g c =

@@ -10,8 +10,8 @@ returns-clause-asked c =
     let x : Observed = c.args.x.now in
     let rows : c.copy-home.result.tables ≡ c.args.c.now.home.tables = ap (λ (h : SubscriberRows). h.tables) c.copy-home.ensures in
     let items = c.in_ok-extend_from_slice.ensures.items
-        ∙ (ap (λ xs. xs ++ c.as_slice-2.result.now) (c.in_ok-push.ensures.items ∙ ap (λ xs. xs ++ x ∷ []) c.new-opened.ensures.items)
-        ∙ ap (λ xs. x ∷ xs) c.as_slice-2.ensures.value) in
+    ∙ (ap (λ xs. xs ++ c.as_slice-2.result.now) (c.in_ok-push.ensures.items ∙ ap (λ xs. xs ++ x ∷ []) c.new-opened.ensures.items)
+    ∙ ap (λ xs. x ∷ xs) c.as_slice-2.ensures.value) in
     let kept = c.needs_no_place.ensures.rows ∙ rows in
     record {
       follows = inr (

@@ -7,4 +7,4 @@ use Rattle.tatp_judge.proofs.judge.Judge.finish_to.Given as goal
 
 abbrev pub invariant-homes : goal.invariant-homes
 invariant-homes l = (u : Database) (most : ℕ) (lines : List Line) → HasFollowed u most lines l.fn.self
-    → LeavesSoFar u lines (database_of l.rows) l.i l.fn.self.windows.items l.self.windows.items
+    → LeavesSoFar u l.part lines (database_of l.rows) l.i l.fn.self.windows.items l.self.windows.items

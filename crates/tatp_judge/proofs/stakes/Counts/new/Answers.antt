@@ -11,14 +11,17 @@ returns c = λ u most is.
     let same : length windows.items ≡ n = omega (arith, c.len.ensures, windows.ok.0) in
     let items : c.in_ok-vec.field-0.items ≡ replicate n false = c.in_ok-vec.ensures.items_if_clones_equal (λ y e. e) in
     record {
-      asked_is = refl;
-      answered_is = refl;
-      aborted_is = refl;
-      marks = subst (AreMarked u []) (sym items) (none_marked u c.args.judge.now.directory n (subst (λ k. IsDirectoryOf u k c.args.judge.now.directory) same is.noted.read.directory_is));
-      subscribers_is = none_called u;
-      subscribers_few = omega arith;
-      overlapped_is = none_meet u;
-      overlapped_few = omega arith;
-      widest_is = none_wide u;
-      widest_few = omega arith;
+      calls = record {
+        asked_is = refl;
+        answered_is = refl;
+        aborted_is = refl;
+        marks = subst (AreMarked u []) (sym items) (none_marked u c.args.judge.now.directory n (subst (λ k. IsDirectoryOf u k c.args.judge.now.directory) same is.noted.read.directory_is));
+        subscribers_is = none_called u;
+        subscribers_few = omega arith;
+        overlapped_is = none_meet u;
+        overlapped_few = omega arith;
+        widest_is = none_wide u;
+        widest_few = omega arith;
+      };
+      conflicts = c.in_ok-conflicts.ensures u most is;
     }

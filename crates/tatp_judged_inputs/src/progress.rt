@@ -1,0 +1,43 @@
+//! Reports of how the judging of a history goes on.
+
+/// After how many lines one is reported.
+const LINES: u64 = 1_000_000;
+
+/// Gets each line of a history as it is judged.
+pub trait Progress {
+    /// One more line was judged, which decided nothing.
+    fn after_line(&mut self);
+}
+
+/// Nothing is reported.
+#[derive(Clone, Copy, Debug, PartialEq, Eq)]
+pub struct NoProgress;
+
+impl Progress for NoProgress {
+    fn after_line(&mut self) {}
+}
+
+/// Reports on standard error how many lines were judged, at each 1,000,000 of them.
+#[derive(Drop)]
+pub struct LineReporter<'a, R> {
+    rt: &'a R,
+    judged: u64,
+}
+
+impl<'a, R> LineReporter<'a, R> {
+    /// Makes the reporter of a history of which no line is judged.
+    pub fn new(rt: &'a R) -> LineReporter<'a, R> {
+        LineReporter { rt, judged: 0 }
+    }
+}
+
+impl<R: Eprint> Progress for LineReporter<'_, R> {
+    fn after_line(&mut self) {
+        self.judged = self.judged.saturating_add(1);
+        if self.judged % LINES == 0 {
+            let judged = self.judged;
+            // Where it can't be written, the history is judged without it.
+            let _printed = eprintln!(self.rt; "{judged} lines judged");
+        }
+    }
+}

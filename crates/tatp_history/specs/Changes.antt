@@ -1,3 +1,4 @@
+-- trusted: read it
 -- Calls that change nothing, given how they ended: those that only read, and those that failed.
 use Rattle.std.specs.Prelude.{◌≡◌, Bool, true, false, if◌then◌else◌}
 use Rattle.tatp_tables.specs.Database.{Database}

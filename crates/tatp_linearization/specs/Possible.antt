@@ -54,8 +54,8 @@ pub record AreMoreThan (most : ℕ) (Holds : Configuration → Type 0) : Type 0 
   pub distinct : AreDistinct some
   pub hold : AllByRecursion Holds some
 
--- the configuration is possible after the events, and no call is open that changes nothing and whose
--- reply fits
+-- the configuration is possible after the events, and no open call changes nothing and has a reply
+-- that fits
 abbrev pub IsPossible : Database → List Event → Configuration → Type 0
 IsPossible u past c = MayBecome past (starting u) c × IsSettled c
 

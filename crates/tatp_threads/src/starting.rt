@@ -87,10 +87,10 @@ fn run_clients<R: Threads + Wait + Sync, G: Gate + Sync, A: Arities + Send + Syn
     clients: &mut [ClientSeat<A>],
     hand: &mut Vec<Parcel>,
 ) -> bool {
-    let many = clients_a_thread(clients.len());
     thread::scope(thread::scope_env(), rt, |inner| -> bool {
         let mut started = inner.spawn(move || move_extents(rt, shared, hand)).is_ok()
             && inner.spawn(move || debug_partitions(rt, shared)).is_ok();
+        let many = clients_a_thread(clients.len());
         for seats in clients.chunks_mut(many) {
             if started && inner.spawn(move || ask_calls(rt, shared, seats)).is_err() {
                 started = false;

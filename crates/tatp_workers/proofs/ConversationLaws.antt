@@ -29,7 +29,7 @@ answered_within listing client asks (suc n) c seen all = let within : n < length
 pub none_left : (listing : Listing) (client : ℕ) (asks : List Ask) (n : ℕ) (c : Conversation) (seen : ℕ) → Answered listing client asks n c seen → slice_get asks n ≡ None → n ≡ length asks
 none_left listing client asks n c seen all none =
     let within : n ≤ length asks = answered_within listing client asks n c seen all in
-    elim (slice_get_cases asks n).1 [ inl here ↦ (let some : slice_get asks n ≡ Some here.0 = here.2.0 in absurd cc) | inr past ↦ (let beyond : length asks ≤ n = past.0 in omega arith) ]
+    elim (slice_get_cases asks n).1 [ inl here ↦ (let some : slice_get asks n ≡ Some here.0 = here.2 in absurd cc) | inr past ↦ (let beyond : length asks ≤ n = past.0 in omega arith) ]
 
 module _ {E : Type 0} (effects : E → Option (List AskEffect)) (listing : Listing) where
   -- a client stands where the parts of it say so
@@ -131,23 +131,6 @@ module _ {E : Type 0} (effects : E → Option (List AskEffect)) (listing : Listi
           absurd (omega (arith, h.room, none));
     }
 
-    -- nothing came yet of the call for which it waits
-    pub has_not_got : (found : Looked) → found ≡ looked.NotYet → Does (Finds found before.receipts after.receipts) (effects before.end) (effects after.end)
-        → after.standing ≡ before.standing → after.number ≡ before.number → session_of after ≡ session_of before
-        → GoesOn effects listing lists before after
-    has_not_got looked.NotYet is finds standing number session = record {
-      number = number;
-      stands = λ (start : Beginning) (h : Stands effects listing (asks_of lists before.number) start before).
-          let answered : after.answered ≡ before.answered = ap (λ (s : Session). s.number) session in
-          let grown : Grows start.effects (effects after.end) (h.said.effects ++ []) =
-          grown_twice start.effects (effects before.end) (effects after.end) h.said.effects [] h.done (subst (Grows (effects before.end) (effects after.end)) finds.1.0 finds.2) in
-          stands_by (asks_of lists before.number) start after before.standing before.number (session_of before) h.said standing number session h.so_far
-          (subst (Grows start.effects (effects after.end)) (append-nil h.said.effects) grown)
-          (ap (λ r. r.receipts) finds.1.1 ∙ h.kept) (omega (arith, h.room, ap (λ r. r.room) finds.1.1, answered));
-    }
-    has_not_got looked.Received is finds standing number session = absurd cc
-    has_not_got looked.Dropped is finds standing number session = absurd cc
-
     -- its receipt came
     pub has_got : (found : Looked) → found ≡ looked.Received → before.standing ≡ Waiting → (finds : Does (Finds found before.receipts after.receipts) (effects before.end) (effects after.end))
         → ((receipts : List Receipt) (receipt : Receipt) → after.receipts.receipts ≡ receipts ++ receipt ∷ [] → after.seen ≡ seen_after before.seen receipt)
@@ -162,10 +145,10 @@ module _ {E : Type 0} (effects : E → Option (List AskEffect)) (listing : Listi
           let next : suc before.answered ≡ after.answered = omega (arith, answered) in
           stands_by asks start after Free before.number (session_of after) (with_receipt h.said receipt) free number refl
           (subst (λ (n : ℕ). Answered listing before.number asks n (with_receipt h.said receipt) after.seen) next
-          (waits.0, before.seen, waits.1, receipt, waits.2, waits.3, ap (λ (c : Conversation). with_receipt c receipt) waits.4, seen before.receipts.receipts receipt finds.1.2.0))
+          (waits.0, before.seen, waits.1, receipt, waits.2, waits.3, ap (λ (c : Conversation). with_receipt c receipt) waits.4, seen before.receipts.receipts receipt finds.1.2))
           (grown_twice start.effects (effects before.end) (effects after.end) h.said.effects _ h.done (subst (Grows (effects before.end) (effects after.end)) finds.1.1 finds.2))
-          (finds.1.2.0 ∙ ap (λ (l : List Receipt). l ++ receipt ∷ []) h.kept ∙ append_assoc start.receipts h.said.receipts (receipt ∷ []))
-          (omega (arith, h.room, finds.1.2.1, answered));
+          (finds.1.2 ∙ ap (λ (l : List Receipt). l ++ receipt ∷ []) h.kept ∙ append_assoc start.receipts h.said.receipts (receipt ∷ []))
+          (omega (arith, h.room, finds.1.3, answered));
     }
     has_got looked.NotYet is waiting finds seen free number answered = absurd cc
     has_got looked.Dropped is waiting finds seen free number answered = absurd cc

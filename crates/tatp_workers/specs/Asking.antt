@@ -79,7 +79,7 @@ ComesToNothing item before c =
 -- seen then
 abbrev pub Answered : Listing → ℕ → List Ask → ℕ → Conversation → ℕ → Type 0
 Answered listing client asks zero c seen =
-    (c ≡ record { exchanges = []; receipts = [] }) × (seen ≡ 0)
+    (c ≡ record { effects = []; receipts = [] }) × (seen ≡ 0)
 Answered listing client asks (suc n) c seen =
     (before : Conversation) × (seen_before : ℕ) × (ask : Ask) × (receipt : Receipt)
     × Answered listing client asks n before seen_before

@@ -1,6 +1,6 @@
 //! What clients do: each asks its calls one after another, and a thread goes on with those of its
 //! clients whose receipts have come.
-ghost use Rattle.std.specs.Prelude.{◌≡◌, ◌++◌, ◌∷◌, [], ◌<◌, List, Vec, All, IfSome, IfNone, Some, None, true, length, slice_get};
+ghost use Rattle.std.specs.Prelude.{◌≡◌, ◌++◌, ◌∷◌, [], ◌<◌, ◌^◌, List, Vec, All, IfSome, IfNone, Some, None, true, length, slice_get};
 ghost use Rattle.std.specs.List.{AllZip};
 ghost use Rattle.std.specs.declared.alloc.Global.{Global};
 ghost use Rattle.tatp_numbers.specs.Listing.{Listing};
@@ -51,6 +51,7 @@ fn call_of(lists: &[Vec<Ask>], client: u64, number: usize) -> Option<&Ask>
     ensures some { IfSome result
         (λ ask. slice_get (asks_of lists.now client) number ≡ Some ask.now) }
     ensures none { IfNone result (slice_get (asks_of lists.now client) number ≡ None) }
+    ensures few { IfSome result (λ ask. number < 2 ^ 63) }
 {
     lists.get(client as usize)?.get(number)
 }
@@ -106,6 +107,24 @@ impl<E> Client<E> {
         }
     }
 
+    /// Looks for the outcome of the call for which the client waits. Where that is a receipt, asks the
+    /// next call. Whether it has come.
+    fn look_and_ask<Q: Requester<E>>(
+        &mut self,
+        requester: &Q,
+        directory: &Directory,
+        lists: &[Vec<Ask>],
+    ) -> bool
+        requires { self.old.standing ≡ Waiting }
+        ensures { GoesOn Q.effects directory.now lists.now self.old self.new }
+    {
+        let has_come = self.look(requester);
+        if self.standing == Standing::Free {
+            self.ask_next(requester, directory, lists);
+        }
+        has_come
+    }
+
     /// Goes on with the client as far as that needs no waiting. Whether it went on.
     fn advance<Q: Requester<E>>(
         &mut self,
@@ -115,15 +134,14 @@ impl<E> Client<E> {
     ) -> bool
         ensures { GoesOn Q.effects directory.now lists.now self.old self.new }
     {
-        let has_come = match self.standing {
-            Standing::Free => true,
-            Standing::Waiting => self.look(requester),
+        match self.standing {
+            Standing::Free => {
+                self.ask_next(requester, directory, lists);
+                true
+            }
+            Standing::Waiting => self.look_and_ask(requester, directory, lists),
             Standing::Ended => false,
-        };
-        if self.standing == Standing::Free {
-            self.ask_next(requester, directory, lists);
         }
-        has_come
     }
 }
 

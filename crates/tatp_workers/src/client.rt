@@ -1,5 +1,5 @@
 //! A client, and how far it is.
-ghost use Rattle.std.specs.Prelude.{◌≡◌, ◌≤◌, ◌<◌, ◌×◌, ◌^◌};
+ghost use Rattle.std.specs.Prelude.{◌≡◌, ◌≤◌, ◌<◌, ◌^◌};
 ghost use Rattle.tatp_workers.specs.declared.client.Standing.TheVariants.{Free, Waiting};
 
 use tatp_logs::Receipts;
@@ -36,8 +36,8 @@ impl<E> Client<E> {
     /// A client that has asked nothing yet.
     pub fn new(number: u64, end: E, receipts: Receipts) -> Client<E>
         ensures number { result.number ≡ number }
-        ensures end { result.end ≡ end.entry }
-        ensures receipts { result.receipts ≡ receipts.entry }
+        ensures end { result.end ≡ end }
+        ensures receipts { result.receipts ≡ receipts }
         ensures answered { result.answered ≡ 0 }
         ensures seen { result.seen ≡ 0 }
         ensures standing { result.standing ≡ Free }
@@ -57,7 +57,7 @@ impl<E> Client<E> {
 impl<E: Drop> Client<E> {
     /// Spends it: its receipts.
     pub fn into_receipts(self) -> Receipts
-        ensures { result ≡ self.entry.receipts }
+        ensures { result ≡ self.receipts }
     {
         self.receipts
     }

@@ -343,9 +343,12 @@ module _ (u : Database) (lines : List Line) (client : ℕ) (one : Option Asked) 
   written_within s at = let w = written_is one s at in asked_within u (length old.writing.items) h.directory lines client w.0 s h.places (is ∙ w.1) w.2
 
   -- one is open there
-  pub written_some : (s n : ℕ) → written one ≡ Some s → slice_get old.writing.items (s - 1) ≡ Some n → 0 < n
-  written_some s n at got =
+  pub written_some : (s : ℕ) → written one ≡ Some s → 0 < get_or old.writing.items (s - 1) 0
+  written_some s at =
       let first = (written_within s at).0 in
+      let last = (written_within s at).1 in
+      let n = get_or old.writing.items (s - 1) 0 in
+      let got = or_got old.writing.items (s - 1) 0 (omega (arith, first, last)) in
       let same : suc (s - 1) ≡ s = omega (arith, first) in
       let here = write_here s s one at in
       some_waits (open_writes u s lines) n client here.0 (subst (λ k. AreCounted (open_writes u k lines) n) same (h.writing_are (s - 1) n got))
@@ -548,7 +551,7 @@ module _ (u : Database) (lines : List Line) (client s : ℕ) (call : Call) (name
             | inl e ↦
                 let k : suc place ≡ s = ap suc e ∙ same in
                 let opened = open_writes u s lines in
-                let more : fewer (with_call opened client None client) was + 1 ≡ n = let gone = ap (λ o. fewer o was) (with_same opened client None) in let now = is_now place n got e in omega (arith, gone, now) in
+                let more : fewer (with_call opened client None client) was + 1 ≡ n = let gone : fewer (with_call opened client None client) was ≡ was = ap (λ o. fewer o was) (with_same opened client None) in let now = is_now place n got e in omega (arith, gone, now) in
                 let all = subst (AreCounted (with_call (with_call opened client None) client (Some (suc (length lines))))) more (counted_asked client was (suc (length lines)) (with_call opened client None) writes_there) in
                 subst (λ t. AreCounted (open_writes u t (lines ++ Ask client call ∷ [])) n) (sym k)
                 (subst (λ (o : OpenCalls). AreCounted o n) (twice opened client (Some (suc (length lines))) ∙ sym (asked_on_it s ∙ ap (λ b. with_call opened client (cond b (Some (suc (length lines))) None)) on)) all)
@@ -569,14 +572,14 @@ module _ (u : Database) (lines : List Line) (client s : ℕ) (call : Call) (name
 none_written : (n place k : ℕ) → slice_get (replicate n 0) place ≡ Some k → k ≡ 0
 none_written n place k h =
     let lt = got_within (replicate n 0) k place h in
-    let count = length-replicate n 0 in
+    let count = length-replicate {A = ℕ} n 0 in
     let got = or_got (replicate n 0) place 0 lt in
-    same_Some k 0 (sym h ∙ (got ∙ ap Some (get_or-replicate n place 0 0 (omega (arith, lt, count)))))
+    same_Some k 0 (sym h ∙ (got ∙ ap Some (get_or-replicate {A = ℕ} n place 0 0 (omega (arith, lt, count)))))
 
 pub none_conflict : (u : Database) (directory : Listing) (n : ℕ) (c : Conflicts) → IsDirectoryOf u n directory → c.writing.items ≡ replicate n 0 → c.conflicted ≡ 0 → HasConflicts u [] c
 none_conflict u directory n c d writing zero_is = record {
   directory = directory;
-  places = subst (λ k. IsDirectoryOf u k directory) (sym (ap length writing ∙ length-replicate n 0)) d;
+  places = subst (λ k. IsDirectoryOf u k directory) (sym (ap length writing ∙ length-replicate {A = ℕ} n 0)) d;
   writing_are = λ place k at. subst (AreCounted no_calls) (sym (none_written n place k (ap (λ (xs : List ℕ). slice_get xs place) (sym writing) ∙ at))) (record {
     clients = [];
     count = refl;

@@ -80,8 +80,19 @@ impl Conflicts {
             → HasConflictsOfOthers u lines client self.new }
     {
         if let Some(s_id) = judge.written_by(client) {
-            self.writing[s_id as usize - 1] -= 1;
+            self.end_on(s_id);
         }
+    }
+
+    /// One of the open calls that write to the subscriber is open no more.
+    fn end_on(&mut self, s_id: u64)
+        requires within { (1 ≤ s_id) × (s_id ≤ length self.old.writing.items) }
+        requires some { 0 < get_or self.old.writing.items (s_id - 1) 0 }
+        ensures writing { self.new.writing.items ≡ set self.old.writing.items (s_id - 1)
+            (get_or self.old.writing.items (s_id - 1) 0 - 1) }
+        ensures conflicted { self.new.conflicted ≡ self.old.conflicted }
+    {
+        self.writing[s_id as usize - 1] -= 1;
     }
 
     /// Counts a call that a client asks.
@@ -105,7 +116,7 @@ impl Conflicts {
     fn read_on(&mut self, s_id: u64)
         requires within { (1 ≤ s_id) × (s_id ≤ length self.old.writing.items) }
         requires conflicted { self.old.conflicted + 1 < 2 ^ 64 }
-        ensures writing { self.new.writing ≡ self.old.writing }
+        ensures writing { self.new.writing.items ≡ self.old.writing.items }
         ensures conflicted { self.new.conflicted
             ≡ one_more (get_or self.old.writing.items (s_id - 1) 0) self.old.conflicted }
     {

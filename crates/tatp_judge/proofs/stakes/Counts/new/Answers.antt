@@ -23,5 +23,5 @@ returns c = λ u most is.
         widest_is = none_wide u;
         widest_few = omega arith;
       };
-      conflicts = c.in_ok-conflicts.ensures u most is;
+      conflicts = c.in_ok-new.ensures u most is;
     }

@@ -47,8 +47,8 @@ AreReadyFor lists [] = Unit {0}
 AreReadyFor [] (seat ∷ seats) = ⊥
 AreReadyFor (list ∷ lists) (seat ∷ seats) = IsReadyFor list seat × AreReadyFor lists seats
 
--- a seat for each client: its number is its place, it puts into all inboxes, and it is ready for its
--- calls
+-- a seat for each client: its number is its place, it puts into all inboxes, and it is ready for
+-- its calls
 pub record AreClients (lists : List (Vec Ask Global)) (inboxes : List (End Message))
     (seats : List ClientSeat) : Type 0 where
   pub numbers : numbers_of seats ≡ range_with_len 0 (length lists)

@@ -39,8 +39,8 @@ abbrev pub receipt_delivered : Delivery → Option Receipt
 receipt_delivered (Got receipt) = Some receipt
 receipt_delivered Dropped = None
 
--- a look found nothing yet, and changed nothing; or the receipt came, and is appended to the others;
--- or it is known that the call was dropped
+-- a look found nothing yet, and changed nothing; or the receipt came, and is appended to the
+-- others; or it is known that the call was dropped
 abbrev pub Finds : Looked → ReceiptsState → ReceiptsState → List AskEffect → Type 0
 Finds looked.NotYet before after effects = (effects ≡ []) × (after ≡ before)
 Finds looked.Received before after effects =

@@ -107,8 +107,8 @@ impl<E> Client<E> {
         }
     }
 
-    /// Looks for the outcome of the call for which the client waits. Where that is a receipt, asks the
-    /// next call. Whether it has come.
+    /// Looks for the outcome of the call for which the client waits. Where that is a receipt, asks
+    /// the next call. Whether it has come.
     fn look_and_ask<Q: Requester<E>>(
         &mut self,
         requester: &Q,

@@ -41,7 +41,8 @@ pub trait Requester<E> {
     /// to the others.
     fn look(&self, end: &mut E, client: u64, number: u64, receipts: &mut Receipts) -> Looked
         requires room { 1 ≤ receipts.old.room }
-        ensures { Does (Finds result receipts.old receipts.new) (effects end.old) (effects end.new) };
+        ensures { Does (Finds result receipts.old receipts.new)
+            (effects end.old) (effects end.new) };
 
     /// Waits a little, after so many rounds of looks in vain.
     fn wait(&self, rounds: u32);

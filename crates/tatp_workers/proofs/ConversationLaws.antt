@@ -1,5 +1,5 @@
 -- A client goes on in its conversation.
-use Rattle.std.proofs.Common.{◌≡◌, ℕ, zero, suc, ◌+◌, Bool, true, false, List, [], ◌∷◌, ◌++◌, All, length, Option, Some, None, slice_get, Vec, Global, ◌≤◌, ◌<◌, refl, sym, ap, ◌∙◌, subst, append_assoc, arith, inl, inr}
+use Rattle.std.proofs.Common.{◌≡◌, ℕ, zero, suc, ◌+◌, true, false, List, [], ◌∷◌, ◌++◌, All, length, Option, Some, None, slice_get, Vec, Global, ◌≤◌, ◌<◌, refl, sym, ap, ◌∙◌, subst, append_assoc, arith, inl, inr}
 use Rattle.std.specs.List.{AllZip}
 use Rattle.std.proofs.lemmas.List.{append-nil}
 use Rattle.std.proofs.lemmas.List.Elements.{All-head, All-tail}
@@ -9,7 +9,7 @@ use Rattle.tatp_procs.specs.declared.ask.Ask.{Ask}
 use Rattle.tatp_numbers.specs.Listing.{Listing}
 use Rattle.tatp_logs.specs.declared.receipt.Receipt.{Receipt}
 use Rattle.tatp_workers.specs.declared.requester.AskEffect.{AskEffect}
-use Rattle.tatp_workers.specs.declared.requester.AskEffect.TheVariants.{Asks, Gets}
+use Rattle.tatp_workers.specs.declared.requester.AskEffect.TheVariants.{Asks}
 use Rattle.tatp_workers.specs.declared.requester.Looked.{Looked}
 use Rattle.tatp_workers.specs.declared.requester.Looked.TheVariants as looked
 use Rattle.tatp_workers.specs.declared.client.Client.{Client}
@@ -17,7 +17,7 @@ use Rattle.tatp_workers.specs.declared.client.Standing.{Standing}
 use Rattle.tatp_workers.specs.declared.client.Standing.TheVariants.{Free, Waiting, Ended}
 use Rattle.tatp_workers.specs.Growing.{Grows, Does}
 use Rattle.tatp_workers.specs.Asking.{Session, Conversation, Answered, Converses, Finds, item_of, seen_after, with_asked, with_receipt, with_nothing}
-use Rattle.tatp_workers.specs.Standing.{Beginning, HasSaid, Stands, GoesOn, IsReady, IsAsked, HasConversed, asks_of, session_of}
+use Rattle.tatp_workers.specs.Standing.{Beginning, HasSaid, Stands, GoesOn, IsReady, IsAsked, asks_of, session_of}
 use Rattle.tatp_workers.proofs.GrowthLaws.{grown_twice, not_grown}
 
 -- no more calls were answered than there are

@@ -1,4 +1,4 @@
-use Rattle.std.proofs.Common.{◌≡◌, [], ◌∷◌, true, false, refl, subst, arith}
+use Rattle.std.proofs.Common.{[], ◌∷◌, true, false, refl, subst, arith}
 use Rattle.tatp_partition.specs.declared.item.Item.{Item}
 use Rattle.tatp_workers.specs.Growing.{Grows}
 use Rattle.tatp_workers.specs.declared.requester.AskEffect.TheVariants.{Asks}

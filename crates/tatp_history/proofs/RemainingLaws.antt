@@ -9,21 +9,10 @@ use Rattle.tatp_history.specs.declared.observed.Observed.{Observed}
 use Rattle.tatp_history.specs.Histories.{IsIn, IsAnswered, Precedes, AreAskedApart, KeepsRealTime, MayHaveReply, AreAnsweredInOrder, rows_after}
 use Rattle.tatp_history.specs.Events.{asked_in, AreAfter, TimesRise, IsAnsweredAt, EndsIn, EndsFit, HaveEnds}
 use Rattle.tatp_history.specs.JustInTime.{Chooses, NoneAskedAt, TakeEffect, AreOpen}
+pub use Rattle.tatp_history.specs.Remaining.{IsLeft, IsOrderFrom}
 use Rattle.tatp_history.proofs.OrderLaws.{all_map, all_in, in_all}
 use Rattle.tatp_history.proofs.ChoiceLaws.{chosen_in, rest_in, in_cases, chooses_some, chooses_apart, chooses_length}
 use Rattle.tatp_history.proofs.EventLaws.{answered_at, is_before, before_answered, asked_after, ends_after, later_ends}
-
--- a call is open, or is asked later
-abbrev pub IsLeft : List Event → List Observed → Observed → Type 0
-IsLeft events opened z = IsIn z opened ⊎ IsIn z (asked_in events)
-
--- a serial order of the calls that are left
-pub record IsOrderFrom (u : Database) (events : List Event) (opened order : List Observed) : Type 0 where
-  pub made : AllByRecursion (IsLeft events opened) order
-  pub once : AreAskedApart order
-  pub all : (z : Observed) → IsLeft events opened z → IsAnswered z.outcome → IsIn z order
-  pub real_time : KeepsRealTime order
-  pub replies : AreAnsweredInOrder u order
 
 -- each call that is left and answered ends later
 pub left_ends : (events : List Event) (opened : List Observed) → HaveEnds events → AreOpen events opened → (z : Observed) → IsLeft events opened z → IsAnswered z.outcome → EndsIn z events

@@ -1,0 +1,26 @@
+-- Serial orders of the calls that remain: of those open, and of those asked later.
+use Rattle.std.specs.Prelude.{◌≡◌, ◌⊎◌, List}
+use Rattle.std.specs.List.{AllByRecursion}
+use Rattle.tatp_tables.specs.Database.{Database}
+use Rattle.tatp_history.specs.declared.event.Event.{Event}
+use Rattle.tatp_history.specs.declared.observed.Observed.{Observed}
+use Rattle.tatp_history.specs.Histories.{IsIn, IsAnswered, AreAskedApart, KeepsRealTime, AreAnsweredInOrder, rows_after}
+use Rattle.tatp_history.specs.Events.{asked_in}
+
+-- a call is open, or is asked later
+abbrev pub IsLeft : List Event → List Observed → Observed → Type 0
+IsLeft events opened z = IsIn z opened ⊎ IsIn z (asked_in events)
+
+-- a serial order of the calls that are left
+pub record IsOrderFrom (u : Database) (events : List Event) (opened order : List Observed)
+    : Type 0 where
+  pub made : AllByRecursion (IsLeft events opened) order
+  pub once : AreAskedApart order
+  pub all : (z : Observed) → IsLeft events opened z → IsAnswered z.outcome → IsIn z order
+  pub real_time : KeepsRealTime order
+  pub replies : AreAnsweredInOrder u order
+
+-- the calls that are left have a serial order from the database on, which leaves these rows
+abbrev pub HasOrderTo : Database → Database → List Event → List Observed → Type 0
+HasOrderTo after u events opened =
+    (order : List Observed) × IsOrderFrom u events opened order × (rows_after u order ≡ after)

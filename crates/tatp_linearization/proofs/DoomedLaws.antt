@@ -64,7 +64,7 @@ inserts_keep u row None there = refl
 inserts_keep u row (Some facility) (Some there) = refl
 inserts_keep u row (Some facility) None = refl
 
-inserts_for_keep : (u : Database) (t b e x : ℕ) (s : Option ℕ) → (inserts_for u t b e x s).database.subscribers ≡ u.subscribers
+pub inserts_for_keep : (u : Database) (t b e x : ℕ) (s : Option ℕ) → (inserts_for u t b e x s).database.subscribers ≡ u.subscribers
 inserts_for_keep u t b e x None = refl
 inserts_for_keep u t b e x (Some s) = inserts_keep u (s ∷ t ∷ b ∷ e ∷ x ∷ []) (row_at u.facilities (s ∷ t ∷ [])) (row_at u.forwardings (s ∷ t ∷ b ∷ []))
 
@@ -72,7 +72,7 @@ deletes_keep : (u : Database) (row : Option Tuple) → (deletes u row).database.
 deletes_keep u None = refl
 deletes_keep u (Some row) = refl
 
-deletes_for_keep : (u : Database) (t b : ℕ) (s : Option ℕ) → (deletes_for u t b s).database.subscribers ≡ u.subscribers
+pub deletes_for_keep : (u : Database) (t b : ℕ) (s : Option ℕ) → (deletes_for u t b s).database.subscribers ≡ u.subscribers
 deletes_for_keep u t b None = refl
 deletes_for_keep u t b (Some s) = deletes_keep u (row_at u.forwardings (s ∷ t ∷ b ∷ []))
 

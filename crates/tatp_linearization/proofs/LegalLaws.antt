@@ -14,8 +14,8 @@ use Rattle.tatp_history.specs.Locality.{AreAccepted}
 use Rattle.tatp_history.specs.Prefixes.{calls_by}
 use Rattle.tatp_history.specs.Events.{asked_in, IsAnsweredAt}
 use Rattle.tatp_history.specs.Configurations.{Configuration, starting}
+use Rattle.tatp_history.specs.Remaining.{IsLeft}
 use Rattle.tatp_history.proofs.OrderLaws.{in_all, all_in}
-use Rattle.tatp_history.proofs.RemainingLaws.{IsLeft}
 use Rattle.tatp_history.proofs.JustInTimeLaws.{Any, serial_is, none_open}
 use Rattle.tatp_linearization.specs.declared.configuration.Configuration.{Configuration as Held}
 use Rattle.tatp_linearization.specs.declared.explanations.Explanations.{Explanations}

@@ -11,9 +11,10 @@ use Rattle.tatp_history.specs.Changes.{changes_nothing}
 use Rattle.tatp_history.specs.Events.{asked_in, TimesRise, HaveEnds}
 use Rattle.tatp_history.specs.JustInTime.{AreOpen}
 use Rattle.tatp_history.specs.Configurations.{Configuration, starting}
+use Rattle.tatp_history.specs.Remaining.{IsOrderFrom, HasOrder}
 use Rattle.tatp_history.proofs.OrderLaws.{in_all}
 use Rattle.tatp_history.proofs.ChoiceLaws.{chooses_some, chooses_length}
-use Rattle.tatp_history.proofs.RemainingLaws.{IsOrderFrom, HasOrder, open_chosen, taken_off}
+use Rattle.tatp_history.proofs.RemainingLaws.{open_chosen, taken_off}
 use Rattle.tatp_history.proofs.JustInTimeLaws.{serial_is, none_open}
 use Rattle.tatp_linearization.specs.declared.configuration.Configuration.{Configuration as Held}
 use Rattle.tatp_linearization.specs.AtOnce.{FitsAtOnce, IsSettled, TakesOne, LeadAtOnce}

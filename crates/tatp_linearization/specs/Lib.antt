@@ -10,3 +10,4 @@ pub mod Listed
 pub mod Doomed
 pub mod Overwritten
 pub mod Covering
+pub mod Going

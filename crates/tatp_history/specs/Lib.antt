@@ -6,7 +6,7 @@ pub mod Events
 pub mod JustInTime
 pub mod Changes
 pub mod Configurations
-pub mod Remaining
 pub mod SubscriberEvents
 pub mod Outcomes
 pub mod Turns
+pub mod Remaining

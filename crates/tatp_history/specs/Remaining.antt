@@ -1,5 +1,5 @@
 -- Serial orders of the calls that remain: of those open, and of those asked later.
-use Rattle.std.specs.Prelude.{◌⊎◌, List}
+use Rattle.std.specs.Prelude.{◌≡◌, ◌⊎◌, List}
 use Rattle.std.specs.List.{AllByRecursion}
 use Rattle.tatp_tables.specs.Database.{Database}
 use Rattle.tatp_history.specs.declared.event.Event.{Event}
@@ -25,3 +25,7 @@ abbrev pub HasOrder
     : (Database → Type 0) → Database → List Event → List Observed → Type 0
 HasOrder Holds u events opened =
     (order : List Observed) × IsOrderFrom u events opened order × Holds (rows_after u order)
+
+-- there is one that leaves these rows
+abbrev pub HasOrderTo : Database → Database → List Event → List Observed → Type 0
+HasOrderTo after u events opened = HasOrder (λ v. v ≡ after) u events opened

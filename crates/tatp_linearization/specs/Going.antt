@@ -1,10 +1,10 @@
 -- Orders that lead on from configurations.
-use Rattle.std.specs.Prelude.{◌≡◌, List}
+use Rattle.std.specs.Prelude.{List}
 use Rattle.tatp_tables.specs.Database.{Database}
 use Rattle.tatp_history.specs.declared.event.Event.{Event}
 use Rattle.tatp_history.specs.Events.{TimesRise, HaveEnds}
 use Rattle.tatp_history.specs.JustInTime.{AreOpen}
-use Rattle.tatp_history.specs.Remaining.{HasOrder}
+use Rattle.tatp_history.specs.Remaining.{HasOrderTo}
 use Rattle.tatp_history.specs.Configurations.{Configuration}
 use Rattle.tatp_linearization.specs.declared.configuration.Configuration.{Configuration as Held}
 use Rattle.tatp_linearization.specs.AtOnce.{IsSettled}
@@ -17,7 +17,7 @@ pub record LeadsOn (after : Database) (events : List Event) (c : Configuration) 
   pub ends : HaveEnds events
   pub waiting : AreOpen events c.opened
   pub settled : IsSettled c
-  pub order : HasOrder (λ v. v ≡ after) c.rows events c.opened
+  pub order : HasOrderTo after c.rows events c.opened
 
 -- it does so from one for which one of these stands
 abbrev pub OneLeadsOn : Database → List Event → List Held → Type 0

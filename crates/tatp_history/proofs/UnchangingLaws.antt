@@ -9,10 +9,11 @@ use Rattle.tatp_history.specs.Histories.{MayHaveReply, AreAnsweredInOrder, rows_
 use Rattle.tatp_history.specs.Events.{TimesRise, HaveEnds}
 use Rattle.tatp_history.specs.JustInTime.{Chooses, Explains, AreOpen}
 use Rattle.tatp_history.specs.Changes.{LeavesRows}
+use Rattle.tatp_history.specs.Remaining.{IsLeft, IsOrderFrom, HasOrder}
 use Rattle.tatp_history.proofs.OrderLaws.{all_map, all_both, in_all, all_filter, filter_tests, in_filter, apart_filter, real_time_filter}
 use Rattle.tatp_history.proofs.ChoiceLaws.{chosen_in, in_cases, chooses_apart}
 use Rattle.tatp_history.proofs.EventLaws.{asked_after}
-use Rattle.tatp_history.proofs.RemainingLaws.{IsLeft, IsOrderFrom, HasOrder, left_before, open_chosen, put_first}
+use Rattle.tatp_history.proofs.RemainingLaws.{left_before, open_chosen, put_first}
 use Rattle.tatp_history.proofs.JustInTimeLaws.{Any, sound, complete}
 
 -- an order without some calls that change nothing has the same replies

@@ -11,7 +11,7 @@ use Rattle.tatp_history.specs.Events.{asked_in}
 abbrev pub IsLeft : List Event → List Observed → Observed → Type 0
 IsLeft events opened z = IsIn z opened ⊎ IsIn z (asked_in events)
 
--- a serial order of the calls that are left
+-- a serial order of the calls that are left: among them each that was answered
 pub record IsOrderFrom (u : Database) (events : List Event) (opened order : List Observed)
     : Type 0 where
   pub made : AllByRecursion (IsLeft events opened) order
@@ -20,7 +20,12 @@ pub record IsOrderFrom (u : Database) (events : List Event) (opened order : List
   pub real_time : KeepsRealTime order
   pub replies : AreAnsweredInOrder u order
 
--- the calls that are left have a serial order from the database on, which leaves these rows
+-- there is one that leaves rows of which this holds
+abbrev pub HasOrder
+    : (Database → Type 0) → Database → List Event → List Observed → Type 0
+HasOrder Holds u events opened =
+    (order : List Observed) × IsOrderFrom u events opened order × Holds (rows_after u order)
+
+-- there is one that leaves these rows
 abbrev pub HasOrderTo : Database → Database → List Event → List Observed → Type 0
-HasOrderTo after u events opened =
-    (order : List Observed) × IsOrderFrom u events opened order × (rows_after u order ≡ after)
+HasOrderTo after u events opened = HasOrder (λ v. v ≡ after) u events opened

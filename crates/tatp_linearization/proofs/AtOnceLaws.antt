@@ -15,12 +15,13 @@ use Rattle.tatp_history.specs.Outcomes.{may_take_effect}
 use Rattle.tatp_history.specs.Events.{asked_in, TimesRise, HaveEnds}
 use Rattle.tatp_history.specs.JustInTime.{AreOpen}
 use Rattle.tatp_history.specs.Configurations.{Configuration, starting}
+use Rattle.tatp_history.specs.Remaining.{IsLeft, IsOrderFrom, HasOrder}
 use Rattle.tatp_history.proofs.OrderLaws.{all_in, in_all}
 use Rattle.tatp_history.proofs.ChoiceLaws.{chooses_some, chooses_length, find_asked}
 use Rattle.tatp_history.proofs.EventLaws.{answered_at}
 use Rattle.tatp_history.proofs.ChangeLaws.{unchanged}
 use Rattle.tatp_history.proofs.UnchangingLaws.{without_unchanging}
-use Rattle.tatp_history.proofs.RemainingLaws.{IsLeft, IsOrderFrom, HasOrder, open_asked, open_chosen, open_ended, taken_off, first_opens, asks_order, ends_order}
+use Rattle.tatp_history.proofs.RemainingLaws.{open_asked, open_chosen, open_ended, taken_off, first_opens, asks_order, ends_order}
 use Rattle.tatp_history.proofs.JustInTimeLaws.{Any, serial_is, none_open}
 use Rattle.tatp_linearization.specs.AtOnce.{FitsAtOnce, IsSettled, NeedsNoPlace, TakesOne, TakeUntil, FollowsAtOnce, LeadAtOnce}
 use Rattle.tatp_linearization.proofs.DecisionLaws.{fits_or_not}
@@ -169,7 +170,7 @@ event_open (Ends asked at) more rise have c d h are = elim h [
 ]
 
 module _ (Q : Database → Type 0) where
-  event_complete : (event : Event) (more : List Event) → TimesRise (event ∷ more) → HaveEnds (event ∷ more) → (c : Configuration) → IsSettled c → AreOpen (event ∷ more) c.opened
+  pub event_complete : (event : Event) (more : List Event) → TimesRise (event ∷ more) → HaveEnds (event ∷ more) → (c : Configuration) → IsSettled c → AreOpen (event ∷ more) c.opened
       → HasOrder Q c.rows (event ∷ more) c.opened → (d : Configuration) × FollowsAtOnce event c d × HasOrder Q d.rows more d.opened
   event_complete (Asks x) more rise have c settled are order =
       let on = open_asked x more c.opened rise have are in
@@ -199,31 +200,3 @@ module _ (Q : Database → Type 0) where
 pub lead_settled : (events : List Event) (c d : Configuration) → IsSettled c → LeadAtOnce events c d → IsSettled d
 lead_settled [] c d settled h = subst IsSettled (sym h) settled
 lead_settled (event ∷ more) c d settled h = lead_settled more h.0 d (event_settled event c h.0 settled h.1) h.2
-
-pub lead_by : (first second : List Event) (c e : Configuration) → LeadAtOnce (first ++ second) c e → (d : Configuration) × LeadAtOnce first c d × LeadAtOnce second d e
-lead_by [] second c e on = (c, refl, on)
-lead_by (event ∷ first) second c e on = let rest = lead_by first second on.0 e on.2 in (rest.0, (on.0, on.1, rest.1), rest.2)
-
-pub lead_open : (first second : List Event) → TimesRise (first ++ second) → HaveEnds (first ++ second) → (c d : Configuration) → AreOpen (first ++ second) c.opened → LeadAtOnce first c d → AreOpen second d.opened
-lead_open [] second rise have c d are on = subst (λ (b : Configuration). AreOpen second b.opened) (sym on) are
-lead_open (event ∷ more) second rise have c d are on =
-    lead_open more second rise.1 (have_more event (more ++ second) have) on.0 d (event_open event (more ++ second) rise have c on.0 on.1 are) on.2
-
-module _ (Q : Database → Type 0) where
-  pub lead_complete : (first second : List Event) → TimesRise (first ++ second) → HaveEnds (first ++ second) → (c : Configuration) → IsSettled c → AreOpen (first ++ second) c.opened
-      → HasOrder Q c.rows (first ++ second) c.opened → (d : Configuration) × LeadAtOnce first c d × HasOrder Q d.rows second d.opened
-  lead_complete [] second rise have c settled are h = (c, refl, h)
-  lead_complete (event ∷ more) second rise have c settled are h =
-      let next = event_complete Q event (more ++ second) rise have c settled are h in
-      let rest = lead_complete more second rise.1 (have_more event (more ++ second) have) next.0 (event_settled event c next.0 settled next.1) (event_open event (more ++ second) rise have c next.0 next.1 are) next.2 in
-      (rest.0, (next.0, next.1, rest.1), rest.2)
-
--- ---- the law
-pub at_once_complete : (u : Database) (events : List Event) → TimesRise events → HaveEnds events → IsStrictlySerializable u (asked_in events) → (d : Configuration) × LeadAtOnce events (starting u) d
-at_once_complete u events rise have s =
-    let whole : events ≡ events ++ [] = sym (append-nil events) in
-    let rise' : TimesRise (events ++ []) = subst TimesRise whole rise in
-    let have' : HaveEnds (events ++ []) = subst HaveEnds whole have in
-    let order : HasOrder Any u (events ++ []) [] = subst (λ es. HasOrder Any u es []) whole (s.0, serial_is u events [] s.0 s.1, tt) in
-    let led = lead_complete Any events [] rise' have' (starting u) tt (none_open (events ++ [])) order in
-    (led.0, led.1)

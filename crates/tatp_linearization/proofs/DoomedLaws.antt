@@ -1,5 +1,5 @@
 -- No configuration follows on a doomed one up to the end of its window.
-use Rattle.std.proofs.Common.{◌≡◌, ℕ, zero, suc, ◌⊎◌, true, false, cond, ◌==◌, List, [], ◌∷◌, length, Option, Some, None, set, get_or, slice_index, slice_get, refl, sym, ◌∙◌, ap, subst, arith, eq-eqb, true≢false, inl, inr}
+use Rattle.std.proofs.Common.{◌≡◌, ℕ, zero, suc, ◌⊎◌, true, false, cond, ◌==◌, List, [], ◌∷◌, ◌++◌, length, Option, Some, None, set, get_or, slice_index, slice_get, refl, sym, ◌∙◌, ap, subst, arith, eq-eqb, true≢false, inl, inr}
 use Rattle.std.specs.Option.{option_map}
 use Rattle.std.proofs.lemmas.List.{get_or-set_other}
 use Rattle.tatp_tables.specs.Tuples.{Tuple, Tuples, has, replace_row, remove_row}
@@ -34,7 +34,9 @@ use Rattle.tatp_linearization.specs.Overwritten.{IsBlind, AreButSome}
 use Rattle.tatp_linearization.specs.Covering.{StandsFor}
 use Rattle.tatp_linearization.specs.AtOnce.{FitsAtOnce, AreLeft, TakesOne, TakeUntil, FollowsAtOnce}
 use Rattle.tatp_linearization.specs.Doomed.{NoneHasLocation, sets_location, SawLocation, NoneSets, IsStuck, IsDoomed}
+use Rattle.tatp_linearization.specs.Going.{LeadsOn}
 use Rattle.tatp_linearization.proofs.SettlingLaws.{left_all}
+use Rattle.tatp_linearization.proofs.GoingLaws.{event_on}
 use Rattle.tatp_linearization.proofs.ButSomeLaws.{but_all}
 
 -- ---- locations
@@ -173,8 +175,10 @@ doomed_on (Ends asked at) more c d doomed h =
       | inr k ↦ let on = until_stuck (length c.opened) asked (Ends asked at ∷ more) c d r v k.1 doomed.2 in goes_on asked at more d r v on.0 on.1
     ]
 
-pub none_doomed : (c : Configuration) → IsDoomed [] c → ⊥
-none_doomed c doomed = doomed.2.later
+-- so no order leads on from it
+pub none_doomed : (after : Database) (rest more : List Event) (c : Configuration) → IsDoomed rest c → LeadsOn after (rest ++ more) c → ⊥
+none_doomed after [] more c doomed on = doomed.2.later
+none_doomed after (event ∷ rest) more c doomed on = let next = event_on after event (rest ++ more) c on in none_doomed after rest more next.0 (doomed_on event rest c next.0 doomed next.1) next.2
 
 -- ---- what the code looks at
 -- the location of a home's subscriber

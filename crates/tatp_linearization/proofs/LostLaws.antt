@@ -15,7 +15,7 @@ use Rattle.tatp_history.specs.JustInTime.{AreOpen}
 use Rattle.tatp_history.specs.Configurations.{Configuration}
 use Rattle.tatp_history.proofs.OrderLaws.{all_map, in_all}
 use Rattle.tatp_history.proofs.EventLaws.{is_before, asked_after}
-use Rattle.tatp_history.proofs.RemainingLaws.{IsLeft, HasOrder}
+use Rattle.tatp_history.specs.Remaining.{IsLeft, HasOrder}
 use Rattle.tatp_linearization.specs.Doomed.{NoneHasLocation, sets_location, SawLocation, NoneSetsUntil, NoneSets, IsDoomed}
 use Rattle.tatp_linearization.proofs.DoomedLaws.{none_after, misfits}
 

@@ -6,7 +6,8 @@ use Rattle.tatp_history.specs.declared.event.Event.{Event}
 use Rattle.tatp_history.specs.declared.observed.Observed.{Observed}
 use Rattle.tatp_history.specs.Events.{HaveEnds}
 use Rattle.tatp_history.specs.JustInTime.{Chooses, AreOpen}
-use Rattle.tatp_history.proofs.RemainingLaws.{HasOrder, open_chosen}
+use Rattle.tatp_history.specs.Remaining.{HasOrder}
+use Rattle.tatp_history.proofs.RemainingLaws.{open_chosen}
 use Rattle.tatp_history.proofs.ChangeLaws.{unchanged}
 use Rattle.tatp_history.proofs.UnchangingLaws.{without_unchanging}
 use Rattle.tatp_linearization.specs.AtOnce.{FitsAtOnce, AreLeft}

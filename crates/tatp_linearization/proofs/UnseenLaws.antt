@@ -31,7 +31,8 @@ use Rattle.tatp_history.proofs.ChangeLaws.{reading_leaves}
 use Rattle.tatp_history.proofs.OrderLaws.{all_map, all_both, all_filter, filter_tests, in_all, all_in, in_filter, apart_filter, real_time_filter}
 use Rattle.tatp_history.proofs.ChoiceLaws.{chosen_in, in_cases}
 use Rattle.tatp_history.proofs.EventLaws.{asked_after}
-use Rattle.tatp_history.proofs.RemainingLaws.{IsLeft, HasOrder, left_before}
+use Rattle.tatp_history.specs.Remaining.{IsLeft, HasOrder}
+use Rattle.tatp_history.proofs.RemainingLaws.{left_before}
 use Rattle.tatp_history.proofs.UnchangingLaws.{is_other, other_is, is_other_true, true_other, is_the_call, stays_left, left_other}
 use Rattle.tatp_linearization.specs.Unseen.{location_replied, location_recorded, location_answered, location_read, location_in, NoneSaw, HasSetLocation, AreOfOne}
 use Rattle.tatp_linearization.proofs.BlindLaws.{IsOnly, only_same, only_replaced}

@@ -34,7 +34,7 @@ use Rattle.tatp_history.proofs.EventLaws.{asked_after}
 use Rattle.tatp_history.specs.Remaining.{IsLeft, HasOrder}
 use Rattle.tatp_history.proofs.RemainingLaws.{left_before}
 use Rattle.tatp_history.proofs.UnchangingLaws.{is_other, other_is, is_other_true, true_other, is_the_call, stays_left, left_other}
-use Rattle.tatp_linearization.specs.Unseen.{location_replied, location_recorded, location_answered, location_read, location_in, NoneSaw, HasSetLocation, AreOfOne}
+use Rattle.tatp_linearization.specs.Unseen.{location_replied, location_recorded, location_answered, location_read, location_in, NoneSaw, SawAfter, HasSetLocation, AreOfOne}
 use Rattle.tatp_linearization.proofs.BlindLaws.{IsOnly, only_same, only_replaced}
 use Rattle.tatp_linearization.proofs.DoomedLaws.{inserts_for_keep, deletes_for_keep}
 
@@ -295,15 +295,23 @@ set_success x u s h =
     let success : IsSuccess (transaction (UpdateLocation s.number s.location) u).reply = no_success x.outcome s.number u s.location (row_with_number u.subscribers s.number) s.answered s.written own in
     (s.number, s.location, s.updates, subst (λ (call : Call). IsSuccess (transaction call u).reply) (sym s.updates) success)
 
+-- an update reads no location
+pub no_read : (call : Call) (outcome : Outcome) (n w location : ℕ) → call ≡ UpdateLocation n w → location_read call outcome ≡ Some location → ⊥
+no_read call outcome n w location updates saw = let nothing : location_read (UpdateLocation n w) outcome ≡ Some location = subst (λ (k : Call). location_read k outcome ≡ Some location) updates saw in cc
+
 -- calls that don't see the location up to one that sets it anew
 abbrev SameRuns : Database → Database → List Observed → List Observed → Type 0
 SameRuns u v order others = AreAnsweredInOrder u order × (rows_after u order ≡ rows_after v others)
 
-up_to_next : (location : ℕ) (y : Observed) → HasSetLocation y → (order : List Observed) (u v : Database) → Differ location u v → NoneSaw location order → IsIn y order → AreAnsweredInOrder v order → SameRuns u v order order
-up_to_next location y sets [] u v d none there runs = absurd there
-up_to_next location y sets (z ∷ zs) u v d none there runs =
+up_to_next : (location : ℕ) (y : Observed) → HasSetLocation y → (order : List Observed) (u v : Database) → Differ location u v → SawAfter y location order → KeepsRealTime order → IsIn y order → AreAnsweredInOrder v order → SameRuns u v order order
+up_to_next location y sets [] u v d none time there runs = absurd there
+up_to_next location y sets (z ∷ zs) u v d none time there runs =
     let step = goes location z.call u v d in
-    let fits : MayHaveReply z.outcome (transaction z.call u).reply = step.fits z.outcome none.0 runs.0 in
+    let unseen : location_in z ≡ Some location → ⊥ = λ saw. elim there [
+      | inl is ↦ let s : HasSetLocation z = subst HasSetLocation is sets in no_read z.call z.outcome s.number s.location location s.updates saw
+      | inr later ↦ in_all (λ (k : Observed). Precedes k z → ⊥) y zs time.0 later (none.0 saw)
+    ] in
+    let fits : MayHaveReply z.outcome (transaction z.call u).reply = step.fits z.outcome unseen runs.0 in
     let equal : (transaction z.call u).database ≡ (transaction z.call v).database → SameRuns u v (z ∷ zs) (z ∷ zs)
     = λ e. ((fits, subst (λ w. AreAnsweredInOrder w zs) (sym e) runs.1), ap (λ w. rows_after w zs) e) in
     elim there [
@@ -311,7 +319,7 @@ up_to_next location y sets (z ∷ zs) u v d none there runs =
           let ok = set_success z v (subst HasSetLocation is sets) runs.0 in
           equal (step.over ok.0 ok.1 ok.2 ok.3)
       | inr later ↦ elim step.after [
-        | inl e ↦ let rest = up_to_next location y sets zs (transaction z.call u).database (transaction z.call v).database e none.1 later runs.1 in ((fits, rest.0), rest.1)
+        | inl e ↦ let rest = up_to_next location y sets zs (transaction z.call u).database (transaction z.call v).database e none.1 time.1 later runs.1 in ((fits, rest.0), rest.1)
         | inr e ↦ equal e
       ]
     ]
@@ -331,7 +339,7 @@ module _ (location n : ℕ) (w y : Observed) (updates : w.call ≡ UpdateLocatio
   abbrev others : Observed → Bool
   others = is_other w.asked
 
-  without : (order : List Observed) (u : Database) → AreOfOne u → AllByRecursion (λ (z : Observed). z.asked ≡ w.asked → z ≡ w) order → AreAskedApart order → KeepsRealTime order → NoneSaw location order → IsIn w order → IsIn y order
+  without : (order : List Observed) (u : Database) → AreOfOne u → AllByRecursion (λ (z : Observed). z.asked ≡ w.asked → z ≡ w) order → AreAskedApart order → KeepsRealTime order → SawAfter y location order → IsIn w order → IsIn y order
       → AreAnsweredInOrder u order → SameRuns u u (filter others order) order
   without [] u one own once time none there later runs = absurd there
   without (z ∷ zs) u one own once time none there later runs = elim (others z) as (λ b. others z ≡ b → SameRuns u u (cond b (z ∷ filter others zs) (filter others zs)) (z ∷ zs)) [
@@ -353,31 +361,30 @@ module _ (location n : ℕ) (w y : Observed) (updates : w.call ≡ UpdateLocatio
         let v : Database = (transaction z.call u).database in
         let differs : Differ location u v ⊎ (u ≡ v) = subst (λ (c : Call). Differ location u (transaction c u).database ⊎ (u ≡ (transaction c u).database)) (sym call) (set_differs u n location one) in
         let go : SameRuns u v zs zs = elim differs [
-          | inl d ↦ up_to_next location y sets zs u v d none.1 later' runs.1
+          | inl d ↦ up_to_next location y sets zs u v d none.1 time.1 later' runs.1
           | inr k ↦ subst (λ q. SameRuns q v zs zs) (sym k) (runs.1, refl)
         ] in
         subst (λ ys. SameRuns u v ys zs) (sym left) go
   ] refl
 
--- an open update of the location that was answered needn't be open, where no call that is left saw
--- its location, and one that is asked after its end sets the location too
+-- an open update of the location that was answered needn't be open, where one that is asked after its
+-- end sets the location too, and no call saw its location that isn't asked after the end of that one
 module _ (events : List Event) (opened : List Observed) (w : Observed) (left : List Observed) (c : Chooses opened w left) (are : AreOpen events opened) where
-  pub without_unseen : (Q : Database → Type 0) (u : Database) → AreOfOne u → (n location : ℕ) → w.call ≡ UpdateLocation n location → IsAnswered w.outcome → NoneSaw location left → NoneSaw location (asked_in events)
-      → (y : Observed) → IsIn y (asked_in events) → HasSetLocation y → Precedes w y → HasOrder Q u events opened → HasOrder Q u events left
-  without_unseen Q u one n location updates answered unseen later y asked sets before h =
+  pub without_unseen : (Q : Database → Type 0) (u : Database) → AreOfOne u → (n location : ℕ) → w.call ≡ UpdateLocation n location → IsAnswered w.outcome → (y : Observed) → NoneSaw location left → SawAfter y location (asked_in events) → IsIn y (asked_in events) → HasSetLocation y → Precedes w y → HasOrder Q u events opened → HasOrder Q u events left
+  without_unseen Q u one n location updates answered y unseen later asked sets before h =
       let test : Observed → Bool = is_other w.asked in
-      let none : (z : Observed) → IsLeft events opened z → location_in z ≡ Some location → ⊥ = λ z k saw. elim k [
+      let after : (z : Observed) → IsLeft events opened z → location_in z ≡ Some location → Precedes y z = λ z k saw. elim k [
         | inl q ↦ elim (in_cases opened w left c z q) [
-          | inl e ↦ let nothing : location_read (UpdateLocation n location) z.outcome ≡ Some location = subst (λ (call : Call). location_read call z.outcome ≡ Some location) (ap (λ (k : Observed). k.call) e ∙ updates) saw in absurd cc
-          | inr r ↦ in_all (λ (x : Observed). location_in x ≡ Some location → ⊥) z left unseen r saw
+          | inl e ↦ absurd (no_read z.call z.outcome n location location (ap (λ (k : Observed). k.call) e ∙ updates) saw)
+          | inr r ↦ absurd (in_all (λ (x : Observed). location_in x ≡ Some location → ⊥) z left unseen r saw)
         ]
-        | inr q ↦ in_all (λ (x : Observed). location_in x ≡ Some location → ⊥) z (asked_in events) later q saw
+        | inr q ↦ in_all (λ (x : Observed). location_in x ≡ Some location → Precedes y x) z (asked_in events) later q saw
       ] in
       let lt : w.asked < y.asked = asked_after w.asked events y (are.before w (chosen_in opened w left c)) asked in
       let runs = without location n w y updates sets before (λ e. omega (arith, lt, e)) h.0 u one
       (all_map (IsLeft events opened) (λ (z : Observed). z.asked ≡ w.asked → z ≡ w) (λ z k. is_the_call events opened w left c are z k) h.0 h.1.made)
       h.1.once h.1.real_time
-      (all_map (IsLeft events opened) (λ (z : Observed). location_in z ≡ Some location → ⊥) none h.0 h.1.made)
+      (all_map (IsLeft events opened) (λ (z : Observed). location_in z ≡ Some location → Precedes y z) after h.0 h.1.made)
       (h.1.all w (inl (chosen_in opened w left c)) answered) (h.1.all y (inr asked) sets.answered) h.1.replies in (
         filter test h.0,
         record {

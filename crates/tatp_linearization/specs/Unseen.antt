@@ -12,7 +12,7 @@ use Rattle.tatp_history.specs.declared.observed.Recorded.TheVariants.{Exactly, S
 use Rattle.tatp_history.specs.declared.observed.Outcome.{Outcome}
 use Rattle.tatp_history.specs.declared.observed.Outcome.TheVariants.{Answered, Aborted, Unknown}
 use Rattle.tatp_history.specs.declared.observed.Observed.{Observed}
-use Rattle.tatp_history.specs.Histories.{IsAnswered}
+use Rattle.tatp_history.specs.Histories.{IsAnswered, Precedes}
 use Rattle.tatp_history.specs.Changes.{has_failed}
 
 -- ---- the location with which a read of the subscriber was answered
@@ -48,6 +48,11 @@ location_in x = location_read x.call x.outcome
 abbrev pub NoneSaw : ℕ → List Observed → Type 0
 NoneSaw location calls =
     AllByRecursion (λ (x : Observed). location_in x ≡ Some location → ⊥) calls
+
+-- those of them that saw the location were asked after the end of a call
+abbrev pub SawAfter : Observed → ℕ → List Observed → Type 0
+SawAfter y location calls =
+    AllByRecursion (λ (x : Observed). location_in x ≡ Some location → Precedes y x) calls
 
 -- ---- updates
 -- the call updates the location, and was answered, and not that it failed

@@ -16,11 +16,12 @@ use Rattle.tatp_history.specs.Configurations.{Configuration}
 use Rattle.tatp_history.proofs.OrderLaws.{all_map, in_all}
 use Rattle.tatp_history.proofs.EventLaws.{is_before, asked_after}
 use Rattle.tatp_history.specs.Remaining.{IsLeft, HasOrder}
+use Rattle.tatp_linearization.specs.Unseen.{SetAfter}
 use Rattle.tatp_linearization.specs.Doomed.{NoneHasLocation, sets_location, SawLocation, NoneSetsUntil, NoneSets, IsDoomed}
 use Rattle.tatp_linearization.proofs.DoomedLaws.{none_after, misfits}
 
--- the call doesn't set the location, or comes after the read
-abbrev IsPast : ℕ → Observed → Observed → Type 0
+-- the call doesn't set the location, or is asked after the end of the read
+abbrev pub IsPast : ℕ → Observed → Observed → Type 0
 IsPast location read z = (sets_location location z.call ≡ false) ⊎ Precedes read z
 
 was_answered : (location : ℕ) (read : Observed) → SawLocation location read → IsAnswered read.outcome
@@ -39,18 +40,18 @@ never location read saw (z ∷ zs) u none past time there runs = elim there [
   ]
 ]
 
--- ---- no call that is left sets it
-pub none_lost : (Q : Database → Type 0) (location : ℕ) (u : Database) (events : List Event) (opened : List Observed) → NoneHasLocation location u → NoneSets location opened → NoneSets location (asked_in events)
-    → (read : Observed) → IsLeft events opened read → SawLocation location read → HasOrder Q u events opened → ⊥
-none_lost Q location u events opened none sets later read left saw h =
+-- ---- no call that is left sets it before the end of the read
+pub none_lost : (Q : Database → Type 0) (location : ℕ) (u : Database) (events : List Event) (opened : List Observed) → NoneHasLocation location u → NoneSets location opened
+    → (read : Observed) → SetAfter read location (asked_in events) → IsLeft events opened read → SawLocation location read → HasOrder Q u events opened → ⊥
+none_lost Q location u events opened none sets read later left saw h =
     never location read saw h.0 u none
     (all_map (IsLeft events opened) (IsPast location read) (λ z k. elim k [
       | inl q ↦ inl (in_all (λ (x : Observed). sets_location location x.call ≡ false) z opened sets q)
-      | inr q ↦ inl (in_all (λ (x : Observed). sets_location location x.call ≡ false) z (asked_in events) later q)
+      | inr q ↦ in_all (IsPast location read) z (asked_in events) later q
     ]) h.0 h.1.made)
     h.1.real_time (h.1.all read left (was_answered location read saw)) h.1.replies
 
--- ---- no call that is left sets it before the end of the read
+-- ---- doomed configurations
 until_past : (location : ℕ) (read : Observed) (events : List Event) → TimesRise events → NoneSetsUntil location read.asked events → EndsFit read events → (z : Observed) → IsIn z (asked_in events) → IsPast location read z
 until_past location read [] rise until fit z there = absurd there
 until_past location read (Asks x ∷ more) rise until fit z there = elim there [

@@ -12,3 +12,4 @@ pub mod Overwritten
 pub mod Covering
 pub mod Unseen
 pub mod Going
+pub mod Ahead

@@ -1,5 +1,5 @@
 -- Locations that reads saw, and updates of the location that something overwrites.
-use Rattle.std.specs.Prelude.{◌≡◌, ℕ, true, false, List, Option, Some, None, slice_get}
+use Rattle.std.specs.Prelude.{◌≡◌, ℕ, ◌⊎◌, true, false, List, Option, Some, None, slice_get}
 use Rattle.std.specs.List.{AllByRecursion}
 use Rattle.tatp_tables.specs.Tuples.{Tuple, has}
 use Rattle.tatp_tables.specs.Database.{Database}
@@ -14,6 +14,7 @@ use Rattle.tatp_history.specs.declared.observed.Outcome.TheVariants.{Answered, A
 use Rattle.tatp_history.specs.declared.observed.Observed.{Observed}
 use Rattle.tatp_history.specs.Histories.{IsAnswered, Precedes}
 use Rattle.tatp_history.specs.Changes.{has_failed}
+use Rattle.tatp_linearization.specs.Doomed.{sets_location}
 
 -- ---- the location with which a read of the subscriber was answered
 abbrev pub location_replied : Reply → Option ℕ
@@ -44,6 +45,19 @@ location_read (DeleteCallForwarding n t b) outcome = None
 abbrev pub location_in : Observed → Option ℕ
 location_in x = location_read x.call x.outcome
 
+-- the location that a call saw, or sets
+abbrev pub location_named : Call → Outcome → Option ℕ
+location_named (GetSubscriberData s) outcome = location_answered outcome
+location_named (GetNewDestination s t b e) outcome = None
+location_named (GetAccessData s t) outcome = None
+location_named (UpdateSubscriberData s x t y) outcome = None
+location_named (UpdateLocation n v) outcome = Some v
+location_named (InsertCallForwarding n t b e x) outcome = None
+location_named (DeleteCallForwarding n t b) outcome = None
+
+abbrev pub location_of : Observed → Option ℕ
+location_of x = location_named x.call x.outcome
+
 -- none of the calls saw the location
 abbrev pub NoneSaw : ℕ → List Observed → Type 0
 NoneSaw location calls =
@@ -53,6 +67,11 @@ NoneSaw location calls =
 abbrev pub SawAfter : Observed → ℕ → List Observed → Type 0
 SawAfter y location calls =
     AllByRecursion (λ (x : Observed). location_in x ≡ Some location → Precedes y x) calls
+
+-- those of them that set the location were asked after the end of a call
+abbrev pub SetAfter : Observed → ℕ → List Observed → Type 0
+SetAfter read location calls = AllByRecursion
+    (λ (x : Observed). (sets_location location x.call ≡ false) ⊎ Precedes read x) calls
 
 -- ---- updates
 -- the call updates the location, and was answered, and not that it failed

@@ -1,6 +1,7 @@
 //! Whether the calls of one subscriber, as clients saw them, are strictly serializable.
 #![tactic(auto)]
 
+mod ahead;
 mod comparing;
 mod configuration;
 mod covering;
@@ -11,6 +12,7 @@ mod explanations;
 mod first;
 mod following;
 mod legal;
+mod locations;
 mod reading;
 mod rows;
 mod single;

@@ -89,16 +89,16 @@ number_of r rows n p named =
 
 -- ---- one update
 module _ (u : Database) (r : Tuple) (p : IsOnly r u.subscribers) where
-  abbrev at : ℕ → Database
+  abbrev pub at : ℕ → Database
   at v = record u { subscribers = replace_row u.subscribers r (with_vlr_location r v) }
 
-  set_row : (call : Call) (s : SetsLocation u call) → transaction call u ≡ replies (at s.location) []
+  pub set_row : (call : Call) (s : SetsLocation u call) → transaction call u ≡ replies (at s.location) []
   set_row call s =
       let passes = number_of r u.subscribers s.number p s.named in
       ap (λ (k : Call). transaction k u) s.updates ∙ ap (updates_location u s.location) (found_only r u.subscribers s.number p passes)
 
   -- another one then sets it as it would have done before
-  set_again : (v : ℕ) (call : Call) → SetsLocation u call → SetsLocation (at v) call × (transaction call (at v) ≡ transaction call u)
+  pub set_again : (v : ℕ) (call : Call) → SetsLocation u call → SetsLocation (at v) call × (transaction call (at v) ≡ transaction call u)
   set_again v call s =
       let new : Tuple = with_vlr_location r v in
       let passes = number_of r u.subscribers s.number p s.named in

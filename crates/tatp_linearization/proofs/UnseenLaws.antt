@@ -331,7 +331,7 @@ set_differs u n location one = elim (row_with_number u.subscribers n) as (λ o. 
   | Some r ↦ λ e. inl (record { row = r; only = one_only u.subscribers r one (has-found (has_number n) u.subscribers r e); rows = refl })
 ] refl
 
-all_others : (time : ℕ) (order : List Observed) → AllByRecursion (λ (z : Observed). time ≡ z.asked → ⊥) order → filter (is_other time) order ≡ order
+pub all_others : (time : ℕ) (order : List Observed) → AllByRecursion (λ (z : Observed). time ≡ z.asked → ⊥) order → filter (is_other time) order ≡ order
 all_others time [] h = refl
 all_others time (z ∷ zs) h = ap (λ b. cond b (z ∷ filter (is_other time) zs) (filter (is_other time) zs)) (is_other_true time z (λ e. h.0 (sym e))) ∙ ap (λ ys. z ∷ ys) (all_others time zs h.1)
 

@@ -13,3 +13,4 @@ pub mod Covering
 pub mod Unseen
 pub mod Going
 pub mod Ahead
+pub mod Clusters

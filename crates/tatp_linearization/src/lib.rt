@@ -2,6 +2,7 @@
 #![tactic(auto)]
 
 mod ahead;
+mod clusters;
 mod comparing;
 mod configuration;
 mod covering;

@@ -75,3 +75,46 @@ fn let_go_with(home: &mut Home, opened: &mut Vec<Observed>, place: usize, locati
     opened.retain(|z| !sees(z, location));
     *home = after;
 }
+
+/// Lets the open call at a place go with the reads that saw what it set, if it is an update that
+/// something overwrites and no read sees later, and if all of them may take effect now.
+fn let_go_at(
+    home: &mut Home,
+    opened: &mut Vec<Observed>,
+    place: usize,
+    ahead: &Ahead,
+    now: u64,
+)
+    requires inside { place < length opened.old.items }
+    requires accepted { AreAccepted opened.old.items }
+    ensures gone { GoTo home.old.tables opened.old.items home.new.tables opened.new.items }
+    ensures kept { AreAskedApart opened.old.items
+        → LosesNone ahead.now now opened.old.items opened.new.items }
+{
+    what_holds_of_every_home(home);
+    match unread_location(&opened[place], ahead, now) {
+        Some(location) => let_go_with(home, opened, place, location),
+        None => {}
+    }
+}
+
+/// Lets clusters of the open calls go that may take effect one after another from this home on,
+/// before an update of the location that takes effect now.
+pub(crate) fn let_clusters_go(before: &Home, opened: &mut Vec<Observed>, ahead: &Ahead, now: u64)
+    requires accepted { AreAccepted opened.old.items }
+    ensures gone { GoFirst before.now.tables opened.old.items opened.new.items }
+    ensures kept { AreAskedApart opened.old.items
+        → LosesNone ahead.now now opened.old.items opened.new.items }
+{
+    if ahead.last_update <= now {
+        return;
+    }
+    let mut home = before.copy();
+    let count = opened.len();
+    'calls: for i in 0..count {
+        let place = count - 1 - i;
+        if place < opened.len() {
+            let_go_at(&mut home, opened, place, ahead, now);
+        }
+    }
+}

@@ -11,3 +11,4 @@ pub mod Doomed
 pub mod Overwritten
 pub mod Covering
 pub mod Going
+pub mod Turns

@@ -54,7 +54,7 @@ pub record IsFewer (c d : Held) : Type 0 where
 pub record TakesOn (Known : List Event → Type 0) (c : Held) (i : ℕ) (d : Held) : Type 0 where
   pub sound : (e : Configuration) → StandsFor d e → From MayCome c e
   pub served : (asked : ℕ) (after : Database) (events : List Event) (e : Configuration)
-      → Known events → IsThere (IsOtherTime asked) c i e → LeadsOn after events e
+      → Known events → IsApart c → IsThere (IsOtherTime asked) c i e → LeadsOn after events e
       → (b : Configuration) × StandsForBut asked d b × (length b.opened ≤ length e.opened)
       × LeadsOn after events b
   pub less : IsFewer c d

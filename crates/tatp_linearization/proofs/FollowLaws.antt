@@ -15,11 +15,12 @@ use Rattle.tatp_linearization.specs.AtOnce.{FollowsAtOnce}
 use Rattle.tatp_linearization.specs.Doomed.{IsDoomed}
 use Rattle.tatp_linearization.specs.Possible.{AreMoreThan, IsPossible, NeedMore}
 use Rattle.tatp_linearization.specs.Held.{seen, AreReady, AreApart}
-use Rattle.tatp_linearization.specs.Covering.{OneStandsFor, AreEachApart, FromOne, MayBeTried, FollowSet}
+use Rattle.tatp_linearization.specs.Covering.{OneStandsFor, AreEachApart, FromOne, MayBeTried}
 use Rattle.tatp_linearization.specs.Going.{LeadsOn, OneLeadsOn}
+use Rattle.tatp_linearization.specs.Turns.{AreComing, FollowSet}
 use Rattle.tatp_linearization.specs.Reached.{AreKept}
 use Rattle.tatp_linearization.proofs.SettlingLaws.{shift}
-use Rattle.tatp_linearization.proofs.GoingLaws.{serial_to, serial_leads_on, event_on}
+use Rattle.tatp_linearization.proofs.GoingLaws.{serial_to, serial_leads_on}
 use Rattle.tatp_linearization.proofs.PossibleLaws.{ArePossible, follow_possible, need_more}
 use Rattle.tatp_linearization.proofs.SerialLaws.{possible_serial, possible_apart}
 use Rattle.tatp_linearization.proofs.CoveringLaws.{seen_stands, bare_stands}
@@ -85,14 +86,13 @@ first_rise (event ∷ past) more h = (after past h.0, first_rise past more h.1)
     after [] k = tt
     after (e ∷ es) k = (k.0, after es k.1)
 
-pub kept_more : (u : Database) (past : List Event) (event : Event) (rest : List Event) (before after : List Held) → FollowSet event before after → AreReady after → ((s : ℕ) → AreApart s before → AreApart s after) → AreKeptBefore u past (event ∷ rest) before → AreKeptBefore u (past ++ event ∷ []) rest after
+pub kept_more : (u : Database) (past : List Event) (event : Event) (rest : List Event) (before after : List Held) → FollowSet (λ es. (more : List Event) × (es ≡ event ∷ (rest ++ more))) event before after → AreReady after → ((s : ℕ) → AreApart s before → AreApart s after) → AreKeptBefore u past (event ∷ rest) before → AreKeptBefore u (past ++ event ∷ []) rest after
 kept_more u past event rest before after all ready apart kept = record {
   sound = λ d h. let k = all.sound d h in follow_possible u past event k.0 d (kept.sound k.0 k.1) k.2;
   complete = λ to more on.
       let whole : LeadsOn to (past ++ event ∷ (rest ++ more)) (starting u) = subst (λ es. LeadsOn to es (starting u)) (sym (shift past event (rest ++ more))) on in
       let one = kept.complete to more whole in
-      let next = event_on to event (rest ++ more) one.0 one.2 in
-      (next.0, all.found (each_apart u past before (first_rise past (event ∷ (rest ++ more)) whole.rise) kept.sound) next.0 (one.0, one.1, next.1), next.2);
+      all.found (each_apart u past before (first_rise past (event ∷ (rest ++ more)) whole.rise) kept.sound) to (rest ++ more) (more, refl) one;
   ready = ready;
   apart = (kept.apart.0, apart kept.apart.0 kept.apart.1);
 }
@@ -153,17 +153,21 @@ pub followed_none : (set : List Held) (events : List Event) → AreReady set →
 followed_none set events ready = record { kept = λ u past k. subst (λ es. AreKeptBefore u es events set) (sym (append-nil past)) (kept_before u past events set k); ready = ready; apart = λ s h. h }
 
 pub followed_more : (set : List Held) (events : List Event) (i : ℕ) (event : Event) (before after : List Held) → slice_get events i ≡ Some event → IsFollowed set events i before
-    → FollowSet event before after → AreReady after → ((s : ℕ) → AreApart s before → AreApart s after) → IsFollowed set events (i + 1) after
+    → FollowSet (AreComing events i) event before after → AreReady after → ((s : ℕ) → AreApart s before → AreApart s after) → IsFollowed set events (i + 1) after
 followed_more set events i event before after at f all ready apart = record {
   kept = λ u past k. subst (λ es. AreKeptBefore u es (drop (i + 1) events) after) (sym (window_more past events i event at))
-      (kept_more u (past ++ take i events) event (drop (i + 1) events) before after all ready apart
-      (subst (λ es. AreKeptBefore u (past ++ take i events) es before) (drop_at events i event at ∙ ap (λ n. event ∷ drop n events) (next i)) (f.kept u past k)));
+      (kept_more u (past ++ take i events) event (drop (i + 1) events) before after
+      (record { sound = all.sound; found = λ aparts to es known. all.found aparts to es (known.0, known.1 ∙ ap (λ zs. zs ++ known.0) (sym here)) }) ready apart
+      (subst (λ es. AreKeptBefore u (past ++ take i events) es before) here (f.kept u past k)));
   ready = ready;
   apart = λ s h. apart s (f.apart s h);
 }
   where
     next : (n : ℕ) → suc n ≡ n + 1
     next n = omega arith
+
+    here : drop i events ≡ event ∷ drop (i + 1) events
+    here = drop_at events i event at ∙ ap (λ n. event ∷ drop n events) (next i)
 
 -- without some that are doomed
 pub followed_less : (set : List Held) (events : List Event) (i : ℕ) (before after : List Held) → IsFollowed set events i before → ((d : Configuration) → OneStandsFor after d → OneStandsFor before d)

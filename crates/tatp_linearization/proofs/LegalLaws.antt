@@ -13,7 +13,7 @@ use Rattle.tatp_history.specs.Histories.{IsIn, MayHaveReply, AreAnsweredInOrder,
 use Rattle.tatp_history.specs.Locality.{AreAccepted}
 use Rattle.tatp_history.specs.Prefixes.{calls_by}
 use Rattle.tatp_history.specs.Events.{asked_in, IsAnsweredAt}
-use Rattle.tatp_history.specs.Configurations.{Configuration, starting}
+use Rattle.tatp_history.specs.Configurations.{Configuration}
 use Rattle.tatp_history.specs.Remaining.{IsLeft}
 use Rattle.tatp_history.proofs.OrderLaws.{in_all, all_in}
 use Rattle.tatp_linearization.specs.declared.configuration.Configuration.{Configuration as Held}

@@ -1,29 +1,23 @@
 -- Rows that orders leave: open calls that write take effect last, one after another, or never.
-use Rattle.std.proofs.Common.{◌≡◌, ℕ, zero, suc, ◌≤◌, ◌⊎◌, true, false, List, [], ◌∷◌, ◌++◌, length, refl, sym, subst, arith, inl, inr}
+use Rattle.std.proofs.Common.{◌≡◌, ℕ, zero, suc, ◌≤◌, ◌⊎◌, List, [], ◌∷◌, length, refl, sym, subst, arith, inl, inr}
 use Rattle.std.specs.List.{AllByRecursion}
 use Rattle.tatp_tables.specs.Database.{Database}
-use Rattle.tatp_procs.specs.Transactions.{transaction}
 use Rattle.tatp_history.specs.declared.event.Event.{Event}
 use Rattle.tatp_history.specs.declared.observed.Observed.{Observed}
 use Rattle.tatp_history.specs.Histories.{IsIn, IsStrictlySerializableTo, rows_after}
-use Rattle.tatp_history.specs.Changes.{changes_nothing}
 use Rattle.tatp_history.specs.Events.{asked_in, TimesRise, HaveEnds}
 use Rattle.tatp_history.specs.JustInTime.{AreOpen}
-use Rattle.tatp_history.specs.Configurations.{Configuration, starting}
-use Rattle.tatp_history.specs.Remaining.{IsOrderFrom, HasOrder}
-use Rattle.tatp_history.proofs.OrderLaws.{in_all}
+use Rattle.tatp_history.specs.Configurations.{Configuration}
+use Rattle.tatp_history.specs.Remaining.{IsOrderFrom}
 use Rattle.tatp_history.proofs.ChoiceLaws.{chooses_some, chooses_length}
-use Rattle.tatp_history.proofs.RemainingLaws.{open_chosen, taken_off}
-use Rattle.tatp_history.proofs.JustInTimeLaws.{serial_is, none_open}
 use Rattle.tatp_linearization.specs.declared.configuration.Configuration.{Configuration as Held}
-use Rattle.tatp_linearization.specs.AtOnce.{FitsAtOnce, IsSettled, TakesOne, LeadAtOnce}
+use Rattle.tatp_linearization.specs.AtOnce.{IsSettled, TakesOne}
 use Rattle.tatp_linearization.specs.Possible.{AreMoreThan}
 use Rattle.tatp_linearization.specs.Held.{AreReady, AreApart, TakeMany, TakeSome}
 use Rattle.tatp_linearization.specs.Overwritten.{IsBlind}
 use Rattle.tatp_linearization.specs.Covering.{OneStandsFor, FromOne, MayCome, Gains}
 use Rattle.tatp_linearization.specs.Reached.{AreKept}
-use Rattle.tatp_linearization.proofs.SettlingLaws.{left_exists, left_shorter, left_order}
-use Rattle.tatp_linearization.proofs.AtOnceLaws.{one_open, one_settled}
+use Rattle.tatp_linearization.proofs.AtOnceLaws.{one_open, one_settled, one_shorter, first_takes}
 use Rattle.tatp_linearization.proofs.GoingLaws.{serial_leads_on}
 use Rattle.tatp_linearization.proofs.PossibleLaws.{more_than, come_on, come_possible}
 use Rattle.tatp_linearization.proofs.SerialLaws.{possible_to}
@@ -42,28 +36,13 @@ module _ (Q : Database → Type 0) where
       absurd (omega (arith, few, size))
   some_complete (suc n) (x ∷ order) c few settled are ok q =
       let opens : IsIn x c.opened = elim ok.made.0 [ inl k ↦ k | inr k ↦ absurd k ] in
-      let some = chooses_some c.opened x opens in
-      let size : length c.opened ≡ suc (length some.0) = chooses_length c.opened x some.0 some.1 in
-      let v : Database = (transaction x.call c.rows).database in
-      let writes : changes_nothing x ≡ false = elim (changes_nothing x) as (λ b. changes_nothing x ≡ b → b ≡ false) [
-        | true ↦ λ r. absurd (in_all (λ (w : Observed). FitsAtOnce c.rows w → ⊥) x c.opened settled opens (r, ok.replies.0))
-        | false ↦ λ r. refl
-      ] refl in
-      let left = left_exists v some.0 in
-      let less : length left.0 ≤ length some.0 = left_shorter v some.0 left.0 left.1 in
-      let d : Configuration = record { rows = v; opened = left.0 } in
-      let one : TakesOne c d = (x, some.0, record { chosen = some.1; writes = writes; may = ok.replies.0; rows = refl; settled = left.1 }) in
-      let rest : HasOrder Q v [] left.0 = left_order Q [] tt v [] some.0 left.0 left.1 (open_chosen [] c.opened x some.0 some.1 are) (order, taken_off c.rows [] c.opened x some.0 order are some.1 ok, q) in
-      let go = some_complete n rest.0 d (omega (arith, few, size, less)) (one_settled c d one) (one_open [] c d one are) rest.1 rest.2 in
-      (go.0, (suc go.1.0, (d, one, go.1.1)), go.2)
+      let next = first_takes Q [] tt c settled are x opens order ok q in
+      let less = one_shorter c next.0 next.1 in
+      let rest = next.2 in
+      let go = some_complete n rest.0 next.0 (omega (arith, few, less)) (one_settled c next.0 next.1) (one_open [] c next.0 next.1 are) rest.1 rest.2 in
+      (go.0, (suc go.1.0, (next.0, next.1, go.1.1)), go.2)
 
 -- ---- turns
-one_shorter : (c d : Configuration) → TakesOne c d → suc (length d.opened) ≤ length c.opened
-one_shorter c d h =
-    let size : length c.opened ≡ suc (length h.1) = chooses_length c.opened h.0 h.1 h.2.chosen in
-    let less : length d.opened ≤ length h.1 = left_shorter (transaction h.0.call c.rows).database h.1 d.opened h.2.settled in
-    omega (arith, size, less)
-
 many_shorter : (n : ℕ) (c d : Configuration) → TakeMany n c d → n ≤ length c.opened
 many_shorter zero c d h = omega arith
 many_shorter (suc n) c d h = let less = many_shorter n h.0 d h.2 in let one = one_shorter c h.0 h.1 in omega (arith, less, one)

@@ -14,3 +14,4 @@ pub mod Unseen
 pub mod Going
 pub mod Ahead
 pub mod Clusters
+pub mod Turns

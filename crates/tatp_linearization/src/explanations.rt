@@ -54,11 +54,11 @@ fn after_events(
     ensures many { IsErrOf result Stopped.MoreThanMost → (u : Database) (past : List Event)
         → AreKept u past set.now → NeedMore most u (past ++ events.now) }
 {
-    let mut after = after_event(alloc, set, &events[0], most)?;
+    let mut after = after_event(alloc, set, &events[0], events, 0, most)?;
     'events: for i in 1..events.len() {
         let event = &events[i];
         if !leaves_all(after.as_slice(), event) {
-            let next = after_event(alloc, after.as_slice(), event, most)?;
+            let next = after_event(alloc, after.as_slice(), event, events, i, most)?;
             after = next;
             drop_doomed(&mut after, events, i + 1);
         }

@@ -2,7 +2,8 @@ use Rattle.std.proofs.Common.{◌≡◌, ◌<◌, ◌≤◌, ◌+◌, ℕ, List,
 use Rattle.std.proofs.lemmas.Result.{err_from_is_err_and}
 use Rattle.tatp_linearization.specs.declared.configuration.Configuration.{Configuration as Held}
 use Rattle.tatp_linearization.specs.Held.{AreApart}
-use Rattle.tatp_linearization.specs.Covering.{FollowSet, FromOne, MayBeTried}
+use Rattle.tatp_linearization.specs.Covering.{FromOne, MayBeTried}
+use Rattle.tatp_linearization.specs.Turns.{AreComing, FollowSet}
 use Rattle.tatp_linearization.specs.Possible.{AreMoreThan}
 use Rattle.tatp_linearization.proofs.PlaceLaws.{get_at}
 use Rattle.tatp_linearization.proofs.FollowLaws.{IsFollowed, followed_none, followed_more, followed_less, followed_all, followed_many}
@@ -28,11 +29,11 @@ events-preserved c =
       | then-not-leaves_all+in_ok-next w ↦
           subst (λ (v : Vec Held Global). IsFollowed set events (i + 1) v.items) (sym w.after-is)
           (followed_less set events (i + 1) w.in_ok-next.next.items w.drop_doomed.new.set.items (followed_more set events i event before w.in_ok-next.next.items at inv
-          (subst (λ cs. FollowSet event cs w.in_ok-next.next.items) w.as_slice-then-not-leaves_all.ensures.value w.in_ok-next.ensures.followed) w.in_ok-next.ensures.ready
+          (subst (λ cs. FollowSet (AreComing events i) event cs w.in_ok-next.next.items) w.as_slice-then-not-leaves_all.ensures.value w.in_ok-next.ensures.followed) w.in_ok-next.ensures.ready
           (subst (λ (cs : List Held). (s : ℕ) → AreApart s cs → AreApart s w.in_ok-next.next.items) w.as_slice-then-not-leaves_all.ensures.value w.in_ok-next.ensures.apart)) w.drop_doomed.ensures.kept w.drop_doomed.ensures.found w.drop_doomed.ensures.ready w.drop_doomed.ensures.apart)
       | else-not-leaves_all w ↦
           subst (λ (v : Vec Held Global). IsFollowed set events (i + 1) v.items) (sym w.after-is)
-          (followed_more set events i event before before at inv (subst (λ cs. FollowSet event cs cs) c.as_slice.ensures.value (c.leaves_all.ensures w.if-not-leaves_all.false)) inv.ready (λ s h. h))
+          (followed_more set events i event before before at inv (subst (λ cs. FollowSet (AreComing events i) event cs cs) c.as_slice.ensures.value (c.leaves_all.ensures w.if-not-leaves_all.false events i)) inv.ready (λ s h. h))
     ]
 
 pub returns-clause-kept : goal.returns-clause-kept

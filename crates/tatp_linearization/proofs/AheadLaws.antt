@@ -21,7 +21,7 @@ use Rattle.tatp_linearization.specs.declared.ahead.Ahead.{Ahead}
 use Rattle.tatp_linearization.specs.declared.ahead.Times.{Times}
 use Rattle.tatp_linearization.specs.Doomed.{sets_location, SawLocation}
 use Rattle.tatp_linearization.specs.Unseen.{location_answered, location_read, location_in, location_named, location_of, HasSetLocation, SawAfter, SetAfter}
-use Rattle.tatp_linearization.specs.Ahead.{times_in, times_or_none, no_times, RaisesTimes, IsAnsweredBy, IsEndedRead, IsEndedUpdate, Tells, TellsNothing, IsLastTime, IsAheadOf, IsNextUpdate, IsLastRead, LooksAhead}
+use Rattle.tatp_linearization.specs.Ahead.{times_in, times_or_none, no_times, RaisesTimes, IsAnsweredBy, IsEndedRead, IsEndedUpdate, Tells, TellsNothing, IsLastTime, IsAheadOf, IsNextUpdate, IsNextRead, LooksAhead}
 
 -- ---- lists
 in_either : (z : Observed) (xs ys : List Observed) → IsIn z (xs ++ ys) → IsIn z xs ⊎ IsIn z ys
@@ -103,12 +103,15 @@ same_or_other (Some w) v = elim (w == v) as (λ b. (w == v) ≡ b → (Some w �
   | false ↦ λ e. inr (λ k. let is : w ≡ v = cc in true≢false (sym (eq-eqb w v is) ∙ e))
 ] refl
 
-module _ (last : ℕ) (x : Observed) (old mid new : Ahead)
-    (own : (v : ℕ) → location_of x ≡ Some v → RaisesTimes last x (times_in old v) (times_in mid v))
+module _ (x : Observed) (old mid new : Ahead)
+    (own : (v : ℕ) → location_of x ≡ Some v → RaisesTimes old.last x (times_in old v) (times_in mid v))
     (others : (v : ℕ) → (location_of x ≡ Some v → ⊥) → times_in mid v ≡ times_in old v)
-    (same : mid.last_update ≡ old.last_update) (kept : new.locations ≡ mid.locations)
-    (update : (new.last_update ≡ mid.last_update) ⊎ ((new.last_update ≡ x.asked) × HasSetLocation x × IsAnsweredBy last x.outcome))
-    (past : List Event) (tells : Tells past last old) where
+    (same : mid.last_update ≡ old.last_update) (end : mid.last ≡ old.last) (kept : new.locations ≡ mid.locations) (until : new.last ≡ mid.last)
+    (update : (new.last_update ≡ mid.last_update) ⊎ ((new.last_update ≡ x.asked) × HasSetLocation x × IsAnsweredBy mid.last x.outcome))
+    (past : List Event) (tells : Tells past old) where
+  same_end : new.last ≡ old.last
+  same_end = until ∙ end
+
   times : (v : ℕ) → times_in new v ≡ times_in mid v
   times v = ap (λ m. times_or_none (get nat_eq m v)) kept
 
@@ -124,7 +127,7 @@ module _ (last : ℕ) (x : Observed) (old mid new : Ahead)
   which : (z : Observed) → IsIn z (asked_in more) → IsIn z (asked_in past) ⊎ (z ≡ x)
   which z h = elim (asked_either z past (Asks x ∷ []) h) [ inl k ↦ inl k | inr k ↦ elim k [ inl e ↦ inr e | inr q ↦ absurd q ] ]
 
-  pub tells_asked : Tells more last new
+  pub tells_asked : Tells more new
   tells_asked = record {
     reads = λ z v there saw. elim (which z there) [
       | inl k ↦ let first = tells.reads z v k saw in let second = (at_least v).0 in omega (arith, first, second)
@@ -141,10 +144,10 @@ module _ (last : ℕ) (x : Observed) (old mid new : Ahead)
           subst (λ (w : Observed). w.asked ≤ (times_in new v).set) (sym e) (subst (λ (t : Times). x.asked ≤ t.set) (sym (times v)) (raised.set v own_sets))
     ];
     ended = λ v some.
-        let before : (times_in new v).ended ≡ (times_in old v).ended → (z : Observed) × IsEndedRead more last v (times_in new v).ended z
+        let before : (times_in new v).ended ≡ (times_in old v).ended → (z : Observed) × IsEndedRead more new.last v (times_in new v).ended z
         = λ e. let found = tells.ended v (subst (λ n. 0 < n) e some) in (
           found.0,
-          record { there = asked_first found.0 past (Asks x ∷ []) found.1.there; saw = found.1.saw; ended = found.1.ended; asked = found.1.asked ∙ sym e },
+          record { there = asked_first found.0 past (Asks x ∷ []) found.1.there; saw = found.1.saw; ended = subst (λ t. IsAnsweredBy t found.0.outcome) (sym same_end) found.1.ended; asked = found.1.asked ∙ sym e },
         ) in
         elim (same_or_other (location_of x) v) [
           | inl named ↦ elim (own v named).ended [
@@ -155,7 +158,7 @@ module _ (last : ℕ) (x : Observed) (old mid new : Ahead)
                   record {
                     there = asked_second x past (Asks x ∷ []) (inl refl);
                     saw = k.2.1 ∙ ap Some one;
-                    ended = k.1;
+                    ended = subst (λ t. IsAnsweredBy t x.outcome) (sym same_end) k.1;
                     asked = sym (ap (λ (t : Times). t.ended) (times v) ∙ k.0);
                   },
                 )
@@ -166,8 +169,8 @@ module _ (last : ℕ) (x : Observed) (old mid new : Ahead)
       | inl e ↦
           let is : new.last_update ≡ old.last_update = e ∙ same in
           let found = tells.updated (subst (λ n. 0 < n) is some) in
-          (found.0, record { there = asked_first found.0 past (Asks x ∷ []) found.1.there; sets = found.1.sets; ended = found.1.ended; asked = found.1.asked ∙ sym is })
-      | inr k ↦ (x, record { there = asked_second x past (Asks x ∷ []) (inl refl); sets = k.1; ended = k.2; asked = sym k.0 })
+          (found.0, record { there = asked_first found.0 past (Asks x ∷ []) found.1.there; sets = found.1.sets; ended = subst (λ t. IsAnsweredBy t found.0.outcome) (sym same_end) found.1.ended; asked = found.1.asked ∙ sym is })
+      | inr k ↦ (x, record { there = asked_second x past (Asks x ∷ []) (inl refl); sets = k.1; ended = subst (λ t. IsAnsweredBy t x.outcome) (sym until) k.2; asked = sym k.0 })
     ];
   }
     where
@@ -175,8 +178,8 @@ module _ (last : ℕ) (x : Observed) (old mid new : Ahead)
       inject a b e = cc
 
 -- an end tells nothing
-pub tells_ended : (last asked at : ℕ) (ahead : Ahead) (past : List Event) → Tells past last ahead → Tells (past ++ Ends asked at ∷ []) last ahead
-tells_ended last asked at ahead past tells =
+pub tells_ended : (asked at : ℕ) (ahead : Ahead) (past : List Event) → Tells past ahead → Tells (past ++ Ends asked at ∷ []) ahead
+tells_ended asked at ahead past tells =
     let which : (z : Observed) → IsIn z (asked_in (past ++ Ends asked at ∷ [])) → IsIn z (asked_in past)
     = λ z h. elim (asked_either z past (Ends asked at ∷ []) h) [ inl k ↦ k | inr k ↦ absurd k ] in
     record {
@@ -254,11 +257,11 @@ module _ (ahead : Ahead) (first second more : List Event) (asked at : ℕ) (all 
     | inl none ↦ record {
       from = from;
       next = λ time le lt. let zero_is = none.updated in absurd (omega (arith, lt, zero_is));
-      lost = λ v le lt. let zero_is = none.ended v in absurd (omega (arith, lt, zero_is));
+      read = λ v lt. let zero_is = none.ended v in absurd (omega (arith, lt, zero_is));
+      sets = λ v x lt few by. let zero_is = none.last in absurd (omega (arith, lt, zero_is));
     }
     | inr k ↦
-        let last = k.0 in
-        let tells = k.2 in
+        let tells = k.1 in
         record {
           from = from;
           next = λ time le lt.
@@ -269,27 +272,22 @@ module _ (ahead : Ahead) (first second more : List Event) (asked at : ℕ) (all 
                   there = asked_later y.0 y.1.there (omega (arith, is, le, lt));
                   sets = y.1.sets;
                   later = omega (arith, is, lt);
-                  reads = λ v few. all_in (λ (z : Observed). location_in z ≡ Some v → Precedes y.0 z) (asked_in rest) (λ z there saw. elim (asked_then last k.1 z there) [
+                  reads = λ v few. all_in (λ (z : Observed). location_in z ≡ Some v → Precedes y.0 z) (asked_in rest) (λ z there saw. elim (asked_then ahead.last k.0 z there) [
                     | inl q ↦ let most = tells.reads z v q.0 saw in let after = q.1 in absurd (omega (arith, most, after, few))
-                    | inr after ↦ answered_then y.0.outcome last z.asked y.1.ended after
+                    | inr after ↦ answered_then y.0.outcome ahead.last z.asked y.1.ended after
                   ]);
                 },
               );
-          lost = λ v few lt.
+          read = λ v lt.
               let y = tells.ended v (omega (arith, lt)) in
-              let is = y.1.asked in (
-                y.0,
-                record {
-                  there = asked_later y.0 y.1.there (omega (arith, is, lt));
-                  saw = saw_location v y.0 y.1.saw;
-                  sets = all_in (λ (z : Observed). (sets_location v z.call ≡ false) ⊎ Precedes y.0 z) (asked_in rest) (λ z there. elim (sets_location v z.call) as (λ b. sets_location v z.call ≡ b → (b ≡ false) ⊎ Precedes y.0 z) [
-                    | true ↦ λ sets. elim (asked_then last k.1 z there) [
-                      | inl q ↦ let most = tells.sets z v q.0 sets in let after = q.1 in absurd (omega (arith, most, after, few))
-                      | inr after ↦ inr (answered_then y.0.outcome last z.asked y.1.ended after)
-                    ]
-                    | false ↦ λ other. inl refl
-                  ] refl);
-                },
-              );
+              let is = y.1.asked in
+              (y.0, record { there = asked_later y.0 y.1.there (omega (arith, is, lt)); saw = saw_location v y.0 y.1.saw; ended = y.1.ended });
+          sets = λ v x lt few by. all_in (λ (z : Observed). (sets_location v z.call ≡ false) ⊎ Precedes x z) (asked_in rest) (λ z there. elim (sets_location v z.call) as (λ b. sets_location v z.call ≡ b → (b ≡ false) ⊎ Precedes x z) [
+            | true ↦ λ sets. elim (asked_then ahead.last k.0 z there) [
+              | inl q ↦ let most = tells.sets z v q.0 sets in let after = q.1 in absurd (omega (arith, most, after, few))
+              | inr after ↦ inr (answered_then x.outcome ahead.last z.asked by after)
+            ]
+            | false ↦ λ other. inl refl
+          ] refl);
         }
   ]

@@ -29,12 +29,12 @@ use Rattle.tatp_linearization.specs.declared.ahead.Ahead.{Ahead}
 use Rattle.tatp_linearization.specs.AtOnce.{FitsAtOnce}
 use Rattle.tatp_linearization.specs.Possible.{CallTakesEffect, CallsTakeEffect}
 use Rattle.tatp_linearization.specs.Overwritten.{SetsLocation}
-use Rattle.tatp_linearization.specs.Unseen.{location_in, NoneSaw, AreOfOne}
+use Rattle.tatp_linearization.specs.Unseen.{location_in, is_location, sees, NoneSaw, AreOfOne}
 use Rattle.tatp_linearization.specs.Ahead.{LooksAhead}
-use Rattle.tatp_linearization.specs.Clusters.{is_location, sees, IsUnread, SeersFit, GoesWith, GoTo, KeepOrders, LosesNone}
+use Rattle.tatp_linearization.specs.Clusters.{IsUnread, SeersFit, GoesWith, GoTo, KeepOrders, LosesNone}
 use Rattle.tatp_linearization.proofs.AheadLaws.{saw_location}
 use Rattle.tatp_linearization.proofs.BlindLaws.{IsOnly, set_again}
-use Rattle.tatp_linearization.proofs.UnseenLaws.{one_only, all_others, without_unseen}
+use Rattle.tatp_linearization.proofs.UnseenLaws.{one_only, one_after, all_others, without_unseen}
 use Rattle.tatp_linearization.proofs.PlaceLaws.{chooses_at, all_remove}
 use Rattle.tatp_linearization.proofs.PossibleLaws.{SomeTakeEffect, some_on, one_call, unchanging_call}
 use Rattle.tatp_linearization.proofs.SettlingLaws.{chooses_mid, shift}
@@ -96,7 +96,7 @@ open_filter events test xs are = record {
 }
 
 -- ---- reads that saw the location
-seen_is : (location : ℕ) (o : Option ℕ) → is_location location o ≡ true → o ≡ Some location
+pub seen_is : (location : ℕ) (o : Option ℕ) → is_location location o ≡ true → o ≡ Some location
 seen_is location None e = absurd (true≢false (sym e))
 seen_is location (Some seen) e = ap Some (eqb-true seen location e)
 
@@ -206,7 +206,7 @@ gone_loses ahead now u opened place location x v left goes unread apart =
     record {
       test = staying x location;
       others = goes.others ∙ (ap (filter (unseeing location)) (sym (chosen_others opened x (remove opened place) c apart))
-      ∙ (filter_swap (is_other x.asked) (unseeing location) opened ∙ filter_both (unseeing location) (is_other x.asked) opened));
+          ∙ (filter_swap (is_other x.asked) (unseeing location) opened ∙ filter_both (unseeing location) (is_other x.asked) opened));
       kept = keeps ahead now x location unread opened (chosen_in opened x (remove opened place) c) apart;
     }
 
@@ -264,3 +264,7 @@ calls_fewer (suc n) c d h =
     let same : length h.0.opened ≡ length one.1 = ap (λ (b : Configuration). length b.opened) one.4 in
     let rest = calls_fewer n h.0 d h.2 in
     omega (arith, size, same, rest)
+
+pub calls_one : (n : ℕ) (c d : Configuration) → CallsTakeEffect n c d → AreOfOne c.rows → AreOfOne d.rows
+calls_one zero c d h one = subst (λ (b : Configuration). AreOfOne b.rows) (sym h) one
+calls_one (suc n) c d h one = calls_one n h.0 d h.2 (subst (λ (b : Configuration). AreOfOne b.rows) (sym h.1.4) (one_after h.1.0.call c.rows one))

@@ -209,10 +209,10 @@ module _ (c d : Held) (i : ℕ) (taken : Takes c i (Some d)) (accepted : AreAcce
   call_accepted : arguments_accepted taken.0.call ≡ Ok tt
   call_accepted = all_get (λ (x : Observed). arguments_accepted x.call ≡ Ok tt) c.opened.items i taken.0 accepted taken.1.at
 
-  blind_on : (x : Observed) → IsBlind c.home.tables x → IsBlind d.home.tables x
+  pub blind_on : (x : Observed) → IsBlind c.home.tables x → IsBlind d.home.tables x
   blind_on x b = subst (λ v. IsBlind v x) (sym taken.1.rows) ((blind_after c.home taken.0.call taken.1.home call_accepted x).0 b)
 
-  blind_back : (x : Observed) → IsBlind d.home.tables x → IsBlind c.home.tables x
+  pub blind_back : (x : Observed) → IsBlind d.home.tables x → IsBlind c.home.tables x
   blind_back x b = (blind_after c.home taken.0.call taken.1.home call_accepted x).1 (subst (λ v. IsBlind v x) taken.1.rows b)
 
   pub taken_there : (Extra : Observed → Type 0) (e : Configuration) → IsThere Extra c i e → (e.rows ≡ d.home.tables) × AreButSome (λ x. IsBlind d.home.tables x × Extra x) d.overwritten d.opened.items e.opened

@@ -193,14 +193,14 @@ pub none_located : (home : SubscriberRows) (v : ℕ) → IsHome home → (cell h
 none_located home v is none row there e = none (location_cell home is row there ∙ ap Some e)
 
 -- ---- configurations that a doomed one stands for
-stays : (F : Observed → Type 0) (k : ℕ) (xs left : List Observed) → AreButSome F k xs left → (z : Observed) → (F z → ⊥) → IsIn z xs → IsIn z left
+pub stays : (F : Observed → Type 0) (k : ℕ) (xs left : List Observed) → AreButSome F k xs left → (z : Observed) → (F z → ⊥) → IsIn z xs → IsIn z left
 stays F k [] left a z other h = absurd h
 stays F k (x ∷ xs) left a z other h = elim a [
   | inl p ↦ subst (IsIn z) (sym p.1) (elim h [ inl e ↦ inl e | inr q ↦ inr (stays F k xs p.0 p.2 z other q) ])
   | inr p ↦ elim h [ inl e ↦ absurd (other (subst F (sym e) p.1)) | inr q ↦ stays F k xs left p.2 z other q ]
 ]
 
-no_update : (u : Database) (x : Observed) (s : ℕ) → x.call ≡ GetSubscriberData s → IsBlind u x → ⊥
+pub no_update : (u : Database) (x : Observed) (s : ℕ) → x.call ≡ GetSubscriberData s → IsBlind u x → ⊥
 no_update u x s reads b = let same : GetSubscriberData s ≡ UpdateLocation b.sets.number b.sets.location = sym reads ∙ b.sets.updates in cc
 
 pub doomed_stands : (events : List Event) (c : Held) (d : Configuration) → IsDoomed events (seen c) → StandsFor c d → IsDoomed events d

@@ -262,7 +262,7 @@ module _ (location : ℕ) (u : Database) (r : Tuple) (p : IsOnly r u.subscribers
       (both_go x y (has_key (s ∷ []) r) (row_at u.facilities (s ∷ t ∷ [])))))
   go (UpdateLocation n w) =
       let Both : Option Tuple → Option Tuple → Type 0 = λ o k. Settles location (updates_location u w o) (updates_location v w k)
-          × (IsSuccess (updates_location v w k).reply → (updates_location u w o).database ≡ (updates_location v w k).database) in
+      × (IsSuccess (updates_location v w k).reply → (updates_location u w o).database ≡ (updates_location v w k).database) in
       let both : Both (row_with_number u.subscribers n) (row_with_number v.subscribers n)
       = subst (λ o. Both o (row_with_number v.subscribers n)) (sym (numbered n).0) (subst (Both (cond (has_number n r) (Some r) None)) (sym (numbered n).1) (location_go w (has_number n r))) in
       record {

@@ -9,9 +9,10 @@ use Rattle.tatp_history.specs.declared.observed.Outcome.TheVariants.{Answered, A
 use Rattle.tatp_history.specs.declared.observed.Observed.{Observed}
 use Rattle.tatp_history.specs.Histories.{IsIn}
 use Rattle.tatp_history.specs.Events.{asked_in, time_of}
+use Rattle.tatp_linearization.specs.declared.configuration.Configuration.{Configuration as Held}
 use Rattle.tatp_linearization.specs.declared.ahead.Ahead.{Ahead}
 use Rattle.tatp_linearization.specs.declared.ahead.Times.{Times}
-use Rattle.tatp_linearization.specs.Doomed.{sets_location, SawLocation}
+use Rattle.tatp_linearization.specs.Doomed.{sets_location, SawLocation, NoneHasLocation, NoneSets}
 use Rattle.tatp_linearization.specs.Unseen.{location_in, HasSetLocation, SawAfter, SetAfter}
 
 -- ---- what is kept of a location
@@ -40,35 +41,36 @@ pub record RaisesTimes (last : ℕ) (x : Observed) (old new : Times) : Type 0 wh
   pub ended : (new.ended ≡ old.ended) ⊎ ((new.ended ≡ x.asked) × IsAnsweredBy last x.outcome
       × ((location : ℕ) × (location_in x ≡ Some location)))
 
--- ---- what it tells of the events of a window whose last time is this
--- a read that saw the location, and ended, is asked at the time
+-- ---- what it tells of the events of a window
+-- a read that saw the location, and ends in the window, is asked at the time
 pub record IsEndedRead (events : List Event) (last location time : ℕ) (x : Observed) : Type 0 where
   pub there : IsIn x (asked_in events)
   pub saw : location_in x ≡ Some location
   pub ended : IsAnsweredBy last x.outcome
   pub asked : x.asked ≡ time
 
--- an update of the location, that was answered and not that it failed, is asked at the time
+-- an update of the location, that ends in the window, and not with a failure, is asked at the time
 pub record IsEndedUpdate (events : List Event) (last time : ℕ) (x : Observed) : Type 0 where
   pub there : IsIn x (asked_in events)
   pub sets : HasSetLocation x
   pub ended : IsAnsweredBy last x.outcome
   pub asked : x.asked ≡ time
 
-pub record Tells (events : List Event) (last : ℕ) (ahead : Ahead) : Type 0 where
+pub record Tells (events : List Event) (ahead : Ahead) : Type 0 where
   pub reads : (x : Observed) (location : ℕ) → IsIn x (asked_in events)
       → location_in x ≡ Some location → x.asked ≤ (times_in ahead location).read
   pub sets : (x : Observed) (location : ℕ) → IsIn x (asked_in events)
       → sets_location location x.call ≡ true → x.asked ≤ (times_in ahead location).set
   pub ended : (location : ℕ) → 0 < (times_in ahead location).ended
-      → (x : Observed) × IsEndedRead events last location (times_in ahead location).ended x
+      → (x : Observed) × IsEndedRead events ahead.last location (times_in ahead location).ended x
   pub updated : 0 < ahead.last_update
-      → (x : Observed) × IsEndedUpdate events last ahead.last_update x
+      → (x : Observed) × IsEndedUpdate events ahead.last ahead.last_update x
 
 -- it tells nothing
 pub record TellsNothing (ahead : Ahead) : Type 0 where
   pub ended : (location : ℕ) → (times_in ahead location).ended ≡ 0
   pub updated : ahead.last_update ≡ 0
+  pub last : ahead.last ≡ 0
 
 -- the window's last event has this time
 abbrev pub IsLastTime : ℕ → List Event → Type 0
@@ -78,11 +80,10 @@ IsLastTime last events =
 
 -- it was made of the events of a window
 abbrev pub IsAheadOf : List Event → Ahead → Type 0
-IsAheadOf events ahead =
-    TellsNothing ahead ⊎ ((last : ℕ) × IsLastTime last events × Tells events last ahead)
+IsAheadOf events ahead = TellsNothing ahead ⊎ (IsLastTime ahead.last events × Tells events ahead)
 
 -- ---- what it tells of the events that are left, at a time
--- an update of the location, asked after `time` in the events, was answered and not that it failed,
+-- an update of the location, asked after `time` in the events, was answered, and not with a failure,
 -- and each read of a location that isn't read any more in the window is asked after its end
 pub record IsNextUpdate (ahead : Ahead) (now : ℕ) (rest : List Event) (time : ℕ) (x : Observed)
     : Type 0 where
@@ -92,16 +93,32 @@ pub record IsNextUpdate (ahead : Ahead) (now : ℕ) (rest : List Event) (time : 
   pub reads : (location : ℕ) → (times_in ahead location).read ≤ now
       → SawAfter x location (asked_in rest)
 
--- a read that is asked in the events saw the location, and nobody who is asked there sets it before
--- the read ends
-pub record IsLastRead (location : ℕ) (rest : List Event) (x : Observed) : Type 0 where
+-- a read that is asked in the events saw the location, and ends in the window
+pub record IsNextRead (last location : ℕ) (rest : List Event) (x : Observed) : Type 0 where
   pub there : IsIn x (asked_in rest)
   pub saw : SawLocation location x
-  pub sets : SetAfter x location (asked_in rest)
+  pub ended : IsAnsweredBy last x.outcome
 
+-- `sets` says that who sets a location that isn't set any more in the window is asked after the end
+-- of each call that ends in the window
 pub record LooksAhead (ahead : Ahead) (now : ℕ) (rest : List Event) : Type 0 where
   pub from : AllByRecursion (λ event. now ≤ time_of event) rest
   pub next : (time : ℕ) → now ≤ time → time < ahead.last_update
       → (x : Observed) × IsNextUpdate ahead now rest time x
-  pub lost : (location : ℕ) → (times_in ahead location).set ≤ now
-      → now < (times_in ahead location).ended → (x : Observed) × IsLastRead location rest x
+  pub read : (location : ℕ) → now < (times_in ahead location).ended
+      → (x : Observed) × IsNextRead ahead.last location rest x
+  pub sets : (location : ℕ) (x : Observed) → now < ahead.last
+      → (times_in ahead location).set ≤ now → IsAnsweredBy ahead.last x.outcome
+      → SetAfter x location (asked_in rest)
+
+-- ---- a location that is lost
+-- the configuration doesn't have the location, nobody sets it any more in the window, and a read of
+-- the window that is open, or is asked later, saw it
+pub record IsLost (ahead : Ahead) (now : ℕ) (c : Held) (location : ℕ) : Type 0 where
+  pub rows : NoneHasLocation location c.home.tables
+  pub opened : NoneSets location c.opened.items
+  pub later : (times_in ahead location).set ≤ now
+  pub inside : now < ahead.last
+  pub read : (now < (times_in ahead location).ended)
+      ⊎ ((x : Observed) × IsIn x c.opened.items × SawLocation location x
+      × IsAnsweredBy ahead.last x.outcome)

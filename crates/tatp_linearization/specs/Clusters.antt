@@ -1,7 +1,7 @@
 -- Clusters (Gibbons and Korach, 1997): an open update of the location, and the open reads that saw
 -- what it set. Where nobody sees that any more, and another update overwrites it in any order, they
 -- may take effect right before an update that takes effect now.
-use Rattle.std.specs.Prelude.{◌≡◌, ℕ, ◌<◌, ◌≤◌, ◌==◌, ◌&&◌, not, Bool, true, false, List, Option, Some, None, filter, slice_get, remove}
+use Rattle.std.specs.Prelude.{◌≡◌, ℕ, ◌<◌, ◌≤◌, not, Bool, true, List, Some, filter, slice_get, remove}
 use Rattle.std.specs.List.{AllByRecursion}
 use Rattle.tatp_tables.specs.Database.{Database}
 use Rattle.tatp_procs.specs.declared.call.Call.{Call}
@@ -11,27 +11,17 @@ use Rattle.tatp_history.specs.declared.event.Event.{Event}
 use Rattle.tatp_history.specs.declared.observed.Observed.{Observed}
 use Rattle.tatp_history.specs.declared.observed.Recorded.{Recorded}
 use Rattle.tatp_history.specs.declared.observed.Outcome.TheVariants.{Answered}
-use Rattle.tatp_history.specs.Histories.{IsIn, MayHaveReply, AreAskedApart}
+use Rattle.tatp_history.specs.Histories.{IsIn, MayHaveReply}
 use Rattle.tatp_history.specs.JustInTime.{AreOpen}
 use Rattle.tatp_history.specs.Remaining.{HasOrderTo}
-use Rattle.tatp_history.specs.Configurations.{Configuration}
 use Rattle.tatp_linearization.specs.declared.ahead.Ahead.{Ahead}
 use Rattle.tatp_linearization.specs.AtOnce.{FitsAtOnce}
 use Rattle.tatp_linearization.specs.Possible.{CallsTakeEffect}
 use Rattle.tatp_linearization.specs.Overwritten.{SetsLocation}
-use Rattle.tatp_linearization.specs.Unseen.{location_in, AreOfOne}
+use Rattle.tatp_linearization.specs.Unseen.{sees, AreOfOne}
 use Rattle.tatp_linearization.specs.Ahead.{times_in, LooksAhead}
 
 -- ---- an update that may go
--- whether it is this location
-abbrev pub is_location : ℕ → Option ℕ → Bool
-is_location location None = false
-is_location location (Some seen) = seen == location
-
--- whether the call saw the location
-abbrev pub sees : ℕ → Observed → Bool
-sees location x = is_location location (location_in x)
-
 -- the call sets the location, which is read no more in the window, and it was answered before the
 -- last update of the window is asked
 pub record IsUnread (ahead : Ahead) (now : ℕ) (x : Observed) (location : ℕ) : Type 0 where

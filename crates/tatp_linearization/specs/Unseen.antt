@@ -1,5 +1,5 @@
 -- Locations that reads saw, and updates of the location that something overwrites.
-use Rattle.std.specs.Prelude.{◌≡◌, ℕ, ◌⊎◌, true, false, List, Option, Some, None, slice_get}
+use Rattle.std.specs.Prelude.{◌≡◌, ℕ, ◌⊎◌, ◌==◌, Bool, true, false, List, Option, Some, None, slice_get}
 use Rattle.std.specs.List.{AllByRecursion}
 use Rattle.tatp_tables.specs.Tuples.{Tuple, has}
 use Rattle.tatp_tables.specs.Database.{Database}
@@ -44,6 +44,15 @@ location_read (DeleteCallForwarding n t b) outcome = None
 
 abbrev pub location_in : Observed → Option ℕ
 location_in x = location_read x.call x.outcome
+
+-- whether it is this location
+abbrev pub is_location : ℕ → Option ℕ → Bool
+is_location location None = false
+is_location location (Some seen) = seen == location
+
+-- whether the call saw the location
+abbrev pub sees : ℕ → Observed → Bool
+sees location x = is_location location (location_in x)
 
 -- the location that a call saw, or sets
 abbrev pub location_named : Call → Outcome → Option ℕ

@@ -34,16 +34,20 @@ pub(crate) struct Ahead {
     pub(crate) locations: IndexMap<u64, Times>,
     /// When the last update of the location is asked that ends in the window, and doesn't fail.
     pub(crate) last_update: u64,
+    /// The time of the window's last event.
+    pub(crate) last: u64,
 }
 
-/// It tells nothing.
-fn nothing(alloc: Global) -> Ahead
-    ensures nothing { TellsNothing result }
-    ensures none { (last : ℕ) → Tells [] last result }
+/// It tells nothing of a window whose last event has this time.
+fn nothing(alloc: Global, last: u64) -> Ahead
+    ensures last { result.last ≡ last }
+    ensures nothing { last ≡ 0 → TellsNothing result }
+    ensures none { Tells [] result }
 {
     Ahead {
         locations: IndexMap::new(alloc),
         last_update: 0,
+        last,
     }
 }
 
@@ -71,7 +75,7 @@ fn later(time: u64, other: u64) -> u64
 }
 
 /// Whether a call was answered by this time.
-fn is_answered_by(outcome: &Outcome, time: u64) -> bool
+pub(crate) fn is_answered_by(outcome: &Outcome, time: u64) -> bool
     ensures { IsTrue result ↔ IsAnsweredBy time outcome.now }
 {
     match outcome {
@@ -113,16 +117,17 @@ fn with_call(times: Times, x: &Observed, last: u64) -> Times
 }
 
 /// Notes the times of the location that a call saw, or sets.
-fn add_times(ahead: &mut Ahead, x: &Observed, last: u64) -> Result<(), AllocError>
+fn add_times(ahead: &mut Ahead, x: &Observed) -> Result<(), AllocError>
     ensures own { OnOk result ((location : ℕ) → location_then x.now ≡ Some location
-        → RaisesTimes last x.now (times_in ahead.old location) (times_in ahead.new location)) }
+        → RaisesTimes ahead.old.last x.now (times_in ahead.old location) (times_in ahead.new location)) }
     ensures others { OnOk result ((location : ℕ) → (location_then x.now ≡ Some location → ⊥)
         → times_in ahead.new location ≡ times_in ahead.old location) }
     ensures same { OnOk result (ahead.new.last_update ≡ ahead.old.last_update) }
+    ensures last { OnOk result (ahead.new.last ≡ ahead.old.last) }
 {
     match location_of(x) {
         Some(location) => {
-            let times = with_call(times_of(ahead, location), x, last);
+            let times = with_call(times_of(ahead, location), x, ahead.last);
             ahead.locations.insert(location, times)?;
             Ok(())
         }
@@ -131,26 +136,28 @@ fn add_times(ahead: &mut Ahead, x: &Observed, last: u64) -> Result<(), AllocErro
 }
 
 /// Notes the time of a call, if it is an update of the location that ends in time.
-fn add_update(ahead: &mut Ahead, x: &Observed, last: u64)
+fn add_update(ahead: &mut Ahead, x: &Observed)
     ensures same { ahead.new.locations ≡ ahead.old.locations }
+    ensures last { ahead.new.last ≡ ahead.old.last }
     ensures update { (ahead.new.last_update ≡ ahead.old.last_update)
         ⊎ ((ahead.new.last_update ≡ x.now.asked) × HasSetLocation x.now
-        × IsAnsweredBy last x.now.outcome) }
+        × IsAnsweredBy ahead.old.last x.now.outcome) }
 {
-    if has_set_location(x) && is_answered_by(&x.outcome, last) {
+    if has_set_location(x) && is_answered_by(&x.outcome, ahead.last) {
         ahead.last_update = later(ahead.last_update, x.asked);
     }
 }
 
-/// Notes an event of a window whose last time is given.
-fn add_event(ahead: &mut Ahead, event: &Event, last: u64) -> Result<(), AllocError>
-    ensures { OnOk result ((past : List AnEvent) → Tells past last ahead.old
-        → Tells (past ++ event.now ∷ []) last ahead.new) }
+/// Notes an event of the window.
+fn add_event(ahead: &mut Ahead, event: &Event) -> Result<(), AllocError>
+    ensures more { OnOk result ((past : List AnEvent) → Tells past ahead.old
+        → Tells (past ++ event.now ∷ []) ahead.new) }
+    ensures last { OnOk result (ahead.new.last ≡ ahead.old.last) }
 {
     match event {
         Event::Asks(x) => {
-            add_times(ahead, x, last)?;
-            add_update(ahead, x, last);
+            add_times(ahead, x)?;
+            add_update(ahead, x);
             Ok(())
         }
         Event::Ends { .. } => Ok(()),
@@ -171,13 +178,12 @@ fn time_of(event: &Event) -> u64
 pub(crate) fn look_ahead(alloc: Global, events: &[Event]) -> Result<Ahead, AllocError>
     ensures { IfOk result (IsAheadOf events.now) }
 {
-    let mut ahead = nothing(alloc);
     if events.len() <= FEW {
-        return Ok(ahead);
+        return Ok(nothing(alloc, 0));
     }
-    let last = time_of(&events[events.len() - 1]);
+    let mut ahead = nothing(alloc, time_of(&events[events.len() - 1]));
     'events: for i in 0..events.len() {
-        add_event(&mut ahead, &events[i], last)?;
+        add_event(&mut ahead, &events[i])?;
     }
     Ok(ahead)
 }

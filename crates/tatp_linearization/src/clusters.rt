@@ -4,25 +4,15 @@ ghost use Rattle.std.specs.Prelude.{◌≡◌, ◌<◌, ◌⊎◌, ◌↔◌, Is
 ghost use Rattle.tatp_history.specs.declared.observed.Observed.{Observed as Asked};
 ghost use Rattle.tatp_history.specs.Histories.{AreAskedApart};
 ghost use Rattle.tatp_history.specs.Locality.{AreAccepted};
-ghost use Rattle.tatp_linearization.specs.Clusters.{GoFirst, GoTo, GoesWith, IsUnread, LosesNone, SeersFit, sees as has_seen};
+ghost use Rattle.tatp_linearization.specs.Clusters.{GoFirst, GoTo, GoesWith, IsUnread, LosesNone, SeersFit};
 
 use crate::ahead::{Ahead, times_of};
-use crate::locations::location_seen;
+use crate::locations::sees;
 use crate::reading::fits_at_once;
 use tatp_evaluation::evaluate;
 use tatp_history::{Observed, Outcome};
 use tatp_homes::{Home, what_holds_of_every_home};
 use tatp_procs::{Call, Reply};
-
-/// Whether a read saw this location.
-fn sees(x: &Observed, location: u64) -> bool
-    ensures { result ≡ has_seen location x.now }
-{
-    match location_seen(x) {
-        Some(seen) => seen == location,
-        None => false,
-    }
-}
 
 /// The location that an open call sets, if something overwrites it and no read sees it later.
 fn unread_location(x: &Observed, ahead: &Ahead, now: u64) -> Option<u64>
@@ -78,13 +68,7 @@ fn let_go_with(home: &mut Home, opened: &mut Vec<Observed>, place: usize, locati
 
 /// Lets the open call at a place go with the reads that saw what it set, if it is an update that
 /// something overwrites and no read sees later, and if all of them may take effect now.
-fn let_go_at(
-    home: &mut Home,
-    opened: &mut Vec<Observed>,
-    place: usize,
-    ahead: &Ahead,
-    now: u64,
-)
+fn let_go_at(home: &mut Home, opened: &mut Vec<Observed>, place: usize, ahead: &Ahead, now: u64)
     requires inside { place < length opened.old.items }
     requires accepted { AreAccepted opened.old.items }
     ensures gone { GoTo home.old.tables opened.old.items home.new.tables opened.new.items }

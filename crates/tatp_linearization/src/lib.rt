@@ -14,10 +14,12 @@ mod first;
 mod following;
 mod legal;
 mod locations;
+mod lost;
 mod reading;
 mod rows;
 mod single;
 mod stopped;
+mod taking;
 mod to_rows;
 
 pub use explanations::{Explanations, Standing};

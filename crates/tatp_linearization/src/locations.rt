@@ -1,7 +1,7 @@
 //! Locations that calls saw, or set.
 ghost use Rattle.std.specs.Prelude.{◌≡◌, ◌↔◌, IsTrue};
 ghost use Rattle.tatp_linearization.specs.Doomed.{sets_location as sets};
-ghost use Rattle.tatp_linearization.specs.Unseen.{HasSetLocation, location_answered, location_in, location_of as location_then};
+ghost use Rattle.tatp_linearization.specs.Unseen.{HasSetLocation, location_answered, location_in, location_of as location_then, sees as has_seen};
 
 use tatp_history::{Observed, Outcome, Recorded};
 use tatp_procs::{Call, Reply};
@@ -35,6 +35,16 @@ pub(crate) fn location_seen(x: &Observed) -> Option<u64>
     match x.call {
         Call::GetSubscriberData { .. } => location_of_outcome(&x.outcome),
         _ => None,
+    }
+}
+
+/// Whether a read saw this location.
+pub(crate) fn sees(x: &Observed, location: u64) -> bool
+    ensures { result ≡ has_seen location x.now }
+{
+    match location_seen(x) {
+        Some(seen) => seen == location,
+        None => false,
     }
 }
 

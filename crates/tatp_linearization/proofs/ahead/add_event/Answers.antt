@@ -4,14 +4,14 @@ use Rattle.tatp_linearization.specs.Ahead.{Tells}
 use Rattle.tatp_linearization.proofs.AheadLaws.{tells_asked, tells_ended}
 use Rattle.tatp_linearization.proofs.ahead.add_event.Goals as goal
 
-pub returns-in_ok-add_times-in-Asks : goal.returns-in_ok-add_times-in-Asks
-returns-in_ok-add_times-in-Asks c = λ past tells.
-    subst (λ (e : Event). Tells (past ++ e ∷ []) c.args.last c.add_update.new.ahead) (sym c.in-Asks.is)
-    (tells_asked c.args.last c.in-Asks.x c.args.ahead.now c.add_times.new.ahead c.add_update.new.ahead
-    c.in_ok-add_times-in-Asks.ensures.own c.in_ok-add_times-in-Asks.ensures.others c.in_ok-add_times-in-Asks.ensures.same
-    c.add_update.ensures.same c.add_update.ensures.update past tells)
+pub returns-in_ok-add_times-in-Asks-clause-more : goal.returns-in_ok-add_times-in-Asks-clause-more
+returns-in_ok-add_times-in-Asks-clause-more c = λ past tells.
+    subst (λ (e : Event). Tells (past ++ e ∷ []) c.add_update.new.ahead) (sym c.in-Asks.is)
+    (tells_asked c.in-Asks.x c.args.ahead.now c.add_times.new.ahead c.add_update.new.ahead
+    c.in_ok-add_times-in-Asks.ensures.own c.in_ok-add_times-in-Asks.ensures.others c.in_ok-add_times-in-Asks.ensures.same c.in_ok-add_times-in-Asks.ensures.last
+    c.add_update.ensures.same c.add_update.ensures.last c.add_update.ensures.update past tells)
 
-pub returns-in-Ends : goal.returns-in-Ends
-returns-in-Ends c = λ past tells.
-    subst (λ (e : Event). Tells (past ++ e ∷ []) c.args.last c.args.ahead.now) (sym c.in-Ends.is)
-    (tells_ended c.args.last c.in-Ends.asked c.in-Ends.at c.args.ahead.now past tells)
+pub returns-in-Ends-clause-more : goal.returns-in-Ends-clause-more
+returns-in-Ends-clause-more c = λ past tells.
+    subst (λ (e : Event). Tells (past ++ e ∷ []) c.args.ahead.now) (sym c.in-Ends.is)
+    (tells_ended c.in-Ends.asked c.in-Ends.at c.args.ahead.now past tells)

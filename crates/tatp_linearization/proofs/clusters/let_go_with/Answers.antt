@@ -4,7 +4,8 @@ use Rattle.tatp_homes.specs.Home.{SubscriberRows}
 use Rattle.tatp_history.specs.declared.observed.Observed.{Observed}
 use Rattle.tatp_history.specs.Histories.{MayHaveReply}
 use Rattle.tatp_procs.specs.Transactions.{transaction}
-use Rattle.tatp_linearization.specs.Clusters.{SeersFit, sees}
+use Rattle.tatp_linearization.specs.Unseen.{sees}
+use Rattle.tatp_linearization.specs.Clusters.{SeersFit}
 use Rattle.tatp_linearization.proofs.PlaceLaws.{get_at}
 use Rattle.tatp_linearization.proofs.clusters.let_go_with.Goals as goal
 

@@ -1,11 +1,11 @@
 -- What a window's events tell ahead of the search.
-use Rattle.std.proofs.Common.{◌≡◌, ℕ, ◌<◌, ◌≤◌, ◌⊎◌, ◌==◌, Bool, true, false, nat_le, leb-true, leb-false, List, [], ◌∷◌, ◌++◌, Option, Some, None, take, length, nat_eq, slice_get, slice_index, refl, sym, ◌∙◌, ap, subst, arith, eqb-true, eq-eqb, true≢false, inl, inr}
+use Rattle.std.proofs.Common.{◌≡◌, ℕ, suc, ◌+◌, drop, ◌<◌, ◌≤◌, ◌⊎◌, ◌==◌, true, false, List, [], ◌∷◌, ◌++◌, Option, Some, None, take, nat_eq, slice_get, slice_index, refl, sym, ◌∙◌, ap, subst, arith, eqb-true, eq-eqb, true≢false, inl, inr}
 use Rattle.std.specs.List.{AllByRecursion}
 use Rattle.std.proofs.lemmas.Option.{get_or_from_slice_get}
+use Rattle.std.proofs.lemmas.List.{take-append-drop}
 use Rattle.indexmap.specs.IndexMap.{get}
 use Rattle.tatp_procs.specs.declared.call.Call.{Call}
 use Rattle.tatp_procs.specs.declared.call.Call.TheVariants.{GetSubscriberData, GetNewDestination, GetAccessData, UpdateSubscriberData, UpdateLocation, InsertCallForwarding, DeleteCallForwarding}
-use Rattle.tatp_procs.specs.declared.reply.Reply.{Reply}
 use Rattle.tatp_procs.specs.declared.reply.Reply.TheVariants.{Values, Failed, Trapped, Refused}
 use Rattle.tatp_history.specs.declared.event.Event.{Event}
 use Rattle.tatp_history.specs.declared.event.Event.TheVariants.{Asks, Ends}
@@ -20,8 +20,9 @@ use Rattle.tatp_history.proofs.EventLaws.{asked_after}
 use Rattle.tatp_linearization.specs.declared.ahead.Ahead.{Ahead}
 use Rattle.tatp_linearization.specs.declared.ahead.Times.{Times}
 use Rattle.tatp_linearization.specs.Doomed.{sets_location, SawLocation}
-use Rattle.tatp_linearization.specs.Unseen.{location_answered, location_read, location_in, location_named, location_of, HasSetLocation, SawAfter, SetAfter}
-use Rattle.tatp_linearization.specs.Ahead.{times_in, times_or_none, no_times, RaisesTimes, IsAnsweredBy, IsEndedRead, IsEndedUpdate, Tells, TellsNothing, IsLastTime, IsAheadOf, IsNextUpdate, IsNextRead, LooksAhead}
+use Rattle.tatp_linearization.specs.Unseen.{location_answered, location_read, location_in, location_named, location_of, HasSetLocation}
+use Rattle.tatp_linearization.proofs.PlaceLaws.{drop_at}
+use Rattle.tatp_linearization.specs.Ahead.{times_in, times_or_none, RaisesTimes, IsAnsweredBy, IsEndedRead, Tells, IsLastTime, IsAheadOf, LooksAhead, IsSeenAhead}
 
 -- ---- lists
 in_either : (z : Observed) (xs ys : List Observed) → IsIn z (xs ++ ys) → IsIn z xs ⊎ IsIn z ys
@@ -202,7 +203,7 @@ later_than (Asks x ∷ first) event rest rise z h = elim h [
     among (e ∷ mid) h = among mid h.1
 later_than (Ends asked at ∷ first) event rest rise z h = later_than first event rest rise.1 z h
 
-rises_on : (first rest : List Event) → TimesRise (first ++ rest) → TimesRise rest
+pub rises_on : (first rest : List Event) → TimesRise (first ++ rest) → TimesRise rest
 rises_on [] rest h = h
 rises_on (event ∷ first) rest h = rises_on first rest h.1
 
@@ -291,3 +292,14 @@ module _ (ahead : Ahead) (first second more : List Event) (asked at : ℕ) (all 
           ] refl);
         }
   ]
+
+-- so it does at each event of the window
+pub seen_ahead : (ahead : Ahead) (events : List Event) (i : ℕ) (event : Event) → IsAheadOf events ahead → slice_get events i ≡ Some event → (more : List Event) → TimesRise (events ++ more) → IsSeenAhead ahead (event ∷ (drop (i + 1) events ++ more))
+seen_ahead ahead events i (Asks x) all at more rise = tt
+seen_ahead ahead events i (Ends asked time) all at more rise =
+    let whole : events ≡ take i events ++ Ends asked time ∷ drop (i + 1) events
+    = sym (take-append-drop i events) ∙ ap (λ zs. take i events ++ zs) (drop_at events i (Ends asked time) at ∙ ap (λ n. Ends asked time ∷ drop n events) (next i)) in
+    looks_ahead ahead (take i events) (drop (i + 1) events) more asked time (subst (λ es. IsAheadOf es ahead) whole all) (subst (λ es. TimesRise (es ++ more)) whole rise)
+  where
+    next : (n : ℕ) → suc n ≡ n + 1
+    next n = omega arith

@@ -1,7 +1,6 @@
 -- Clusters that take effect before an update of the location.
-use Rattle.std.proofs.Common.{◌≡◌, ℕ, zero, suc, ◌<◌, ◌≤◌, ◌⊎◌, ◌&&◌, ◌==◌, not, Bool, true, false, cond, List, [], ◌∷◌, ◌++◌, filter, length, Option, Some, None, is_some, slice_get, remove, refl, sym, ◌∙◌, ap, subst, arith, eqb-true, eq-eqb, true≢false, inl, inr}
+use Rattle.std.proofs.Common.{◌≡◌, ℕ, zero, suc, ◌≤◌, ◌&&◌, not, Bool, true, false, cond, List, [], ◌∷◌, ◌++◌, filter, length, Option, Some, None, remove, refl, sym, ◌∙◌, ap, subst, arith, eqb-true, eq-eqb, true≢false, inl, inr}
 use Rattle.std.specs.List.{AllByRecursion}
-use Rattle.tatp_tables.specs.Tuples.{Tuple, has}
 use Rattle.tatp_tables.specs.Keys.{row_with_number, has_number}
 use Rattle.tatp_tables.specs.Database.{Database}
 use Rattle.tatp_tables.proofs.KeyLaws.{has-found}
@@ -11,11 +10,10 @@ use Rattle.tatp_procs.specs.Transactions.{transaction, updates_location}
 use Rattle.tatp_history.specs.declared.event.Event.{Event}
 use Rattle.tatp_history.specs.declared.event.Event.TheVariants.{Asks, Ends}
 use Rattle.tatp_history.specs.declared.observed.Recorded.{Recorded}
-use Rattle.tatp_history.specs.declared.observed.Outcome.{Outcome}
 use Rattle.tatp_history.specs.declared.observed.Outcome.TheVariants.{Answered}
 use Rattle.tatp_history.specs.declared.observed.Observed.{Observed}
-use Rattle.tatp_history.specs.Histories.{IsIn, IsAnswered, IsAnsweredBefore, MayHaveReply, AreAskedApart}
-use Rattle.tatp_history.specs.Changes.{only_reads, has_failed, changes_nothing, LeavesRows}
+use Rattle.tatp_history.specs.Histories.{IsIn, IsAnswered, IsAnsweredBefore, AreAskedApart}
+use Rattle.tatp_history.specs.Changes.{only_reads, has_failed, LeavesRows}
 use Rattle.tatp_history.specs.Events.{time_of, IsAnsweredAt, EndsIn}
 use Rattle.tatp_history.specs.JustInTime.{Chooses, NoneAskedAt, AreOpen}
 use Rattle.tatp_history.specs.Remaining.{HasOrder, HasOrderTo}
@@ -27,13 +25,13 @@ use Rattle.tatp_history.proofs.RemainingLaws.{open_chosen}
 use Rattle.tatp_history.proofs.UnchangingLaws.{is_other, is_other_true, without_unchanging}
 use Rattle.tatp_linearization.specs.declared.ahead.Ahead.{Ahead}
 use Rattle.tatp_linearization.specs.AtOnce.{FitsAtOnce}
-use Rattle.tatp_linearization.specs.Possible.{CallTakesEffect, CallsTakeEffect}
+use Rattle.tatp_linearization.specs.Possible.{CallsTakeEffect}
 use Rattle.tatp_linearization.specs.Overwritten.{SetsLocation}
 use Rattle.tatp_linearization.specs.Unseen.{location_in, is_location, sees, NoneSaw, AreOfOne}
 use Rattle.tatp_linearization.specs.Ahead.{LooksAhead}
 use Rattle.tatp_linearization.specs.Clusters.{IsUnread, SeersFit, GoesWith, GoTo, KeepOrders, LosesNone}
 use Rattle.tatp_linearization.proofs.AheadLaws.{saw_location}
-use Rattle.tatp_linearization.proofs.BlindLaws.{IsOnly, set_again}
+use Rattle.tatp_linearization.proofs.BlindLaws.{set_again}
 use Rattle.tatp_linearization.proofs.UnseenLaws.{one_only, one_after, all_others, without_unseen}
 use Rattle.tatp_linearization.proofs.PlaceLaws.{chooses_at, all_remove}
 use Rattle.tatp_linearization.proofs.PossibleLaws.{SomeTakeEffect, some_on, one_call, unchanging_call}

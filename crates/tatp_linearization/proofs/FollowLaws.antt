@@ -1,6 +1,6 @@
 -- What follows on configurations at an event, and after all events.
 use Rattle.std.proofs.Common.{◌≡◌, ℕ, zero, suc, ◌+◌, ◌<◌, ◌==◌, ◌↔◌, false, List, [], ◌∷◌, ◌++◌, take, drop, length, Some, slice_get, refl, sym, ◌∙◌, ap, subst, arith, true≢false, inl, inr, ◌⊎◌, ◌≤◌}
-use Rattle.std.proofs.lemmas.List.{append-nil, append_assoc, take_all}
+use Rattle.std.proofs.lemmas.List.{append-nil, append_assoc, take_all, take-append-drop}
 use Rattle.tatp_tables.specs.Database.{Database}
 use Rattle.tatp_history.specs.declared.observed.Observed.{Observed}
 use Rattle.tatp_history.specs.declared.event.Event.{Event}
@@ -17,14 +17,15 @@ use Rattle.tatp_linearization.specs.Possible.{AreMoreThan, IsPossible, NeedMore}
 use Rattle.tatp_linearization.specs.Held.{seen, AreReady, AreApart}
 use Rattle.tatp_linearization.specs.Covering.{OneStandsFor, AreEachApart, FromOne, MayBeTried}
 use Rattle.tatp_linearization.specs.Going.{LeadsOn, OneLeadsOn}
-use Rattle.tatp_linearization.specs.Turns.{AreComing, FollowSet}
+use Rattle.tatp_linearization.specs.Turns.{FollowSet}
 use Rattle.tatp_linearization.specs.Reached.{AreKept}
 use Rattle.tatp_linearization.proofs.SettlingLaws.{shift}
 use Rattle.tatp_linearization.proofs.GoingLaws.{serial_to, serial_leads_on}
 use Rattle.tatp_linearization.proofs.PossibleLaws.{ArePossible, follow_possible, need_more}
 use Rattle.tatp_linearization.proofs.SerialLaws.{possible_serial, possible_apart}
 use Rattle.tatp_linearization.proofs.CoveringLaws.{seen_stands, bare_stands}
-use Rattle.tatp_linearization.proofs.DoomedLaws.{none_doomed}
+use Rattle.tatp_linearization.proofs.AheadLaws.{rises_on}
+use Rattle.tatp_linearization.proofs.LostLaws.{none_doomed}
 use Rattle.tatp_linearization.proofs.PlaceLaws.{take_more, drop_at}
 
 -- ---- one configuration
@@ -86,13 +87,14 @@ first_rise (event ∷ past) more h = (after past h.0, first_rise past more h.1)
     after [] k = tt
     after (e ∷ es) k = (k.0, after es k.1)
 
-pub kept_more : (u : Database) (past : List Event) (event : Event) (rest : List Event) (before after : List Held) → FollowSet (λ es. (more : List Event) × (es ≡ event ∷ (rest ++ more))) event before after → AreReady after → ((s : ℕ) → AreApart s before → AreApart s after) → AreKeptBefore u past (event ∷ rest) before → AreKeptBefore u (past ++ event ∷ []) rest after
-kept_more u past event rest before after all ready apart kept = record {
+pub kept_more : (Known : List Event → Type 0) (u : Database) (past : List Event) (event : Event) (rest : List Event) (before after : List Held)
+    → ((more : List Event) → TimesRise (past ++ event ∷ (rest ++ more)) → Known (event ∷ (rest ++ more))) → FollowSet Known event before after → AreReady after → ((s : ℕ) → AreApart s before → AreApart s after) → AreKeptBefore u past (event ∷ rest) before → AreKeptBefore u (past ++ event ∷ []) rest after
+kept_more Known u past event rest before after known all ready apart kept = record {
   sound = λ d h. let k = all.sound d h in follow_possible u past event k.0 d (kept.sound k.0 k.1) k.2;
   complete = λ to more on.
       let whole : LeadsOn to (past ++ event ∷ (rest ++ more)) (starting u) = subst (λ es. LeadsOn to es (starting u)) (sym (shift past event (rest ++ more))) on in
       let one = kept.complete to more whole in
-      all.found (each_apart u past before (first_rise past (event ∷ (rest ++ more)) whole.rise) kept.sound) to (rest ++ more) (more, refl) one;
+      all.found (each_apart u past before (first_rise past (event ∷ (rest ++ more)) whole.rise) kept.sound) to (rest ++ more) (known more whole.rise) one;
   ready = ready;
   apart = (kept.apart.0, apart kept.apart.0 kept.apart.1);
 }
@@ -152,12 +154,11 @@ pub record IsFollowed (set : List Held) (events : List Event) (i : ℕ) (after :
 pub followed_none : (set : List Held) (events : List Event) → AreReady set → IsFollowed set events 0 set
 followed_none set events ready = record { kept = λ u past k. subst (λ es. AreKeptBefore u es events set) (sym (append-nil past)) (kept_before u past events set k); ready = ready; apart = λ s h. h }
 
-pub followed_more : (set : List Held) (events : List Event) (i : ℕ) (event : Event) (before after : List Held) → slice_get events i ≡ Some event → IsFollowed set events i before
-    → FollowSet (AreComing events i) event before after → AreReady after → ((s : ℕ) → AreApart s before → AreApart s after) → IsFollowed set events (i + 1) after
-followed_more set events i event before after at f all ready apart = record {
+pub followed_more : (Known : List Event → Type 0) (set : List Held) (events : List Event) (i : ℕ) (event : Event) (before after : List Held) → slice_get events i ≡ Some event → IsFollowed set events i before
+    → ((more : List Event) → TimesRise (events ++ more) → Known (event ∷ (drop (i + 1) events ++ more))) → FollowSet Known event before after → AreReady after → ((s : ℕ) → AreApart s before → AreApart s after) → IsFollowed set events (i + 1) after
+followed_more Known set events i event before after at f known all ready apart = record {
   kept = λ u past k. subst (λ es. AreKeptBefore u es (drop (i + 1) events) after) (sym (window_more past events i event at))
-      (kept_more u (past ++ take i events) event (drop (i + 1) events) before after
-      (record { sound = all.sound; found = λ aparts to es known. all.found aparts to es (known.0, known.1 ∙ ap (λ zs. zs ++ known.0) (sym here)) }) ready apart
+      (kept_more Known u (past ++ take i events) event (drop (i + 1) events) before after (λ more rise. known more (window_rises past more rise)) all ready apart
       (subst (λ es. AreKeptBefore u (past ++ take i events) es before) here (f.kept u past k)));
   ready = ready;
   apart = λ s h. apart s (f.apart s h);
@@ -168,6 +169,13 @@ followed_more set events i event before after at f all ready apart = record {
 
     here : drop i events ≡ event ∷ drop (i + 1) events
     here = drop_at events i event at ∙ ap (λ n. event ∷ drop n events) (next i)
+
+    whole : (past more : List Event) → (past ++ take i events) ++ event ∷ (drop (i + 1) events ++ more) ≡ past ++ (events ++ more)
+    whole past more = ap (λ zs. (past ++ take i events) ++ (zs ++ more)) (sym here) ∙ (append_assoc past (take i events) (drop i events ++ more)
+        ∙ (ap (λ zs. past ++ zs) (sym (append_assoc (take i events) (drop i events) more)) ∙ ap (λ zs. past ++ (zs ++ more)) (take-append-drop i events)))
+
+    window_rises : (past more : List Event) → TimesRise ((past ++ take i events) ++ event ∷ (drop (i + 1) events ++ more)) → TimesRise (events ++ more)
+    window_rises past more rise = rises_on past (events ++ more) (subst TimesRise (whole past more) rise)
 
 -- without some that are doomed
 pub followed_less : (set : List Held) (events : List Event) (i : ℕ) (before after : List Held) → IsFollowed set events i before → ((d : Configuration) → OneStandsFor after d → OneStandsFor before d)

@@ -1,13 +1,11 @@
 -- A location that is gone, and that nobody sets any more, can't have been seen: there is no order.
-use Rattle.std.proofs.Common.{◌≡◌, ℕ, ◌<◌, ◌⊎◌, true, false, cond, List, [], ◌∷◌, sym, ap, subst, inl, inr}
+use Rattle.std.proofs.Common.{◌≡◌, ℕ, ◌⊎◌, true, false, cond, List, [], ◌∷◌, ◌++◌, sym, ap, subst, inl, inr}
 use Rattle.std.specs.List.{AllByRecursion}
 use Rattle.tatp_tables.specs.Database.{Database}
-use Rattle.tatp_procs.specs.declared.call.Call.TheVariants.{GetSubscriberData}
 use Rattle.tatp_procs.specs.Transactions.{transaction}
 use Rattle.tatp_history.specs.declared.event.Event.{Event}
 use Rattle.tatp_history.specs.declared.event.Event.TheVariants.{Asks, Ends}
 use Rattle.tatp_history.specs.declared.observed.Observed.{Observed}
-use Rattle.tatp_history.specs.declared.observed.Outcome.{Outcome}
 use Rattle.tatp_history.specs.Histories.{IsIn, IsAnswered, Precedes, KeepsRealTime, AreAnsweredInOrder}
 use Rattle.tatp_history.specs.Changes.{only_reads, has_failed, changes_nothing}
 use Rattle.tatp_history.specs.Events.{asked_in, TimesRise, EndsFit}
@@ -18,6 +16,7 @@ use Rattle.tatp_history.proofs.EventLaws.{is_before, asked_after}
 use Rattle.tatp_history.specs.Remaining.{IsLeft, HasOrder}
 use Rattle.tatp_linearization.specs.Unseen.{SetAfter}
 use Rattle.tatp_linearization.specs.Doomed.{NoneHasLocation, sets_location, SawLocation, NoneSetsUntil, NoneSets, IsDoomed}
+use Rattle.tatp_linearization.specs.Going.{LeadsOn}
 use Rattle.tatp_linearization.proofs.DoomedLaws.{none_after, misfits}
 
 -- the call doesn't set the location, or is asked after the end of the read
@@ -64,7 +63,7 @@ until_past location read (Ends other at ∷ more) rise until fit z there = elim 
 ]
 
 -- a doomed configuration has no order
-pub none_from_doomed : (Q : Database → Type 0) (events : List Event) (c : Configuration) → TimesRise events → AreOpen events c.opened → IsDoomed events c → HasOrder Q c.rows events c.opened → ⊥
+none_from_doomed : (Q : Database → Type 0) (events : List Event) (c : Configuration) → TimesRise events → AreOpen events c.opened → IsDoomed events c → HasOrder Q c.rows events c.opened → ⊥
 none_from_doomed Q events c rise are doomed h =
     let read = doomed.0 in
     let location = doomed.1 in
@@ -75,3 +74,15 @@ none_from_doomed Q events c rise are doomed h =
       | inr q ↦ until_past location read events rise stuck.later (are.fit read stuck.there) z q
     ]) h.0 h.1.made)
     h.1.real_time (h.1.all read (inl stuck.there) (was_answered location read stuck.saw)) h.1.replies
+
+-- so no order leads on from one over the rest of its window, and events after that
+until_more : (location asked : ℕ) (rest more : List Event) → NoneSetsUntil location asked rest → NoneSetsUntil location asked (rest ++ more)
+until_more location asked [] more h = absurd h
+until_more location asked (Asks x ∷ rest) more h = (h.0, until_more location asked rest more h.1)
+until_more location asked (Ends other at ∷ rest) more h = elim h [ inl e ↦ inl e | inr k ↦ inr (until_more location asked rest more k) ]
+
+pub none_doomed : (after : Database) (rest more : List Event) (c : Configuration) → IsDoomed rest c → LeadsOn after (rest ++ more) c → ⊥
+none_doomed after rest more c doomed on =
+    let stuck = doomed.2 in
+    none_from_doomed (λ v. v ≡ after) (rest ++ more) c on.rise on.waiting
+    (doomed.0, doomed.1, record { there = stuck.there; saw = stuck.saw; rows = stuck.rows; opened = stuck.opened; later = until_more doomed.1 doomed.0.asked rest more stuck.later }) on.order

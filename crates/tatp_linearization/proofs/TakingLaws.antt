@@ -1,6 +1,5 @@
 -- One call takes effect, and clusters right before it.
-use Rattle.std.proofs.Common.{◌≡◌, ℕ, zero, suc, ◌<◌, ◌≤◌, ◌⊎◌, Bool, true, false, cond, List, [], ◌∷◌, ◌++◌, filter, length, Some, None, Ok, slice_get, remove, refl, sym, ◌∙◌, ap, subst, arith, inl, inr}
-use Rattle.std.specs.List.{AllByRecursion}
+use Rattle.std.proofs.Common.{◌≡◌, ℕ, zero, suc, ◌≤◌, Bool, true, false, cond, List, [], ◌∷◌, filter, length, Some, Ok, remove, refl, sym, ◌∙◌, ap, subst, arith, inl, inr}
 use Rattle.tatp_tables.specs.Keys.{has_number}
 use Rattle.tatp_tables.specs.Database.{Database}
 use Rattle.tatp_tables.proofs.KeyLaws.{has-found}
@@ -17,12 +16,12 @@ use Rattle.tatp_history.proofs.OrderLaws.{all_filter}
 use Rattle.tatp_linearization.specs.declared.ahead.Ahead.{Ahead}
 use Rattle.tatp_linearization.specs.declared.configuration.Configuration.{Configuration as Held}
 use Rattle.tatp_linearization.specs.AtOnce.{FitsAtOnce, AreLeft, TakesOne}
-use Rattle.tatp_linearization.specs.Possible.{CallTakesEffect, CallsTakeEffect}
+use Rattle.tatp_linearization.specs.Possible.{CallsTakeEffect}
 use Rattle.tatp_linearization.specs.Overwritten.{SetsLocation, IsBlind, AreButSome}
 use Rattle.tatp_linearization.specs.Held.{seen, Takes}
-use Rattle.tatp_linearization.specs.Covering.{StandsFor, From, MayCome, IsApart}
+use Rattle.tatp_linearization.specs.Covering.{StandsFor, From, MayCome}
 use Rattle.tatp_linearization.specs.Going.{LeadsOn}
-use Rattle.tatp_linearization.specs.Turns.{IsOtherTime, IsThere, IsFewer, TakesOn, StandsForBut}
+use Rattle.tatp_linearization.specs.Turns.{IsOtherTime, IsThere, IsFewer, TakesOn}
 use Rattle.tatp_linearization.specs.Doomed.{sets_location, NoneHasLocation}
 use Rattle.tatp_linearization.specs.Unseen.{AreOfOne}
 use Rattle.tatp_linearization.specs.Ahead.{LooksAhead, IsLost}

@@ -1,9 +1,9 @@
 -- An update of the location that nobody saw, and that another one overwrites, needn't be open.
-use Rattle.std.proofs.Common.{◌≡◌, ℕ, zero, suc, ◌<◌, ◌⊎◌, ◌&&◌, ◌==◌, Bool, true, false, cond, List, [], ◌∷◌, filter, find, Option, Some, None, set, get_or, slice_index, slice_get, refl, sym, ◌∙◌, ap, subst, arith, true≢false, inl, inr}
+use Rattle.std.proofs.Common.{◌≡◌, ℕ, zero, suc, ◌<◌, ◌⊎◌, ◌==◌, Bool, true, false, cond, List, [], ◌∷◌, filter, find, Option, Some, None, set, slice_get, refl, sym, ◌∙◌, ap, subst, arith, true≢false, inl, inr}
 use Rattle.std.specs.Option.{option_map}
 use Rattle.std.specs.List.{AllByRecursion}
 use Rattle.std.proofs.lemmas.List.{get_or-set_other}
-use Rattle.tatp_tables.specs.Tuples.{Tuple, Tuples, has, rows_of, replace_row, insert_row, remove_row}
+use Rattle.tatp_tables.specs.Tuples.{Tuple, Tuples, has, rows_of, replace_row}
 use Rattle.tatp_tables.specs.Keys.{row_at, row_with_number, has_number, has_key}
 use Rattle.tatp_tables.specs.Database.{Database}
 use Rattle.tatp_tables.specs.declared.table.Table.TheVariants.{Subscriber}
@@ -14,11 +14,9 @@ use Rattle.tatp_numbers.specs.declared.key.Key.TheVariants.{Number}
 use Rattle.tatp_numbers.specs.Homes.{s_id_of, home_of_key}
 use Rattle.tatp_procs.specs.declared.call.Call.{Call}
 use Rattle.tatp_procs.specs.declared.call.Call.TheVariants.{GetSubscriberData, GetNewDestination, GetAccessData, UpdateSubscriberData, UpdateLocation, InsertCallForwarding, DeleteCallForwarding}
-use Rattle.tatp_procs.specs.declared.reply.Reply.{Reply}
-use Rattle.tatp_procs.specs.declared.reply.Reply.TheVariants.{Values, Failed, Trapped, Refused}
-use Rattle.tatp_procs.specs.Transactions.{Answer, replies, transaction, reads, destinations, some_of, updates_both, updates_location, with_bit_1, with_data_a, with_vlr_location, inserts_under, inserts_for, deletes, deletes_for}
+use Rattle.tatp_procs.specs.declared.reply.Reply.TheVariants.{Values}
+use Rattle.tatp_procs.specs.Transactions.{Answer, transaction, reads, destinations, some_of, updates_both, updates_location, with_bit_1, with_data_a, with_vlr_location, inserts_under, inserts_for, deletes, deletes_for}
 use Rattle.tatp_history.specs.declared.event.Event.{Event}
-use Rattle.tatp_history.specs.declared.observed.Recorded.{Recorded}
 use Rattle.tatp_history.specs.declared.observed.Recorded.TheVariants.{Exactly, Success, Failure}
 use Rattle.tatp_history.specs.declared.observed.Outcome.{Outcome}
 use Rattle.tatp_history.specs.declared.observed.Outcome.TheVariants.{Answered, Aborted, Unknown}
@@ -28,13 +26,13 @@ use Rattle.tatp_history.specs.Changes.{has_failed}
 use Rattle.tatp_history.specs.Events.{asked_in}
 use Rattle.tatp_history.specs.JustInTime.{Chooses, AreOpen}
 use Rattle.tatp_history.proofs.ChangeLaws.{reading_leaves}
-use Rattle.tatp_history.proofs.OrderLaws.{all_map, all_both, all_filter, filter_tests, in_all, all_in, in_filter, apart_filter, real_time_filter}
+use Rattle.tatp_history.proofs.OrderLaws.{all_map, all_both, all_filter, filter_tests, in_all, in_filter, apart_filter, real_time_filter}
 use Rattle.tatp_history.proofs.ChoiceLaws.{chosen_in, in_cases}
 use Rattle.tatp_history.proofs.EventLaws.{asked_after}
 use Rattle.tatp_history.specs.Remaining.{IsLeft, HasOrder}
 use Rattle.tatp_history.proofs.RemainingLaws.{left_before}
 use Rattle.tatp_history.proofs.UnchangingLaws.{is_other, other_is, is_other_true, true_other, is_the_call, stays_left, left_other}
-use Rattle.tatp_linearization.specs.Unseen.{location_replied, location_recorded, location_answered, location_read, location_in, NoneSaw, SawAfter, HasSetLocation, AreOfOne}
+use Rattle.tatp_linearization.specs.Unseen.{location_replied, location_answered, location_read, location_in, NoneSaw, SawAfter, HasSetLocation, AreOfOne}
 use Rattle.tatp_linearization.proofs.BlindLaws.{IsOnly, only_same, only_replaced}
 use Rattle.tatp_linearization.proofs.DoomedLaws.{inserts_for_keep, deletes_for_keep}
 

@@ -4,6 +4,7 @@ use Rattle.std.specs.Prelude.{◌≡◌, ℕ, ◌<◌, ◌≤◌, ◌⊎◌, tru
 use Rattle.std.specs.List.{AllByRecursion}
 use Rattle.indexmap.specs.IndexMap.{get}
 use Rattle.tatp_history.specs.declared.event.Event.{Event}
+use Rattle.tatp_history.specs.declared.event.Event.TheVariants.{Asks, Ends}
 use Rattle.tatp_history.specs.declared.observed.Outcome.{Outcome}
 use Rattle.tatp_history.specs.declared.observed.Outcome.TheVariants.{Answered, Aborted, Unknown}
 use Rattle.tatp_history.specs.declared.observed.Observed.{Observed}
@@ -110,6 +111,12 @@ pub record LooksAhead (ahead : Ahead) (now : ℕ) (rest : List Event) : Type 0 w
   pub sets : (location : ℕ) (x : Observed) → now < ahead.last
       → (times_in ahead location).set ≤ now → IsAnsweredBy ahead.last x.outcome
       → SetAfter x location (asked_in rest)
+
+-- it does so where the first of the events is followed, if that is an end
+abbrev pub IsSeenAhead : Ahead → List Event → Type 0
+IsSeenAhead ahead [] = Unit {0}
+IsSeenAhead ahead (Asks x ∷ rest) = Unit {0}
+IsSeenAhead ahead (Ends asked at ∷ rest) = LooksAhead ahead at (Ends asked at ∷ rest)
 
 -- ---- a location that is lost
 -- the configuration doesn't have the location, nobody sets it any more in the window, and a read of

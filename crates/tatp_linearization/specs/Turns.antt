@@ -1,6 +1,6 @@
 -- Turns in which open calls take effect before one is answered: each order that leads on from the
 -- configurations of before leads on from one of those that come of them.
-use Rattle.std.specs.Prelude.{◌≡◌, ℕ, ◌<◌, ◌≤◌, ◌⊎◌, List, [], ◌∷◌, ◌++◌, length, drop, Option, Some, None, slice_get, remove}
+use Rattle.std.specs.Prelude.{◌≡◌, ℕ, ◌<◌, ◌≤◌, ◌⊎◌, List, [], ◌∷◌, ◌++◌, length, Option, Some, None, slice_get, remove}
 use Rattle.tatp_tables.specs.Database.{Database}
 use Rattle.tatp_history.specs.declared.event.Event.{Event}
 use Rattle.tatp_history.specs.declared.event.Event.TheVariants.{Asks, Ends}
@@ -13,11 +13,6 @@ use Rattle.tatp_linearization.specs.AtOnce.{TakesWrite}
 use Rattle.tatp_linearization.specs.Overwritten.{IsBlind, AreButSome, without_place}
 use Rattle.tatp_linearization.specs.Covering.{StandsFor, OneStandsFor, Opens, IsApart, AreEachApart, From, FromOne, MayCome, MayFollow, IsStoodOr, AreCovered}
 use Rattle.tatp_linearization.specs.Going.{LeadsOn, OneLeadsOn}
-
--- ---- what comes
--- the events that come are those of a window from a place on, and any after the window
-abbrev pub AreComing : List Event → ℕ → List Event → Type 0
-AreComing window place events = (more : List Event) × (events ≡ drop place window ++ more)
 
 -- ---- one call takes effect
 abbrev pub IsOtherTime : ℕ → Observed → Type 0

@@ -73,7 +73,7 @@ fn is_stuck(c: &Configuration, place: usize, events: &[Event], from: usize) -> b
 }
 
 /// Whether no order explains the events from a place on, from the configuration on.
-pub(crate) fn is_doomed(c: &Configuration, events: &[Event], from: usize) -> bool
+fn is_doomed(c: &Configuration, events: &[Event], from: usize) -> bool
     ensures { IsTrue result → IsDoomed (drop from events.now) (seen c.now) }
 {
     for i in 0..c.opened.len() {

@@ -1,44 +1,21 @@
 //! Calls that take effect before one is answered.
-ghost use Rattle.std.specs.Prelude.{ℕ, ◌⊎◌, IfOk, OnOk, IsErrOf, List, [], ◌∷◌, ◌<◌, length};
+ghost use Rattle.std.specs.Prelude.{ℕ, ◌⊎◌, IfOk, OnOk, IsErrOf, List, [], ◌∷◌};
 ghost use Rattle.tatp_history.specs.declared.event.Event.{Event as Happens};
 ghost use Rattle.tatp_history.specs.declared.event.Event.TheVariants.{Ends};
 ghost use Rattle.tatp_history.specs.Configurations.{Configuration as Seen};
 ghost use Rattle.tatp_history.specs.Locality.{AreAccepted};
 ghost use Rattle.tatp_linearization.specs.Possible.{AreMoreThan};
+ghost use Rattle.tatp_linearization.specs.Ahead.{LooksAhead};
 ghost use Rattle.tatp_linearization.specs.Held.{AreApart, AreReady};
 ghost use Rattle.tatp_linearization.specs.Covering.{AreEachApart, AreOf, From, FromOne, Gains, IsApart, IsStoodOr, MayAnswer, MayCome, OneStandsFor, StandsFor};
-ghost use Rattle.tatp_linearization.specs.Turns.{AreAllServed, AreAnswered, AreComing, AreServed, AreTriedOut, GoesOn, Grow, TakesAhead, WentFrom, WentFromOne};
+ghost use Rattle.tatp_linearization.specs.Turns.{AreAllServed, AreAnswered, AreServed, AreTriedOut, GoesOn, Grow, WentFrom, WentFromOne};
 
-use crate::configuration::{Configuration, copy, none_asked, take};
+use crate::ahead::Ahead;
+use crate::configuration::{Configuration, copy, none_asked};
 use crate::covering::{add, is_covered};
-use crate::doomed::is_doomed;
 use crate::stopped::Stopped;
-use std::alloc::{AllocError, Global};
-use tatp_history::Event;
-
-/// The configuration after its open call at the place `i` took effect, before the events from a
-/// place on. `None` means that the call can't take effect there, or that no order leads on.
-fn take_ahead(
-    alloc: Global,
-    c: &Configuration,
-    i: usize,
-    events: &[Event],
-    place: usize,
-) -> Result<Option<Configuration>, AllocError>
-    requires inside { i < length c.now.opened.items }
-    requires accepted { AreAccepted c.now.opened.items }
-    ensures { IfOk result (TakesAhead (AreComing events.now place) c.now i) }
-{
-    match take(alloc, c, i)? {
-        Some(d) => {
-            if is_doomed(&d, events, place) {
-                return Ok(None);
-            }
-            Ok(Some(d))
-        }
-        None => Ok(None),
-    }
-}
+use crate::taking::take_ahead;
+use std::alloc::Global;
 
 /// Adds a configuration to those that were tried and to those that go on, unless one that was tried
 /// stands for all for which it does.
@@ -73,8 +50,8 @@ fn try_each(
     alloc: Global,
     c: &Configuration,
     asked: u64,
-    events: &[Event],
-    place: usize,
+    ahead: &Ahead,
+    now: u64,
     most: usize,
     answered: &mut Vec<Configuration>,
     tried: &mut Vec<Configuration>,
@@ -89,7 +66,7 @@ fn try_each(
           going = going.new.items;
         })) }
     ensures served { OnOk result (IsApart c.now → (at : ℕ) (rest : List Happens)
-        → AreComing events.now place (Ends asked at ∷ rest)
+        → LooksAhead ahead.now now (Ends asked at ∷ rest)
         → AreServed asked at rest c.now answered.new.items tried.new.items) }
     ensures ready { OnOk result (AreReady answered.old.items → AreReady answered.new.items) }
     ensures left { OnOk result (AreReady tried.old.items → AreReady tried.new.items) }
@@ -104,7 +81,7 @@ fn try_each(
         ⊎ AreMoreThan most (IsStoodOr tried.old.items (From MayCome c.now)) }
 {
     'calls: for i in 0..c.opened.len() {
-        match take_ahead(alloc, c, i, events, place)? {
+        match take_ahead(alloc, c, i, ahead, now)? {
             Some(d) => {
                 if none_asked(&d, asked) {
                     add(answered, d, most)?;
@@ -123,8 +100,8 @@ fn try_all(
     alloc: Global,
     set: &[Configuration],
     asked: u64,
-    events: &[Event],
-    place: usize,
+    ahead: &Ahead,
+    now: u64,
     most: usize,
     answered: &mut Vec<Configuration>,
     tried: &mut Vec<Configuration>,
@@ -138,7 +115,7 @@ fn try_all(
           going = going.items;
         })) }
     ensures served { OnOk result (AreEachApart set.now → (at : ℕ) (rest : List Happens)
-        → AreComing events.now place (Ends asked at ∷ rest)
+        → LooksAhead ahead.now now (Ends asked at ∷ rest)
         → AreAllServed asked at rest set.now answered.new.items tried.new.items) }
     ensures ready { OnOk result (AreReady answered.old.items → AreReady answered.new.items) }
     ensures left { OnOk result (AreReady tried.old.items → AreReady tried.new.items) }
@@ -155,7 +132,7 @@ fn try_all(
     let mut going = Vec::new(alloc);
     'configurations: for i in 0..set.len() {
         try_each(
-            alloc, &set[i], asked, events, place, most, answered, tried, &mut going,
+            alloc, &set[i], asked, ahead, now, most, answered, tried, &mut going,
         )?;
     }
     Ok(going)
@@ -168,8 +145,8 @@ pub(crate) fn take_effect(
     alloc: Global,
     c: &Configuration,
     asked: u64,
-    events: &[Event],
-    place: usize,
+    ahead: &Ahead,
+    now: u64,
     most: usize,
     answered: &mut Vec<Configuration>,
     tried: &mut Vec<Configuration>,
@@ -180,11 +157,11 @@ pub(crate) fn take_effect(
     ensures sound { OnOk result ((d : Seen) → OneStandsFor answered.new.items d
         → IsStoodOr answered.old.items (From (MayAnswer asked) c.now) d) }
     ensures answered { OnOk result (IsApart c.now → (at : ℕ) (rest : List Happens)
-        → AreComing events.now place (Ends asked at ∷ rest)
+        → LooksAhead ahead.now now (Ends asked at ∷ rest)
         → AreTriedOut asked at rest answered.old.items tried.old.items
         → AreAnswered asked at rest c.now answered.new.items) }
     ensures done { OnOk result (IsApart c.now → (at : ℕ) (rest : List Happens)
-        → AreComing events.now place (Ends asked at ∷ rest)
+        → LooksAhead ahead.now now (Ends asked at ∷ rest)
         → AreTriedOut asked at rest answered.old.items tried.old.items
         → AreTriedOut asked at rest answered.new.items tried.new.items) }
     ensures tried { OnOk result ((d : Seen) → OneStandsFor tried.new.items d
@@ -201,15 +178,15 @@ pub(crate) fn take_effect(
 {
     let mut going = Vec::new(alloc);
     try_each(
-        alloc, c, asked, events, place, most, answered, tried, &mut going,
+        alloc, c, asked, ahead, now, most, answered, tried, &mut going,
     )?;
     'turns: for i in 0..c.opened.len() {
         let next = try_all(
             alloc,
             going.as_slice(),
             asked,
-            events,
-            place,
+            ahead,
+            now,
             most,
             answered,
             tried,

@@ -4,12 +4,15 @@ ghost use Rattle.tatp_history.specs.declared.event.Event.{Event as Happens};
 ghost use Rattle.tatp_history.specs.declared.event.Event.TheVariants.{Ends};
 ghost use Rattle.tatp_history.specs.Configurations.{Configuration as Seen};
 ghost use Rattle.tatp_history.specs.Locality.{AreAccepted};
+ghost use Rattle.tatp_linearization.specs.declared.ahead.Ahead.{Ahead as Foresight};
 ghost use Rattle.tatp_linearization.specs.AtOnce.{FollowsAtOnce};
+ghost use Rattle.tatp_linearization.specs.Ahead.{IsSeenAhead, LooksAhead};
 ghost use Rattle.tatp_linearization.specs.Possible.{AreMoreThan};
 ghost use Rattle.tatp_linearization.specs.Held.{AreApart, AreReady, IsAcceptedEvent, seen};
 ghost use Rattle.tatp_linearization.specs.Covering.{From, FromOne, GainsGone, IsApart, IsStoodOr, MayAnswer, MayBeTried, MayCome, MayFollow, OneStandsFor, Opens, StandsFor};
-ghost use Rattle.tatp_linearization.specs.Turns.{AreComing, AreFollowed, AreTriedOut, AreTriedOutAt, FollowSet};
+ghost use Rattle.tatp_linearization.specs.Turns.{AreFollowed, AreTriedOut, AreTriedOutAt, FollowSet};
 
+use crate::ahead::Ahead;
 use crate::configuration::{Configuration, ask, copy, let_go, none_asked};
 use crate::covering::add;
 use crate::effects::take_effect;
@@ -37,8 +40,8 @@ fn leaves(c: &Configuration, event: &Event) -> bool
 /// Whether an event leaves all of these as they are.
 pub(crate) fn leaves_all(set: &[Configuration], event: &Event) -> bool
     requires accepted { IsAcceptedEvent event.now }
-    ensures { IsTrue result → (events : List Happens) (place : ℕ)
-        → FollowSet (AreComing events place) event.now set.now set.now }
+    ensures { IsTrue result → (ahead : Foresight)
+        → FollowSet (IsSeenAhead ahead) event.now set.now set.now }
 {
     for i in 0..set.len() {
         if !leaves(&set[i], event) {
@@ -77,14 +80,13 @@ fn add_gone(
     }
 }
 
-/// Adds the configurations that may follow on one where an open call ends, before the events from a
-/// place on.
+/// Adds the configurations that may follow on one where an open call ends, at a time.
 fn end(
     alloc: Global,
     c: &Configuration,
     asked: u64,
-    events: &[Event],
-    place: usize,
+    ahead: &Ahead,
+    now: u64,
     most: usize,
     after: &mut Vec<Configuration>,
     tried: &mut Vec<Configuration>,
@@ -96,11 +98,11 @@ fn end(
     ensures sound { OnOk result ((d : Seen) → OneStandsFor after.new.items d
         → IsStoodOr after.old.items (From (MayAnswer asked) c.now) d) }
     ensures followed { OnOk result (IsApart c.now → (at : ℕ) (rest : List Happens)
-        → AreComing events.now place (Ends asked at ∷ rest)
+        → LooksAhead ahead.now now (Ends asked at ∷ rest)
         → AreTriedOut asked at rest after.old.items tried.old.items
         → AreFollowed (Ends asked at) rest c.now after.new.items) }
     ensures done { OnOk result (IsApart c.now → (at : ℕ) (rest : List Happens)
-        → AreComing events.now place (Ends asked at ∷ rest)
+        → LooksAhead ahead.now now (Ends asked at ∷ rest)
         → AreTriedOut asked at rest after.old.items tried.old.items
         → AreTriedOut asked at rest after.new.items tried.new.items) }
     ensures tried { OnOk result ((d : Seen) → OneStandsFor tried.new.items d
@@ -116,17 +118,16 @@ fn end(
         ⊎ AreMoreThan most (IsStoodOr tried.old.items (From MayCome c.now)) }
 {
     add_gone(alloc, c, asked, most, after)?;
-    take_effect(alloc, c, asked, events, place, most, after, tried)?;
+    take_effect(alloc, c, asked, ahead, now, most, after, tried)?;
     Ok(())
 }
 
-/// Adds the configurations that may follow on one at an event, where those from a place on come.
+/// Adds the configurations that may follow on one at an event.
 fn follow(
     alloc: Global,
     c: &Configuration,
     event: &Event,
-    events: &[Event],
-    place: usize,
+    ahead: &Ahead,
     most: usize,
     after: &mut Vec<Configuration>,
     tried: &mut Vec<Configuration>,
@@ -138,11 +139,11 @@ fn follow(
     ensures sound { OnOk result ((d : Seen) → OneStandsFor after.new.items d
         → IsStoodOr after.old.items (From (MayFollow event.now) c.now) d) }
     ensures followed { OnOk result (IsApart c.now → (rest : List Happens)
-        → AreComing events.now place (event.now ∷ rest)
+        → IsSeenAhead ahead.now (event.now ∷ rest)
         → AreTriedOutAt event.now rest after.old.items tried.old.items
         → AreFollowed event.now rest c.now after.new.items) }
     ensures done { OnOk result (IsApart c.now → (rest : List Happens)
-        → AreComing events.now place (event.now ∷ rest)
+        → IsSeenAhead ahead.now (event.now ∷ rest)
         → AreTriedOutAt event.now rest after.old.items tried.old.items
         → AreTriedOutAt event.now rest after.new.items tried.new.items) }
     ensures tried { OnOk result ((d : Seen) → OneStandsFor tried.new.items d
@@ -162,30 +163,29 @@ fn follow(
             add(after, ask(alloc, c, x)?, most)?;
             Ok(())
         }
-        Event::Ends { asked, .. } => {
+        Event::Ends { asked, at } => {
             if none_asked(c, *asked) {
                 add(after, copy(alloc, c)?, most)?;
             } else {
-                end(alloc, c, *asked, events, place, most, after, tried)?;
+                end(alloc, c, *asked, ahead, *at, most, after, tried)?;
             }
             Ok(())
         }
     }
 }
 
-/// The configurations that may follow on any of these at an event, where those from a place on come.
+/// The configurations that may follow on any of these at an event.
 pub(crate) fn after_event(
     alloc: Global,
     set: &[Configuration],
     event: &Event,
-    events: &[Event],
-    place: usize,
+    ahead: &Ahead,
     most: usize,
 ) -> Result<Vec<Configuration>, Stopped>
     requires ready { AreReady set.now }
     requires accepted { IsAcceptedEvent event.now }
     ensures followed { IfOk result (λ after.
-        FollowSet (AreComing events.now place) event.now set.now after.items) }
+        FollowSet (IsSeenAhead ahead.now) event.now set.now after.items) }
     ensures ready { IfOk result (λ after. AreReady after.items) }
     ensures apart { IfOk result (λ after. (s : ℕ) → AreApart s set.now
         → AreApart s after.items) }
@@ -195,9 +195,7 @@ pub(crate) fn after_event(
     let mut after = Vec::new(alloc);
     let mut tried = Vec::new(alloc);
     'configurations: for i in 0..set.len() {
-        follow(
-            alloc, &set[i], event, events, place, most, &mut after, &mut tried,
-        )?;
+        follow(alloc, &set[i], event, ahead, most, &mut after, &mut tried)?;
     }
     Ok(after)
 }

@@ -1,7 +1,6 @@
-use Rattle.std.proofs.Common.{◌≡◌, Some, slice_get, sym, subst, inl, inr, refl}
+use Rattle.std.proofs.Common.{◌≡◌, Some, slice_get, subst, inl, inr, refl}
 use Rattle.tatp_history.specs.declared.observed.Observed.{Observed}
-use Rattle.tatp_history.specs.Histories.{AreAskedApart}
-use Rattle.tatp_linearization.specs.Clusters.{IsUnread, GoTo, LosesNone}
+use Rattle.tatp_linearization.specs.Clusters.{IsUnread}
 use Rattle.tatp_linearization.proofs.PlaceLaws.{get_at, same_item}
 use Rattle.tatp_linearization.proofs.UnseenLaws.{one_home}
 use Rattle.tatp_linearization.proofs.ClusterLaws.{gone_to, gone_loses, go_same, loses_same}

@@ -6,7 +6,8 @@ use Rattle.tatp_linearization.specs.declared.configuration.Configuration.{Config
 use Rattle.tatp_linearization.specs.Held.{AreApart}
 use Rattle.tatp_linearization.specs.Possible.{AreMoreThan}
 use Rattle.tatp_linearization.specs.Covering.{OneStandsFor, IsApart, From, IsStoodOr, MayFollow, MayBeTried}
-use Rattle.tatp_linearization.specs.Turns.{AreComing, AreTriedOutAt, AreFollowed}
+use Rattle.tatp_linearization.specs.Ahead.{IsSeenAhead}
+use Rattle.tatp_linearization.specs.Turns.{AreTriedOutAt, AreFollowed}
 use Rattle.tatp_linearization.proofs.CoveringLaws.{asked_followed, asked_sound, same_followed, same_sound, alike_stands, asked_many, covered_many, out_on}
 use Rattle.tatp_linearization.proofs.following.follow.Goals as goal
 
@@ -27,12 +28,12 @@ returns-in_ok-add-in-Asks-clause-sound c =
 
 pub returns-in_ok-add-in-Asks-clause-followed : goal.returns-in_ok-add-in-Asks-clause-followed
 returns-in_ok-add-in-Asks-clause-followed c =
-    subst (Follows (AreComing c.args.events.now c.args.place) c.args.c.now c.args.after.now.items c.args.tried.now.items c.add.new.set.items) (sym c.in-Asks.is)
+    subst (Follows (IsSeenAhead c.args.ahead.now) c.args.c.now c.args.after.now.items c.args.tried.now.items c.add.new.set.items) (sym c.in-Asks.is)
     (λ apart rest coming out. asked_followed c.args.c.now c.in_ok-ask-in-Asks.field-0 c.in-Asks.x rest c.args.after.now.items c.add.new.set.items c.in_ok-ask-in-Asks.ensures.asked c.in_ok-ask-in-Asks.ensures.overwritten c.in_ok-add-in-Asks.ensures.gained)
 
 pub returns-in_ok-add-in-Asks-clause-done : goal.returns-in_ok-add-in-Asks-clause-done
 returns-in_ok-add-in-Asks-clause-done c =
-    subst (AreDoneAt (AreComing c.args.events.now c.args.place) c.args.c.now c.args.after.now.items c.args.tried.now.items c.add.new.set.items c.args.tried.now.items) (sym c.in-Asks.is) (λ apart rest coming out. tt)
+    subst (AreDoneAt (IsSeenAhead c.args.ahead.now) c.args.c.now c.args.after.now.items c.args.tried.now.items c.add.new.set.items c.args.tried.now.items) (sym c.in-Asks.is) (λ apart rest coming out. tt)
 
 pub returns-in_err-add-in-Asks-clause-many : goal.returns-in_err-add-in-Asks-clause-many
 returns-in_err-add-in-Asks-clause-many c =
@@ -52,13 +53,13 @@ returns-in_ok-add-in-Ends-clause-sound c =
 
 pub returns-in_ok-add-in-Ends-clause-followed : goal.returns-in_ok-add-in-Ends-clause-followed
 returns-in_ok-add-in-Ends-clause-followed c =
-    subst (Follows (AreComing c.args.events.now c.args.place) c.args.c.now c.args.after.now.items c.args.tried.now.items c.add-then-none_asked.new.set.items) (sym c.in-Ends.is)
+    subst (Follows (IsSeenAhead c.args.ahead.now) c.args.c.now c.args.after.now.items c.args.tried.now.items c.add-then-none_asked.new.set.items) (sym c.in-Ends.is)
     (λ apart rest coming out. same_followed c.args.c.now c.in_ok-copy-in-Ends.field-0 c.in-Ends.asked c.in-Ends.at rest c.args.after.now.items c.add-then-none_asked.new.set.items (c.none_asked.ensures.0 c.if-none_asked.true)
     (alike_stands c.args.c.now c.in_ok-copy-in-Ends.field-0 c.in_ok-copy-in-Ends.ensures.same c.in_ok-copy-in-Ends.ensures.overwritten) c.in_ok-add-in-Ends.ensures.gained)
 
 pub returns-in_ok-add-in-Ends-clause-done : goal.returns-in_ok-add-in-Ends-clause-done
 returns-in_ok-add-in-Ends-clause-done c =
-    subst (AreDoneAt (AreComing c.args.events.now c.args.place) c.args.c.now c.args.after.now.items c.args.tried.now.items c.add-then-none_asked.new.set.items c.args.tried.now.items) (sym c.in-Ends.is)
+    subst (AreDoneAt (IsSeenAhead c.args.ahead.now) c.args.c.now c.args.after.now.items c.args.tried.now.items c.add-then-none_asked.new.set.items c.args.tried.now.items) (sym c.in-Ends.is)
     (λ apart rest coming out. out_on c.in-Ends.asked c.in-Ends.at rest c.args.after.now.items c.add-then-none_asked.new.set.items c.args.tried.now.items c.in_ok-add-in-Ends.ensures.gained.kept out)
 
 pub returns-in_err-add-in-Ends-clause-many : goal.returns-in_err-add-in-Ends-clause-many
@@ -80,11 +81,11 @@ returns-in_ok-end-in-Ends-clause-sound c =
 
 pub returns-in_ok-end-in-Ends-clause-followed : goal.returns-in_ok-end-in-Ends-clause-followed
 returns-in_ok-end-in-Ends-clause-followed c =
-    subst (Follows (AreComing c.args.events.now c.args.place) c.args.c.now c.args.after.now.items c.args.tried.now.items c.end.new.after.items) (sym c.in-Ends.is) (λ apart rest. c.in_ok-end-in-Ends.ensures.followed apart c.in-Ends.at rest)
+    subst (Follows (IsSeenAhead c.args.ahead.now) c.args.c.now c.args.after.now.items c.args.tried.now.items c.end.new.after.items) (sym c.in-Ends.is) (λ apart rest. c.in_ok-end-in-Ends.ensures.followed apart c.in-Ends.at rest)
 
 pub returns-in_ok-end-in-Ends-clause-done : goal.returns-in_ok-end-in-Ends-clause-done
 returns-in_ok-end-in-Ends-clause-done c =
-    subst (AreDoneAt (AreComing c.args.events.now c.args.place) c.args.c.now c.args.after.now.items c.args.tried.now.items c.end.new.after.items c.end.new.tried.items) (sym c.in-Ends.is) (λ apart rest. c.in_ok-end-in-Ends.ensures.done apart c.in-Ends.at rest)
+    subst (AreDoneAt (IsSeenAhead c.args.ahead.now) c.args.c.now c.args.after.now.items c.args.tried.now.items c.end.new.after.items c.end.new.tried.items) (sym c.in-Ends.is) (λ apart rest. c.in_ok-end-in-Ends.ensures.done apart c.in-Ends.at rest)
 
 pub returns-in_ok-end-in-Ends-clause-tried : goal.returns-in_ok-end-in-Ends-clause-tried
 returns-in_ok-end-in-Ends-clause-tried c =

@@ -22,7 +22,7 @@ loop-i-preserved c =
     ]
 
 pub returns : goal.returns
-returns c = λ _ events place. record {
+returns c = λ _ ahead. record {
   sound = λ d h.
       let there = stands_get c.args.set.now d h in
       let lt = there.1 in

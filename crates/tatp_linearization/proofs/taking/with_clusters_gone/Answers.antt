@@ -1,4 +1,4 @@
-use Rattle.std.proofs.Common.{◌≡◌, Some, slice_get, ◌∙◌, refl, ap, subst}
+use Rattle.std.proofs.Common.{◌≡◌, Some, slice_get, ◌∙◌, refl, subst}
 use Rattle.tatp_history.specs.declared.observed.Observed.{Observed}
 use Rattle.tatp_linearization.specs.declared.configuration.Configuration.{Configuration as Held}
 use Rattle.tatp_linearization.specs.Overwritten.{SetsLocation}

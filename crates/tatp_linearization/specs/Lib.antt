@@ -15,3 +15,4 @@ pub mod Going
 pub mod Ahead
 pub mod Clusters
 pub mod Turns
+pub mod Groups

@@ -16,4 +16,3 @@ pub mod Ahead
 pub mod Clusters
 pub mod Kinds
 pub mod Turns
-pub mod Groups

@@ -15,4 +15,3 @@ pub mod Going
 pub mod Ahead
 pub mod Clusters
 pub mod Turns
-pub mod Groups

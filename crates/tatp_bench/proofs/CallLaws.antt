@@ -16,8 +16,8 @@ use Rattle.tatp_procs.specs.declared.call.Call.TheVariants.{GetSubscriberData, G
 use Rattle.tatp_procs.specs.declared.domains.BadArgument.{BadArgument as Bad}
 use Rattle.tatp_procs.specs.Arguments.{arguments_accepted}
 use Rattle.tatp_procs.specs.Standard.{standard_module}
-use Rattle.tatp_driver.specs.declared.distribution.Distribution.{Distribution}
-use Rattle.tatp_driver.specs.declared.distribution.Distribution.TheVariants.{Skewed, Uniform}
+use Rattle.tatp_tasks.specs.declared.distribution.Distribution.{Distribution}
+use Rattle.tatp_tasks.specs.declared.distribution.Distribution.TheVariants.{Skewed, Uniform}
 use Rattle.tatp_driver.specs.DrawnCall.{drawn_subscriber, drawn_call}
 use Rattle.tatp_driver.specs.DrawnCalls.{next_calls}
 use Rattle.tatp_driver.specs.DrawnWords.{next_words}

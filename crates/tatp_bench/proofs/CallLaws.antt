@@ -23,7 +23,8 @@ use Rattle.tatp_driver.specs.DrawnCalls.{next_calls}
 use Rattle.tatp_driver.specs.DrawnWords.{next_words}
 use Rattle.tatp_driver.proofs.DrawnCallLaws.{call_on_accepted}
 use Rattle.tatp_procs.specs.Asked.{has_procedure, bad_argument}
-use Rattle.tatp_settle.specs.Runs.{joined, lists_of}
+use Rattle.tatp_logs.specs.Lists.{lists_of}
+use Rattle.tatp_settle.specs.Runs.{joined}
 use Rattle.tatp_threads.specs.declared.refusal.RunRefusal.{RunRefusal}
 use Rattle.tatp_threads.specs.declared.refusal.RunRefusal.TheVariants.{NoProcedure, BadArgument}
 use Rattle.tatp_threads.specs.Calls.{obstacle_to, first_of, obstacle_in, obstacle_among}

@@ -67,9 +67,9 @@ pub fn nothing_is_set_back_where_no_call_runs()
 
 // ---- one client
 
-/// A system that was just opened for one client is at rest. From rest a call of a procedure that the
-/// module has is refused for an argument, or comes to its end, or is refused memory alone; and then
-/// the system is at rest again.
+/// A system that was just opened for one client is at rest. From rest a call of a procedure of the
+/// module is refused for an argument, or comes to its end, or is refused memory alone. Then the
+/// system is at rest again.
 pub fn calls_from_rest_are_refused_memory_alone()
     ensures opened { (modul : ModuleState) (population : Rows) (partitions : ℕ)
         (opened : WorldState)

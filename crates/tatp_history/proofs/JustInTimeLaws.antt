@@ -9,8 +9,8 @@ use Rattle.tatp_history.specs.Histories.{IsIn, IsAnswered, IsSerialOrder, IsStri
 use Rattle.tatp_history.specs.Events.{asked_in, TimesRise, HaveEnds}
 use Rattle.tatp_history.specs.JustInTime.{Explains, AreOpen}
 use Rattle.tatp_history.specs.Configurations.{Configuration, starting, Lead, LeadToSome, AreUnanswered}
+use Rattle.tatp_history.specs.Remaining.{IsLeft, IsOrderFrom, HasOrder}
 use Rattle.tatp_history.proofs.OrderLaws.{all_map, all_in}
-use Rattle.tatp_history.proofs.RemainingLaws.{IsLeft, IsOrderFrom, HasOrder}
 use Rattle.tatp_history.proofs.LeadLaws.{leads, led, open_led, lead_sound, lead_complete}
 
 -- whatever the rows

@@ -8,8 +8,9 @@ use Rattle.tatp_history.specs.declared.observed.Observed.{Observed}
 use Rattle.tatp_history.specs.Events.{TimesRise, HaveEnds}
 use Rattle.tatp_history.specs.JustInTime.{TakeEffect, Explains, AreOpen}
 use Rattle.tatp_history.specs.Configurations.{Configuration, Follows, Lead}
+use Rattle.tatp_history.specs.Remaining.{HasOrder}
 use Rattle.tatp_history.proofs.ChoiceLaws.{find_asked}
-use Rattle.tatp_history.proofs.RemainingLaws.{HasOrder, open_asked, open_chosen, open_ended, others_go_on, order_asks, asks_order, order_ends, ends_order, effects_sound, effects_complete}
+use Rattle.tatp_history.proofs.RemainingLaws.{open_asked, open_chosen, open_ended, others_go_on, order_asks, asks_order, order_ends, ends_order, effects_sound, effects_complete}
 
 -- ---- what may follow
 pub effects_lead : (n asked : ℕ) (goes_on : Database → List Observed → Type 0) (u : Database) (opened : List Observed) → TakeEffect n goes_on asked u opened

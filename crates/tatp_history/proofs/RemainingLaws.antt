@@ -9,21 +9,10 @@ use Rattle.tatp_history.specs.declared.observed.Observed.{Observed}
 use Rattle.tatp_history.specs.Histories.{IsIn, IsAnswered, Precedes, AreAskedApart, KeepsRealTime, MayHaveReply, AreAnsweredInOrder, rows_after}
 use Rattle.tatp_history.specs.Events.{asked_in, AreAfter, TimesRise, IsAnsweredAt, EndsIn, EndsFit, HaveEnds}
 use Rattle.tatp_history.specs.JustInTime.{Chooses, NoneAskedAt, TakeEffect, AreOpen}
+use Rattle.tatp_history.specs.Remaining.{IsLeft, IsOrderFrom, HasOrder}
 use Rattle.tatp_history.proofs.OrderLaws.{all_map, all_in, in_all}
 use Rattle.tatp_history.proofs.ChoiceLaws.{chosen_in, rest_in, in_cases, chooses_some, chooses_apart, chooses_length}
 use Rattle.tatp_history.proofs.EventLaws.{answered_at, is_before, before_answered, asked_after, ends_after, later_ends}
-
--- a call is open, or is asked later
-abbrev pub IsLeft : List Event → List Observed → Observed → Type 0
-IsLeft events opened z = IsIn z opened ⊎ IsIn z (asked_in events)
-
--- a serial order of the calls that are left
-pub record IsOrderFrom (u : Database) (events : List Event) (opened order : List Observed) : Type 0 where
-  pub made : AllByRecursion (IsLeft events opened) order
-  pub once : AreAskedApart order
-  pub all : (z : Observed) → IsLeft events opened z → IsAnswered z.outcome → IsIn z order
-  pub real_time : KeepsRealTime order
-  pub replies : AreAnsweredInOrder u order
 
 -- each call that is left and answered ends later
 pub left_ends : (events : List Event) (opened : List Observed) → HaveEnds events → AreOpen events opened → (z : Observed) → IsLeft events opened z → IsAnswered z.outcome → EndsIn z events
@@ -166,11 +155,8 @@ first_opens u asked at more rise opened are z there e x order ok =
 
 -- ---- orders that leave rows of which something holds
 module _ (Q : Database → Type 0) where
-  abbrev pub HasOrder : Database → List Event → List Observed → Type 0
-  HasOrder u events opened = (order : List Observed) × IsOrderFrom u events opened order × Q (rows_after u order)
-
   -- one call more is open, or asked
-  pub order_asks : (u : Database) (x : Observed) (more : List Event) (opened : List Observed) → HasOrder u more (x ∷ opened) → HasOrder u (Asks x ∷ more) opened
+  pub order_asks : (u : Database) (x : Observed) (more : List Event) (opened : List Observed) → HasOrder Q u more (x ∷ opened) → HasOrder Q u (Asks x ∷ more) opened
   order_asks u x more opened h = (
     h.0,
     record {
@@ -183,7 +169,7 @@ module _ (Q : Database → Type 0) where
     h.2,
   )
 
-  pub asks_order : (u : Database) (x : Observed) (more : List Event) (opened : List Observed) → HasOrder u (Asks x ∷ more) opened → HasOrder u more (x ∷ opened)
+  pub asks_order : (u : Database) (x : Observed) (more : List Event) (opened : List Observed) → HasOrder Q u (Asks x ∷ more) opened → HasOrder Q u more (x ∷ opened)
   asks_order u x more opened h = (
     h.0,
     record {
@@ -197,29 +183,29 @@ module _ (Q : Database → Type 0) where
   )
 
   -- over an end
-  pub order_ends : (u : Database) (asked at : ℕ) (more : List Event) (opened : List Observed) → HasOrder u more opened → HasOrder u (Ends asked at ∷ more) opened
+  pub order_ends : (u : Database) (asked at : ℕ) (more : List Event) (opened : List Observed) → HasOrder Q u more opened → HasOrder Q u (Ends asked at ∷ more) opened
   order_ends u asked at more opened h = (h.0, record { made = h.1.made; once = h.1.once; all = h.1.all; real_time = h.1.real_time; replies = h.1.replies }, h.2)
 
-  pub ends_order : (u : Database) (asked at : ℕ) (more : List Event) (opened : List Observed) → HasOrder u (Ends asked at ∷ more) opened → HasOrder u more opened
+  pub ends_order : (u : Database) (asked at : ℕ) (more : List Event) (opened : List Observed) → HasOrder Q u (Ends asked at ∷ more) opened → HasOrder Q u more opened
   ends_order u asked at more opened h = (h.0, record { made = h.1.made; once = h.1.once; all = h.1.all; real_time = h.1.real_time; replies = h.1.replies }, h.2)
 
   -- before calls that take effect
   pub effects_sound : (goes_on : Database → List Observed → Type 0) (n asked at : ℕ) (more : List Event) → HaveEnds more
-      → ((u : Database) (opened : List Observed) → AreOpen more opened → goes_on u opened → HasOrder u more opened)
-      → (u : Database) (opened : List Observed) → AreOpen (Ends asked at ∷ more) opened → TakeEffect n goes_on asked u opened → HasOrder u (Ends asked at ∷ more) opened
+      → ((u : Database) (opened : List Observed) → AreOpen more opened → goes_on u opened → HasOrder Q u more opened)
+      → (u : Database) (opened : List Observed) → AreOpen (Ends asked at ∷ more) opened → TakeEffect n goes_on asked u opened → HasOrder Q u (Ends asked at ∷ more) opened
   effects_sound goes_on zero asked at more have later u opened are h = absurd h
   effects_sound goes_on (suc n) asked at more have later u opened are h =
       let x : Observed = h.0 in
       let left : List Observed = h.1 in
       let c : Chooses opened x left = h.2 in
-      let rest : HasOrder (transaction x.call u).database (Ends asked at ∷ more) left = elim h.4 [
+      let rest : HasOrder Q (transaction x.call u).database (Ends asked at ∷ more) left = elim h.4 [
         | inl on ↦ order_ends (transaction x.call u).database asked at more left (later (transaction x.call u).database left (others_go_on asked at more opened x left c on.0 are) on.1)
         | inr on ↦ effects_sound goes_on n asked at more have later (transaction x.call u).database left (open_chosen (Ends asked at ∷ more) opened x left c are) on.1
       ] in
       (x ∷ rest.0, put_first u (Ends asked at ∷ more) opened x left rest.0 have are c h.3 rest.1, rest.2)
 
   pub effects_complete : (goes_on : Database → List Observed → Type 0) (n asked at : ℕ) (more : List Event) → TimesRise (Ends asked at ∷ more) → HaveEnds more
-      → ((u : Database) (opened : List Observed) → AreOpen more opened → HasOrder u more opened → goes_on u opened)
+      → ((u : Database) (opened : List Observed) → AreOpen more opened → HasOrder Q u more opened → goes_on u opened)
       → (order : List Observed) (u : Database) (opened : List Observed) → length opened ≤ n → AreOpen (Ends asked at ∷ more) opened → (z : Observed) → IsIn z opened → z.asked ≡ asked
       → IsOrderFrom u (Ends asked at ∷ more) opened order → Q (rows_after u order) → TakeEffect n goes_on asked u opened
   effects_complete goes_on n asked at more rise have later [] u opened few are z there e ok q = absurd (ok.all z (inl there) (answered_at z.outcome at ((are.fit z there).0 e)))

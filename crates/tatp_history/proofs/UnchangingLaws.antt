@@ -9,10 +9,11 @@ use Rattle.tatp_history.specs.Histories.{MayHaveReply, AreAnsweredInOrder, rows_
 use Rattle.tatp_history.specs.Events.{TimesRise, HaveEnds}
 use Rattle.tatp_history.specs.JustInTime.{Chooses, Explains, AreOpen}
 use Rattle.tatp_history.specs.Changes.{LeavesRows}
+use Rattle.tatp_history.specs.Remaining.{IsLeft, IsOrderFrom, HasOrder}
 use Rattle.tatp_history.proofs.OrderLaws.{all_map, all_both, in_all, all_filter, filter_tests, in_filter, apart_filter, real_time_filter}
 use Rattle.tatp_history.proofs.ChoiceLaws.{chosen_in, in_cases, chooses_apart}
 use Rattle.tatp_history.proofs.EventLaws.{asked_after}
-use Rattle.tatp_history.proofs.RemainingLaws.{IsLeft, IsOrderFrom, HasOrder, left_before, open_chosen, put_first}
+use Rattle.tatp_history.proofs.RemainingLaws.{left_before, open_chosen, put_first}
 use Rattle.tatp_history.proofs.JustInTimeLaws.{Any, sound, complete}
 
 -- an order without some calls that change nothing has the same replies
@@ -35,24 +36,24 @@ rows_out test (z ∷ zs) u h runs = elim (test z) as (λ b. test z ≡ b → row
 abbrev pub is_other : ℕ → Observed → Bool
 is_other time z = not (z.asked == time)
 
-other_is : (time : ℕ) (z : Observed) → is_other time z ≡ false → z.asked ≡ time
+pub other_is : (time : ℕ) (z : Observed) → is_other time z ≡ false → z.asked ≡ time
 other_is time z h = elim (z.asked == time) as (λ b. (z.asked == time) ≡ b → not b ≡ false → z.asked ≡ time) [
   | true ↦ λ e _. eqb-true z.asked time e
   | false ↦ λ e k. absurd (true≢false k)
 ] refl h
 
-is_other_true : (time : ℕ) (z : Observed) → (z.asked ≡ time → ⊥) → is_other time z ≡ true
+pub is_other_true : (time : ℕ) (z : Observed) → (z.asked ≡ time → ⊥) → is_other time z ≡ true
 is_other_true time z h = elim (z.asked == time) as (λ b. (z.asked == time) ≡ b → not b ≡ true) [
   | true ↦ λ e. absurd (h (eqb-true z.asked time e))
   | false ↦ λ e. refl
 ] refl
 
-true_other : (time : ℕ) (z : Observed) → is_other time z ≡ true → z.asked ≡ time → ⊥
+pub true_other : (time : ℕ) (z : Observed) → is_other time z ≡ true → z.asked ≡ time → ⊥
 true_other time z h same = true≢false (sym h ∙ ap not (eq-eqb z.asked time same))
 
 module _ (events : List Event) (opened : List Observed) (x : Observed) (left : List Observed) (c : Chooses opened x left) (are : AreOpen events opened) where
   -- a call that is left and was asked at the call's time is the call
-  is_the_call : (z : Observed) → IsLeft events opened z → z.asked ≡ x.asked → z ≡ x
+  pub is_the_call : (z : Observed) → IsLeft events opened z → z.asked ≡ x.asked → z ≡ x
   is_the_call z h same = elim h [
     | inl k ↦ elim (in_cases opened x left c z k) [
       | inl e ↦ e
@@ -61,13 +62,13 @@ module _ (events : List Event) (opened : List Observed) (x : Observed) (left : L
     | inr k ↦ let lt : x.asked < z.asked = asked_after x.asked events z (are.before x (chosen_in opened x left c)) k in absurd (omega (arith, lt, same))
   ]
 
-  stays_left : (z : Observed) → IsLeft events opened z → (z.asked ≡ x.asked → ⊥) → IsLeft events left z
+  pub stays_left : (z : Observed) → IsLeft events opened z → (z.asked ≡ x.asked → ⊥) → IsLeft events left z
   stays_left z h other = elim h [
     | inl k ↦ elim (in_cases opened x left c z k) [ inl e ↦ absurd (other (ap (λ (w : Observed). w.asked) e)) | inr q ↦ inl q ]
     | inr k ↦ inr k
   ]
 
-  left_other : (z : Observed) → IsLeft events left z → z.asked ≡ x.asked → ⊥
+  pub left_other : (z : Observed) → IsLeft events left z → z.asked ≡ x.asked → ⊥
   left_other z h same = elim h [
     | inl k ↦ in_all (λ (w : Observed). x.asked ≡ w.asked → ⊥) z left (chooses_apart opened x left c are.apart).0 k (sym same)
     | inr k ↦ let lt : x.asked < z.asked = asked_after x.asked events z (are.before x (chosen_in opened x left c)) k in omega (arith, lt, same)

@@ -9,3 +9,4 @@ pub mod Configurations
 pub mod SubscriberEvents
 pub mod Outcomes
 pub mod Turns
+pub mod Remaining

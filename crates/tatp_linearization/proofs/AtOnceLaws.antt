@@ -1,6 +1,5 @@
 -- Reads that take effect at once: no order is lost.
-use Rattle.std.proofs.Common.{◌≡◌, ℕ, zero, suc, ◌≤◌, ◌⊎◌, true, false, List, [], ◌∷◌, ◌++◌, length, refl, sym, ◌∙◌, subst, arith, true≢false, inl, inr}
-use Rattle.std.proofs.lemmas.List.{append-nil}
+use Rattle.std.proofs.Common.{◌≡◌, ℕ, zero, suc, ◌≤◌, ◌⊎◌, true, false, List, [], ◌∷◌, length, refl, sym, ◌∙◌, subst, arith, true≢false, inl, inr}
 use Rattle.std.specs.List.{AllByRecursion}
 use Rattle.tatp_tables.specs.Database.{Database}
 use Rattle.tatp_procs.specs.Transactions.{transaction}
@@ -9,19 +8,19 @@ use Rattle.tatp_history.specs.declared.event.Event.TheVariants.{Asks, Ends}
 use Rattle.tatp_history.specs.declared.observed.Outcome.{Outcome}
 use Rattle.tatp_history.specs.declared.observed.Outcome.TheVariants.{Answered, Aborted, Unknown}
 use Rattle.tatp_history.specs.declared.observed.Observed.{Observed}
-use Rattle.tatp_history.specs.Histories.{IsIn, IsAnswered, MayHaveReply, AreAnsweredInOrder, IsStrictlySerializable, rows_after}
+use Rattle.tatp_history.specs.Histories.{IsIn, IsAnswered, MayHaveReply, AreAnsweredInOrder, rows_after}
 use Rattle.tatp_history.specs.Changes.{changes_nothing}
 use Rattle.tatp_history.specs.Outcomes.{may_take_effect}
-use Rattle.tatp_history.specs.Events.{asked_in, TimesRise, HaveEnds}
+use Rattle.tatp_history.specs.Events.{TimesRise, HaveEnds}
 use Rattle.tatp_history.specs.JustInTime.{AreOpen}
-use Rattle.tatp_history.specs.Configurations.{Configuration, starting}
+use Rattle.tatp_history.specs.Configurations.{Configuration}
+use Rattle.tatp_history.specs.Remaining.{IsLeft, IsOrderFrom, HasOrder}
 use Rattle.tatp_history.proofs.OrderLaws.{all_in, in_all}
 use Rattle.tatp_history.proofs.ChoiceLaws.{chooses_some, chooses_length, find_asked}
 use Rattle.tatp_history.proofs.EventLaws.{answered_at}
 use Rattle.tatp_history.proofs.ChangeLaws.{unchanged}
 use Rattle.tatp_history.proofs.UnchangingLaws.{without_unchanging}
-use Rattle.tatp_history.proofs.RemainingLaws.{IsLeft, IsOrderFrom, HasOrder, open_asked, open_chosen, open_ended, taken_off, first_opens, asks_order, ends_order}
-use Rattle.tatp_history.proofs.JustInTimeLaws.{Any, serial_is, none_open}
+use Rattle.tatp_history.proofs.RemainingLaws.{open_asked, open_chosen, open_ended, taken_off, first_opens, asks_order, ends_order}
 use Rattle.tatp_linearization.specs.AtOnce.{FitsAtOnce, IsSettled, NeedsNoPlace, TakesOne, TakeUntil, FollowsAtOnce, LeadAtOnce}
 use Rattle.tatp_linearization.proofs.DecisionLaws.{fits_or_not}
 use Rattle.tatp_linearization.proofs.SettlingLaws.{left_exists, left_settled, left_shorter, left_open, left_order}
@@ -98,6 +97,12 @@ place_or_none u x = elim (may_take_effect x.outcome) as (λ b. may_take_effect x
 pub one_open : (events : List Event) (c d : Configuration) → TakesOne c d → AreOpen events c.opened → AreOpen events d.opened
 one_open events c d h are = left_open events (transaction h.0.call c.rows).database [] h.1 d.opened h.2.settled (open_chosen events c.opened h.0 h.1 h.2.chosen are)
 
+pub one_shorter : (c d : Configuration) → TakesOne c d → suc (length d.opened) ≤ length c.opened
+one_shorter c d h =
+    let size : length c.opened ≡ suc (length h.1) = chooses_length c.opened h.0 h.1 h.2.chosen in
+    let less : length d.opened ≤ length h.1 = left_shorter (transaction h.0.call c.rows).database h.1 d.opened h.2.settled in
+    omega (arith, size, less)
+
 pub one_settled : (c d : Configuration) → TakesOne c d → IsSettled d
 one_settled c d h = subst (λ u. AllByRecursion (λ (x : Observed). FitsAtOnce u x → ⊥) d.opened) (sym h.2.rows) (left_settled (transaction h.0.call c.rows).database h.1 d.opened h.2.settled)
 
@@ -116,6 +121,23 @@ until_open (suc n) asked at more c d h are = let on = one_open (Ends asked at �
 ]
 
 module _ (Q : Database → Type 0) where
+  -- the first call of an order, which is open and writes, takes effect
+  pub first_takes : (events : List Event) → HaveEnds events → (c : Configuration) → IsSettled c → AreOpen events c.opened → (x : Observed) → IsIn x c.opened → (order : List Observed) → IsOrderFrom c.rows events c.opened (x ∷ order)
+      → Q (rows_after c.rows (x ∷ order)) → (d : Configuration) × TakesOne c d × HasOrder Q d.rows events d.opened
+  first_takes events have c settled are x opens order ok q =
+      let some = chooses_some c.opened x opens in
+      let v : Database = (transaction x.call c.rows).database in
+      let writes : changes_nothing x ≡ false = elim (changes_nothing x) as (λ b. changes_nothing x ≡ b → b ≡ false) [
+        | true ↦ λ r. absurd (in_all (λ (w : Observed). FitsAtOnce c.rows w → ⊥) x c.opened settled opens (r, ok.replies.0))
+        | false ↦ λ r. refl
+      ] refl in
+      let left = left_exists v some.0 in
+      let d : Configuration = record { rows = v; opened = left.0 } in
+      let one : TakesOne c d = (x, some.0, record { chosen = some.1; writes = writes; may = ok.replies.0; rows = refl; settled = left.1 }) in
+      let rest : HasOrder Q v events left.0
+      = left_order Q events have v [] some.0 left.0 left.1 (open_chosen events c.opened x some.0 some.1 are) (order, taken_off c.rows events c.opened x some.0 order are some.1 ok, q) in
+      (d, one, rest)
+
   until_complete : (n asked at : ℕ) (more : List Event) → TimesRise (Ends asked at ∷ more) → HaveEnds more → (c : Configuration) → IsSettled c → length c.opened ≤ n → AreOpen (Ends asked at ∷ more) c.opened
       → (z : Observed) → IsIn z c.opened → z.asked ≡ asked → (order : List Observed) → IsOrderFrom c.rows (Ends asked at ∷ more) c.opened order → Q (rows_after c.rows order)
       → (d : Configuration) × TakeUntil n asked c d × HasOrder Q d.rows more d.opened
@@ -125,24 +147,16 @@ module _ (Q : Database → Type 0) where
   until_complete (suc n) asked at more rise have c settled few are z there e (x ∷ order) ok q =
       let events : List Event = Ends asked at ∷ more in
       let opens : IsIn x c.opened = first_opens c.rows asked at more rise c.opened are z there e x order ok in
-      let some = chooses_some c.opened x opens in
-      let size : length c.opened ≡ suc (length some.0) = chooses_length c.opened x some.0 some.1 in
-      let v : Database = (transaction x.call c.rows).database in
-      let writes : changes_nothing x ≡ false = elim (changes_nothing x) as (λ b. changes_nothing x ≡ b → b ≡ false) [
-        | true ↦ λ r. absurd (in_all (λ (w : Observed). FitsAtOnce c.rows w → ⊥) x c.opened settled opens (r, ok.replies.0))
-        | false ↦ λ r. refl
-      ] refl in
-      let left = left_exists v some.0 in
-      let less : length left.0 ≤ length some.0 = left_shorter v some.0 left.0 left.1 in
-      let d : Configuration = record { rows = v; opened = left.0 } in
-      let one : TakesOne c d = (x, some.0, record { chosen = some.1; writes = writes; may = ok.replies.0; rows = refl; settled = left.1 }) in
-      let rest : HasOrder Q v events left.0
-      = left_order Q events have v [] some.0 left.0 left.1 (open_chosen events c.opened x some.0 some.1 are) (order, taken_off c.rows events c.opened x some.0 order are some.1 ok, q) in
-      elim (find_asked asked left.0) [
-        | inl none ↦ (d, (d, one, inl (none, refl)), ends_order Q v asked at more left.0 rest)
+      let next = first_takes events have c settled are x opens order ok q in
+      let d : Configuration = next.0 in
+      let one : TakesOne c d = next.1 in
+      let rest = next.2 in
+      let less = one_shorter c d one in
+      elim (find_asked asked d.opened) [
+        | inl none ↦ (d, (d, one, inl (none, refl)), ends_order Q d.rows asked at more d.opened rest)
         | inr on ↦
-            let go = until_complete n asked at more rise have d (one_settled c d one) (omega (arith, few, size, less)) (one_open events c d one are) on.0 on.1 on.2 rest.0 rest.1 rest.2 in
-            (go.0, (d, one, inr (λ none. in_all (λ (w : Observed). w.asked ≡ asked → ⊥) on.0 left.0 none on.1 on.2, go.1)), go.2)
+            let go = until_complete n asked at more rise have d (one_settled c d one) (omega (arith, few, less)) (one_open events c d one are) on.0 on.1 on.2 rest.0 rest.1 rest.2 in
+            (go.0, (d, one, inr (λ none. in_all (λ (w : Observed). w.asked ≡ asked → ⊥) on.0 d.opened none on.1 on.2, go.1)), go.2)
       ]
 
 -- ---- one event
@@ -169,7 +183,7 @@ event_open (Ends asked at) more rise have c d h are = elim h [
 ]
 
 module _ (Q : Database → Type 0) where
-  event_complete : (event : Event) (more : List Event) → TimesRise (event ∷ more) → HaveEnds (event ∷ more) → (c : Configuration) → IsSettled c → AreOpen (event ∷ more) c.opened
+  pub event_complete : (event : Event) (more : List Event) → TimesRise (event ∷ more) → HaveEnds (event ∷ more) → (c : Configuration) → IsSettled c → AreOpen (event ∷ more) c.opened
       → HasOrder Q c.rows (event ∷ more) c.opened → (d : Configuration) × FollowsAtOnce event c d × HasOrder Q d.rows more d.opened
   event_complete (Asks x) more rise have c settled are order =
       let on = open_asked x more c.opened rise have are in
@@ -199,31 +213,3 @@ module _ (Q : Database → Type 0) where
 pub lead_settled : (events : List Event) (c d : Configuration) → IsSettled c → LeadAtOnce events c d → IsSettled d
 lead_settled [] c d settled h = subst IsSettled (sym h) settled
 lead_settled (event ∷ more) c d settled h = lead_settled more h.0 d (event_settled event c h.0 settled h.1) h.2
-
-pub lead_by : (first second : List Event) (c e : Configuration) → LeadAtOnce (first ++ second) c e → (d : Configuration) × LeadAtOnce first c d × LeadAtOnce second d e
-lead_by [] second c e on = (c, refl, on)
-lead_by (event ∷ first) second c e on = let rest = lead_by first second on.0 e on.2 in (rest.0, (on.0, on.1, rest.1), rest.2)
-
-pub lead_open : (first second : List Event) → TimesRise (first ++ second) → HaveEnds (first ++ second) → (c d : Configuration) → AreOpen (first ++ second) c.opened → LeadAtOnce first c d → AreOpen second d.opened
-lead_open [] second rise have c d are on = subst (λ (b : Configuration). AreOpen second b.opened) (sym on) are
-lead_open (event ∷ more) second rise have c d are on =
-    lead_open more second rise.1 (have_more event (more ++ second) have) on.0 d (event_open event (more ++ second) rise have c on.0 on.1 are) on.2
-
-module _ (Q : Database → Type 0) where
-  pub lead_complete : (first second : List Event) → TimesRise (first ++ second) → HaveEnds (first ++ second) → (c : Configuration) → IsSettled c → AreOpen (first ++ second) c.opened
-      → HasOrder Q c.rows (first ++ second) c.opened → (d : Configuration) × LeadAtOnce first c d × HasOrder Q d.rows second d.opened
-  lead_complete [] second rise have c settled are h = (c, refl, h)
-  lead_complete (event ∷ more) second rise have c settled are h =
-      let next = event_complete Q event (more ++ second) rise have c settled are h in
-      let rest = lead_complete more second rise.1 (have_more event (more ++ second) have) next.0 (event_settled event c next.0 settled next.1) (event_open event (more ++ second) rise have c next.0 next.1 are) next.2 in
-      (rest.0, (next.0, next.1, rest.1), rest.2)
-
--- ---- the law
-pub at_once_complete : (u : Database) (events : List Event) → TimesRise events → HaveEnds events → IsStrictlySerializable u (asked_in events) → (d : Configuration) × LeadAtOnce events (starting u) d
-at_once_complete u events rise have s =
-    let whole : events ≡ events ++ [] = sym (append-nil events) in
-    let rise' : TimesRise (events ++ []) = subst TimesRise whole rise in
-    let have' : HaveEnds (events ++ []) = subst HaveEnds whole have in
-    let order : HasOrder Any u (events ++ []) [] = subst (λ es. HasOrder Any u es []) whole (s.0, serial_is u events [] s.0 s.1, tt) in
-    let led = lead_complete Any events [] rise' have' (starting u) tt (none_open (events ++ [])) order in
-    (led.0, led.1)

@@ -42,7 +42,7 @@ neither : (b : Bool) → not b ≡ true → b ≡ false
 neither true e = absurd (true≢false (sym e))
 neither false e = refl
 
-only_same : (r : Tuple) (rows others : Tuples) → IsOnly r rows → IsOnly r others → rows ≡ others
+pub only_same : (r : Tuple) (rows others : Tuples) → IsOnly r rows → IsOnly r others → rows ≡ others
 only_same r rows others p o = same_tuples rows others (λ q. one q)
   where
     alike : (b c : Bool) → (b ≡ true → c ≡ true) → (c ≡ true → b ≡ true) → b ≡ c
@@ -53,7 +53,7 @@ only_same r rows others p o = same_tuples rows others (λ q. one q)
     one : (q : Tuple) → has rows q ≡ has others q
     one q = alike (has rows q) (has others q) (λ h. subst (λ t. has others t ≡ true) (sym (p.only q h)) o.there) (λ h. subst (λ t. has rows t ≡ true) (sym (o.only q h)) p.there)
 
-only_replaced : (r new : Tuple) (rows : Tuples) → IsOnly r rows → IsOnly new (replace_row rows r new)
+pub only_replaced : (r new : Tuple) (rows : Tuples) → IsOnly r rows → IsOnly new (replace_row rows r new)
 only_replaced r new rows p = record {
   there = has-insert_row (remove_row rows r) new new ∙ ap (λ b. b || has (remove_row rows r) new) (same_itself new);
   only = λ q h. elim (either (same q new) (has (remove_row rows r) q) (sym (has-insert_row (remove_row rows r) new q) ∙ h)) [
@@ -72,33 +72,33 @@ only_home home r is there = record {
 }
 
 -- ---- numbers
-named_row : (rows : Tuples) (n : ℕ) → is_some (row_with_number rows n) ≡ true → (r : Tuple) × (row_with_number rows n ≡ Some r)
+pub named_row : (rows : Tuples) (n : ℕ) → is_some (row_with_number rows n) ≡ true → (r : Tuple) × (row_with_number rows n ≡ Some r)
 named_row rows n named = elim (row_with_number rows n) as (λ o. is_some o ≡ true → (r : Tuple) × (o ≡ Some r)) [
   | None ↦ λ e. absurd (true≢false (sym e))
   | Some r ↦ λ e. (r, refl)
 ] named
 
-found_only : (r : Tuple) (rows : Tuples) (n : ℕ) → IsOnly r rows → has_number n r ≡ true → row_with_number rows n ≡ Some r
+pub found_only : (r : Tuple) (rows : Tuples) (n : ℕ) → IsOnly r rows → has_number n r ≡ true → row_with_number rows n ≡ Some r
 found_only r rows n p passes = found_in (has_number n) rows r p.there passes (λ q h k. p.only q h)
 
 -- a number names the row, or none
-number_of : (r : Tuple) (rows : Tuples) (n : ℕ) → IsOnly r rows → is_some (row_with_number rows n) ≡ true → has_number n r ≡ true
+pub number_of : (r : Tuple) (rows : Tuples) (n : ℕ) → IsOnly r rows → is_some (row_with_number rows n) ≡ true → has_number n r ≡ true
 number_of r rows n p named =
     let found = named_row rows n named in
     subst (λ q. has_number n q ≡ true) (p.only found.0 (has-found (has_number n) rows found.0 found.1)) (found_passes (has_number n) (rows_of rows) found.0 found.1)
 
 -- ---- one update
 module _ (u : Database) (r : Tuple) (p : IsOnly r u.subscribers) where
-  abbrev at : ℕ → Database
+  abbrev pub at : ℕ → Database
   at v = record u { subscribers = replace_row u.subscribers r (with_vlr_location r v) }
 
-  set_row : (call : Call) (s : SetsLocation u call) → transaction call u ≡ replies (at s.location) []
+  pub set_row : (call : Call) (s : SetsLocation u call) → transaction call u ≡ replies (at s.location) []
   set_row call s =
       let passes = number_of r u.subscribers s.number p s.named in
       ap (λ (k : Call). transaction k u) s.updates ∙ ap (updates_location u s.location) (found_only r u.subscribers s.number p passes)
 
   -- another one then sets it as it would have done before
-  set_again : (v : ℕ) (call : Call) → SetsLocation u call → SetsLocation (at v) call × (transaction call (at v) ≡ transaction call u)
+  pub set_again : (v : ℕ) (call : Call) → SetsLocation u call → SetsLocation (at v) call × (transaction call (at v) ≡ transaction call u)
   set_again v call s =
       let new : Tuple = with_vlr_location r v in
       let passes = number_of r u.subscribers s.number p s.named in

@@ -9,20 +9,26 @@ use Rattle.tatp_procs.specs.Arguments.{arguments_accepted}
 use Rattle.tatp_history.specs.declared.observed.Observed.{Observed}
 use Rattle.tatp_history.specs.Histories.{MayHaveReply}
 use Rattle.tatp_history.specs.Locality.{AreAccepted}
+use Rattle.tatp_history.specs.declared.event.Event.{Event}
 use Rattle.tatp_history.specs.declared.event.Event.TheVariants.{Asks, Ends}
 use Rattle.tatp_history.specs.JustInTime.{NoneAskedAt}
 use Rattle.tatp_history.specs.Configurations.{Configuration}
+use Rattle.tatp_history.proofs.OrderLaws.{in_all}
+use Rattle.tatp_history.proofs.ChoiceLaws.{find_asked}
 use Rattle.tatp_linearization.specs.declared.configuration.Configuration.{Configuration as Held}
-use Rattle.tatp_linearization.specs.AtOnce.{AreLeft, NeedsNoPlace, TakesWrite, TakesOne, FollowsAtOnce}
+use Rattle.tatp_linearization.specs.AtOnce.{AreLeft, NeedsNoPlace, TakesOne, FollowsAtOnce}
 use Rattle.tatp_linearization.specs.Possible.{AreDistinct, AreMoreThan}
 use Rattle.tatp_linearization.specs.Held.{seen, all_seen, Has, AreReady, AreApart, Takes, IsAsked, IsOldOr}
 use Rattle.tatp_linearization.specs.Overwritten.{IsBlind, AreButSome, least, without_place}
-use Rattle.tatp_linearization.specs.Covering.{StandsFor, OneStandsFor, Covers, IsOther, Opens, IsApart, From, FromOne, MayCome, MayFollow, MayBeTried, MayAnswer, IsLetGo, IsStoodOr, Gains, AreTriedOut, AreTriedOutAt, GainsAfter, GainsEnd, GainsTaken, GainsGone, IsGone}
+use Rattle.tatp_linearization.specs.Covering.{StandsFor, OneStandsFor, Covers, IsOther, Opens, IsApart, From, FromOne, MayCome, MayFollow, MayBeTried, MayAnswer, IsLetGo, IsStoodOr, Gains, GainsGone, IsGone}
+use Rattle.tatp_linearization.specs.Turns.{IsThere, IsOtherTime, StandsForBut, IsFewer, TakesOn, AreTriedOut, AreAnswered, AreFollowed}
 use Rattle.tatp_linearization.proofs.PlaceLaws.{all_get, all_more, all_of_get, all_remove, same_item}
 use Rattle.tatp_linearization.proofs.PossibleLaws.{some_on, one_takes, one_comes, come_none, more_than}
 use Rattle.tatp_linearization.proofs.AtOnceLaws.{one_settled}
-use Rattle.tatp_linearization.proofs.HeldLaws.{has_get, own_more, one_too_many}
-use Rattle.tatp_linearization.proofs.ButSomeLaws.{but_none_left_out, but_map, but_within, but_all, but_chosen, but_put, but_left, but_left_all, left_but, left_drop, removed_length, removed_none, but_gone, but_back, get_inside, without_last}
+use Rattle.tatp_linearization.proofs.GoingLaws.{event_on, end_on}
+use Rattle.tatp_linearization.proofs.HeldLaws.{has_get, own_more, one_too_many, ready_after}
+use Rattle.tatp_linearization.proofs.ButSomeLaws.{but_none_left_out, but_map, but_within, but_all, but_chosen, but_put, but_left, but_left_all, left_but, left_drop, removed_length, removed_none, but_gone, but_back, get_inside, without_last, left_apart, removed_apart}
+use Rattle.tatp_linearization.proofs.SettlingLaws.{left_shorter}
 use Rattle.tatp_linearization.proofs.BlindLaws.{blind_chain, blind_after, set_only}
 
 -- ---- those for which one of a list stands
@@ -186,16 +192,6 @@ module _ (d : Held) (old mid : List Held) (r : AreRetained (Covers d) (IsOther d
     ]) (one_too_many most d.home.s_id mid d full (r.apart d.home.s_id apart) not_there)
 
 -- ---- one call takes effect
--- the configuration is what the open call at a place makes of one for which this stands
-pub record IsThere (Extra : Observed → Type 0) (c : Held) (i : ℕ) (e : Configuration) : Type 0 where
-  pub before : Configuration
-  pub call : Observed
-  pub left : List Observed
-  pub rows : before.rows ≡ c.home.tables
-  pub takes : TakesWrite before e call left
-  pub at : slice_get c.opened.items i ≡ Some call
-  pub opened : AreButSome (λ x. IsBlind c.home.tables x × Extra x) (without_place c.overwritten (length c.opened.items) i) (remove c.opened.items i) left
-
 pub there_some : (Extra : Observed → Type 0) (c : Held) (b e : Configuration) → b.rows ≡ c.home.tables → AreButSome (λ x. IsBlind c.home.tables x × Extra x) c.overwritten c.opened.items b.opened → TakesOne b e
     → (i : ℕ) × (i < length c.opened.items) × IsThere Extra c i e
 there_some Extra c b e rows but one =
@@ -205,14 +201,18 @@ there_some Extra c b e rows but one =
 pub there_none : (Extra : Observed → Type 0) (c : Held) (i : ℕ) (e : Configuration) → Takes c i None → IsThere Extra c i e → ⊥
 there_none Extra c i e none there = none there.call there.at there.takes.writes (subst (λ v. MayHaveReply there.call.outcome (transaction there.call.call v).reply) there.rows there.takes.may)
 
+-- which ones are left out doesn't count
+pub but_stands : (asked : ℕ) (c : Held) (d : Configuration) → StandsForBut asked c d → StandsFor c d
+but_stands asked c d h = record { rows = h.rows; opened = but_map (λ x. IsBlind c.home.tables x × IsOtherTime asked x) (IsBlind c.home.tables) (λ x f. f.0) c.overwritten c.overwritten (omega arith) c.opened.items d.opened h.opened }
+
 module _ (c d : Held) (i : ℕ) (taken : Takes c i (Some d)) (accepted : AreAccepted c.opened.items) where
   call_accepted : arguments_accepted taken.0.call ≡ Ok tt
   call_accepted = all_get (λ (x : Observed). arguments_accepted x.call ≡ Ok tt) c.opened.items i taken.0 accepted taken.1.at
 
-  blind_on : (x : Observed) → IsBlind c.home.tables x → IsBlind d.home.tables x
+  pub blind_on : (x : Observed) → IsBlind c.home.tables x → IsBlind d.home.tables x
   blind_on x b = subst (λ v. IsBlind v x) (sym taken.1.rows) ((blind_after c.home taken.0.call taken.1.home call_accepted x).0 b)
 
-  blind_back : (x : Observed) → IsBlind d.home.tables x → IsBlind c.home.tables x
+  pub blind_back : (x : Observed) → IsBlind d.home.tables x → IsBlind c.home.tables x
   blind_back x b = (blind_after c.home taken.0.call taken.1.home call_accepted x).1 (subst (λ v. IsBlind v x) taken.1.rows b)
 
   pub taken_there : (Extra : Observed → Type 0) (e : Configuration) → IsThere Extra c i e → (e.rows ≡ d.home.tables) × AreButSome (λ x. IsBlind d.home.tables x × Extra x) d.overwritten d.opened.items e.opened
@@ -274,6 +274,26 @@ module _ (c d : Held) (i : ℕ) (taken : Takes c i (Some d)) (accepted : AreAcce
             let one : TakesOne b e = (x, ys.0, record { chosen = put.2; writes = taken.1.writes; may = taken.1.may; rows = rows; settled = ys.2 }) in
             (b, record { rows = refl; opened = put.1 }, one_comes b e one)
       ]
+
+  pub taken_fewer : IsFewer c d
+  taken_fewer =
+      let v : Database = (transaction taken.0.call c.home.tables).database in
+      let le = left_shorter v (remove c.opened.items i) d.opened.items taken.1.settled in
+      let size = removed_length c.opened.items i (get_inside c.opened.items i taken.0 taken.1.at) in
+      record {
+        few = omega (arith, le, size);
+        own = taken.1.own;
+        accepted = ready_after c d i taken;
+        apart = λ h. left_apart v (remove c.opened.items i) d.opened.items taken.1.settled (removed_apart c.opened.items i h);
+      }
+
+  -- so each order that leads on from what the call makes leads on from the configuration after it
+  pub taken_on : (Known : List Event → Type 0) → TakesOn Known c i d
+  taken_on Known = record {
+    sound = taken_from;
+    served = λ asked after events e known apart there on. let k = taken_there (IsOtherTime asked) e there in (e, record { rows = k.0; opened = k.1 }, omega arith, on);
+    less = taken_fewer;
+  }
 
 -- ---- one call is asked
 least_most : (many size : ℕ) → least many size ≤ size
@@ -353,21 +373,26 @@ pub none_of : (c : Held) (asked : ℕ) → NoneAskedAt asked c.opened.items → 
 none_of c asked none e h = but_all (IsBlind c.home.tables) c.overwritten (λ (x : Observed). x.asked ≡ asked → ⊥) c.opened.items e.opened h.opened none
 
 -- a call ends that isn't open
-pub gains_same : (c d : Held) (asked at : ℕ) (old new : List Held) → NoneAskedAt asked c.opened.items → ((e : Configuration) → StandsFor d e ↔ StandsFor c e) → Gains (StandsFor d) (StandsFor d) old new → (tried : List Held) → GainsAfter (Ends asked at) c tried old new
-gains_same c d asked at old new none same gains tried = gains_map (StandsFor d) (StandsFor d) (From (MayFollow (Ends asked at)) c) (λ e. IsApart c × (AreTriedOutAt (Ends asked at) old tried × From (FollowsAtOnce (Ends asked at)) c e)) old new
-    (λ e h. let own = (same e).0 h in (e, own, (come_none e, none_of c asked none e own)))
-    (λ e h.
-    let b = h.1.1.0 in
-    let stands = h.1.1.1 in
-    elim h.1.1.2 [
-      | inl q ↦ subst (StandsFor d) (sym q.1) ((same b).1 stands)
-      | inr q ↦ absurd (q.0 (none_of c asked none b stands))
-    ]) gains
+pub same_followed : (c d : Held) (asked at : ℕ) (rest : List Event) (old new : List Held) → NoneAskedAt asked c.opened.items → ((e : Configuration) → StandsFor d e ↔ StandsFor c e) → Gains (StandsFor d) (StandsFor d) old new
+    → AreFollowed (Ends asked at) rest c new
+same_followed c d asked at rest old new none same gains = λ to e stands on. (e, gains.found e ((same e).1 stands), end_on to asked at rest e (none_of c asked none e stands) on)
+
+pub same_sound : (c d : Held) (asked at : ℕ) (old new : List Held) → NoneAskedAt asked c.opened.items → ((e : Configuration) → StandsFor d e ↔ StandsFor c e) → Gains (StandsFor d) (StandsFor d) old new
+    → (e : Configuration) → OneStandsFor new e → IsStoodOr old (From (MayFollow (Ends asked at)) c) e
+same_sound c d asked at old new none same gains = λ e h. elim (gains.sound e h) [
+  | inl k ↦ inl k
+  | inr k ↦ let own = (same e).0 k in inr (e, own, (come_none e, none_of c asked none e own))
+]
 
 -- a call is asked
-pub gains_asked : (c d : Held) (x : Observed) (old new : List Held) → IsAsked c x d → d.overwritten ≡ least c.overwritten (length c.opened.items) → Gains (StandsFor d) (StandsFor d) old new → (tried : List Held) → GainsAfter (Asks x) c tried old new
-gains_asked c d x old new asked over gains tried = gains_map (StandsFor d) (StandsFor d) (From (MayFollow (Asks x)) c) (λ e. IsApart c × (AreTriedOutAt (Asks x) old tried × From (FollowsAtOnce (Asks x)) c e)) old new
-    (λ e h. asked_from c d x asked over e h) (λ e h. asked_stands c d x asked over e h.1.1) gains
+pub asked_followed : (c d : Held) (x : Observed) (rest : List Event) (old new : List Held) → IsAsked c x d → d.overwritten ≡ least c.overwritten (length c.opened.items) → Gains (StandsFor d) (StandsFor d) old new → AreFollowed (Asks x) rest c new
+asked_followed c d x rest old new asked over gains = λ to b stands on.
+    let next = event_on to (Asks x) rest b on in
+    (next.0, gains.found next.0 (asked_stands c d x asked over next.0 (b, stands, next.1)), next.2)
+
+pub asked_sound : (c d : Held) (x : Observed) (old new : List Held) → IsAsked c x d → d.overwritten ≡ least c.overwritten (length c.opened.items) → Gains (StandsFor d) (StandsFor d) old new
+    → (e : Configuration) → OneStandsFor new e → IsStoodOr old (From (MayFollow (Asks x)) c) e
+asked_sound c d x old new asked over gains = λ e h. elim (gains.sound e h) [ inl k ↦ inl k | inr k ↦ inr (asked_from c d x asked over e k) ]
 
 pub asked_many : (most : ℕ) (c d : Held) (x : Observed) (old : List Held) → IsAsked c x d → d.overwritten ≡ least c.overwritten (length c.opened.items) → AreMoreThan most (IsStoodOr old (StandsFor d)) → AreMoreThan most (IsStoodOr old (From (MayBeTried (Asks x)) c))
 asked_many most c d x old asked over many = more_than most (IsStoodOr old (StandsFor d)) (IsStoodOr old (From (MayBeTried (Asks x)) c)) (λ e h. elim h [
@@ -389,21 +414,19 @@ pub gone_other : (c d : Held) (asked : ℕ) (old : List Held) → IsLetGo asked 
 gone_other c d asked old go some = record { kept = λ e h. h; sound = λ e h. inl h; found = λ e h. absurd (some (go.3 h.apart)) }
 
 -- all that follows where it ends
-pub out_on : (asked : ℕ) (old new tried : List Held) → ((d : Configuration) → OneStandsFor old d → OneStandsFor new d) → AreTriedOut asked old tried → AreTriedOut asked new tried
-out_on asked old new tried kept out d h opens = λ e one. let k = out d h opens e one in ((λ none. kept e (k.0 none)), k.1)
+pub out_on : (asked at : ℕ) (rest : List Event) (old new tried : List Held) → ((d : Configuration) → OneStandsFor old d → OneStandsFor new d) → AreTriedOut asked at rest old tried → AreTriedOut asked at rest new tried
+out_on asked at rest old new tried kept out d h opens after on = elim (out d h opens after on) [ inl k ↦ inl (k.0, kept k.0 k.1, k.2) | inr k ↦ inr k ]
 
-pub gone_taken : (c : Held) (asked : ℕ) (tried old mid new : List Held) → GainsGone asked c old mid → GainsTaken asked c tried mid new → GainsEnd asked c tried old new
-gone_taken c asked tried old mid new first second = record {
-  kept = λ e h. second.kept e (first.kept e h);
-  sound = λ e h. elim (second.sound e h) [ inl k ↦ first.sound e k | inr k ↦ inr k ];
-  found = λ e h.
-      let b = h.1.1.0 in
-      let stands = h.1.1.1 in
-      elim h.1.1.2 [
-        | inl q ↦ second.kept e (first.found e (record { apart = h.0; stands = subst (StandsFor c) (sym q.1) stands; none = subst (λ (d : Configuration). NoneAskedAt asked d.opened) (sym q.1) q.0 }))
-        | inr q ↦ second.found e (h.0, (out_on asked old mid tried first.kept h.1.0, (b, stands, (q.0, (length b.opened, q.1)))))
-      ];
-}
+pub gone_followed : (c : Held) (asked at : ℕ) (rest : List Event) (old mid new : List Held) → IsApart c → GainsGone asked c old mid → ((e : Configuration) → OneStandsFor mid e → OneStandsFor new e) → AreAnswered asked at rest c new
+    → AreFollowed (Ends asked at) rest c new
+gone_followed c asked at rest old mid new apart gone kept answered = λ to e stands on. elim (find_asked asked e.opened) [
+  | inl none ↦ (e, kept e (gone.found e (record { apart = apart; stands = stands; none = none })), end_on to asked at rest e none on)
+  | inr some ↦ answered to e stands (λ none. in_all (λ (w : Observed). w.asked ≡ asked → ⊥) some.0 e.opened none some.1 some.2) on
+]
+
+pub gone_sound : (c : Held) (asked : ℕ) (old mid new : List Held) → GainsGone asked c old mid → ((e : Configuration) → OneStandsFor new e → IsStoodOr mid (From (MayAnswer asked) c) e)
+    → (e : Configuration) → OneStandsFor new e → IsStoodOr old (From (MayAnswer asked) c) e
+gone_sound c asked old mid new gone sound = λ e h. elim (sound e h) [ inl k ↦ gone.sound e k | inr k ↦ inr k ]
 
 pub taken_many : (most : ℕ) (c : Held) (asked : ℕ) (old mid : List Held) → GainsGone asked c old mid → AreMoreThan most (IsStoodOr mid (From MayCome c)) → AreMoreThan most (IsStoodOr old (From MayCome c))
 taken_many most c asked old mid gains many = more_than most (IsStoodOr mid (From MayCome c)) (IsStoodOr old (From MayCome c)) (λ e h. elim h [

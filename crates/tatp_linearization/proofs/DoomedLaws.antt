@@ -1,5 +1,5 @@
--- No configuration follows on a doomed one up to the end of its window.
-use Rattle.std.proofs.Common.{◌≡◌, ℕ, zero, suc, ◌⊎◌, true, false, cond, ◌==◌, List, [], ◌∷◌, length, Option, Some, None, set, get_or, slice_index, slice_get, refl, sym, ◌∙◌, ap, subst, arith, eq-eqb, true≢false, inl, inr}
+-- Locations that no row has, and configurations that are doomed by one.
+use Rattle.std.proofs.Common.{◌≡◌, ℕ, zero, suc, ◌⊎◌, true, false, ◌==◌, List, [], ◌∷◌, Option, Some, None, set, get_or, slice_index, slice_get, refl, sym, ◌∙◌, ap, subst, arith, eq-eqb, true≢false, inl, inr}
 use Rattle.std.specs.Option.{option_map}
 use Rattle.std.proofs.lemmas.List.{get_or-set_other}
 use Rattle.tatp_tables.specs.Tuples.{Tuple, Tuples, has, replace_row, remove_row}
@@ -17,24 +17,18 @@ use Rattle.tatp_procs.specs.declared.call.Call.TheVariants.{GetSubscriberData, G
 use Rattle.tatp_procs.specs.declared.reply.Reply.TheVariants.{Values}
 use Rattle.tatp_procs.specs.Transactions.{transaction, reads, updates_both, updates_location, with_bit_1, with_vlr_location, inserts_under, inserts_for, deletes, deletes_for}
 use Rattle.tatp_history.specs.declared.event.Event.{Event}
-use Rattle.tatp_history.specs.declared.event.Event.TheVariants.{Asks, Ends}
 use Rattle.tatp_history.specs.declared.observed.Observed.{Observed}
 use Rattle.tatp_history.specs.declared.observed.Recorded.TheVariants.{Exactly}
 use Rattle.tatp_history.specs.declared.observed.Outcome.TheVariants.{Answered}
 use Rattle.tatp_history.specs.Histories.{IsIn, MayHaveReply}
-use Rattle.tatp_history.specs.Changes.{only_reads, has_failed, changes_nothing}
-use Rattle.tatp_history.specs.JustInTime.{Chooses, NoneAskedAt}
 use Rattle.tatp_history.specs.Configurations.{Configuration}
 use Rattle.tatp_history.proofs.ChangeLaws.{reading_leaves}
-use Rattle.tatp_history.proofs.OrderLaws.{in_all}
-use Rattle.tatp_history.proofs.ChoiceLaws.{in_cases}
 use Rattle.tatp_linearization.specs.declared.configuration.Configuration.{Configuration as Held}
 use Rattle.tatp_linearization.specs.Held.{seen}
 use Rattle.tatp_linearization.specs.Overwritten.{IsBlind, AreButSome}
 use Rattle.tatp_linearization.specs.Covering.{StandsFor}
-use Rattle.tatp_linearization.specs.AtOnce.{FitsAtOnce, AreLeft, TakesOne, TakeUntil, FollowsAtOnce}
-use Rattle.tatp_linearization.specs.Doomed.{NoneHasLocation, sets_location, SawLocation, NoneSets, IsStuck, IsDoomed}
-use Rattle.tatp_linearization.proofs.SettlingLaws.{left_all}
+use Rattle.tatp_linearization.specs.AtOnce.{FitsAtOnce}
+use Rattle.tatp_linearization.specs.Doomed.{NoneHasLocation, sets_location, SawLocation, IsDoomed}
 use Rattle.tatp_linearization.proofs.ButSomeLaws.{but_all}
 
 -- ---- locations
@@ -64,7 +58,7 @@ inserts_keep u row None there = refl
 inserts_keep u row (Some facility) (Some there) = refl
 inserts_keep u row (Some facility) None = refl
 
-inserts_for_keep : (u : Database) (t b e x : ℕ) (s : Option ℕ) → (inserts_for u t b e x s).database.subscribers ≡ u.subscribers
+pub inserts_for_keep : (u : Database) (t b e x : ℕ) (s : Option ℕ) → (inserts_for u t b e x s).database.subscribers ≡ u.subscribers
 inserts_for_keep u t b e x None = refl
 inserts_for_keep u t b e x (Some s) = inserts_keep u (s ∷ t ∷ b ∷ e ∷ x ∷ []) (row_at u.facilities (s ∷ t ∷ [])) (row_at u.forwardings (s ∷ t ∷ b ∷ []))
 
@@ -72,7 +66,7 @@ deletes_keep : (u : Database) (row : Option Tuple) → (deletes u row).database.
 deletes_keep u None = refl
 deletes_keep u (Some row) = refl
 
-deletes_for_keep : (u : Database) (t b : ℕ) (s : Option ℕ) → (deletes_for u t b s).database.subscribers ≡ u.subscribers
+pub deletes_for_keep : (u : Database) (t b : ℕ) (s : Option ℕ) → (deletes_for u t b s).database.subscribers ≡ u.subscribers
 deletes_for_keep u t b None = refl
 deletes_for_keep u t b (Some s) = deletes_keep u (row_at u.forwardings (s ∷ t ∷ b ∷ []))
 
@@ -89,8 +83,7 @@ none_after (UpdateLocation n w) v u other none = keeps_location v u w (row_with_
 none_after (InsertCallForwarding n t b e x) v u other none = subst (NoRowHas v) (sym (inserts_for_keep u t b e x (home_of_key u.subscribers (Number n)))) none
 none_after (DeleteCallForwarding n t b) v u other none = subst (NoRowHas v) (sym (deletes_for_keep u t b (home_of_key u.subscribers (Number n)))) none
 
--- ---- the read stays open
--- it doesn't fit where no row has the location that it saw
+-- ---- a read that saw a location doesn't fit where no row has it
 row_read : (u : Database) (row : Option Tuple) (values : List ℕ) → (reads u (λ q. q) row).reply ≡ Values values → row ≡ Some values
 row_read u None values e = absurd cc
 row_read u (Some row) values e = let is : row ≡ values = cc in ap Some is
@@ -101,80 +94,6 @@ misfits v x u saw none fits =
     = subst (λ o. MayHaveReply o (transaction (GetSubscriberData saw.s_id) u).reply) saw.answered (subst (λ (call : Call). MayHaveReply x.outcome (transaction call u).reply) saw.reads fits.1) in
     let found : row_at u.subscribers (saw.s_id ∷ []) ≡ Some saw.values = row_read u (row_at u.subscribers (saw.s_id ∷ [])) saw.values (sym may) in
     none saw.values (row_at-has u.subscribers (saw.s_id ∷ []) saw.values found) saw.column
-
-left_in : (u : Database) (xs left : List Observed) → AreLeft u xs left → (z : Observed) → (FitsAtOnce u z → ⊥) → IsIn z xs → IsIn z left
-left_in u [] left a z none h = absurd h
-left_in u (x ∷ xs) left a z none h = elim a [
-  | inl k ↦ elim h [
-    | inl e ↦ absurd (none (subst (FitsAtOnce u) (sym e) k.0))
-    | inr q ↦ left_in u xs left k.1 z none q
-  ]
-  | inr k ↦ subst (IsIn z) (sym k.1.1) (elim h [ inl e ↦ inl e | inr q ↦ inr (left_in u xs k.1.0 k.1.2 z none q) ])
-]
-
-sets_chosen : (v : ℕ) (xs : List Observed) (x : Observed) (rest : List Observed) → Chooses xs x rest → NoneSets v xs → (sets_location v x.call ≡ false) × NoneSets v rest
-sets_chosen v [] x rest c h = absurd c
-sets_chosen v (y ∷ ys) x rest c h = elim c [
-  | inl p ↦ (subst (λ (z : Observed). sets_location v z.call ≡ false) (sym p.0) h.0, subst (NoneSets v) (sym p.1) h.1)
-  | inr p ↦ let more = sets_chosen v ys x p.0 p.2 h.1 in (more.0, subst (NoneSets v) (sym p.1) (h.0, more.1))
-]
-
-one_stuck : (events : List Event) (c d : Configuration) (r : Observed) (v : ℕ) → TakesOne c d → IsStuck events c r v → IsStuck events d r v
-one_stuck events c d r v h stuck =
-    let u : Database = (transaction h.0.call c.rows).database in
-    let sets = sets_chosen v c.opened h.0 h.1 h.2.chosen stuck.opened in
-    let none : NoneHasLocation v u = none_after h.0.call v c.rows sets.0 stuck.rows in
-    let stays : IsIn r h.1 = elim (in_cases c.opened h.0 h.1 h.2.chosen r stuck.there) [
-      | inl e ↦
-          let reads : changes_nothing r ≡ true = ap (λ call. cond (only_reads call) true (has_failed r.outcome)) stuck.saw.reads in
-          let writes : changes_nothing r ≡ false = ap changes_nothing e ∙ h.2.writes in
-          absurd (true≢false (sym reads ∙ writes))
-      | inr k ↦ k
-    ] in
-    record {
-      there = left_in u h.1 d.opened h.2.settled r (misfits v r u stuck.saw none) stays;
-      saw = stuck.saw;
-      rows = subst (NoneHasLocation v) (sym h.2.rows) none;
-      opened = left_all (λ (z : Observed). sets_location v z.call ≡ false) u h.1 d.opened h.2.settled sets.1;
-      later = stuck.later;
-    }
-
-until_stuck : (n asked : ℕ) (events : List Event) (c d : Configuration) (r : Observed) (v : ℕ) → TakeUntil n asked c d → IsStuck events c r v → IsStuck events d r v × NoneAskedAt asked d.opened
-until_stuck zero asked events c d r v h stuck = absurd h
-until_stuck (suc n) asked events c d r v h stuck =
-    let on = one_stuck events c h.0 r v h.1 stuck in
-    elim h.2 [
-      | inl k ↦ (subst (λ (e : Configuration). IsStuck events e r v) (sym k.1) on, subst (λ (e : Configuration). NoneAskedAt asked e.opened) (sym k.1) k.0)
-      | inr k ↦ until_stuck n asked events h.0 d r v k.1 on
-    ]
-
--- it isn't the call that ends
-goes_on : (asked at : ℕ) (more : List Event) (d : Configuration) (r : Observed) (v : ℕ) → IsStuck (Ends asked at ∷ more) d r v → NoneAskedAt asked d.opened → IsDoomed more d
-goes_on asked at more d r v stuck none = elim stuck.later [
-  | inl e ↦ absurd (in_all (λ (z : Observed). z.asked ≡ asked → ⊥) r d.opened none stuck.there (sym e))
-  | inr later ↦ (r, v, record { there = stuck.there; saw = stuck.saw; rows = stuck.rows; opened = stuck.opened; later = later })
-]
-
--- what follows on a doomed configuration is doomed
-pub doomed_on : (event : Event) (more : List Event) (c d : Configuration) → IsDoomed (event ∷ more) c → FollowsAtOnce event c d → IsDoomed more d
-doomed_on (Asks x) more c d doomed h =
-    let r = doomed.0 in
-    let v = doomed.1 in
-    let stuck = doomed.2 in
-    elim h [
-      | inl k ↦ subst (IsDoomed more) (sym k.1) (r, v, record { there = stuck.there; saw = stuck.saw; rows = stuck.rows; opened = stuck.opened; later = stuck.later.1 })
-      | inr k ↦ subst (IsDoomed more) (sym k.1) (r, v, record { there = inr stuck.there; saw = stuck.saw; rows = stuck.rows; opened = (stuck.later.0, stuck.opened); later = stuck.later.1 })
-    ]
-doomed_on (Ends asked at) more c d doomed h =
-    let r = doomed.0 in
-    let v = doomed.1 in
-    elim h [
-      | inl k ↦ subst (IsDoomed more) (sym k.1) (goes_on asked at more c r v doomed.2 k.0)
-      | inr k ↦ let on = until_stuck (length c.opened) asked (Ends asked at ∷ more) c d r v k.1 doomed.2 in goes_on asked at more d r v on.0 on.1
-    ]
-
-pub none_doomed : (c : Configuration) → IsDoomed [] c → ⊥
-none_doomed c doomed = doomed.2.later
 
 -- ---- what the code looks at
 -- the location of a home's subscriber
@@ -189,14 +108,14 @@ pub none_located : (home : SubscriberRows) (v : ℕ) → IsHome home → (cell h
 none_located home v is none row there e = none (location_cell home is row there ∙ ap Some e)
 
 -- ---- configurations that a doomed one stands for
-stays : (F : Observed → Type 0) (k : ℕ) (xs left : List Observed) → AreButSome F k xs left → (z : Observed) → (F z → ⊥) → IsIn z xs → IsIn z left
+pub stays : (F : Observed → Type 0) (k : ℕ) (xs left : List Observed) → AreButSome F k xs left → (z : Observed) → (F z → ⊥) → IsIn z xs → IsIn z left
 stays F k [] left a z other h = absurd h
 stays F k (x ∷ xs) left a z other h = elim a [
   | inl p ↦ subst (IsIn z) (sym p.1) (elim h [ inl e ↦ inl e | inr q ↦ inr (stays F k xs p.0 p.2 z other q) ])
   | inr p ↦ elim h [ inl e ↦ absurd (other (subst F (sym e) p.1)) | inr q ↦ stays F k xs left p.2 z other q ]
 ]
 
-no_update : (u : Database) (x : Observed) (s : ℕ) → x.call ≡ GetSubscriberData s → IsBlind u x → ⊥
+pub no_update : (u : Database) (x : Observed) (s : ℕ) → x.call ≡ GetSubscriberData s → IsBlind u x → ⊥
 no_update u x s reads b = let same : GetSubscriberData s ≡ UpdateLocation b.sets.number b.sets.location = sym reads ∙ b.sets.updates in cc
 
 pub doomed_stands : (events : List Event) (c : Held) (d : Configuration) → IsDoomed events (seen c) → StandsFor c d → IsDoomed events d

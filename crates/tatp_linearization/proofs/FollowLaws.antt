@@ -1,6 +1,6 @@
 -- What follows on configurations at an event, and after all events.
 use Rattle.std.proofs.Common.{◌≡◌, ℕ, zero, suc, ◌+◌, ◌<◌, ◌==◌, ◌↔◌, false, List, [], ◌∷◌, ◌++◌, take, drop, length, Some, slice_get, refl, sym, ◌∙◌, ap, subst, arith, true≢false, inl, inr, ◌⊎◌, ◌≤◌}
-use Rattle.std.proofs.lemmas.List.{append-nil, append_assoc, take_all}
+use Rattle.std.proofs.lemmas.List.{append-nil, append_assoc, take_all, take-append-drop}
 use Rattle.tatp_tables.specs.Database.{Database}
 use Rattle.tatp_history.specs.declared.observed.Observed.{Observed}
 use Rattle.tatp_history.specs.declared.event.Event.{Event}
@@ -11,17 +11,21 @@ use Rattle.tatp_history.specs.JustInTime.{NoneAskedAt}
 use Rattle.tatp_history.specs.Histories.{IsStrictlySerializable}
 use Rattle.tatp_history.specs.Configurations.{Configuration, starting}
 use Rattle.tatp_linearization.specs.declared.configuration.Configuration.{Configuration as Held}
-use Rattle.tatp_linearization.specs.AtOnce.{FollowsAtOnce, LeadAtOnce}
+use Rattle.tatp_linearization.specs.AtOnce.{FollowsAtOnce}
 use Rattle.tatp_linearization.specs.Doomed.{IsDoomed}
 use Rattle.tatp_linearization.specs.Possible.{AreMoreThan, IsPossible, NeedMore}
 use Rattle.tatp_linearization.specs.Held.{seen, AreReady, AreApart}
-use Rattle.tatp_linearization.specs.Covering.{OneStandsFor, AreEachApart, FromOne, MayBeTried, FollowSet}
+use Rattle.tatp_linearization.specs.Covering.{OneStandsFor, AreEachApart, FromOne, MayBeTried}
+use Rattle.tatp_linearization.specs.Going.{LeadsOn, OneLeadsOn}
+use Rattle.tatp_linearization.specs.Turns.{FollowSet}
 use Rattle.tatp_linearization.specs.Reached.{AreKept}
-use Rattle.tatp_linearization.proofs.AtOnceLaws.{lead_by, at_once_complete}
+use Rattle.tatp_linearization.proofs.SettlingLaws.{shift}
+use Rattle.tatp_linearization.proofs.GoingLaws.{serial_to, serial_leads_on}
 use Rattle.tatp_linearization.proofs.PossibleLaws.{ArePossible, follow_possible, need_more}
 use Rattle.tatp_linearization.proofs.SerialLaws.{possible_serial, possible_apart}
 use Rattle.tatp_linearization.proofs.CoveringLaws.{seen_stands, bare_stands}
-use Rattle.tatp_linearization.proofs.DoomedLaws.{none_doomed, doomed_on}
+use Rattle.tatp_linearization.proofs.AheadLaws.{rises_on}
+use Rattle.tatp_linearization.proofs.LostLaws.{none_doomed}
 use Rattle.tatp_linearization.proofs.PlaceLaws.{take_more, drop_at}
 
 -- ---- one configuration
@@ -46,7 +50,7 @@ pub kept_none : (u : Database) (cs : List Held) (c : Held) → cs ≡ c ∷ [] �
 kept_none u cs c is rows none =
     let there : seen c ≡ starting u = λ k. record { rows = rows k; opened = none k } in
     record {
-      complete = λ rise d h. subst (λ bs. OneStandsFor bs d) (sym is) (inl ((bare_stands c d none).1 (h ∙ sym there)));
+      complete = λ after more on. (starting u, subst (λ bs. OneStandsFor bs (starting u)) (sym is) (inl ((bare_stands c (starting u) none).1 (sym there))), on);
       sound = λ d h.
           let k : OneStandsFor (c ∷ []) d = subst (λ bs. OneStandsFor bs d) is h in
           elim k [
@@ -62,18 +66,18 @@ pub each_apart : (u : Database) (past : List Event) (cs : List Held) → TimesRi
 each_apart u past [] rise all = tt
 each_apart u past (c ∷ cs) rise all = (possible_apart u past (seen c) rise (all (seen c) (inl (seen_stands c))).0, each_apart u past cs rise (λ d h. all d (inr h)))
 
--- these stand for the configurations to which the events lead, but for some that are doomed by the rest
-pub record AreKeptBut (u : Database) (past rest : List Event) (cs : List Held) : Type 0 where
+-- these are kept where the events go on with the rest of a window
+pub record AreKeptBefore (u : Database) (past rest : List Event) (cs : List Held) : Type 0 where
   pub sound : ArePossible u past cs
-  pub found : TimesRise past → (d : Configuration) → LeadAtOnce past (starting u) d → OneStandsFor cs d ⊎ IsDoomed rest d
+  pub complete : (after : Database) (more : List Event) → LeadsOn after (past ++ (rest ++ more)) (starting u) → OneLeadsOn after (rest ++ more) cs
   pub ready : AreReady cs
   pub apart : (s : ℕ) × AreApart s cs
 
-pub but_none_doomed : (u : Database) (past rest : List Event) (cs : List Held) → AreKept u past cs → AreKeptBut u past rest cs
-but_none_doomed u past rest cs kept = record { sound = kept.sound; found = λ rise d h. inl (kept.complete rise d h); ready = kept.ready; apart = kept.apart }
+pub kept_before : (u : Database) (past rest : List Event) (cs : List Held) → AreKept u past cs → AreKeptBefore u past rest cs
+kept_before u past rest cs kept = record { sound = kept.sound; complete = λ after more on. kept.complete after (rest ++ more) on; ready = kept.ready; apart = kept.apart }
 
-pub none_but : (u : Database) (past : List Event) (cs : List Held) → AreKeptBut u past [] cs → AreKept u past cs
-none_but u past cs kept = record { complete = λ rise d h. elim (kept.found rise d h) [ inl k ↦ k | inr doomed ↦ absurd (none_doomed d doomed) ]; sound = kept.sound; ready = kept.ready; apart = kept.apart }
+pub kept_at_end : (u : Database) (past : List Event) (cs : List Held) → AreKeptBefore u past [] cs → AreKept u past cs
+kept_at_end u past cs kept = record { complete = kept.complete; sound = kept.sound; ready = kept.ready; apart = kept.apart }
 
 pub first_rise : (past more : List Event) → TimesRise (past ++ more) → TimesRise past
 first_rise [] more h = tt
@@ -83,26 +87,25 @@ first_rise (event ∷ past) more h = (after past h.0, first_rise past more h.1)
     after [] k = tt
     after (e ∷ es) k = (k.0, after es k.1)
 
-pub kept_more : (u : Database) (past : List Event) (event : Event) (rest : List Event) (before after : List Held) → FollowSet event before after → AreReady after → ((s : ℕ) → AreApart s before → AreApart s after) → AreKeptBut u past (event ∷ rest) before → AreKeptBut u (past ++ event ∷ []) rest after
-kept_more u past event rest before after all ready apart kept = record {
+pub kept_more : (Known : List Event → Type 0) (u : Database) (past : List Event) (event : Event) (rest : List Event) (before after : List Held)
+    → ((more : List Event) → TimesRise (past ++ event ∷ (rest ++ more)) → Known (event ∷ (rest ++ more))) → FollowSet Known event before after → AreReady after → ((s : ℕ) → AreApart s before → AreApart s after) → AreKeptBefore u past (event ∷ rest) before → AreKeptBefore u (past ++ event ∷ []) rest after
+kept_more Known u past event rest before after known all ready apart kept = record {
   sound = λ d h. let k = all.sound d h in follow_possible u past event k.0 d (kept.sound k.0 k.1) k.2;
-  found = λ rise d h.
-      let early = first_rise past (event ∷ []) rise in
-      let parts = lead_by past (event ∷ []) (starting u) d h in
-      let last : FollowsAtOnce event parts.0 d = subst (λ (b : Configuration). FollowsAtOnce event parts.0 b) (sym parts.2.2) parts.2.1 in
-      elim (kept.found early parts.0 parts.1) [
-        | inl k ↦ inl (all.found (each_apart u past before early kept.sound) d (parts.0, k, last))
-        | inr doomed ↦ inr (doomed_on event rest parts.0 d doomed last)
-      ];
+  complete = λ to more on.
+      let whole : LeadsOn to (past ++ event ∷ (rest ++ more)) (starting u) = subst (λ es. LeadsOn to es (starting u)) (sym (shift past event (rest ++ more))) on in
+      let one = kept.complete to more whole in
+      all.found (each_apart u past before (first_rise past (event ∷ (rest ++ more)) whole.rise) kept.sound) to (rest ++ more) (known more whole.rise) one;
   ready = ready;
   apart = (kept.apart.0, apart kept.apart.0 kept.apart.1);
 }
 
 pub kept_less : (u : Database) (past rest : List Event) (before after : List Held) → ((d : Configuration) → OneStandsFor after d → OneStandsFor before d) → ((d : Configuration) → OneStandsFor before d → OneStandsFor after d ⊎ IsDoomed rest d) → (AreReady before → AreReady after)
-    → ((s : ℕ) → AreApart s before → AreApart s after) → AreKeptBut u past rest before → AreKeptBut u past rest after
+    → ((s : ℕ) → AreApart s before → AreApart s after) → AreKeptBefore u past rest before → AreKeptBefore u past rest after
 kept_less u past rest before after less found ready apart kept = record {
   sound = λ d h. kept.sound d (less d h);
-  found = λ rise d h. elim (kept.found rise d h) [ inl k ↦ found d k | inr doomed ↦ inr doomed ];
+  complete = λ to more on.
+      let one = kept.complete to more on in
+      elim (found one.0 one.1) [ inl k ↦ (one.0, k, one.2) | inr doomed ↦ absurd (none_doomed to rest more one.0 doomed one.2) ];
   ready = ready kept.ready;
   apart = (kept.apart.0, apart kept.apart.0 kept.apart.1);
 }
@@ -113,7 +116,10 @@ positive (suc n) e = omega arith
 
 -- where none is kept there is no order, and where some are there is one
 pub none_explains : (u : Database) (past : List Event) (cs : List Held) → AreKept u past cs → TimesRise past → HaveEnds past → length cs ≡ 0 → IsStrictlySerializable u (asked_in past) → ⊥
-none_explains u past cs kept rise have none s = let led = at_once_complete u past rise have s in not_there cs led.0 none (kept.complete rise led.0 led.1)
+none_explains u past cs kept rise have none s =
+    let to = serial_to u past s in
+    let one = kept.complete to.0 [] (serial_leads_on u to.0 past rise have to.1) in
+    not_there cs one.0 none one.1
   where
     not_there : (bs : List Held) (d : Configuration) → length bs ≡ 0 → OneStandsFor bs d → ⊥
     not_there [] d e h = h
@@ -141,25 +147,35 @@ window_whole past events i event at = ap (λ es. past ++ es) (both events i even
 
 -- the configurations after the first of a window's events, but for some that are doomed
 pub record IsFollowed (set : List Held) (events : List Event) (i : ℕ) (after : List Held) : Type 0 where
-  pub kept : (u : Database) (past : List Event) → AreKept u past set → AreKeptBut u (past ++ take i events) (drop i events) after
+  pub kept : (u : Database) (past : List Event) → AreKept u past set → AreKeptBefore u (past ++ take i events) (drop i events) after
   pub ready : AreReady after
   pub apart : (s : ℕ) → AreApart s set → AreApart s after
 
 pub followed_none : (set : List Held) (events : List Event) → AreReady set → IsFollowed set events 0 set
-followed_none set events ready = record { kept = λ u past k. subst (λ es. AreKeptBut u es events set) (sym (append-nil past)) (but_none_doomed u past events set k); ready = ready; apart = λ s h. h }
+followed_none set events ready = record { kept = λ u past k. subst (λ es. AreKeptBefore u es events set) (sym (append-nil past)) (kept_before u past events set k); ready = ready; apart = λ s h. h }
 
-pub followed_more : (set : List Held) (events : List Event) (i : ℕ) (event : Event) (before after : List Held) → slice_get events i ≡ Some event → IsFollowed set events i before
-    → FollowSet event before after → AreReady after → ((s : ℕ) → AreApart s before → AreApart s after) → IsFollowed set events (i + 1) after
-followed_more set events i event before after at f all ready apart = record {
-  kept = λ u past k. subst (λ es. AreKeptBut u es (drop (i + 1) events) after) (sym (window_more past events i event at))
-      (kept_more u (past ++ take i events) event (drop (i + 1) events) before after all ready apart
-      (subst (λ es. AreKeptBut u (past ++ take i events) es before) (drop_at events i event at ∙ ap (λ n. event ∷ drop n events) (next i)) (f.kept u past k)));
+pub followed_more : (Known : List Event → Type 0) (set : List Held) (events : List Event) (i : ℕ) (event : Event) (before after : List Held) → slice_get events i ≡ Some event → IsFollowed set events i before
+    → ((more : List Event) → TimesRise (events ++ more) → Known (event ∷ (drop (i + 1) events ++ more))) → FollowSet Known event before after → AreReady after → ((s : ℕ) → AreApart s before → AreApart s after) → IsFollowed set events (i + 1) after
+followed_more Known set events i event before after at f known all ready apart = record {
+  kept = λ u past k. subst (λ es. AreKeptBefore u es (drop (i + 1) events) after) (sym (window_more past events i event at))
+      (kept_more Known u (past ++ take i events) event (drop (i + 1) events) before after (λ more rise. known more (window_rises past more rise)) all ready apart
+      (subst (λ es. AreKeptBefore u (past ++ take i events) es before) here (f.kept u past k)));
   ready = ready;
   apart = λ s h. apart s (f.apart s h);
 }
   where
     next : (n : ℕ) → suc n ≡ n + 1
     next n = omega arith
+
+    here : drop i events ≡ event ∷ drop (i + 1) events
+    here = drop_at events i event at ∙ ap (λ n. event ∷ drop n events) (next i)
+
+    whole : (past more : List Event) → (past ++ take i events) ++ event ∷ (drop (i + 1) events ++ more) ≡ past ++ (events ++ more)
+    whole past more = ap (λ zs. (past ++ take i events) ++ (zs ++ more)) (sym here) ∙ (append_assoc past (take i events) (drop i events ++ more)
+        ∙ (ap (λ zs. past ++ zs) (sym (append_assoc (take i events) (drop i events) more)) ∙ ap (λ zs. past ++ (zs ++ more)) (take-append-drop i events)))
+
+    window_rises : (past more : List Event) → TimesRise ((past ++ take i events) ++ event ∷ (drop (i + 1) events ++ more)) → TimesRise (events ++ more)
+    window_rises past more rise = rises_on past (events ++ more) (subst TimesRise (whole past more) rise)
 
 -- without some that are doomed
 pub followed_less : (set : List Held) (events : List Event) (i : ℕ) (before after : List Held) → IsFollowed set events i before → ((d : Configuration) → OneStandsFor after d → OneStandsFor before d)
@@ -173,7 +189,7 @@ followed_less set events i before after f less found ready apart = record {
 pub followed_all : (set : List Held) (events : List Event) (i : ℕ) (after : List Held) → IsFollowed set events i after → length events ≤ i → (u : Database) (past : List Event) → AreKept u past set → AreKept u (past ++ events) after
 followed_all set events i after f all u past k =
     subst (λ es. AreKept u (past ++ es) after) (take_all i events all)
-    (none_but u (past ++ take i events) after (subst (λ es. AreKeptBut u (past ++ take i events) es after) (nothing_left events i all) (f.kept u past k)))
+    (kept_at_end u (past ++ take i events) after (subst (λ es. AreKeptBefore u (past ++ take i events) es after) (nothing_left events i all) (f.kept u past k)))
   where
     nothing_left : (es : List Event) (n : ℕ) → length es ≤ n → drop n es ≡ []
     nothing_left [] zero le = refl

@@ -1,5 +1,5 @@
 -- What follows on the configurations of a list, and what their open calls make of them.
-use Rattle.std.proofs.Common.{◌≡◌, ℕ, ◌+◌, ◌<◌, ◌≤◌, ◌⊎◌, List, [], length, Some, None, slice_get, sym, subst, arith, inl, inr}
+use Rattle.std.proofs.Common.{◌≡◌, ℕ, ◌+◌, ◌<◌, ◌≤◌, ◌⊎◌, List, [], ◌∷◌, length, Some, None, slice_get, sym, subst, arith, inl, inr}
 use Rattle.tatp_history.specs.declared.observed.Observed.{Observed}
 use Rattle.tatp_history.specs.Locality.{AreAccepted}
 use Rattle.tatp_history.specs.declared.event.Event.{Event}
@@ -11,12 +11,13 @@ use Rattle.tatp_linearization.specs.AtOnce.{TakesOne, FollowsAtOnce}
 use Rattle.tatp_linearization.specs.Possible.{AreMoreThan}
 use Rattle.tatp_linearization.specs.Held.{Has, AreReady, AreApart, Takes}
 use Rattle.tatp_linearization.specs.Overwritten.{IsBlind}
-use Rattle.tatp_linearization.specs.Covering.{StandsFor, OneStandsFor, IsApart, From, FromOne, MayCome, MayFollow, MayBeTried, IsStoodOr, Gains, AreTriedOutAt, GainsAfter, FollowSet, AreEachApart}
+use Rattle.tatp_linearization.specs.Covering.{StandsFor, OneStandsFor, IsApart, From, FromOne, MayCome, MayFollow, MayBeTried, IsStoodOr, Gains, AreEachApart}
+use Rattle.tatp_linearization.specs.Turns.{IsThere, AreTriedOutAt, AreFollowed, FollowSet}
 use Rattle.tatp_linearization.proofs.PlaceLaws.{all_get, same_item, below_or_is}
 use Rattle.tatp_linearization.proofs.PossibleLaws.{come_none, until_takes, more_than}
 use Rattle.tatp_linearization.proofs.AtOnceLaws.{until_settled}
 use Rattle.tatp_linearization.proofs.ButSomeLaws.{but_map}
-use Rattle.tatp_linearization.proofs.CoveringLaws.{from_one, one_from, IsThere, there_some, there_none, gains_map, taken_there, taken_from}
+use Rattle.tatp_linearization.proofs.CoveringLaws.{stands_get, from_one, one_from, there_some, there_none, taken_there, taken_from}
 
 -- ---- what follows just in time may follow
 pub follows_may : (event : Event) (c d : Configuration) → FollowsAtOnce event c d → MayFollow event c d
@@ -67,64 +68,75 @@ none_and most R set many = more_than most (IsStoodOr [] (λ d. (j : ℕ) × (b :
   | inr k ↦ from_one R set k.0 k.1 e k.2 k.3
 ]) many
 
--- what follows on each of a set
-abbrev pub MayAt : Event → Held → Configuration → Type 0
-MayAt event = From (MayFollow event)
-
-abbrev pub HasAt : Event → List Held → Held → Configuration → Type 0
-HasAt event set c d = AreEachApart set × From (FollowsAtOnce event) c d
-
--- and what was tried there
-pub record Sharing (event : Event) (set : List Held) (i : ℕ) (after tried : List Held) : Type 0 where
-  pub gathered : Gathering (MayAt event) (HasAt event set) set [] i after
-  pub done : AreEachApart set → AreTriedOutAt event after tried
+-- what follows on each of a set, and what was tried there
+pub record Sharing (Known : List Event → Type 0) (event : Event) (set : List Held) (i : ℕ) (after tried : List Held) : Type 0 where
+  pub sound : (d : Configuration) → OneStandsFor after d → FromOne (MayFollow event) set d
+  pub followed : AreEachApart set → (rest : List Event) → Known (event ∷ rest) → (j : ℕ) (c : Held) → j < i → slice_get set j ≡ Some c → AreFollowed event rest c after
+  pub done : AreEachApart set → (rest : List Event) → Known (event ∷ rest) → AreTriedOutAt event rest after tried
   pub tries : (d : Configuration) → OneStandsFor tried d → FromOne (MayBeTried event) set d
-  pub apart : (s : ℕ) → AreApart s set → AreApart s tried
+  pub ready : AreReady after
+  pub apart : (s : ℕ) → AreApart s set → AreApart s after
+  pub distinct : (s : ℕ) → AreApart s set → AreApart s tried
 
-pub sharing_none : (event : Event) (set after tried : List Held) → after ≡ [] → tried ≡ [] → Sharing event set 0 after tried
-sharing_none event set after tried is none = record {
-  gathered = subst (Gathering (MayAt event) (HasAt event set) set [] 0) (sym is) (gathering_none (MayAt event) (HasAt event set) set []);
-  done = λ aparts. nothing event;
+pub sharing_none : (Known : List Event → Type 0) (event : Event) (set after tried : List Held) → after ≡ [] → tried ≡ [] → Sharing Known event set 0 after tried
+sharing_none Known event set after tried is none = record {
+  sound = λ d h. let k : OneStandsFor [] d = subst (λ cs. OneStandsFor cs d) is h in absurd k;
+  followed = λ aparts rest known j c lt at. absurd (omega (arith, lt));
+  done = λ aparts rest known. nothing event rest;
   tries = λ d h. let k : OneStandsFor [] d = subst (λ cs. OneStandsFor cs d) none h in absurd k;
-  apart = λ s h. subst (AreApart s) (sym none) (record { own = tt; distinct = tt });
+  ready = subst AreReady (sym is) tt;
+  apart = λ s h. subst (AreApart s) (sym is) (record { own = tt; distinct = tt });
+  distinct = λ s h. subst (AreApart s) (sym none) (record { own = tt; distinct = tt });
 }
   where
-    nothing : (e : Event) → AreTriedOutAt e after tried
-    nothing (Asks x) = tt
-    nothing (Ends asked at) = λ d h. let k : OneStandsFor [] d = subst (λ cs. OneStandsFor cs d) none h in absurd k
+    nothing : (e : Event) (rest : List Event) → AreTriedOutAt e rest after tried
+    nothing (Asks x) rest = tt
+    nothing (Ends asked at) rest = λ d h. let k : OneStandsFor [] d = subst (λ cs. OneStandsFor cs d) none h in absurd k
 
-pub sharing_more : (event : Event) (set : List Held) (i : ℕ) (c : Held) (before after first tried : List Held) → slice_get set i ≡ Some c → Sharing event set i before first → GainsAfter event c first before after
-    → (IsApart c → AreTriedOutAt event before first → AreTriedOutAt event after tried) → ((d : Configuration) → OneStandsFor tried d → IsStoodOr first (From (MayBeTried event) c) d)
-    → (AreReady before → AreReady after) → (AreApart c.home.s_id before → AreApart c.home.s_id after) → (AreApart c.home.s_id first → AreApart c.home.s_id tried) → Sharing event set (i + 1) after tried
-sharing_more event set i c before after first tried at p gains done tries readies aparts distincts = record {
-  gathered = gathering_more (MayAt event) (HasAt event set) set [] i c before after p.gathered at
-      (gains_map (MayAt event c) (λ d. IsApart c × (AreTriedOutAt event before first × From (FollowsAtOnce event) c d)) (MayAt event c) (HasAt event set c) before after
-      (λ d h. h) (λ d h. (all_get IsApart set i c h.0 at, (p.done h.0, h.1))) gains) readies aparts;
-  done = λ all. done (all_get IsApart set i c all at) (p.done all);
-  tries = λ d h. elim (tries d h) [ inl k ↦ p.tries d k | inr k ↦ from_one (MayBeTried event) set i c d at k ];
-  apart = λ s h. subst (λ t. AreApart t first → AreApart t tried) (all_get (λ (b : Held). b.home.s_id ≡ s) set i c h.own at) distincts (p.apart s h);
+pub sharing_more : (Known : List Event → Type 0) (event : Event) (set : List Held) (i : ℕ) (c : Held) (before after first tried : List Held) → slice_get set i ≡ Some c → Sharing Known event set i before first
+    → ((d : Configuration) → OneStandsFor before d → OneStandsFor after d) → ((d : Configuration) → OneStandsFor after d → IsStoodOr before (From (MayFollow event) c) d)
+    → (IsApart c → (rest : List Event) → Known (event ∷ rest) → AreTriedOutAt event rest before first → AreFollowed event rest c after)
+    → (IsApart c → (rest : List Event) → Known (event ∷ rest) → AreTriedOutAt event rest before first → AreTriedOutAt event rest after tried) → ((d : Configuration) → OneStandsFor tried d → IsStoodOr first (From (MayBeTried event) c) d)
+    → (AreReady before → AreReady after) → (AreApart c.home.s_id before → AreApart c.home.s_id after) → (AreApart c.home.s_id first → AreApart c.home.s_id tried) → Sharing Known event set (i + 1) after tried
+sharing_more Known event set i c before after first tried there p kept sound followed done tries readies aparts distincts = record {
+  sound = λ d h. elim (sound d h) [ inl k ↦ p.sound d k | inr k ↦ from_one (MayFollow event) set i c d there k ];
+  followed = λ all rest known j b lt get. elim (below_or_is j i lt) [
+    | inl k ↦ λ to d stands on. let one = p.followed all rest known j b k get to d stands on in (one.0, kept one.0 one.1, one.2)
+    | inr e ↦
+        let is : b ≡ c = same_item set i b c (subst (λ k. slice_get set k ≡ Some b) e get) there in
+        subst (λ (q : Held). AreFollowed event rest q after) (sym is) (followed (all_get IsApart set i c all there) rest known (p.done all rest known))
+  ];
+  done = λ all rest known. done (all_get IsApart set i c all there) rest known (p.done all rest known);
+  tries = λ d h. elim (tries d h) [ inl k ↦ p.tries d k | inr k ↦ from_one (MayBeTried event) set i c d there k ];
+  ready = readies p.ready;
+  apart = λ s h. subst (λ t. AreApart t before → AreApart t after) (all_get (λ (b : Held). b.home.s_id ≡ s) set i c h.own there) aparts (p.apart s h);
+  distinct = λ s h. subst (λ t. AreApart t first → AreApart t tried) (all_get (λ (b : Held). b.home.s_id ≡ s) set i c h.own there) distincts (p.distinct s h);
 }
 
-pub gathered_set : (event : Event) (set : List Held) (i : ℕ) (new : List Held) → Gathering (MayAt event) (HasAt event set) set [] i new → length set ≤ i → FollowSet event set new
-gathered_set event set i new p le = record {
-  sound = λ d h. elim (p.sound d h) [ inl k ↦ absurd k | inr k ↦ from_one (MayFollow event) set k.0 k.1 d k.2 k.3 ];
-  found = λ apart d h.
-      let there = one_from (FollowsAtOnce event) set d h in
+pub sharing_all : (Known : List Event → Type 0) (event : Event) (set : List Held) (i : ℕ) (after tried : List Held) → Sharing Known event set i after tried → length set ≤ i → FollowSet Known event set after
+sharing_all Known event set i after tried p le = record {
+  sound = p.sound;
+  found = λ all to rest known one.
+      let there = stands_get set one.0 one.1 in
       let lt = there.1 in
-      p.found d there.0 there.2 (omega (arith, lt, le)) there.3 (apart, there.4);
+      p.followed all rest known there.0 there.2 (omega (arith, lt, le)) there.3 to one.0 there.4 one.2;
 }
 
 -- too much of what was tried
-pub sharing_many : (most : ℕ) (event : Event) (set : List Held) (i : ℕ) (c : Held) (after tried : List Held) → slice_get set i ≡ Some c → Sharing event set i after tried
+pub sharing_many : (Known : List Event → Type 0) (most : ℕ) (event : Event) (set : List Held) (i : ℕ) (c : Held) (after tried : List Held) → slice_get set i ≡ Some c → Sharing Known event set i after tried
     → AreMoreThan most (IsStoodOr after (From (MayBeTried event) c)) ⊎ AreMoreThan most (IsStoodOr tried (From (MayBeTried event) c)) → AreMoreThan most (FromOne (MayBeTried event) set)
-sharing_many most event set i c after tried at p many = elim many [
-  | inl k ↦ none_and most (MayBeTried event) set
-      (gathering_many most (MayAt event) (From (MayBeTried event)) (HasAt event set) (λ b d h. (h.0, h.1, may_tried event h.0 d h.2)) set [] i c after p.gathered at k)
-  | inr k ↦ more_than most (IsStoodOr tried (From (MayBeTried event) c)) (FromOne (MayBeTried event) set) (λ e h. elim h [
-    | inl q ↦ p.tries e q
-    | inr q ↦ from_one (MayBeTried event) set i c e at q
-  ]) k
-]
+sharing_many Known most event set i c after tried at p many =
+    let own : (e : Configuration) → From (MayBeTried event) c e → FromOne (MayBeTried event) set e = λ e h. from_one (MayBeTried event) set i c e at h in
+    elim many [
+      | inl k ↦ more_than most (IsStoodOr after (From (MayBeTried event) c)) (FromOne (MayBeTried event) set) (λ e h. elim h [
+        | inl q ↦ let r = p.sound e q in (r.0, r.1, may_tried event r.0 e r.2)
+        | inr q ↦ own e q
+      ]) k
+      | inr k ↦ more_than most (IsStoodOr tried (From (MayBeTried event) c)) (FromOne (MayBeTried event) set) (λ e h. elim h [
+        | inl q ↦ p.tries e q
+        | inr q ↦ own e q
+      ]) k
+    ]
 
 -- what one open call makes of each of a set
 pub gathered_one : (set : List Held) (i : ℕ) (new : List Held) → Gathering (From MayCome) (From TakesOne) set [] i new → length set ≤ i → Gains (FromOne MayCome set) (FromOne TakesOne set) [] new

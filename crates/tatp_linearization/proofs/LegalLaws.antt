@@ -13,10 +13,9 @@ use Rattle.tatp_history.specs.Histories.{IsIn, MayHaveReply, AreAnsweredInOrder,
 use Rattle.tatp_history.specs.Locality.{AreAccepted}
 use Rattle.tatp_history.specs.Prefixes.{calls_by}
 use Rattle.tatp_history.specs.Events.{asked_in, IsAnsweredAt}
-use Rattle.tatp_history.specs.Configurations.{Configuration, starting}
+use Rattle.tatp_history.specs.Configurations.{Configuration}
+use Rattle.tatp_history.specs.Remaining.{IsLeft}
 use Rattle.tatp_history.proofs.OrderLaws.{in_all, all_in}
-use Rattle.tatp_history.proofs.RemainingLaws.{IsLeft}
-use Rattle.tatp_history.proofs.JustInTimeLaws.{Any, serial_is, none_open}
 use Rattle.tatp_linearization.specs.declared.configuration.Configuration.{Configuration as Held}
 use Rattle.tatp_linearization.specs.declared.explanations.Explanations.{Explanations}
 use Rattle.tatp_linearization.specs.Held.{seen, Has, AreReady, IsAcceptedEvent}
@@ -28,11 +27,10 @@ use Rattle.tatp_linearization.specs.Cut.{events_by, AreWindow}
 use Rattle.tatp_linearization.specs.Legal.{with_call, events_with, calls_in, open_calls, all_calls, IsAmong}
 use Rattle.tatp_linearization.specs.Leaving.{without_calls, AreAcceptedCalls, AreClosed}
 use Rattle.tatp_linearization.specs.Listed.{IsListed, AreSifted}
-use Rattle.tatp_linearization.proofs.AtOnceLaws.{lead_complete}
+use Rattle.tatp_linearization.proofs.GoingLaws.{serial_leads, serial_to}
 use Rattle.tatp_linearization.proofs.ButSomeLaws.{but_in}
 use Rattle.tatp_linearization.proofs.HeldLaws.{get_has}
 use Rattle.tatp_linearization.proofs.CoveringLaws.{stands_get}
-use Rattle.tatp_linearization.proofs.FollowLaws.{first_rise}
 use Rattle.tatp_linearization.proofs.PlacedLaws.{told_rises, told_have, told_asked, other_in, among_window}
 
 -- ---- calls among those of a window and those open before it
@@ -72,12 +70,13 @@ legal_on_rows u past events x at reply cs rows window there was kept starts clos
     let have = told_have past events x at reply window there was in
     let E : List Event = events_with (answered_with x at reply) (events_by at events) in
     let s' : IsStrictlySerializable u (asked_in (past ++ E)) = subst (IsStrictlySerializable u) (sym (told_asked past events x at reply window there was)) s in
-    let led = lead_complete Any past E rise have (starting u) tt (none_open (past ++ E)) (s'.0, serial_is u (past ++ E) [] s'.0 s'.1, tt) in
+    let to = serial_to u (past ++ E) s' in
+    let led = kept.complete to.0 E (serial_leads u to.0 (past ++ E) rise have to.1) in
     let d : Configuration = led.0 in
-    let has : OneStandsFor cs d = kept.complete (first_rise past E rise) d led.1 in
+    let has : OneStandsFor cs d = led.1 in
     let one = stands_get cs d has in
     let bare : Has rows (record { rows = d.rows; opened = [] }) = subst (λ v. Has rows (record { rows = v; opened = [] })) (sym one.4.rows) (starts (seen one.2) (get_has cs one.0 one.2 one.3)) in
-    let order = led.2 in
+    let order = led.2.order in
     let calls : List Call = all_calls cs events in
     let own : IsAmong x.call calls = among_second x.call (open_calls cs) (calls_in (asked_in events)) (among_in x (asked_in events) there) in
     let among : AllByRecursion (λ (z : Observed). IsAmong z.call calls) order.0 = all_in (λ (z : Observed). IsAmong z.call calls) order.0 (λ z h. elim (in_all (IsLeft E d.opened) z order.0 order.1.made h) [

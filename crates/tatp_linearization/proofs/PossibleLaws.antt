@@ -36,11 +36,11 @@ calls_on (suc m) c d e first second = let rest = calls_on m first.0 d e first.2 
 pub some_on : (c d e : Configuration) → SomeTakeEffect c d → SomeTakeEffect d e → SomeTakeEffect c e
 some_on c d e first second = calls_on first.0 c d e first.1 second
 
-one_call : (c d : Configuration) → CallTakesEffect c d → SomeTakeEffect c d
+pub one_call : (c d : Configuration) → CallTakesEffect c d → SomeTakeEffect c d
 one_call c d h = (1, (d, h, refl))
 
 -- a call that changes nothing takes effect, and leaves the rows
-unchanging_call : (u : Database) (opened left : List Observed) (x : Observed) → FitsAtOnce u x → ((d : Configuration) → d ≡ record { rows = (transaction x.call u).database; opened = left } → CallTakesEffect (record { rows = u; opened = opened }) d)
+pub unchanging_call : (u : Database) (opened left : List Observed) (x : Observed) → FitsAtOnce u x → ((d : Configuration) → d ≡ record { rows = (transaction x.call u).database; opened = left } → CallTakesEffect (record { rows = u; opened = opened }) d)
     → SomeTakeEffect (record { rows = u; opened = opened }) (record { rows = u; opened = left })
 unchanging_call u opened left x f takes =
     let same = unchanged x f.0 u f.1 in

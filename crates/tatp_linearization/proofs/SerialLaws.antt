@@ -10,9 +10,10 @@ use Rattle.tatp_history.specs.Outcomes.{may_take_effect}
 use Rattle.tatp_history.specs.Events.{asked_in, AreAfter, TimesRise, HaveEnds}
 use Rattle.tatp_history.specs.JustInTime.{Chooses, AreOpen}
 use Rattle.tatp_history.specs.Configurations.{Configuration, starting}
+use Rattle.tatp_history.specs.Remaining.{HasOrder}
 use Rattle.tatp_history.proofs.OrderLaws.{in_all, all_in}
 use Rattle.tatp_history.proofs.ChoiceLaws.{rest_in}
-use Rattle.tatp_history.proofs.RemainingLaws.{HasOrder, open_asked, open_chosen, open_ended, put_first, order_asks, order_ends}
+use Rattle.tatp_history.proofs.RemainingLaws.{open_asked, open_chosen, open_ended, put_first, order_asks, order_ends}
 use Rattle.tatp_history.proofs.JustInTimeLaws.{Any, is_serial, none_open}
 use Rattle.tatp_linearization.specs.Possible.{CallTakesEffect, CallsTakeEffect, Passes, MayBecome}
 use Rattle.tatp_linearization.proofs.AtOnceLaws.{aborted_in, have_more}

@@ -1,12 +1,13 @@
 -- Open calls without those that change nothing and whose reply fits.
-use Rattle.std.proofs.Common.{◌≡◌, suc, ◌≤◌, true, List, [], ◌∷◌, ◌++◌, length, refl, sym, ◌∙◌, ap, subst, arith, true≢false, inl, inr}
+use Rattle.std.proofs.Common.{◌≡◌, suc, ◌≤◌, List, [], ◌∷◌, ◌++◌, length, refl, sym, ◌∙◌, ap, subst, arith, inl, inr}
 use Rattle.std.specs.List.{AllByRecursion}
 use Rattle.tatp_tables.specs.Database.{Database}
 use Rattle.tatp_history.specs.declared.event.Event.{Event}
 use Rattle.tatp_history.specs.declared.observed.Observed.{Observed}
 use Rattle.tatp_history.specs.Events.{HaveEnds}
 use Rattle.tatp_history.specs.JustInTime.{Chooses, AreOpen}
-use Rattle.tatp_history.proofs.RemainingLaws.{HasOrder, open_chosen}
+use Rattle.tatp_history.specs.Remaining.{HasOrder}
+use Rattle.tatp_history.proofs.RemainingLaws.{open_chosen}
 use Rattle.tatp_history.proofs.ChangeLaws.{unchanged}
 use Rattle.tatp_history.proofs.UnchangingLaws.{without_unchanging}
 use Rattle.tatp_linearization.specs.AtOnce.{FitsAtOnce, AreLeft}

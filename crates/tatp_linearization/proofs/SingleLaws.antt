@@ -1,5 +1,6 @@
 -- A call that is answered before anything else happens, where one configuration with no open call is kept.
 use Rattle.std.proofs.Common.{◌≡◌, ℕ, ◌↔◌, true, false, List, [], ◌∷◌, ◌++◌, refl, sym, ◌∙◌, ap, subst, true≢false, inl, inr}
+use Rattle.std.proofs.lemmas.List.{append_assoc}
 use Rattle.tatp_tables.specs.Database.{Database}
 use Rattle.tatp_procs.specs.declared.reply.Reply.{Reply}
 use Rattle.tatp_procs.specs.Transactions.{transaction}
@@ -20,13 +21,14 @@ use Rattle.tatp_linearization.specs.AtOnce.{AreLeft, TakeUntil, FollowsAtOnce, L
 use Rattle.tatp_linearization.specs.Possible.{IsPossible}
 use Rattle.tatp_linearization.specs.Held.{seen, AreReady, AreApart}
 use Rattle.tatp_linearization.specs.Covering.{OneStandsFor}
+use Rattle.tatp_linearization.specs.Going.{LeadsOn}
 use Rattle.tatp_linearization.specs.Reached.{AreKept}
 use Rattle.tatp_linearization.specs.Single.{events_alone, answered_with}
-use Rattle.tatp_linearization.proofs.AtOnceLaws.{lead_by, lead_settled, at_once_complete}
+use Rattle.tatp_linearization.proofs.AtOnceLaws.{lead_settled}
+use Rattle.tatp_linearization.proofs.GoingLaws.{serial_leads, serial_to, events_on}
 use Rattle.tatp_linearization.proofs.PossibleLaws.{lead_becomes}
 use Rattle.tatp_linearization.proofs.SerialLaws.{possible_serial}
 use Rattle.tatp_linearization.proofs.CoveringLaws.{seen_stands, bare_stands}
-use Rattle.tatp_linearization.proofs.FollowLaws.{first_rise}
 
 -- ---- the events
 was_not : (outcome : Outcome) → IsAnswered outcome → may_take_effect outcome ≡ false → ⊥
@@ -110,8 +112,11 @@ module _ (x : Observed) (at : ℕ) (u : Database) (past : List Event) (cs : List
   held_is : seen c ≡ held
   held_is i = record { rows = c.home.tables; opened = none i }
 
-  only_held : TimesRise past → (d : Configuration) → LeadAtOnce past (starting u) d → d ≡ held
-  only_held rise d led = let there : OneStandsFor (c ∷ []) d = subst (λ bs. OneStandsFor bs d) is (kept.complete rise d led) in elim there [ inl h ↦ (bare_stands c d none).0 h ∙ held_is | inr k ↦ absurd k ]
+  only_held : (after : Database) (more : List Event) → LeadsOn after (past ++ more) (starting u) → LeadsOn after more held
+  only_held after more on =
+      let one = kept.complete after more on in
+      let there : OneStandsFor (c ∷ []) one.0 = subst (λ bs. OneStandsFor bs one.0) is one.1 in
+      elim there [ inl h ↦ subst (LeadsOn after more) ((bare_stands c one.0 none).0 h ∙ held_is) one.2 | inr k ↦ absurd k ]
 
   is_held : IsPossible u past held
   is_held = subst (IsPossible u past) held_is (kept.sound (seen c) (subst (λ bs. OneStandsFor bs (seen c)) (sym is) (inl (seen_stands c))))
@@ -126,17 +131,17 @@ module _ (x : Observed) (at : ℕ) (u : Database) (past : List Event) (cs : List
   alone_explained rise have answered = (
     λ may. possible_serial u (past ++ events_alone x at) (after x at c.home.tables) rise have (after_held may).0,
     λ s.
-        let led = at_once_complete u (past ++ events_alone x at) rise have s in
-        let parts = lead_by past (events_alone x at) (starting u) led.0 led.1 in
-        (leads_alone x at c.home.tables led.0 (was_not x.outcome answered) (subst (λ (b : Configuration). LeadAtOnce (events_alone x at) b led.0) (only_held (first_rise past (events_alone x at) rise) parts.0 parts.1) parts.2)).0,
+        let to = serial_to u (past ++ events_alone x at) s in
+        let led = events_on to.0 (events_alone x at) [] held (only_held to.0 (events_alone x at) (serial_leads u to.0 (past ++ events_alone x at) rise have to.1)) in
+        (leads_alone x at c.home.tables led.0 (was_not x.outcome answered) led.1).0,
   )
 
   pub alone_kept : (d : Held) (new : List Held) → MayHaveReply x.outcome (transaction x.call c.home.tables).reply → new ≡ d ∷ [] → d.home.tables ≡ (transaction x.call c.home.tables).database → d.opened.items ≡ [] → AreKept u (past ++ events_alone x at) new
   alone_kept d new may there rows empty = record {
-    complete = λ rise e h.
-        let parts = lead_by past (events_alone x at) (starting u) e h in
-        let last : LeadAtOnce (events_alone x at) held e = subst (λ (b : Configuration). LeadAtOnce (events_alone x at) b e) (only_held (first_rise past (events_alone x at) rise) parts.0 parts.1) parts.2 in
-        subst (λ bs. OneStandsFor bs e) (sym there) (inl ((bare_stands d e empty).1 ((leads_alone x at c.home.tables e (no_abort x.outcome (transaction x.call c.home.tables).reply may) last).1 ∙ sym end)));
+    complete = λ to more on.
+        let led = events_on to (events_alone x at) more held (only_held to (events_alone x at ++ more) (subst (λ es. LeadsOn to es (starting u)) (append_assoc past (events_alone x at) more) on)) in
+        let last = (leads_alone x at c.home.tables led.0 (no_abort x.outcome (transaction x.call c.home.tables).reply may) led.1).1 in
+        (led.0, subst (λ bs. OneStandsFor bs led.0) (sym there) (inl ((bare_stands d led.0 empty).1 (last ∙ sym end))), led.2);
     sound = λ e h.
         let one : OneStandsFor (d ∷ []) e = subst (λ bs. OneStandsFor bs e) there h in
         elim one [

@@ -1,29 +1,24 @@
 -- Rows that orders leave: open calls that write take effect last, one after another, or never.
-use Rattle.std.proofs.Common.{◌≡◌, ℕ, zero, suc, ◌≤◌, ◌⊎◌, true, false, List, [], ◌∷◌, ◌++◌, length, refl, sym, subst, arith, inl, inr}
+use Rattle.std.proofs.Common.{◌≡◌, ℕ, zero, suc, ◌≤◌, ◌⊎◌, List, [], ◌∷◌, length, refl, sym, subst, arith, inl, inr}
 use Rattle.std.specs.List.{AllByRecursion}
-use Rattle.std.proofs.lemmas.List.{append-nil}
 use Rattle.tatp_tables.specs.Database.{Database}
-use Rattle.tatp_procs.specs.Transactions.{transaction}
 use Rattle.tatp_history.specs.declared.event.Event.{Event}
 use Rattle.tatp_history.specs.declared.observed.Observed.{Observed}
 use Rattle.tatp_history.specs.Histories.{IsIn, IsStrictlySerializableTo, rows_after}
-use Rattle.tatp_history.specs.Changes.{changes_nothing}
 use Rattle.tatp_history.specs.Events.{asked_in, TimesRise, HaveEnds}
 use Rattle.tatp_history.specs.JustInTime.{AreOpen}
-use Rattle.tatp_history.specs.Configurations.{Configuration, starting}
-use Rattle.tatp_history.proofs.OrderLaws.{in_all}
+use Rattle.tatp_history.specs.Configurations.{Configuration}
+use Rattle.tatp_history.specs.Remaining.{IsOrderFrom}
 use Rattle.tatp_history.proofs.ChoiceLaws.{chooses_some, chooses_length}
-use Rattle.tatp_history.proofs.RemainingLaws.{IsOrderFrom, HasOrder, open_chosen, taken_off}
-use Rattle.tatp_history.proofs.JustInTimeLaws.{serial_is, none_open}
 use Rattle.tatp_linearization.specs.declared.configuration.Configuration.{Configuration as Held}
-use Rattle.tatp_linearization.specs.AtOnce.{FitsAtOnce, IsSettled, TakesOne, LeadAtOnce}
+use Rattle.tatp_linearization.specs.AtOnce.{IsSettled, TakesOne}
 use Rattle.tatp_linearization.specs.Possible.{AreMoreThan}
 use Rattle.tatp_linearization.specs.Held.{AreReady, AreApart, TakeMany, TakeSome}
 use Rattle.tatp_linearization.specs.Overwritten.{IsBlind}
 use Rattle.tatp_linearization.specs.Covering.{OneStandsFor, FromOne, MayCome, Gains}
 use Rattle.tatp_linearization.specs.Reached.{AreKept}
-use Rattle.tatp_linearization.proofs.SettlingLaws.{left_exists, left_shorter, left_order}
-use Rattle.tatp_linearization.proofs.AtOnceLaws.{one_open, one_settled, lead_settled, lead_open, lead_complete}
+use Rattle.tatp_linearization.proofs.AtOnceLaws.{one_open, one_settled, one_shorter, first_takes}
+use Rattle.tatp_linearization.proofs.GoingLaws.{serial_leads_on}
 use Rattle.tatp_linearization.proofs.PossibleLaws.{more_than, come_on, come_possible}
 use Rattle.tatp_linearization.proofs.SerialLaws.{possible_to}
 use Rattle.tatp_linearization.proofs.CoveringLaws.{stands_get}
@@ -41,44 +36,13 @@ module _ (Q : Database → Type 0) where
       absurd (omega (arith, few, size))
   some_complete (suc n) (x ∷ order) c few settled are ok q =
       let opens : IsIn x c.opened = elim ok.made.0 [ inl k ↦ k | inr k ↦ absurd k ] in
-      let some = chooses_some c.opened x opens in
-      let size : length c.opened ≡ suc (length some.0) = chooses_length c.opened x some.0 some.1 in
-      let v : Database = (transaction x.call c.rows).database in
-      let writes : changes_nothing x ≡ false = elim (changes_nothing x) as (λ b. changes_nothing x ≡ b → b ≡ false) [
-        | true ↦ λ r. absurd (in_all (λ (w : Observed). FitsAtOnce c.rows w → ⊥) x c.opened settled opens (r, ok.replies.0))
-        | false ↦ λ r. refl
-      ] refl in
-      let left = left_exists v some.0 in
-      let less : length left.0 ≤ length some.0 = left_shorter v some.0 left.0 left.1 in
-      let d : Configuration = record { rows = v; opened = left.0 } in
-      let one : TakesOne c d = (x, some.0, record { chosen = some.1; writes = writes; may = ok.replies.0; rows = refl; settled = left.1 }) in
-      let rest : HasOrder Q v [] left.0 = left_order Q [] tt v [] some.0 left.0 left.1 (open_chosen [] c.opened x some.0 some.1 are) (order, taken_off c.rows [] c.opened x some.0 order are some.1 ok, q) in
-      let go = some_complete n rest.0 d (omega (arith, few, size, less)) (one_settled c d one) (one_open [] c d one are) rest.1 rest.2 in
-      (go.0, (suc go.1.0, (d, one, go.1.1)), go.2)
-
--- ---- the law
--- the events lead to a configuration, and open calls from there to the rows
-abbrev pub LeadsTo : Database → List Event → Database → Type 0
-LeadsTo u past after = (c : Configuration) × LeadAtOnce past (starting u) c × ((d : Configuration) × TakeSome c d × (d.rows ≡ after))
-
-pub to_complete : (u after : Database) (past : List Event) → TimesRise past → HaveEnds past → IsStrictlySerializableTo u (asked_in past) after → LeadsTo u past after
-to_complete u after past rise have s =
-    let Q : Database → Type 0 = λ v. v ≡ after in
-    let whole : past ≡ past ++ [] = sym (append-nil past) in
-    let rise' : TimesRise (past ++ []) = subst TimesRise whole rise in
-    let have' : HaveEnds (past ++ []) = subst HaveEnds whole have in
-    let order : HasOrder Q u (past ++ []) [] = subst (λ es. HasOrder Q u es []) whole (s.0, serial_is u past [] s.0 s.1, s.2) in
-    let led = lead_complete Q past [] rise' have' (starting u) tt (none_open (past ++ [])) order in
-    let are = lead_open past [] rise' have' (starting u) led.0 (none_open (past ++ [])) led.1 in
-    (led.0, led.1, some_complete Q (length led.0.opened) led.2.0 led.0 (omega arith) (lead_settled past (starting u) led.0 tt led.1) are led.2.1 led.2.2)
+      let next = first_takes Q [] tt c settled are x opens order ok q in
+      let less = one_shorter c next.0 next.1 in
+      let rest = next.2 in
+      let go = some_complete n rest.0 next.0 (omega (arith, few, less)) (one_settled c next.0 next.1) (one_open [] c next.0 next.1 are) rest.1 rest.2 in
+      (go.0, (suc go.1.0, (next.0, next.1, go.1.1)), go.2)
 
 -- ---- turns
-one_shorter : (c d : Configuration) → TakesOne c d → suc (length d.opened) ≤ length c.opened
-one_shorter c d h =
-    let size : length c.opened ≡ suc (length h.1) = chooses_length c.opened h.0 h.1 h.2.chosen in
-    let less : length d.opened ≤ length h.1 = left_shorter (transaction h.0.call c.rows).database h.1 d.opened h.2.settled in
-    omega (arith, size, less)
-
 many_shorter : (n : ℕ) (c d : Configuration) → TakeMany n c d → n ≤ length c.opened
 many_shorter zero c d h = omega arith
 many_shorter (suc n) c d h = let less = many_shorter n h.0 d h.2 in let one = one_shorter c h.0 h.1 in omega (arith, less, one)
@@ -154,4 +118,8 @@ module _ (u : Database) (past : List Event) (cs : List Held) (kept : AreKept u p
   kept_to after rise have h = possible_to u after past h.0 rise have (come_possible u past h.1.0 h.0 (kept.sound h.1.0 h.1.1) h.1.2).0 h.2
 
   pub to_kept : (after : Database) → TimesRise past → HaveEnds past → IsStrictlySerializableTo u (asked_in past) after → (d : Configuration) × FromOne TakeSome cs d × (d.rows ≡ after)
-  to_kept after rise have s = let led = to_complete u after past rise have s in (led.2.0, (led.0, kept.complete rise led.0 led.1, led.2.1), led.2.2)
+  to_kept after rise have s =
+      let one = kept.complete after [] (serial_leads_on u after past rise have s) in
+      let on = one.2 in
+      let last = some_complete (λ v. v ≡ after) (length one.0.opened) on.order.0 one.0 (omega arith) on.settled on.waiting on.order.1 on.order.2 in
+      (last.0, (one.0, one.1, last.1), last.2)

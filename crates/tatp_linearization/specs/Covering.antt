@@ -1,6 +1,6 @@
 -- Configurations that one stands for: open updates of the location that were overwritten may be
 -- left out.
-use Rattle.std.specs.Prelude.{◌≡◌, ℕ, ◌<◌, ◌≤◌, ◌-◌, ◌⊎◌, List, [], ◌∷◌, ◌++◌, length, Option, Some, None, slice_get}
+use Rattle.std.specs.Prelude.{◌≡◌, ℕ, ◌<◌, ◌≤◌, ◌-◌, ◌⊎◌, List, [], ◌∷◌, length, Option, Some, None, slice_get}
 use Rattle.std.specs.List.{AllByRecursion}
 use Rattle.tatp_history.specs.declared.event.Event.{Event}
 use Rattle.tatp_history.specs.declared.event.Event.TheVariants.{Asks, Ends}
@@ -10,9 +10,9 @@ use Rattle.tatp_history.specs.Locality.{AreAccepted}
 use Rattle.tatp_history.specs.JustInTime.{NoneAskedAt}
 use Rattle.tatp_history.specs.Configurations.{Configuration}
 use Rattle.tatp_linearization.specs.declared.configuration.Configuration.{Configuration as Held}
-use Rattle.tatp_linearization.specs.AtOnce.{IsSettled, TakesOne, TakeUntil, FollowsAtOnce}
+use Rattle.tatp_linearization.specs.AtOnce.{IsSettled, FollowsAtOnce}
 use Rattle.tatp_linearization.specs.Possible.{CallsTakeEffect}
-use Rattle.tatp_linearization.specs.Held.{seen, Takes}
+use Rattle.tatp_linearization.specs.Held.{seen}
 use Rattle.tatp_linearization.specs.Overwritten.{IsBlind, AreButSome}
 
 -- the configuration is the one that is held, without some of its updates that were overwritten
@@ -82,10 +82,14 @@ pub record MayCome (c d : Configuration) : Type 0 where
   pub calls : (n : ℕ) × CallsTakeEffect n c d
   pub settled : IsSettled c → IsSettled d
 
+-- what may come before the end of the call that was asked at this time
+abbrev pub MayAnswer : ℕ → Configuration → Configuration → Type 0
+MayAnswer asked c d = MayCome c d × NoneAskedAt asked d.opened
+
 -- open calls take effect before an event at which the second may follow on the first
 abbrev pub MayFollow : Event → Configuration → Configuration → Type 0
 MayFollow (Asks x) c d = FollowsAtOnce (Asks x) c d
-MayFollow (Ends asked at) c d = MayCome c d × NoneAskedAt asked d.opened
+MayFollow (Ends asked at) c d = MayAnswer asked c d
 
 -- what is tried at an event
 abbrev pub MayBeTried : Event → Configuration → Configuration → Type 0
@@ -104,104 +108,11 @@ pub record Gains (May Has : Configuration → Type 0) (old new : List Held) : Ty
   pub sound : (d : Configuration) → OneStandsFor new d → IsStoodOr old May d
   pub found : (d : Configuration) → Has d → OneStandsFor new d
 
--- the new list has what may follow on those of the set, and all that follows just in time
-pub record FollowSet (event : Event) (set new : List Held) : Type 0 where
-  pub sound : (d : Configuration) → OneStandsFor new d → FromOne (MayFollow event) set d
-  pub found : AreEachApart set → (d : Configuration) → FromOne (FollowsAtOnce event) set d
-      → OneStandsFor new d
-
 -- the homes are of this s_id
 abbrev pub AreOf : ℕ → List Held → Type 0
 AreOf s set = AllByRecursion (λ (c : Held). c.home.s_id ≡ s) set
 
--- ---- turns
--- those where the call was answered, those that were tried, and those that go on
-pub record Lists : Type 0 where
-  pub answered : List Held
-  pub tried : List Held
-  pub going : List Held
-
--- what one open call makes of it is answered, or was tried
-abbrev pub IsDone : ℕ → List Held → List Held → Configuration → Type 0
-IsDone asked answered tried d = (e : Configuration) → TakesOne d e
-    → (NoneAskedAt asked e.opened → OneStandsFor answered e)
-    × (Opens asked e → OneStandsFor tried e)
-
--- so is what one open call makes of each for which it stands, where the call is open
-abbrev pub AreDone : ℕ → Held → List Held → List Held → Type 0
-AreDone asked c answered tried =
-    (d : Configuration) → StandsFor c d → Opens asked d → IsDone asked answered tried d
-
-abbrev pub AreAllDone : ℕ → List Held → List Held → List Held → Type 0
-AreAllDone asked set answered tried =
-    (d : Configuration) → OneStandsFor set d → Opens asked d → IsDone asked answered tried d
-
--- and of all that was tried
-abbrev pub AreTriedOut : ℕ → List Held → List Held → Type 0
-AreTriedOut asked answered tried = AreAllDone asked tried answered tried
-
-abbrev pub AreTriedOutAt : Event → List Held → List Held → Type 0
-AreTriedOutAt (Asks x) answered tried = Unit {0}
-AreTriedOutAt (Ends asked at) answered tried = AreTriedOut asked answered tried
-
--- the lists have got more, of which this holds; what is tried anew goes on
-pub record Grow (Holds : Configuration → Type 0) (asked : ℕ) (old new : Lists) : Type 0 where
-  pub answers : (d : Configuration) → OneStandsFor old.answered d → OneStandsFor new.answered d
-  pub tries : (d : Configuration) → OneStandsFor old.tried d → OneStandsFor new.tried d
-  pub goes : (d : Configuration) → OneStandsFor old.going d → OneStandsFor new.going d
-  pub answered : (d : Configuration) → OneStandsFor new.answered d
-      → IsStoodOr old.answered (λ e. Holds e × NoneAskedAt asked e.opened) d
-  pub tried : (d : Configuration) → OneStandsFor new.tried d → IsStoodOr old.tried Holds d
-  pub went : (d : Configuration) → OneStandsFor new.going d → IsStoodOr old.going Holds d
-  pub next : (d : Configuration) → OneStandsFor new.tried d
-      → OneStandsFor old.tried d ⊎ OneStandsFor new.going d
-
--- each of the new list is of the old one, or what one open call makes of the configuration
-abbrev pub WentFrom : Held → List Held → List Held → Type 0
-WentFrom c old new = (k : ℕ) (d : Held) → slice_get new k ≡ Some d
-    → ((j : ℕ) × (slice_get old j ≡ Some d)) ⊎ ((i : ℕ) × Takes c i (Some d))
-
--- each of the list is what one open call makes of one of the set
-abbrev pub WentFromOne : List Held → List Held → Type 0
-WentFromOne set new = (k : ℕ) (d : Held) → slice_get new k ≡ Some d
-    → (j : ℕ) × (c : Held) × (slice_get set j ≡ Some c) × ((i : ℕ) × Takes c i (Some d))
-
--- it goes on, unless others that were tried stand for all for which it does
-abbrev pub GoesOn : Held → List Held → List Held → List Held → Type 0
-GoesOn d tried old new = ((new ≡ old) × AreCovered tried d) ⊎ (new ≡ old ++ d ∷ [])
-
--- what may come before the end of the call that was asked at this time
-abbrev pub MayAnswer : ℕ → Configuration → Configuration → Type 0
-MayAnswer asked c d = MayCome c d × NoneAskedAt asked d.opened
-
--- open calls take effect one after another until the call isn't open any more
-abbrev pub TakesUntil : ℕ → Configuration → Configuration → Type 0
-TakesUntil asked c d = Opens asked c × ((n : ℕ) × TakeUntil n asked c d)
-
--- what open calls make of one is gained, up to the effect of the call, beside what was tried
-abbrev pub GainsTaken : ℕ → Held → List Held → List Held → List Held → Type 0
-GainsTaken asked c tried old new =
-    Gains (From (MayAnswer asked) c)
-    (λ d. IsApart c × (AreTriedOut asked old tried × From (TakesUntil asked) c d)) old new
-
--- what follows just in time where the call ends
-abbrev pub EndsAtOnce : ℕ → Configuration → Configuration → Type 0
-EndsAtOnce asked c d =
-    (NoneAskedAt asked c.opened × (d ≡ c))
-    ⊎ (Opens asked c × TakeUntil (length c.opened) asked c d)
-
-abbrev pub GainsEnd : ℕ → Held → List Held → List Held → List Held → Type 0
-GainsEnd asked c tried old new =
-    Gains (From (MayAnswer asked) c)
-    (λ d. IsApart c × (AreTriedOut asked old tried × From (EndsAtOnce asked) c d)) old new
-
--- what may follow on one at an event is gained, and all that follows just in time, beside what was
--- tried
-abbrev pub GainsAfter : Event → Held → List Held → List Held → List Held → Type 0
-GainsAfter event c tried old new =
-    Gains (From (MayFollow event) c)
-    (λ d. IsApart c × (AreTriedOutAt event old tried × From (FollowsAtOnce event) c d)) old new
-
+-- ---- a call that may have taken effect
 -- it stands for one where the call isn't open
 pub record IsGone (asked : ℕ) (c : Held) (d : Configuration) : Type 0 where
   pub apart : IsApart c

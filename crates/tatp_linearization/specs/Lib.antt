@@ -10,3 +10,8 @@ pub mod Listed
 pub mod Doomed
 pub mod Overwritten
 pub mod Covering
+pub mod Unseen
+pub mod Going
+pub mod Ahead
+pub mod Clusters
+pub mod Turns

@@ -1,21 +1,20 @@
 -- The configurations to which events lead.
-use Rattle.std.specs.Prelude.{ℕ, ◌<◌, List, length}
+use Rattle.std.specs.Prelude.{ℕ, ◌<◌, List, ◌++◌, length}
 use Rattle.tatp_tables.specs.Database.{Database}
 use Rattle.tatp_history.specs.declared.event.Event.{Event}
-use Rattle.tatp_history.specs.Events.{TimesRise}
 use Rattle.tatp_history.specs.Configurations.{Configuration, starting}
 use Rattle.tatp_linearization.specs.declared.configuration.Configuration.{Configuration as Held}
 use Rattle.tatp_linearization.specs.declared.explanations.Explanations.{Explanations}
-use Rattle.tatp_linearization.specs.AtOnce.{LeadAtOnce}
 use Rattle.tatp_linearization.specs.Possible.{IsPossible}
 use Rattle.tatp_linearization.specs.Held.{AreReady, AreApart}
 use Rattle.tatp_linearization.specs.Covering.{OneStandsFor}
+use Rattle.tatp_linearization.specs.Going.{LeadsOn, OneLeadsOn}
 
--- these stand for each configuration to which the events lead from the rows just in time, and for
--- none that isn't possible
+-- each order of the calls of these events and of more leads on from a configuration for which one of
+-- these stands, whatever the further events; and they stand for none that isn't possible
 pub record AreKept (u : Database) (past : List Event) (cs : List Held) : Type 0 where
-  pub complete : TimesRise past → (d : Configuration) → LeadAtOnce past (starting u) d
-      → OneStandsFor cs d
+  pub complete : (after : Database) (more : List Event) → LeadsOn after (past ++ more) (starting u)
+      → OneLeadsOn after more cs
   pub sound : (d : Configuration) → OneStandsFor cs d → IsPossible u past d
   pub ready : AreReady cs
   pub apart : (s : ℕ) × AreApart s cs

@@ -160,7 +160,7 @@ fn without_place(overwritten: usize, size: usize, i: usize) -> usize
 }
 
 /// Whether a call sets the location of the home's subscriber.
-fn updates_location(home: &Home, call: &Call) -> bool
+pub(crate) fn updates_location(home: &Home, call: &Call) -> bool
     ensures { IsTrue result ↔ SetsLocation home.now.tables call.now }
 {
     match call {

@@ -54,7 +54,7 @@ fn sets_location(call: &Call, location: u64) -> bool
 }
 
 /// Whether the subscriber has this location.
-fn has_location(home: &Home, location: u64) -> bool
+pub(crate) fn has_location(home: &Home, location: u64) -> bool
     ensures { result ≡ false → NoneHasLocation location home.now.tables }
 {
     what_holds_of_every_home(home);
@@ -62,7 +62,7 @@ fn has_location(home: &Home, location: u64) -> bool
 }
 
 /// Whether none of these calls sets the location.
-fn none_sets(opened: &[Observed], location: u64) -> bool
+pub(crate) fn none_sets(opened: &[Observed], location: u64) -> bool
     ensures { IsTrue result → NoneSets location opened.now }
 {
     for i in 0..opened.len() {

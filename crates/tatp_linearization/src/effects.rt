@@ -1,14 +1,20 @@
 //! Calls that take effect before one is answered.
-ghost use Rattle.std.specs.Prelude.{◌≡◌, ℕ, ◌⊎◌, IfOk, OnOk, IsErrOf, []};
+ghost use Rattle.std.specs.Prelude.{ℕ, ◌⊎◌, IfOk, OnOk, IsErrOf, List, [], ◌∷◌};
+ghost use Rattle.tatp_history.specs.declared.event.Event.{Event as Happens};
+ghost use Rattle.tatp_history.specs.declared.event.Event.TheVariants.{Ends};
 ghost use Rattle.tatp_history.specs.Configurations.{Configuration as Seen};
 ghost use Rattle.tatp_history.specs.Locality.{AreAccepted};
 ghost use Rattle.tatp_linearization.specs.Possible.{AreMoreThan};
+ghost use Rattle.tatp_linearization.specs.Ahead.{LooksAhead};
 ghost use Rattle.tatp_linearization.specs.Held.{AreApart, AreReady};
-ghost use Rattle.tatp_linearization.specs.Covering.{AreAllDone, AreDone, AreEachApart, AreOf, AreTriedOut, From, FromOne, Gains, GainsTaken, GoesOn, Grow, IsApart, IsStoodOr, MayCome, OneStandsFor, StandsFor, WentFrom, WentFromOne};
+ghost use Rattle.tatp_linearization.specs.Covering.{AreEachApart, AreOf, From, FromOne, Gains, IsApart, IsStoodOr, MayAnswer, MayCome, OneStandsFor, StandsFor};
+ghost use Rattle.tatp_linearization.specs.Turns.{AreAllServed, AreAnswered, AreServed, AreTriedOut, GoesOn, Grow, WentFrom, WentFromOne};
 
-use crate::configuration::{Configuration, copy, none_asked, take};
+use crate::ahead::Ahead;
+use crate::configuration::{Configuration, copy, none_asked};
 use crate::covering::{add, is_covered};
 use crate::stopped::Stopped;
+use crate::taking::take_ahead;
 use std::alloc::Global;
 
 /// Adds a configuration to those that were tried and to those that go on, unless one that was tried
@@ -44,6 +50,8 @@ fn try_each(
     alloc: Global,
     c: &Configuration,
     asked: u64,
+    ahead: &Ahead,
+    now: u64,
     most: usize,
     answered: &mut Vec<Configuration>,
     tried: &mut Vec<Configuration>,
@@ -57,8 +65,9 @@ fn try_each(
           tried = tried.new.items;
           going = going.new.items;
         })) }
-    ensures done { OnOk result (IsApart c.now
-        → AreDone asked c.now answered.new.items tried.new.items) }
+    ensures served { OnOk result (IsApart c.now → (at : ℕ) (rest : List Happens)
+        → LooksAhead ahead.now now (Ends asked at ∷ rest)
+        → AreServed asked at rest c.now answered.new.items tried.new.items) }
     ensures ready { OnOk result (AreReady answered.old.items → AreReady answered.new.items) }
     ensures left { OnOk result (AreReady tried.old.items → AreReady tried.new.items) }
     ensures apart { OnOk result (AreApart c.now.home.s_id answered.old.items
@@ -72,7 +81,7 @@ fn try_each(
         ⊎ AreMoreThan most (IsStoodOr tried.old.items (From MayCome c.now)) }
 {
     'calls: for i in 0..c.opened.len() {
-        match take(alloc, c, i)? {
+        match take_ahead(alloc, c, i, ahead, now)? {
             Some(d) => {
                 if none_asked(&d, asked) {
                     add(answered, d, most)?;
@@ -91,6 +100,8 @@ fn try_all(
     alloc: Global,
     set: &[Configuration],
     asked: u64,
+    ahead: &Ahead,
+    now: u64,
     most: usize,
     answered: &mut Vec<Configuration>,
     tried: &mut Vec<Configuration>,
@@ -103,8 +114,9 @@ fn try_all(
           tried = tried.new.items;
           going = going.items;
         })) }
-    ensures done { OnOk result (AreEachApart set.now
-        → AreAllDone asked set.now answered.new.items tried.new.items) }
+    ensures served { OnOk result (AreEachApart set.now → (at : ℕ) (rest : List Happens)
+        → LooksAhead ahead.now now (Ends asked at ∷ rest)
+        → AreAllServed asked at rest set.now answered.new.items tried.new.items) }
     ensures ready { OnOk result (AreReady answered.old.items → AreReady answered.new.items) }
     ensures left { OnOk result (AreReady tried.old.items → AreReady tried.new.items) }
     ensures apart { OnOk result ((s : ℕ) → AreApart s answered.old.items
@@ -119,7 +131,9 @@ fn try_all(
 {
     let mut going = Vec::new(alloc);
     'configurations: for i in 0..set.len() {
-        try_each(alloc, &set[i], asked, most, answered, tried, &mut going)?;
+        try_each(
+            alloc, &set[i], asked, ahead, now, most, answered, tried, &mut going,
+        )?;
     }
     Ok(going)
 }
@@ -131,16 +145,25 @@ pub(crate) fn take_effect(
     alloc: Global,
     c: &Configuration,
     asked: u64,
+    ahead: &Ahead,
+    now: u64,
     most: usize,
     answered: &mut Vec<Configuration>,
     tried: &mut Vec<Configuration>,
 ) -> Result<(), Stopped>
     requires accepted { AreAccepted c.now.opened.items }
-    ensures gained { OnOk result (GainsTaken asked c.now tried.old.items
-        answered.old.items answered.new.items) }
-    ensures done { OnOk result (IsApart c.now
-        → AreTriedOut asked answered.old.items tried.old.items
-        → AreTriedOut asked answered.new.items tried.new.items) }
+    ensures kept { OnOk result ((d : Seen) → OneStandsFor answered.old.items d
+        → OneStandsFor answered.new.items d) }
+    ensures sound { OnOk result ((d : Seen) → OneStandsFor answered.new.items d
+        → IsStoodOr answered.old.items (From (MayAnswer asked) c.now) d) }
+    ensures answered { OnOk result (IsApart c.now → (at : ℕ) (rest : List Happens)
+        → LooksAhead ahead.now now (Ends asked at ∷ rest)
+        → AreTriedOut asked at rest answered.old.items tried.old.items
+        → AreAnswered asked at rest c.now answered.new.items) }
+    ensures done { OnOk result (IsApart c.now → (at : ℕ) (rest : List Happens)
+        → LooksAhead ahead.now now (Ends asked at ∷ rest)
+        → AreTriedOut asked at rest answered.old.items tried.old.items
+        → AreTriedOut asked at rest answered.new.items tried.new.items) }
     ensures tried { OnOk result ((d : Seen) → OneStandsFor tried.new.items d
         → IsStoodOr tried.old.items (From MayCome c.now) d) }
     ensures ready { OnOk result (AreReady answered.old.items → AreReady answered.new.items) }
@@ -154,9 +177,20 @@ pub(crate) fn take_effect(
         ⊎ AreMoreThan most (IsStoodOr tried.old.items (From MayCome c.now)) }
 {
     let mut going = Vec::new(alloc);
-    try_each(alloc, c, asked, most, answered, tried, &mut going)?;
+    try_each(
+        alloc, c, asked, ahead, now, most, answered, tried, &mut going,
+    )?;
     'turns: for i in 0..c.opened.len() {
-        let next = try_all(alloc, going.as_slice(), asked, most, answered, tried)?;
+        let next = try_all(
+            alloc,
+            going.as_slice(),
+            asked,
+            ahead,
+            now,
+            most,
+            answered,
+            tried,
+        )?;
         going = next;
     }
     Ok(())

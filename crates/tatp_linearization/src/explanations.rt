@@ -9,6 +9,7 @@ ghost use Rattle.tatp_linearization.specs.Possible.{NeedMore};
 ghost use Rattle.tatp_linearization.specs.Held.{IsAcceptedEvent, AreApart, AreReady};
 ghost use Rattle.tatp_linearization.specs.Reached.{AreKept, AreOfSubscriber, AreReached};
 
+use crate::ahead::look_ahead;
 use crate::configuration::Configuration;
 use crate::doomed::drop_doomed;
 use crate::following::{after_event, leaves_all};
@@ -54,11 +55,12 @@ fn after_events(
     ensures many { IsErrOf result Stopped.MoreThanMost → (u : Database) (past : List Event)
         → AreKept u past set.now → NeedMore most u (past ++ events.now) }
 {
-    let mut after = after_event(alloc, set, &events[0], most)?;
+    let ahead = look_ahead(alloc, events)?;
+    let mut after = after_event(alloc, set, &events[0], &ahead, most)?;
     'events: for i in 1..events.len() {
         let event = &events[i];
         if !leaves_all(after.as_slice(), event) {
-            let next = after_event(alloc, after.as_slice(), event, most)?;
+            let next = after_event(alloc, after.as_slice(), event, &ahead, most)?;
             after = next;
             drop_doomed(&mut after, events, i + 1);
         }

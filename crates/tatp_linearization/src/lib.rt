@@ -1,6 +1,8 @@
 //! Whether the calls of one subscriber, as clients saw them, are strictly serializable.
 #![tactic(auto)]
 
+mod ahead;
+mod clusters;
 mod comparing;
 mod configuration;
 mod covering;
@@ -11,10 +13,13 @@ mod explanations;
 mod first;
 mod following;
 mod legal;
+mod locations;
+mod lost;
 mod reading;
 mod rows;
 mod single;
 mod stopped;
+mod taking;
 mod to_rows;
 
 pub use explanations::{Explanations, Standing};

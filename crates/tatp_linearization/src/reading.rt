@@ -13,7 +13,7 @@ use tatp_procs::Reply;
 
 /// Whether a call changes nothing, and may have ended with the reply that it has on this home. The
 /// home keeps its rows.
-fn fits_at_once(home: &mut Home, x: &Observed) -> bool
+pub(crate) fn fits_at_once(home: &mut Home, x: &Observed) -> bool
     requires accepted { arguments_accepted x.now.call ≡ Ok tt }
     ensures fits { IsTrue result ↔ FitsAtOnce home.old.tables x.now }
     ensures rows { home.new.tables ≡ home.old.tables }

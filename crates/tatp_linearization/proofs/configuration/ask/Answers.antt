@@ -1,4 +1,4 @@
-use Rattle.std.proofs.Common.{◌≡◌, true, [], ◌∷◌, ◌++◌, inr, sym, ap, ◌∙◌, subst, true≢false}
+use Rattle.std.proofs.Common.{◌≡◌, [], ◌∷◌, ◌++◌, inr, sym, ap, ◌∙◌, subst, true≢false}
 use Rattle.tatp_tables.specs.Database.{Database}
 use Rattle.tatp_homes.specs.Home.{SubscriberRows}
 use Rattle.tatp_history.specs.declared.observed.Observed.{Observed}

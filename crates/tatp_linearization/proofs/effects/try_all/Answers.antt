@@ -4,14 +4,15 @@ use Rattle.tatp_history.specs.Locality.{AreAccepted}
 use Rattle.tatp_linearization.specs.declared.stopped.Stopped.TheVariants.{MoreThanMost}
 use Rattle.tatp_linearization.specs.declared.configuration.Configuration.{Configuration as Held}
 use Rattle.tatp_linearization.specs.Held.{AreApart}
-use Rattle.tatp_linearization.specs.Covering.{Lists}
+use Rattle.tatp_linearization.specs.Ahead.{LooksAhead}
+use Rattle.tatp_linearization.specs.Turns.{Lists}
 use Rattle.tatp_linearization.proofs.PlaceLaws.{get_at, all_get}
 use Rattle.tatp_linearization.proofs.TurnLaws.{TryingAll, trying_all_none, trying_all_more, trying_all_done, trying_all_went, trying_all_many}
 use Rattle.tatp_linearization.proofs.effects.try_all.Goals as goal
 
 pub configurations-init : goal.configurations-init
-configurations-init c = subst (λ xs. TryingAll c.args.set.now c.args.asked (record { answered = c.args.answered.now.items; tried = c.args.tried.now.items; going = [] }) 0 (record { answered = c.args.answered.now.items; tried = c.args.tried.now.items; going = xs })) (sym c.new-going.ensures.items)
-    (trying_all_none c.args.set.now c.args.asked (record { answered = c.args.answered.now.items; tried = c.args.tried.now.items; going = [] }))
+configurations-init c = subst (λ xs. TryingAll (LooksAhead c.args.ahead.now c.args.now) c.args.set.now c.args.asked (record { answered = c.args.answered.now.items; tried = c.args.tried.now.items; going = [] }) 0 (record { answered = c.args.answered.now.items; tried = c.args.tried.now.items; going = xs })) (sym c.new-going.ensures.items)
+    (trying_all_none (LooksAhead c.args.ahead.now c.args.now) c.args.set.now c.args.asked (record { answered = c.args.answered.now.items; tried = c.args.tried.now.items; going = [] }))
 
 pub configurations-preserved : goal.configurations-preserved
 configurations-preserved c =
@@ -20,7 +21,7 @@ configurations-preserved c =
     let before : Lists = record { answered = c.configurations.answered.items; tried = c.configurations.tried.items; going = c.configurations.going.items } in
     let new : Lists = record { answered = c.try_each.new.answered.items; tried = c.try_each.new.tried.items; going = c.try_each.new.going.items } in
     let e = c.in_ok-try_each.ensures in
-    trying_all_more c.args.set.now c.args.asked old c.configurations.i c.index-set-i.result before new at c.configurations.invariant c.in_ok-try_each.ensures.grown c.in_ok-try_each.ensures.done c.in_ok-try_each.ensures.went
+    trying_all_more (LooksAhead c.args.ahead.now c.args.now) c.args.set.now c.args.asked old c.configurations.i c.index-set-i.result before new at c.configurations.invariant c.in_ok-try_each.ensures.grown c.in_ok-try_each.ensures.served c.in_ok-try_each.ensures.went
     c.in_ok-try_each.ensures.ready c.in_ok-try_each.ensures.left c.in_ok-try_each.ensures.apart c.in_ok-try_each.ensures.distinct
 
 pub try_each-requires : goal.try_each-requires
@@ -31,8 +32,8 @@ try_each-requires c =
 pub returns-clause-grown : goal.returns-clause-grown
 returns-clause-grown c = c.configurations.invariant.grown
 
-pub returns-clause-done : goal.returns-clause-done
-returns-clause-done c = trying_all_done c.args.set.now c.args.asked (record { answered = c.args.answered.now.items; tried = c.args.tried.now.items; going = [] }) c.configurations.i
+pub returns-clause-served : goal.returns-clause-served
+returns-clause-served c = trying_all_done (LooksAhead c.args.ahead.now c.args.now) c.args.set.now c.args.asked (record { answered = c.args.answered.now.items; tried = c.args.tried.now.items; going = [] }) c.configurations.i
     (record { answered = c.configurations.answered.items; tried = c.configurations.tried.items; going = c.configurations.going.items }) c.configurations.invariant c.configurations-test.false
 
 pub returns-clause-ready : goal.returns-clause-ready
@@ -48,7 +49,7 @@ pub returns-clause-distinct : goal.returns-clause-distinct
 returns-clause-distinct c = c.configurations.invariant.distinct
 
 pub returns-clause-went : goal.returns-clause-went
-returns-clause-went c = trying_all_went c.args.set.now c.args.asked c.args.answered.now.items c.args.tried.now.items c.configurations.i
+returns-clause-went c = trying_all_went (LooksAhead c.args.ahead.now c.args.now) c.args.set.now c.args.asked c.args.answered.now.items c.args.tried.now.items c.configurations.i
     (record { answered = c.configurations.answered.items; tried = c.configurations.tried.items; going = c.configurations.going.items }) c.configurations.invariant
 
 pub returns-in_err-try_each-clause-many : goal.returns-in_err-try_each-clause-many
@@ -65,4 +66,4 @@ returns-in_err-try_each-clause-many c =
     let first : AreApart k.home.s_id c.configurations.answered.items = subst (λ t. AreApart t c.configurations.answered.items) (sym same) (inv.apart s answered own) in
     let second : AreApart k.home.s_id c.configurations.tried.items = subst (λ t. AreApart t c.configurations.tried.items) (sym same) (inv.distinct s tried own) in
     let e : c.in_err-try_each.field-0.0 ≡ MoreThanMost = cc in
-    trying_all_many c.args.most c.args.set.now c.args.asked old i k before at inv (c.in_err-try_each.ensures.many (ap Err e) first second))
+    trying_all_many (LooksAhead c.args.ahead.now c.args.now) c.args.most c.args.set.now c.args.asked old i k before at inv (c.in_err-try_each.ensures.many (ap Err e) first second))

@@ -2,9 +2,11 @@ use Rattle.std.proofs.Common.{◌≡◌, ◌↔◌, Some, slice_get, refl, sym, 
 use Rattle.tatp_history.specs.Configurations.{Configuration}
 use Rattle.tatp_linearization.specs.declared.configuration.Configuration.{Configuration as Held}
 use Rattle.tatp_linearization.specs.AtOnce.{FollowsAtOnce}
-use Rattle.tatp_linearization.specs.Covering.{StandsFor, OneStandsFor}
+use Rattle.tatp_linearization.specs.Covering.{StandsFor}
+use Rattle.tatp_linearization.specs.Going.{LeadsOn}
 use Rattle.tatp_linearization.proofs.PlaceLaws.{get_at, below_or_is, same_item}
 use Rattle.tatp_linearization.proofs.CoveringLaws.{stands_get}
+use Rattle.tatp_linearization.proofs.GoingLaws.{event_on}
 use Rattle.tatp_linearization.proofs.GatheringLaws.{follows_may}
 use Rattle.tatp_linearization.proofs.following.leaves_all.Goals as goal
 
@@ -20,15 +22,16 @@ loop-i-preserved c =
     ]
 
 pub returns : goal.returns
-returns c = λ _. record {
+returns c = λ _ ahead. record {
   sound = λ d h.
       let there = stands_get c.args.set.now d h in
       let lt = there.1 in
       let law = c.loop-i.invariant there.0 there.2 (omega (arith, lt, c.loop-i-test.false)) there.3 d there.4 d in
       (d, h, follows_may c.args.event.now d d (law.0 refl));
-  found = λ apart d h.
-      let there = stands_get c.args.set.now h.0 h.1 in
+  found = λ apart to rest known one.
+      let there = stands_get c.args.set.now one.0 one.1 in
       let lt = there.1 in
-      let same : d ≡ h.0 = (c.loop-i.invariant there.0 there.2 (omega (arith, lt, c.loop-i-test.false)) there.3 h.0 there.4 d).1 h.2 in
-      subst (OneStandsFor c.args.set.now) (sym same) h.1;
+      let next = event_on to c.args.event.now rest one.0 one.2 in
+      let same : next.0 ≡ one.0 = (c.loop-i.invariant there.0 there.2 (omega (arith, lt, c.loop-i-test.false)) there.3 one.0 there.4 next.0).1 next.1 in
+      (one.0, one.1, subst (LeadsOn to rest) same next.2);
 }

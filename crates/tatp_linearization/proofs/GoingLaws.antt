@@ -1,0 +1,81 @@
+-- Orders lead on over events from one configuration to another that follows just in time.
+use Rattle.std.proofs.Common.{◌≡◌, ℕ, List, [], ◌∷◌, ◌++◌, refl, sym, subst, inl}
+use Rattle.std.proofs.lemmas.List.{append-nil}
+use Rattle.tatp_tables.specs.Database.{Database}
+use Rattle.tatp_history.specs.declared.event.Event.{Event}
+use Rattle.tatp_history.specs.declared.event.Event.TheVariants.{Ends}
+use Rattle.tatp_history.specs.declared.observed.Observed.{Observed}
+use Rattle.tatp_history.specs.Histories.{IsIn, IsStrictlySerializable, IsStrictlySerializableTo, rows_after}
+use Rattle.tatp_history.specs.Events.{asked_in, TimesRise, HaveEnds}
+use Rattle.tatp_history.specs.JustInTime.{NoneAskedAt}
+use Rattle.tatp_history.specs.Remaining.{IsOrderFrom}
+use Rattle.tatp_history.specs.Configurations.{Configuration, starting}
+use Rattle.tatp_history.proofs.EventLaws.{answered_at}
+use Rattle.tatp_history.proofs.RemainingLaws.{open_ended, ends_order, first_opens}
+use Rattle.tatp_history.proofs.JustInTimeLaws.{serial_is, none_open}
+use Rattle.tatp_linearization.specs.AtOnce.{TakesOne, FollowsAtOnce, LeadAtOnce}
+use Rattle.tatp_linearization.specs.Going.{LeadsOn}
+use Rattle.tatp_linearization.proofs.AtOnceLaws.{have_more, one_open, one_settled, first_takes, event_settled, event_open, event_complete}
+
+-- ---- from the rows on
+-- a serial order leads on over all events
+pub serial_leads : (u after : Database) (events : List Event) → TimesRise events → HaveEnds events → IsStrictlySerializableTo u (asked_in events) after → LeadsOn after events (starting u)
+serial_leads u after events rise have s = record { rise = rise; ends = have; waiting = none_open events; settled = tt; order = (s.0, serial_is u events [] s.0 s.1, s.2) }
+
+-- so it does over no more events
+pub serial_leads_on : (u after : Database) (events : List Event) → TimesRise events → HaveEnds events → IsStrictlySerializableTo u (asked_in events) after → LeadsOn after (events ++ []) (starting u)
+serial_leads_on u after events rise have s = subst (λ es. LeadsOn after es (starting u)) (sym (append-nil events)) (serial_leads u after events rise have s)
+
+-- it leaves some rows
+pub serial_to : (u : Database) (events : List Event) → IsStrictlySerializable u (asked_in events) → (after : Database) × IsStrictlySerializableTo u (asked_in events) after
+serial_to u events s = (rows_after u s.0, (s.0, s.1, refl))
+
+-- ---- over events
+pub event_on : (after : Database) (event : Event) (more : List Event) (c : Configuration) → LeadsOn after (event ∷ more) c → (d : Configuration) × FollowsAtOnce event c d × LeadsOn after more d
+event_on after event more c on =
+    let next = event_complete (λ v. v ≡ after) event more on.rise on.ends c on.settled on.waiting on.order in (
+      next.0,
+      next.1,
+      record {
+        rise = on.rise.1;
+        ends = have_more event more on.ends;
+        waiting = event_open event more on.rise on.ends c next.0 next.1 on.waiting;
+        settled = event_settled event c next.0 on.settled next.1;
+        order = next.2;
+      },
+    )
+
+pub events_on : (after : Database) (first second : List Event) (c : Configuration) → LeadsOn after (first ++ second) c → (d : Configuration) × LeadAtOnce first c d × LeadsOn after second d
+events_on after [] second c on = (c, refl, on)
+events_on after (event ∷ more) second c on =
+    let next = event_on after event (more ++ second) c on in
+    let rest = events_on after more second next.0 next.2 in
+    (rest.0, (next.0, next.1, rest.1), rest.2)
+
+-- over the end of a call that isn't open
+pub end_on : (after : Database) (asked at : ℕ) (rest : List Event) (c : Configuration) → NoneAskedAt asked c.opened → LeadsOn after (Ends asked at ∷ rest) c → LeadsOn after rest c
+end_on after asked at rest c none on = record {
+  rise = on.rise.1;
+  ends = on.ends;
+  waiting = open_ended asked at rest c.opened none on.waiting;
+  settled = on.settled;
+  order = ends_order (λ v. v ≡ after) c.rows asked at rest c.opened on.order;
+}
+
+-- before the end of one that is open an open call takes effect
+pub call_on : (after : Database) (asked at : ℕ) (rest : List Event) (c : Configuration) (z : Observed) → IsIn z c.opened → z.asked ≡ asked → LeadsOn after (Ends asked at ∷ rest) c
+    → (d : Configuration) × TakesOne c d × LeadsOn after (Ends asked at ∷ rest) d
+call_on after asked at rest c z there is on =
+    let events : List Event = Ends asked at ∷ rest in
+    let stands : IsIn z on.order.0 = on.order.1.all z (inl there) (answered_at z.outcome at ((on.waiting.fit z there).0 is)) in
+    elim on.order.0 as (λ xs. on.order.0 ≡ xs → (d : Configuration) × TakesOne c d × LeadsOn after (Ends asked at ∷ rest) d) [
+      | [] ↦ λ e. absurd (subst (IsIn z) e stands)
+      | x ∷ xs ↦ λ e.
+          let ok : IsOrderFrom c.rows events c.opened (x ∷ xs) = subst (IsOrderFrom c.rows events c.opened) e on.order.1 in
+          let opens : IsIn x c.opened = first_opens c.rows asked at rest on.rise c.opened on.waiting z there is x xs ok in
+          let next = first_takes (λ v. v ≡ after) events on.ends c on.settled on.waiting x opens xs ok (subst (λ ys. rows_after c.rows ys ≡ after) e on.order.2) in (
+            next.0,
+            next.1,
+            record { rise = on.rise; ends = on.ends; waiting = one_open events c next.0 next.1 on.waiting; settled = one_settled c next.0 next.1; order = next.2 },
+          )
+    ] refl

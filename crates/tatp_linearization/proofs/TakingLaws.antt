@@ -1,0 +1,235 @@
+-- One call takes effect, and clusters right before it.
+use Rattle.std.proofs.Common.{◌≡◌, ℕ, zero, suc, ◌≤◌, Bool, true, false, cond, List, [], ◌∷◌, filter, length, Some, Ok, remove, refl, sym, ◌∙◌, ap, subst, arith, inl, inr}
+use Rattle.tatp_tables.specs.Keys.{has_number}
+use Rattle.tatp_tables.specs.Database.{Database}
+use Rattle.tatp_tables.proofs.KeyLaws.{has-found}
+use Rattle.tatp_homes.specs.Home.{SubscriberRows}
+use Rattle.tatp_procs.specs.Arguments.{arguments_accepted}
+use Rattle.tatp_procs.specs.Transactions.{Answer, transaction}
+use Rattle.tatp_history.specs.declared.event.Event.{Event}
+use Rattle.tatp_history.specs.declared.observed.Observed.{Observed}
+use Rattle.tatp_history.specs.Histories.{IsIn, MayHaveReply, AreAskedApart}
+use Rattle.tatp_history.specs.Locality.{AreAccepted}
+use Rattle.tatp_history.specs.JustInTime.{Chooses}
+use Rattle.tatp_history.specs.Configurations.{Configuration}
+use Rattle.tatp_history.proofs.OrderLaws.{all_filter}
+use Rattle.tatp_linearization.specs.declared.ahead.Ahead.{Ahead}
+use Rattle.tatp_linearization.specs.declared.configuration.Configuration.{Configuration as Held}
+use Rattle.tatp_linearization.specs.AtOnce.{FitsAtOnce, AreLeft, TakesOne}
+use Rattle.tatp_linearization.specs.Possible.{CallsTakeEffect}
+use Rattle.tatp_linearization.specs.Overwritten.{SetsLocation, IsBlind, AreButSome}
+use Rattle.tatp_linearization.specs.Held.{seen, Takes}
+use Rattle.tatp_linearization.specs.Covering.{StandsFor, From, MayCome}
+use Rattle.tatp_linearization.specs.Going.{LeadsOn}
+use Rattle.tatp_linearization.specs.Turns.{IsOtherTime, IsThere, IsFewer, TakesOn}
+use Rattle.tatp_linearization.specs.Doomed.{sets_location, NoneHasLocation}
+use Rattle.tatp_linearization.specs.Unseen.{AreOfOne}
+use Rattle.tatp_linearization.specs.Ahead.{LooksAhead, IsLost}
+use Rattle.tatp_linearization.specs.Clusters.{GoFirst, LosesNone}
+use Rattle.tatp_linearization.proofs.AtOnceLaws.{one_settled}
+use Rattle.tatp_linearization.proofs.BlindLaws.{named_row, blind_chain}
+use Rattle.tatp_linearization.proofs.ButSomeLaws.{but_map, but_in, but_all, left_drop}
+use Rattle.tatp_linearization.proofs.ClusterLaws.{open_filter, loses_apart, calls_all, calls_fewer, calls_one}
+use Rattle.tatp_linearization.proofs.CoveringLaws.{seen_stands, taken_there, taken_fewer, blind_back}
+use Rattle.tatp_linearization.proofs.DoomedLaws.{stays, no_update}
+use Rattle.tatp_linearization.proofs.LostLaws.{none_lost}
+use Rattle.tatp_linearization.proofs.PlaceLaws.{chooses_at}
+use Rattle.tatp_linearization.proofs.PossibleLaws.{SomeTakeEffect, some_on, one_call, one_takes}
+use Rattle.tatp_linearization.proofs.UnseenLaws.{one_only, one_home, one_after}
+
+-- ---- the same call among more
+chooses_put : (big : List Observed) (x : Observed) (others : List Observed) → Chooses big x others → (z : Observed) (left : List Observed) → Chooses others z left → (rest : List Observed) × Chooses big z rest × Chooses rest x left
+chooses_put [] x others c z left d = absurd c
+chooses_put (y ∷ ys) x others c z left d = elim c [
+  | inl p ↦ (y ∷ left, inr (left, refl, subst (λ zs. Chooses zs z left) p.1 d), inl (p.0, refl))
+  | inr p ↦ let own : Chooses (y ∷ p.0) z left = subst (λ zs. Chooses zs z left) p.1 d in elim own [
+    | inl q ↦ (ys, inl (q.0, refl), subst (Chooses ys x) (sym q.1) p.2)
+    | inr q ↦ let go = chooses_put ys x p.0 p.2 z q.0 q.2 in (y ∷ go.0, inr (go.0, refl, go.1), inr (q.0, q.1, go.2))
+  ]
+]
+
+left_put : (w : Database) (xs ys : List Observed) → AreLeft w xs ys → (z : Observed) (left : List Observed) → Chooses ys z left → (rest : List Observed) × Chooses xs z rest × AreLeft w rest left
+left_put w [] ys a z left c = absurd (subst (λ zs. Chooses zs z left) a c)
+left_put w (x ∷ xs) ys a z left c = elim a [
+  | inl p ↦ let go = left_put w xs ys p.1 z left c in (x ∷ go.0, inr (go.0, refl, go.1), inl (p.0, go.2))
+  | inr p ↦ let own : Chooses (x ∷ p.1.0) z left = subst (λ zs. Chooses zs z left) p.1.1 c in elim own [
+    | inl q ↦ (xs, inl (q.0, refl), subst (AreLeft w xs) (sym q.1) p.1.2)
+    | inr q ↦ let go = left_put w xs p.1.0 p.1.2 z q.0 q.2 in (x ∷ go.0, inr (go.0, refl, go.1), inr (p.0, (q.0, q.1, go.2)))
+  ]
+]
+
+-- calls that take effect do so too where another one is open, and reads that go after it
+calls_put : (w : Database) (x : Observed) (n : ℕ) (c d : Configuration) → CallsTakeEffect n c d → (big others : List Observed) → Chooses big x others → AreLeft w others c.opened
+    → (rest : List Observed) × (after : List Observed) × SomeTakeEffect (record { rows = c.rows; opened = big }) (record { rows = d.rows; opened = rest }) × Chooses rest x after × AreLeft w after d.opened
+calls_put w x zero c d h big others chosen left = (
+  big,
+  others,
+  (0, λ i. record { rows = (h i).rows; opened = big }),
+  chosen,
+  subst (λ (b : Configuration). AreLeft w others b.opened) (sym h) left,
+)
+calls_put w x (suc n) c d h big others chosen left =
+    let one = h.1 in
+    let first = left_put w others c.opened left one.0 one.1 one.2 in
+    let second = chooses_put big x others chosen one.0 first.0 first.1 in
+    let mid : Configuration = record { rows = (transaction one.0.call c.rows).database; opened = second.0 } in
+    let effect : SomeTakeEffect (record { rows = c.rows; opened = big }) mid = one_call (record { rows = c.rows; opened = big }) mid (one.0, second.0, second.1, one.3, refl) in
+    let open_after : h.0.opened ≡ one.1 = ap (λ (b : Configuration). b.opened) one.4 in
+    let rows_after : h.0.rows ≡ (transaction one.0.call c.rows).database = ap (λ (b : Configuration). b.rows) one.4 in
+    let go = calls_put w x n h.0 d h.2 second.0 first.0 second.2 (subst (AreLeft w first.0) (sym open_after) first.2) in
+    let next : SomeTakeEffect mid (record { rows = d.rows; opened = go.0 }) = subst (λ v. SomeTakeEffect (record { rows = v; opened = second.0 }) (record { rows = d.rows; opened = go.0 })) rows_after go.2 in
+    (go.0, go.1, some_on (record { rows = c.rows; opened = big }) mid (record { rows = d.rows; opened = go.0 }) effect next, go.3, go.4)
+
+but_chooses : (F : Observed → Type 0) (m : ℕ) (big : List Observed) (x : Observed) (others : List Observed) → length big ≤ m → Chooses big x others → (left : List Observed) → AreButSome F m others left
+    → (put : List Observed) × AreButSome F m big put × Chooses put x left
+but_chooses F m [] x others le c left a = absurd c
+but_chooses F m (y ∷ ys) x others le c left a = elim c [
+  | inl p ↦ (y ∷ left, inl (left, refl, subst (λ zs. AreButSome F m zs left) p.1 a), inl (p.0, refl))
+  | inr p ↦ let own : AreButSome F m (y ∷ p.0) left = subst (λ zs. AreButSome F m zs left) p.1 a in elim own [
+    | inl q ↦ let go = but_chooses F m ys x p.0 (omega (arith, le)) p.2 q.0 q.2 in (y ∷ go.0, inl (go.0, refl, go.1), inr (q.0, q.1, go.2))
+    | inr q ↦ let go = but_chooses F m ys x p.0 (omega (arith, le)) p.2 left q.2 in (go.0, inr (omega (arith, le), q.1, go.1), go.2)
+  ]
+]
+
+-- ---- filters
+filter_shorter : (test : Observed → Bool) (xs : List Observed) → length (filter test xs) ≤ length xs
+filter_shorter test [] = omega arith
+filter_shorter test (x ∷ xs) = let le = filter_shorter test xs in elim (test x) as (λ b. length (cond b (x ∷ filter test xs) (filter test xs)) ≤ suc (length xs)) [
+  | true ↦ omega (arith, le)
+  | false ↦ omega (arith, le)
+]
+
+but_filter : (F : Observed → Type 0) (k m : ℕ) (test : Observed → Bool) (xs ys : List Observed) → length (filter test xs) ≤ m → AreButSome F k xs ys → AreButSome F m (filter test xs) (filter test ys)
+but_filter F k m test [] ys le a = subst (λ zs. AreButSome F m [] (filter test zs)) (sym a) refl
+but_filter F k m test (x ∷ xs) ys le a = elim (test x) as (λ b. test x ≡ b → length (cond b (x ∷ filter test xs) (filter test xs)) ≤ m → AreButSome F m (cond b (x ∷ filter test xs) (filter test xs)) (filter test ys)) [
+  | true ↦ λ e few. elim a [
+    | inl p ↦ inl (
+      filter test p.0,
+      ap (filter test) p.1 ∙ ap (λ b. cond b (x ∷ filter test p.0) (filter test p.0)) e,
+      but_filter F k m test xs p.0 (omega (arith, few)) p.2,
+    )
+    | inr p ↦ inr (omega (arith, few), p.1, but_filter F k m test xs ys (omega (arith, few)) p.2)
+  ]
+  | false ↦ λ e few. elim a [
+    | inl p ↦ subst (AreButSome F m (filter test xs)) (sym (ap (filter test) p.1 ∙ ap (λ b. cond b (x ∷ filter test p.0) (filter test p.0)) e)) (but_filter F k m test xs p.0 few p.2)
+    | inr p ↦ but_filter F k m test xs ys few p.2
+  ]
+] refl le
+
+-- ---- clusters before an update
+module _ (c d e : Held) (i : ℕ) (taken : Takes c i (Some d)) (accepted : AreAccepted c.opened.items) (sets : SetsLocation c.home.tables taken.0.call)
+    (home : e.home ≡ d.home) (over : e.overwritten ≡ length e.opened.items) (gone : GoFirst c.home.tables d.opened.items e.opened.items) where
+  one : AreOfOne c.home.tables
+  one = one_home c.home taken.1.home
+
+  -- they may take effect before it
+  pub cleared_from : (q : Configuration) → StandsFor e q → From MayCome c q
+  cleared_from q stands =
+      let u : Database = c.home.tables in
+      let x = taken.0 in
+      let v : Database = (transaction x.call u).database in
+      let m : Database = gone.0 in
+      let go = gone.1 in
+      let alike = go.alike x.call sets in
+      let others = remove c.opened.items i in
+      let put = calls_put v x go.many (record { rows = u; opened = d.opened.items }) (record { rows = m; opened = e.opened.items }) go.effects c.opened.items others (chooses_at c.opened.items i x taken.1.at) taken.1.settled in
+      let big = put.0 in
+      let G : Observed → Type 0 = IsBlind m in
+      let blind : (z : Observed) → IsBlind e.home.tables z → IsBlind m z = λ z b.
+      let own = blind_back c d i taken accepted z (subst (λ (h : SubscriberRows). IsBlind h.tables z) home b) in
+      record { sets = (go.alike z.call own.sets).0; may = own.may } in
+      let but : AreButSome G e.overwritten e.opened.items q.opened = but_map (IsBlind e.home.tables) G blind e.overwritten e.overwritten (omega arith) e.opened.items q.opened stands.opened in
+      let mid = left_drop v G e.overwritten put.1 e.opened.items q.opened put.4 but in
+      let n : ℕ = length big in
+      let few : length put.1 ≤ length big = shorter big x put.1 put.3 in
+      let back = but_chooses G (length big) big x put.1 (omega arith) put.3 mid.0 (but_map G G (λ z g. g) (length put.1) (length big) few put.1 mid.0 mid.1) in
+      let number = alike.0 in
+      let row = named_row m.subscribers number.number number.named in
+      let only = one_only m.subscribers row.0 (calls_one go.many (record { rows = u; opened = d.opened.items }) (record { rows = m; opened = e.opened.items }) go.effects one) (has-found (has_number number.number) m.subscribers row.0 row.1) in
+      let chain = blind_chain m row.0 only n [] big back.0 back.1 in
+      let w = chain.0 in
+      let same : transaction x.call w ≡ transaction x.call u = chain.2 x.call alike.0 ∙ alike.1 in
+      let rows : q.rows ≡ v = stands.rows ∙ (ap (λ (h : SubscriberRows). h.tables) home ∙ taken.1.rows) in
+      let b : Configuration = record { rows = w; opened = back.0 } in
+      let last : TakesOne b q = (
+        x,
+        mid.0,
+        record {
+          chosen = back.2;
+          writes = taken.1.writes;
+          may = subst (λ (a : Answer). MayHaveReply x.outcome a.reply) (sym same) taken.1.may;
+          rows = rows ∙ ap (λ (a : Answer). a.database) (sym same);
+          settled = subst (λ (a : Answer). AreLeft a.database mid.0 q.opened) (sym same) mid.2;
+        },
+      ) in
+      let before : Configuration = record { rows = m; opened = big } in
+      (seen c, seen_stands c, record { calls = some_on (seen c) before q put.2 (some_on before b q chain.1 (one_takes b q last)); settled = λ _. one_settled b q last })
+    where
+      shorter : (zs : List Observed) (z : Observed) (rest : List Observed) → Chooses zs z rest → length rest ≤ length zs
+      shorter [] z rest h = absurd h
+      shorter (y ∷ ys) z rest h = elim h [
+        | inl p ↦ let is : length rest ≡ length ys = ap length p.1 in omega (arith, is)
+        | inr p ↦ let is : length rest ≡ suc (length p.0) = ap length p.1 in let le = shorter ys z p.0 p.2 in omega (arith, is, le)
+      ]
+
+  module _ (ahead : Ahead) (now : ℕ) (loses : AreAskedApart d.opened.items → LosesNone ahead now d.opened.items e.opened.items) where
+    cleared_fewer : IsFewer c e
+    cleared_fewer =
+        let less = taken_fewer c d i taken accepted in
+        let few = less.few in
+        let fewer = calls_fewer gone.1.many (record { rows = c.home.tables; opened = d.opened.items }) (record { rows = gone.0; opened = e.opened.items }) gone.1.effects in
+        record {
+          few = omega (arith, few, fewer);
+          own = ap (λ (h : SubscriberRows). h.s_id) home ∙ less.own;
+          accepted = λ h. calls_all (λ (z : Observed). arguments_accepted z.call ≡ Ok tt) gone.1.many (record { rows = c.home.tables; opened = d.opened.items }) (record { rows = gone.0; opened = e.opened.items }) gone.1.effects (less.accepted h);
+          apart = λ h. let own = less.apart h in loses_apart ahead now d.opened.items e.opened.items (loses own) own;
+        }
+
+    -- and no order is lost
+    pub cleared_on : TakesOn (LooksAhead ahead now) c i e
+    cleared_on = record {
+      sound = cleared_from;
+      served = λ asked after events q looks apart there on.
+          let less = taken_fewer c d i taken accepted in
+          let lost = loses (less.apart apart) in
+          let test = lost.test in
+          let k = taken_there c d i taken accepted (IsOtherTime asked) q there in
+          let F : Observed → Type 0 = λ z. IsBlind d.home.tables z × IsOtherTime asked z in
+          let G : Observed → Type 0 = λ z. IsBlind e.home.tables z × IsOtherTime asked z in
+          let left : List Observed = filter test q.opened in
+          let all : length (filter test d.opened.items) ≤ e.overwritten = subst (λ n. length (filter test d.opened.items) ≤ n) (sym (over ∙ ap length lost.others)) (omega arith) in
+          let but : AreButSome F e.overwritten e.opened.items left = subst (λ zs. AreButSome F e.overwritten zs left) (sym lost.others) (but_filter F d.overwritten e.overwritten test d.opened.items q.opened all k.1) in
+          let rows_one : AreOfOne q.rows = subst AreOfOne (sym (k.0 ∙ taken.1.rows)) (one_after taken.0.call c.home.tables one) in (
+            record { rows = q.rows; opened = left },
+            record {
+              rows = k.0 ∙ sym (ap (λ (h : SubscriberRows). h.tables) home);
+              opened = but_map F G (λ z f. (subst (λ (h : SubscriberRows). IsBlind h.tables z) (sym home) f.0, f.1)) e.overwritten e.overwritten (omega arith) e.opened.items left but;
+            },
+            filter_shorter test q.opened,
+            record {
+              rise = on.rise;
+              ends = on.ends;
+              waiting = open_filter events test q.opened on.waiting;
+              settled = all_filter (λ (z : Observed). FitsAtOnce q.rows z → ⊥) test q.opened on.settled;
+              order = lost.kept events looks q.rows after q.opened rows_one (λ z h. but_in F d.overwritten d.opened.items q.opened k.1 z h) on.waiting on.order;
+            },
+          );
+      less = cleared_fewer;
+    }
+
+-- ---- a location that is lost
+pub none_on : (c d : Held) (i : ℕ) → Takes c i (Some d) → AreAccepted c.opened.items → (ahead : Ahead) (now location : ℕ) → IsLost ahead now d location
+    → (asked : ℕ) (after : Database) (events : List Event) (q : Configuration) → LooksAhead ahead now events → IsThere (IsOtherTime asked) c i q → LeadsOn after events q → ⊥
+none_on c d i taken accepted ahead now location lost asked after events q looks there on =
+    let k = taken_there c d i taken accepted (IsOtherTime asked) q there in
+    let F : Observed → Type 0 = λ z. IsBlind d.home.tables z × IsOtherTime asked z in
+    let opened = but_all F d.overwritten (λ (z : Observed). sets_location location z.call ≡ false) d.opened.items q.opened k.1 lost.opened in
+    let rows = subst (λ u. NoneHasLocation location u) (sym k.0) lost.rows in
+    elim lost.read [
+      | inl lt ↦
+          let x = looks.read location lt in
+          none_lost (λ v. v ≡ after) location q.rows events q.opened rows opened x.0 (looks.sets location x.0 lost.inside lost.later x.1.ended) (inr x.1.there) x.1.saw on.order
+      | inr x ↦
+          let there_still : IsIn x.0 q.opened = stays F d.overwritten d.opened.items q.opened k.1 x.0 (λ f. no_update d.home.tables x.0 x.2.s_id x.2.reads f.0) x.1 in
+          none_lost (λ v. v ≡ after) location q.rows events q.opened rows opened x.0 (looks.sets location x.0 lost.inside lost.later x.3) (inl there_still) x.2 on.order
+    ]

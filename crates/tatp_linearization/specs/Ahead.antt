@@ -1,0 +1,131 @@
+-- What a search knows ahead of the events that it goes along: the last times at which calls of a
+-- window are asked that saw or set a location.
+use Rattle.std.specs.Prelude.{◌≡◌, ℕ, ◌<◌, ◌≤◌, ◌⊎◌, true, nat_eq, List, [], ◌∷◌, ◌++◌, Option, Some, None}
+use Rattle.std.specs.List.{AllByRecursion}
+use Rattle.indexmap.specs.IndexMap.{get}
+use Rattle.tatp_history.specs.declared.event.Event.{Event}
+use Rattle.tatp_history.specs.declared.event.Event.TheVariants.{Asks, Ends}
+use Rattle.tatp_history.specs.declared.observed.Outcome.{Outcome}
+use Rattle.tatp_history.specs.declared.observed.Outcome.TheVariants.{Answered, Aborted, Unknown}
+use Rattle.tatp_history.specs.declared.observed.Observed.{Observed}
+use Rattle.tatp_history.specs.Histories.{IsIn}
+use Rattle.tatp_history.specs.Events.{asked_in, time_of}
+use Rattle.tatp_linearization.specs.declared.configuration.Configuration.{Configuration as Held}
+use Rattle.tatp_linearization.specs.declared.ahead.Ahead.{Ahead}
+use Rattle.tatp_linearization.specs.declared.ahead.Times.{Times}
+use Rattle.tatp_linearization.specs.Doomed.{sets_location, SawLocation, NoneHasLocation, NoneSets}
+use Rattle.tatp_linearization.specs.Unseen.{location_in, HasSetLocation, SawAfter, SetAfter}
+
+-- ---- what is kept of a location
+abbrev pub no_times : Times
+no_times = record { read = 0; ended = 0; set = 0 }
+
+abbrev pub times_or_none : Option Times → Times
+times_or_none None = no_times
+times_or_none (Some times) = times
+
+abbrev pub times_in : Ahead → ℕ → Times
+times_in ahead location = times_or_none (get nat_eq ahead.locations location)
+
+-- the call was answered by this time
+abbrev pub IsAnsweredBy : ℕ → Outcome → Type 0
+IsAnsweredBy time (Answered at recorded) = at ≤ time
+IsAnsweredBy time (Aborted at) = ⊥
+IsAnsweredBy time Unknown = ⊥
+
+-- the second times are the first once a call is asked that saw or sets their location
+pub record RaisesTimes (last : ℕ) (x : Observed) (old new : Times) : Type 0 where
+  pub keeps_read : old.read ≤ new.read
+  pub keeps_set : old.set ≤ new.set
+  pub read : (location : ℕ) → location_in x ≡ Some location → x.asked ≤ new.read
+  pub set : (location : ℕ) → sets_location location x.call ≡ true → x.asked ≤ new.set
+  pub ended : (new.ended ≡ old.ended) ⊎ ((new.ended ≡ x.asked) × IsAnsweredBy last x.outcome
+      × ((location : ℕ) × (location_in x ≡ Some location)))
+
+-- ---- what it tells of the events of a window
+-- a read that saw the location, and ends in the window, is asked at the time
+pub record IsEndedRead (events : List Event) (last location time : ℕ) (x : Observed) : Type 0 where
+  pub there : IsIn x (asked_in events)
+  pub saw : location_in x ≡ Some location
+  pub ended : IsAnsweredBy last x.outcome
+  pub asked : x.asked ≡ time
+
+-- an update of the location, that ends in the window, and not with a failure, is asked at the time
+pub record IsEndedUpdate (events : List Event) (last time : ℕ) (x : Observed) : Type 0 where
+  pub there : IsIn x (asked_in events)
+  pub sets : HasSetLocation x
+  pub ended : IsAnsweredBy last x.outcome
+  pub asked : x.asked ≡ time
+
+pub record Tells (events : List Event) (ahead : Ahead) : Type 0 where
+  pub reads : (x : Observed) (location : ℕ) → IsIn x (asked_in events)
+      → location_in x ≡ Some location → x.asked ≤ (times_in ahead location).read
+  pub sets : (x : Observed) (location : ℕ) → IsIn x (asked_in events)
+      → sets_location location x.call ≡ true → x.asked ≤ (times_in ahead location).set
+  pub ended : (location : ℕ) → 0 < (times_in ahead location).ended
+      → (x : Observed) × IsEndedRead events ahead.last location (times_in ahead location).ended x
+  pub updated : 0 < ahead.last_update
+      → (x : Observed) × IsEndedUpdate events ahead.last ahead.last_update x
+
+-- it tells nothing
+pub record TellsNothing (ahead : Ahead) : Type 0 where
+  pub ended : (location : ℕ) → (times_in ahead location).ended ≡ 0
+  pub updated : ahead.last_update ≡ 0
+  pub last : ahead.last ≡ 0
+
+-- the window's last event has this time
+abbrev pub IsLastTime : ℕ → List Event → Type 0
+IsLastTime last events =
+    (first : List Event) × (event : Event) × (events ≡ first ++ event ∷ [])
+    × (last ≡ time_of event)
+
+-- it was made of the events of a window
+abbrev pub IsAheadOf : List Event → Ahead → Type 0
+IsAheadOf events ahead = TellsNothing ahead ⊎ (IsLastTime ahead.last events × Tells events ahead)
+
+-- ---- what it tells of the events that are left, at a time
+-- an update of the location, asked after `time` in the events, was answered, and not with a failure,
+-- and each read of a location that isn't read any more in the window is asked after its end
+pub record IsNextUpdate (ahead : Ahead) (now : ℕ) (rest : List Event) (time : ℕ) (x : Observed)
+    : Type 0 where
+  pub there : IsIn x (asked_in rest)
+  pub sets : HasSetLocation x
+  pub later : time < x.asked
+  pub reads : (location : ℕ) → (times_in ahead location).read ≤ now
+      → SawAfter x location (asked_in rest)
+
+-- a read that is asked in the events saw the location, and ends in the window
+pub record IsNextRead (last location : ℕ) (rest : List Event) (x : Observed) : Type 0 where
+  pub there : IsIn x (asked_in rest)
+  pub saw : SawLocation location x
+  pub ended : IsAnsweredBy last x.outcome
+
+-- `sets` says that who sets a location that isn't set any more in the window is asked after the end
+-- of each call that ends in the window
+pub record LooksAhead (ahead : Ahead) (now : ℕ) (rest : List Event) : Type 0 where
+  pub from : AllByRecursion (λ event. now ≤ time_of event) rest
+  pub next : (time : ℕ) → now ≤ time → time < ahead.last_update
+      → (x : Observed) × IsNextUpdate ahead now rest time x
+  pub read : (location : ℕ) → now < (times_in ahead location).ended
+      → (x : Observed) × IsNextRead ahead.last location rest x
+  pub sets : (location : ℕ) (x : Observed) → now < ahead.last
+      → (times_in ahead location).set ≤ now → IsAnsweredBy ahead.last x.outcome
+      → SetAfter x location (asked_in rest)
+
+-- it does so where the first of the events is followed, if that is an end
+abbrev pub IsSeenAhead : Ahead → List Event → Type 0
+IsSeenAhead ahead [] = Unit {0}
+IsSeenAhead ahead (Asks x ∷ rest) = Unit {0}
+IsSeenAhead ahead (Ends asked at ∷ rest) = LooksAhead ahead at (Ends asked at ∷ rest)
+
+-- ---- a location that is lost
+-- the configuration doesn't have the location, nobody sets it any more in the window, and a read of
+-- the window that is open, or is asked later, saw it
+pub record IsLost (ahead : Ahead) (now : ℕ) (c : Held) (location : ℕ) : Type 0 where
+  pub rows : NoneHasLocation location c.home.tables
+  pub opened : NoneSets location c.opened.items
+  pub later : (times_in ahead location).set ≤ now
+  pub inside : now < ahead.last
+  pub read : (now < (times_in ahead location).ended)
+      ⊎ ((x : Observed) × IsIn x c.opened.items × SawLocation location x
+      × IsAnsweredBy ahead.last x.outcome)

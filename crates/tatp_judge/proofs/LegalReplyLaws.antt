@@ -192,12 +192,6 @@ empty_spent u most s lines line w within fails none kept = elim kept [
 pub filled_window : (u : Database) (most s : ℕ) (lines : List Line) (w : Window) → (w.events.items ≡ [] → ⊥) → IsWindowAfter u most s lines w ⊎ IsSpent u s lines w → IsWindowAfter u most s lines w
 filled_window u most s lines w some kept = elim kept [ inl window ↦ window | inr spent ↦ absurd (some spent.none) ]
 
--- the window of the subscriber
-pub kept_window : (u : Database) (lines : List Line) (judge : Judge) (s : ℕ) (w : Window) (kept : HasKept u lines judge) → 1 ≤ s → slice_get judge.windows.items (s - 1) ≡ Some w → IsWindowAfter u kept.most s lines w ⊎ IsSpent u s lines w
-kept_window u lines judge s w kept some at =
-    let same : suc (s - 1) ≡ s = omega (arith, some) in
-    subst (λ k. IsWindowAfter u kept.most k lines w ⊎ IsSpent u k lines w) same (elim (kept.searchable.windows_are (s - 1) w at) [ inl window ↦ inl window | inr spent ↦ inr spent.1 ])
-
 -- a window that keeps the numbers of its lines
 pub kept_same : (u : Database) (s : ℕ) (lines : List Line) (w after : Window) → after.from ≡ w.from → after.numbers.items ≡ w.numbers.items → AreNumbersKept u s lines w → AreNumbersKept u s lines after
 kept_same u s lines w after from numbers is = record {

@@ -1,11 +1,14 @@
 -- Subscribers that are set aside.
-use Rattle.std.proofs.Common.{◌≡◌, ℕ, zero, suc, ◌<◌, ◌≤◌, ◌⊎◌, ◌∙◌, sym, ap, subst, true, false, List, [], ◌∷◌, ◌++◌, length, slice_get, refl, arith, Some, inl, inr, append_assoc}
+use Rattle.std.proofs.Common.{◌≡◌, ℕ, zero, suc, ◌<◌, ◌≤◌, ◌⊎◌, ◌∙◌, sym, ap, subst, true, false, List, [], ◌∷◌, ◌++◌, length, slice_get, take, refl, arith, Some, inl, inr, append_assoc}
 use Rattle.std.specs.List.{AllByRecursion}
 use Rattle.std.proofs.lemmas.Bool.{false≢true}
-use Rattle.std.proofs.lemmas.List.{append-nil, length-append}
+use Rattle.std.proofs.lemmas.List.{append-nil, length-append, take-take, take_all}
 use Rattle.std.proofs.lemmas.Option.{none-some}
 use Rattle.tatp_tables.specs.Database.{Database, of_subscriber}
 use Rattle.tatp_history.specs.declared.line.Line.{Line}
+use Rattle.tatp_history.specs.Histories.{IsStrictlySerializable}
+use Rattle.tatp_history.specs.HistoryLines.{calls_of}
+use Rattle.tatp_history.specs.Locality.{calls_on}
 use Rattle.tatp_history.specs.SubscriberEvents.{events_of, no_calls, opened_after}
 use Rattle.tatp_history.proofs.OrderLaws.{all_map}
 use Rattle.tatp_linearization.specs.Possible.{NeedMore}
@@ -16,6 +19,7 @@ use Rattle.tatp_judge.specs.Aside.{AddsAside, AreSetAside, SetsAside}
 use Rattle.tatp_judge.specs.Steps.{AreEach}
 use Rattle.tatp_judge.specs.Verdicts.{AreInOrder, AreUndecided, IsAside, NeedMoreBy}
 use Rattle.tatp_judge.specs.Windows.{AreCounted, IsKept, IsWindowAfter}
+use Rattle.tatp_judge.proofs.FirstLinesLaws.{fewer_explained, now_explained, taken}
 use Rattle.tatp_judge.proofs.NumberLaws.{front}
 
 -- ---- one more
@@ -74,11 +78,27 @@ need_stays u most lines more line s h =
       many = subst (λ ls. NeedMore most (of_subscriber u s) (events_of u s ls)) (sym (front h.first lines more (omega (arith, h.by, h.within)))) h.many;
     }
 
+pub need_taken : (u : Database) (most n s : ℕ) (lines : List Line) → n ≤ length lines → NeedMoreBy u most lines n s → NeedMoreBy u most (take n lines) n s
+need_taken u most n s lines within h = record {
+  within = let all = taken n lines within in omega (arith, all);
+  first = h.first;
+  by = h.by;
+  many = subst (λ ls. NeedMore most (of_subscriber u s) (events_of u s ls)) (sym (take-take h.first n lines h.by)) h.many;
+}
+
 pub undecided_stay : (u : Database) (most : ℕ) (lines more : List Line) (xs : List Undecided) → AreUndecided u most lines xs → AreUndecided u most (lines ++ more) xs
 undecided_stay u most lines more xs are = record {
   each = all_map (λ (x : Undecided). NeedMoreBy u most lines x.line x.s_id) (λ (x : Undecided). NeedMoreBy u most (lines ++ more) x.line x.s_id) (λ x h. need_stays u most lines more x.line x.s_id h) xs are.each;
   order = are.order;
 }
+
+-- the calls on a subscriber in the first lines
+pub first_on : (u : Database) (s : ℕ) (first second : List Line) → IsStrictlySerializable (of_subscriber u s) (calls_on u s (calls_of (first ++ second))) → IsStrictlySerializable (of_subscriber u s) (calls_on u s (calls_of first))
+first_on u s first second h =
+    let all = first ++ second in
+    let le = longer first second in
+    subst (λ ls. IsStrictlySerializable (of_subscriber u s) (calls_on u s (calls_of ls))) (front (length first) first second (omega arith) ∙ take_all (length first) first (omega arith))
+    (fewer_explained u s (length all) all (omega arith) (now_explained u s all h) (length first) (omega (arith, le)) le)
 
 -- ---- windows
 -- none is set aside before any line

@@ -2,7 +2,7 @@
 use Rattle.std.proofs.Common.{◌≡◌, ℕ, zero, suc, ◌+◌, ◌-◌, ◌<◌, ◌≤◌, ◌⊎◌, ◌∙◌, ◌&&◌, sym, ap, subst, nat_le, true, false, List, [], ◌∷◌, ◌++◌, length, set, get_or, slice_get, take, refl, arith, Option, Some, None, Ok, cond, is_some, inl, inr}
 use Rattle.std.specs.Option.{option_map}
 use Rattle.std.proofs.lemmas.Bool.{cases_lt, false≢true}
-use Rattle.std.proofs.lemmas.List.{length-set}
+use Rattle.std.proofs.lemmas.List.{length-set, take_all}
 use Rattle.std.proofs.lemmas.Option.{none-some}
 use Rattle.tatp_tables.specs.Tuples.{Tuple, Tuples, has, set_of}
 use Rattle.tatp_tables.specs.Keys.{has_key, row_at}
@@ -43,12 +43,12 @@ use Rattle.tatp_judge.specs.Followed.{HasFollowed}
 use Rattle.tatp_judge.specs.Population.{IsDirectoryOf}
 use Rattle.tatp_judge.specs.Aside.{SetsAside}
 use Rattle.tatp_judge.specs.Steps.{AreEach}
-use Rattle.tatp_judge.specs.Verdicts.{AreUndecided, IsAside, NeedMoreBy}
+use Rattle.tatp_judge.specs.Verdicts.{AreOthersLegal, AreUndecided, IsAside, IsLegalBut, NeedMoreBy}
 use Rattle.tatp_judge.specs.Windows.{IsWindowAfter}
 use Rattle.tatp_judge.proofs.AsideLaws.{aside_last, aside_more, aside_one, kept_open, not_aside, undecided_more}
 use Rattle.tatp_history.proofs.SubscriberEventLaws.{same_or_not}
 use Rattle.tatp_judge.proofs.PlaceLaws.{found_at, got_other}
-use Rattle.tatp_judge.proofs.SearchLaws.{none_on, not_on}
+use Rattle.tatp_judge.proofs.SearchLaws.{legal_but, none_on, not_on, others_now}
 
 -- ---- a subscriber that isn't there has no rows
 no_row : (o : Option Tuple) → option_map s_id_of o ≡ None → o ≡ None
@@ -286,3 +286,12 @@ all_reached u most part lines r i old now is clean so_far end all (suc p) own ot
   | inl lt ↦ so_far.each p lt own other
   | inr le ↦ let count = so_far.count in outside u most lines r old (suc p) is clean (λ _. omega (arith, le, all, count)) (λ _. omega (arith, le, end))
 ]
+
+-- what is legal stays so, where more are set aside
+pub still_legal : (u : Database) (most : ℕ) (part : Part) (lines : List Line) (after : Database) (i : ℕ) (old now : Judge) → HasFollowed u most lines old → LeavesSoFar u most part lines after i old now → IsLegalBut u old.undecided.items lines → IsLegalBut u now.undecided.items lines
+still_legal u most part lines after i old now is so_far h =
+    let read = is.noted.read in
+    let all : take (length lines) lines ≡ lines = take_all (length lines) lines (omega arith) in
+    let legal = others_now u lines old old.undecided.items read h in
+    let fewer : AreOthersLegal u now.undecided.items lines = record { each = λ s other. legal.each s (λ own. other (so_far.still s own)); none = legal.none } in
+    subst (IsLegalBut u now.undecided.items) all (legal_but u lines old now.undecided.items (length lines) read (subst (AreOthersLegal u now.undecided.items) (sym all) fewer))

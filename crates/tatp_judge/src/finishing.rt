@@ -8,7 +8,7 @@ ghost use Rattle.tatp_judge.specs.Finishing.{IsFinalVerdictOn};
 ghost use Rattle.tatp_judge.specs.Followed.{HasFollowed};
 ghost use Rattle.tatp_judge.specs.Leaving.{GoesToEnd, SaysLeft};
 ghost use Rattle.tatp_judge.specs.Parts.{IsPart};
-ghost use Rattle.tatp_judge.specs.Verdicts.{AreUndecided};
+ghost use Rattle.tatp_judge.specs.Verdicts.{AreUndecided, IsLegalBut};
 ghost use Rattle.tatp_judge.specs.Windows.{IsWindowAfter};
 
 use crate::judge::Judge;
@@ -82,6 +82,9 @@ impl Judge {
             → HasFollowed u most lines self.old
             → AreUndecided u most lines (undecided_in self.new)) }
         ensures more { OnOk result (AddsAside self.old self.new) }
+        ensures legal { OnOk result ((u : Database) (most : ℕ) (lines : List ALine)
+            → HasFollowed u most lines self.old → IsLegalBut u (undecided_in self.old) lines
+            → IsLegalBut u (undecided_in self.new) lines) }
     {
         let homes = homes(alloc, rows)?;
         let count = homes.len().max(self.windows.len());

@@ -15,7 +15,7 @@ use Rattle.tatp_judge.specs.Parts.{is_of_part}
 use Rattle.tatp_judge.specs.Searched.{AreHomesOf}
 use Rattle.tatp_judge.specs.Windows.{IsWindowAfter}
 use Rattle.tatp_judge.proofs.AsideLaws.{adds_none, adds_one, adds_same}
-use Rattle.tatp_judge.proofs.FinishingLaws.{LeavesSoFar, all_reached, aside_there, fewer_at_end, more_at_end, none_left_yet, not_reached, not_yet_aside, one_aside_more, one_left_more, one_passed_over, window_there}
+use Rattle.tatp_judge.proofs.FinishingLaws.{LeavesSoFar, all_reached, aside_there, fewer_at_end, more_at_end, none_left_yet, not_reached, not_yet_aside, one_aside_more, one_left_more, one_passed_over, still_legal, window_there}
 use Rattle.tatp_judge.proofs.PlaceLaws.{found_at, same_at}
 use Rattle.tatp_judge.proofs.PopulationLaws.{homes_of_all}
 use Rattle.tatp_judge.proofs.SearchLaws.{home_at, home_own}
@@ -194,3 +194,15 @@ returns-clause-verdict c = λ u most lines is.
 
 pub returns-clause-aside : goal.returns-clause-aside
 returns-clause-aside c = λ u most lines is. (c.homes.invariant.2 u most lines is).undecided
+
+pub returns-then-i-len-clause-legal : goal.returns-then-i-len-clause-legal
+returns-then-i-len-clause-legal c = λ u most lines is. still_legal u most c.args.part.now lines (database_of c.args.rows.now) c.homes.i c.args.self.now c.homes.self is (c.homes.invariant.2 u most lines is)
+
+pub returns-then-i-len-2-clause-legal : goal.returns-then-i-len-2-clause-legal
+returns-then-i-len-2-clause-legal c = λ u most lines is. still_legal u most c.args.part.now lines (database_of c.args.rows.now) c.homes.i c.args.self.now c.homes.self is (c.homes.invariant.2 u most lines is)
+
+pub returns-in-Unexplained-clause-legal : goal.returns-in-Unexplained-clause-legal
+returns-in-Unexplained-clause-legal c = λ u most lines is. still_legal u most c.args.part.now lines (database_of c.args.rows.now) c.homes.i c.args.self.now c.homes.self is (c.homes.invariant.2 u most lines is)
+
+pub returns-clause-legal : goal.returns-clause-legal
+returns-clause-legal c = λ u most lines is. still_legal u most c.args.part.now lines (database_of c.args.rows.now) c.homes.i c.args.self.now c.homes.self is (c.homes.invariant.2 u most lines is)

@@ -53,7 +53,12 @@ fn set_aside(
 ) -> Result<Option<Undecided>, HistoryFault>
     requires { IsClean rows.now }
 {
-    Ok(judgement(alloc, rows, most, input)?.undecided.first().copied())
+    Ok(
+        judgement(alloc, rows, most, input)?
+            .undecided
+            .first()
+            .copied(),
+    )
 }
 
 /// What was at stake where all calls were answered.

@@ -13,4 +13,4 @@ pub lines-preserved : goal.lines-preserved
 lines-preserved c =
     let s = c.lines.invariant in
     let line = c.index-lines-i.result in
-    (s.0, s.1, s.2 ++ line ∷ [], c.in_ok-verdict.ensures.followed (ap Ok (none_is c.in_ok-verdict.field-0 c.in_default.not-Some)) s.0 s.1 s.2 s.3, length-append s.2 (line ∷ []) ∙ ap (λ n. n + 1) s.4)
+    (s.0, s.1, s.2 ++ line ∷ [], c.in_ok-follow.ensures.followed (ap Ok (none_is c.in_ok-follow.field-0 c.in_default.not-Some)) s.0 s.1 s.2 s.3, length-append s.2 (line ∷ []) ∙ ap (λ n. n + 1) s.4)

@@ -1,5 +1,5 @@
 -- Subscribers that are set aside.
-use Rattle.std.proofs.Common.{◌≡◌, ℕ, zero, suc, ◌<◌, ◌≤◌, ◌⊎◌, ◌∙◌, sym, ap, subst, true, false, List, [], ◌∷◌, ◌++◌, length, slice_get, take, refl, arith, Some, inl, inr, append_assoc}
+use Rattle.std.proofs.Common.{◌≡◌, ℕ, zero, suc, ◌<◌, ◌≤◌, ◌⊎◌, ◌∙◌, sym, ap, subst, false, List, [], ◌∷◌, ◌++◌, length, slice_get, take, refl, arith, Some, inl, inr, append_assoc}
 use Rattle.std.specs.List.{AllByRecursion}
 use Rattle.std.proofs.lemmas.Bool.{false≢true}
 use Rattle.std.proofs.lemmas.List.{append-nil, length-append, take-take, take_all}

@@ -1,7 +1,7 @@
 -- Whether some order of the calls leads to rows, subscriber by subscriber.
 use Rattle.std.proofs.Common.{◌≡◌, ℕ, zero, suc, ◌+◌, ◌-◌, ◌<◌, ◌≤◌, ◌⊎◌, ◌∙◌, ◌&&◌, sym, ap, subst, nat_le, true, false, List, [], ◌∷◌, ◌++◌, length, set, get_or, slice_get, take, refl, arith, Option, Some, None, Ok, cond, is_some, inl, inr}
 use Rattle.std.specs.Option.{option_map}
-use Rattle.std.proofs.lemmas.Bool.{cases_lt, false≢true}
+use Rattle.std.proofs.lemmas.Bool.{cases_lt}
 use Rattle.std.proofs.lemmas.List.{length-set, take_all}
 use Rattle.std.proofs.lemmas.Option.{none-some}
 use Rattle.tatp_tables.specs.Tuples.{Tuple, Tuples, has, set_of}

@@ -1,5 +1,5 @@
 -- What the judge keeps, once a line was noted.
-use Rattle.std.proofs.Common.{◌≡◌, ℕ, suc, ◌+◌, ◌-◌, ◌<◌, ◌≤◌, ◌⊎◌, ◌∙◌, sym, ap, subst, List, [], ◌∷◌, ◌++◌, length, take, drop, slice_get, nat_eq, refl, arith, Option, Some, None, true, false, inl, inr}
+use Rattle.std.proofs.Common.{◌≡◌, ℕ, suc, ◌-◌, ◌<◌, ◌≤◌, ◌∙◌, sym, ap, subst, List, [], ◌∷◌, ◌++◌, length, take, drop, slice_get, nat_eq, refl, arith, Option, Some, None, true, false, inl, inr}
 use Rattle.std.proofs.lemmas.Bool.{false≢true}
 use Rattle.std.proofs.lemmas.Option.{none-some, same_Some}
 use Rattle.std.proofs.lemmas.List.{take_all}
@@ -12,7 +12,6 @@ use Rattle.tatp_history.specs.Histories.{IsStrictlySerializable}
 use Rattle.tatp_history.specs.HistoryLines.{calls_of}
 use Rattle.tatp_history.specs.SubscriberEvents.{NothingIsOpen, no_calls, opened_after}
 use Rattle.tatp_history.specs.Locality.{calls_on, FailsWithout, FailWithout}
-use Rattle.tatp_history.proofs.SubscriberEventLaws.{same_or_not}
 use Rattle.tatp_linearization.specs.declared.explanations.Standing.{Standing}
 use Rattle.tatp_linearization.specs.declared.explanations.Standing.TheVariants.{Explained, Unexplained, Undecided}
 use Rattle.tatp_judge.specs.declared.asked.Asked.{Asked}

@@ -12,7 +12,7 @@ use Rattle.tatp_history.specs.HistoryLines.{client_of, end_at, calls_of, AreAcce
 use Rattle.tatp_history.specs.Events.{TimesRise}
 use Rattle.tatp_history.specs.Histories.{IsStrictlySerializable}
 use Rattle.tatp_history.specs.Locality.{calls_on, FailsWithout, FailWithout}
-use Rattle.tatp_history.specs.SubscriberEvents.{OpenCalls, no_calls, opened_by, opened_after, events_of}
+use Rattle.tatp_history.specs.SubscriberEvents.{OpenCalls, no_calls, opened_by, opened_after}
 use Rattle.tatp_history.proofs.SubscriberEventLaws.{same_or_not}
 use Rattle.tatp_judge.specs.declared.asked.Asked.{Asked}
 use Rattle.tatp_judge.specs.declared.aside.Undecided.{Undecided}
@@ -25,9 +25,8 @@ use Rattle.tatp_judge.specs.Asked.{AskedCalls, none_asked, with_asked, asked_cal
 use Rattle.tatp_judge.specs.Followed.{HasNoted, HasFollowed, EndsAs}
 use Rattle.tatp_judge.specs.NextLine.{asks_of}
 use Rattle.tatp_judge.specs.Population.{IsDirectoryOf}
-use Rattle.tatp_judge.specs.Steps.{AreEach, AsksCall, EndsCall, IsNoted, IsNotedBy, NotesLine, also_asked, fewer}
+use Rattle.tatp_judge.specs.Steps.{AreEach, AsksCall, EndsCall, IsNotedBy, NotesLine, also_asked}
 use Rattle.tatp_judge.specs.Verdicts.{IsLegalBut, IsSaid, IsUnexplained}
-use Rattle.tatp_judge.specs.Windows.{IsKept, IsWindowAfter}
 use Rattle.tatp_judge.proofs.AsideLaws.{kept_counted, kept_few, kept_open, still_aside, undecided_stay}
 use Rattle.tatp_judge.proofs.ClosingLaws.{rise_both}
 use Rattle.tatp_judge.proofs.NoneLaws.{MayEnd, asked_next, still_fail, fails_itself}

@@ -1,5 +1,5 @@
 -- The replies with which a call could have been answered.
-use Rattle.std.proofs.Common.{◌≡◌, ℕ, zero, suc, ◌-◌, ◌<◌, ◌≤◌, ◌⊎◌, ◌↔◌, ◌∙◌, sym, ap, subst, nat_le, Bool, ◌==◌, true, false, cond, List, [], ◌∷◌, ◌++◌, length, take, filter, map, slice_get, refl, arith, Some, le-leb, eq-eqb, ne_eqb, true≢false, inl, inr}
+use Rattle.std.proofs.Common.{◌≡◌, ℕ, zero, suc, ◌<◌, ◌≤◌, ◌⊎◌, ◌↔◌, ◌∙◌, sym, ap, subst, nat_le, Bool, ◌==◌, true, false, cond, List, [], ◌∷◌, ◌++◌, length, take, filter, map, slice_get, refl, arith, Some, le-leb, eq-eqb, ne_eqb, true≢false, inl, inr}
 use Rattle.std.specs.List.{AllByRecursion}
 use Rattle.std.proofs.lemmas.Bool.{cases_lt}
 use Rattle.std.proofs.lemmas.List.{take_all}
@@ -27,10 +27,8 @@ use Rattle.tatp_linearization.specs.Listed.{IsListed, AreEachOnce}
 use Rattle.tatp_linearization.specs.Single.{answered_with, events_alone}
 use Rattle.tatp_linearization.proofs.CutLaws.{asked_both}
 use Rattle.tatp_linearization.proofs.SingleLaws.{alone_answered}
-use Rattle.tatp_judge.specs.declared.judge.Judge.{Judge}
 use Rattle.tatp_judge.specs.declared.window.Window.{Window}
 use Rattle.tatp_judge.specs.Explained.{numbers_since}
-use Rattle.tatp_judge.specs.Followed.{HasKept}
 use Rattle.tatp_judge.specs.Legal.{AreLegalReplies}
 use Rattle.tatp_judge.specs.Verdicts.{IsUnexplained}
 use Rattle.tatp_judge.specs.Windows.{AreNumbersKept, IsSpent, IsWindowAfter}

@@ -9,7 +9,7 @@ use Rattle.tatp_history.specs.declared.observed.Outcome.{Outcome}
 use Rattle.tatp_history.specs.declared.observed.Observed.{Observed}
 use Rattle.tatp_history.specs.Histories.{IsStrictlySerializable, IsStrictlySerializableTo}
 use Rattle.tatp_history.specs.HistoryLines.{client_of, end_at, end_of, call_at, calls_from, calls_of, AreAcceptedLines}
-use Rattle.tatp_history.specs.Locality.{subscriber_of, is_this, is_on, calls_on, FailsWithout, FailWithout, IsSerializableAtEach}
+use Rattle.tatp_history.specs.Locality.{subscriber_of, is_this, is_on, calls_on, FailsWithout, FailWithout}
 use Rattle.tatp_history.proofs.FinalLaws.{combined_to, parted_to}
 use Rattle.tatp_history.proofs.LineLaws.{are_calls}
 use Rattle.tatp_history.proofs.LocalityLaws.{combined, parted}

@@ -1,7 +1,7 @@
 -- The first illegal line, by what is said of each window.
-use Rattle.std.proofs.Common.{◌≡◌, ℕ, zero, suc, ◌+◌, ◌-◌, ◌<◌, ◌≤◌, ◌⊎◌, ◌∙◌, sym, ap, subst, Bool, true, false, cond, List, [], ◌∷◌, ◌++◌, length, map, slice_get, take, refl, arith, Option, Some, None, ne_eqb, IsTrue, inl, inr}
+use Rattle.std.proofs.Common.{◌≡◌, ℕ, zero, suc, ◌+◌, ◌-◌, ◌<◌, ◌≤◌, ◌⊎◌, ◌∙◌, sym, ap, subst, Bool, true, false, cond, List, [], ◌∷◌, ◌++◌, length, map, slice_get, take, refl, arith, Option, Some, None, ne_eqb, inl, inr}
 use Rattle.std.specs.List.{range_with_len}
-use Rattle.std.proofs.lemmas.Bool.{cases_lt, false≢true}
+use Rattle.std.proofs.lemmas.Bool.{cases_lt}
 use Rattle.std.proofs.lemmas.List.{take_all}
 use Rattle.std.proofs.lemmas.Option.{none-some, same_Some}
 use Rattle.tatp_tables.specs.Database.{Database, of_subscriber}
@@ -20,14 +20,13 @@ use Rattle.tatp_history.proofs.LocalityLaws.{combined, parted}
 use Rattle.tatp_history.proofs.SubscriberEventLaws.{same_or_not}
 use Rattle.tatp_linearization.specs.declared.first.First.TheVariants.{Never, At}
 use Rattle.tatp_judge.specs.declared.judge.Judge.{Judge}
-use Rattle.tatp_judge.specs.declared.window.Window.{Window}
 use Rattle.tatp_judge.specs.Followed.{HasRead, IsSearchable}
 use Rattle.tatp_judge.specs.Population.{IsDirectoryOf}
 use Rattle.tatp_judge.specs.Searched.{AreHomesOf}
 use Rattle.tatp_judge.specs.declared.aside.Undecided.{Undecided}
 use Rattle.tatp_judge.specs.declared.judge.Verdict.TheVariants.{Illegal}
-use Rattle.tatp_judge.specs.Verdicts.{AreOthersLegal, IsAside, IsLegal, IsLegalBut, IsOther, IsUnexplained, IsVerdictOn}
-use Rattle.tatp_judge.specs.Windows.{IsWindowAfter, IsExplainedBefore, IsFirstOf}
+use Rattle.tatp_judge.specs.Verdicts.{AreOthersLegal, IsAside, IsLegalBut, IsOther, IsUnexplained, IsVerdictOn}
+use Rattle.tatp_judge.specs.Windows.{IsExplainedBefore, IsFirstOf}
 use Rattle.tatp_judge.proofs.AsideLaws.{aside_last, aside_more, aside_one}
 
 -- ---- homes

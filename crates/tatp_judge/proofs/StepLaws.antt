@@ -1,31 +1,23 @@
 -- What is said of one window, said of all.
 use Rattle.std.specs.Prelude.{OnOk, IfOk, IfSome, Result, Ok, Err}
-use Rattle.std.proofs.Common.{◌≡◌, ◌≢◌, ℕ, suc, ◌+◌, ◌-◌, ◌<◌, ◌≤◌, ◌∙◌, sym, ap, subst, cond, List, [], ◌∷◌, ◌++◌, length, map, set, get_or, slice_get, take, drop, nat_eq, refl, arith, Option, Some, None, true, false, eq-eqb, ne_eqb, inl, inr, append_assoc}
-use Rattle.std.proofs.lemmas.Bool.{false≢true}
-use Rattle.std.proofs.lemmas.Option.{none-some, same_Some}
-use Rattle.std.proofs.lemmas.List.{append-nil, take_all}
-use Rattle.indexmap.specs.IndexMap.{get}
-use Rattle.tatp_tables.specs.Database.{Database, of_subscriber}
-use Rattle.tatp_numbers.specs.Listing.{Listing}
+use Rattle.std.proofs.Common.{◌≡◌, ◌≢◌, ℕ, suc, ◌+◌, ◌-◌, ◌≤◌, ◌∙◌, sym, ap, subst, cond, List, [], ◌∷◌, ◌++◌, length, map, set, get_or, slice_get, refl, arith, Option, Some, None, false, eq-eqb, ne_eqb, inl, inr, append_assoc}
+use Rattle.std.proofs.lemmas.Option.{none-some}
+use Rattle.std.proofs.lemmas.List.{append-nil}
+use Rattle.tatp_tables.specs.Database.{Database}
 use Rattle.tatp_history.specs.declared.line.Line.{Line}
 use Rattle.tatp_history.specs.declared.event.Event.{Event}
 use Rattle.tatp_history.specs.declared.event.Event.TheVariants.{Asks}
-use Rattle.tatp_history.specs.declared.observed.Outcome.{Outcome}
 use Rattle.tatp_history.specs.declared.observed.Observed.{Observed}
-use Rattle.tatp_history.specs.Histories.{IsStrictlySerializable}
 use Rattle.tatp_history.specs.Events.{time_of}
-use Rattle.tatp_history.specs.HistoryLines.{end_at, calls_of}
-use Rattle.tatp_history.specs.SubscriberEvents.{NothingIsOpen, no_calls, opened_after}
-use Rattle.tatp_history.specs.Locality.{calls_on, is_this, FailsWithout, FailWithout}
+use Rattle.tatp_history.specs.HistoryLines.{end_at}
+use Rattle.tatp_history.specs.Locality.{is_this}
 use Rattle.tatp_linearization.specs.declared.explanations.Standing.{Standing}
-use Rattle.tatp_linearization.specs.declared.explanations.Standing.TheVariants.{Explained, Unexplained, Undecided}
 use Rattle.tatp_judge.specs.declared.asked.Asked.{Asked}
 use Rattle.tatp_judge.specs.declared.judge.Judge.{Judge}
 use Rattle.tatp_judge.specs.declared.window.Window.{Window}
-use Rattle.tatp_judge.specs.Asked.{asked_on, asked_in_all}
+use Rattle.tatp_judge.specs.Asked.{asked_on}
 use Rattle.tatp_judge.specs.Followed.{Forgets}
 use Rattle.tatp_judge.specs.NextLine.{ends_of, with_outcome, number_of_last, number_closed_by, asks_of}
-use Rattle.tatp_judge.specs.Population.{IsDirectoryOf}
 use Rattle.tatp_judge.specs.Steps.{AreEach, AsksCall, ClosesAt, ClosesHere, EndsCall, IsNoted, IsNotedBy, NotesLine, asks_on}
 use Rattle.tatp_judge.proofs.PlaceLaws.{each_same, each_set}
 

@@ -1,5 +1,5 @@
 -- What the judge keeps of the lines that it has followed.
-use Rattle.std.specs.Prelude.{◌≡◌, ◌↔◌, ℕ, suc, ◌+◌, ◌-◌, ◌^◌, ◌<◌, ◌≤◌, ◌⊎◌, nat_eq, Bool, IsTrue, true, false, List, length, take, slice_get, Option, Some, None}
+use Rattle.std.specs.Prelude.{◌≡◌, ◌↔◌, ℕ, suc, ◌+◌, ◌-◌, ◌^◌, ◌<◌, ◌≤◌, ◌⊎◌, nat_eq, Bool, IsTrue, false, List, length, take, slice_get, Option, Some, None}
 use Rattle.indexmap.specs.IndexMap.{get}
 use Rattle.tatp_tables.specs.Database.{Database}
 use Rattle.tatp_procs.specs.Consistent.{IsConsistent}

@@ -1,4 +1,4 @@
-use Rattle.std.proofs.Common.{suc, ◌-◌, arith, refl, inl, inr}
+use Rattle.std.proofs.Common.{◌-◌, arith, refl, inl, inr}
 use Rattle.tatp_judge.specs.Aside.{SetsAside}
 use Rattle.tatp_judge.proofs.PlaceLaws.{each_set}
 use Rattle.tatp_judge.proofs.aside.set_aside_in.Goals as goal

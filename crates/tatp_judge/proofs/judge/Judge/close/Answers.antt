@@ -1,5 +1,5 @@
 use Rattle.std.specs.Prelude.{IfSome}
-use Rattle.std.proofs.Common.{◌≡◌, ◌≤◌, length, refl, ◌∙◌, ap, sym, subst, true, None, Some}
+use Rattle.std.proofs.Common.{◌≡◌, ◌≤◌, length, ◌∙◌, sym, subst, true, None}
 use Rattle.std.proofs.lemmas.Bool.{false≢true}
 use Rattle.tatp_history.specs.HistoryLines.{end_at}
 use Rattle.tatp_judge.specs.declared.judge.Verdict.TheVariants.{Legal}

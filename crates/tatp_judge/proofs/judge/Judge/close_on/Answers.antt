@@ -1,10 +1,9 @@
-use Rattle.std.proofs.Common.{◌≡◌, ◌-◌, ◌≤◌, ◌∙◌, ap, sym, subst, true, false, Bool, ℕ, length, slice_get, Some, Ok, refl, arith}
+use Rattle.std.proofs.Common.{◌≡◌, ◌-◌, ◌∙◌, ap, sym, subst, true, false, Bool, ℕ, slice_get, Some, refl, arith}
 use Rattle.std.proofs.lemmas.Option.{same_Some}
 use Rattle.tatp_judge.specs.declared.judge.Judge.{Judge}
-use Rattle.tatp_judge.specs.declared.judge.Verdict.TheVariants.{Legal}
 use Rattle.tatp_judge.specs.declared.window.Window.{Window}
 use Rattle.tatp_judge.specs.Steps.{AreEach, ClosesAt}
-use Rattle.tatp_judge.specs.Verdicts.{IsLegalBut, IsVerdictOn}
+use Rattle.tatp_judge.specs.Verdicts.{IsVerdictOn}
 use Rattle.tatp_judge.proofs.FollowedLaws.{goes_on, goes_on_without, passed_over, searched_on, unexplained, window_of}
 use Rattle.tatp_judge.proofs.JudgeLaws.{said_stays}
 use Rattle.tatp_judge.proofs.PlaceLaws.{found_at}

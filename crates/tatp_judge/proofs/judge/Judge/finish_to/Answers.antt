@@ -1,4 +1,4 @@
-use Rattle.std.proofs.Common.{◌≡◌, ◌+◌, ◌<◌, ◌≤◌, ◌++◌, ◌∷◌, [], ◌∙◌, sym, ap, subst, refl, ℕ, suc, List, length, set, slice_get, Some, true, arith}
+use Rattle.std.proofs.Common.{◌≡◌, ◌+◌, ◌<◌, ◌∙◌, sym, ap, subst, refl, ℕ, suc, List, length, slice_get, Some, true, arith}
 use Rattle.std.specs.Vec.{with_item}
 use Rattle.std.proofs.lemmas.Bool.{false≢true}
 use Rattle.tatp_tables.specs.Database.{Database, database_of, of_subscriber}
@@ -9,7 +9,6 @@ use Rattle.tatp_linearization.specs.declared.explanations.Standing.TheVariants.{
 use Rattle.tatp_judge.specs.declared.judge.Judge.{Judge}
 use Rattle.tatp_judge.specs.declared.window.Window.{Window}
 use Rattle.tatp_judge.specs.Aside.{AddsAside}
-use Rattle.tatp_judge.specs.Followed.{HasFollowed}
 use Rattle.tatp_judge.specs.Leaving.{SaysLeft}
 use Rattle.tatp_judge.specs.Parts.{is_of_part}
 use Rattle.tatp_judge.specs.Searched.{AreHomesOf}

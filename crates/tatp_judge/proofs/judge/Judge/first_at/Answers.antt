@@ -1,4 +1,4 @@
-use Rattle.std.proofs.Common.{◌≡◌, ◌<◌, ◌∙◌, suc, sym, subst, vec_len, slice_get, Some, arith, eqb-true, ap, true, false, [], inr}
+use Rattle.std.proofs.Common.{◌≡◌, ◌∙◌, suc, sym, subst, vec_len, eqb-true, [], inr}
 use Rattle.std.proofs.lemmas.Bool.{false≢true}
 use Rattle.std.proofs.lemmas.Option.{same_Some}
 use Rattle.tatp_judge.specs.declared.window.Window.{Window}

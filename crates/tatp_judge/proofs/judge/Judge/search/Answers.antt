@@ -1,11 +1,8 @@
-use Rattle.std.proofs.Common.{◌≡◌, ◌+◌, ◌<◌, ◌≤◌, ◌∙◌, suc, ap, sym, subst, length, Some, arith, refl}
-use Rattle.std.proofs.lemmas.Bool.{false≢true}
+use Rattle.std.proofs.Common.{◌≡◌, ◌+◌, ◌<◌, ◌≤◌, ◌∙◌, suc, ap, sym, subst, length, Some, arith}
 use Rattle.std.proofs.lemmas.Option.{same_Some}
-use Rattle.tatp_linearization.specs.declared.first.First.TheVariants.{Never, At, Undecided}
 use Rattle.tatp_judge.specs.declared.judge.Judge.{Judge}
 use Rattle.tatp_judge.specs.declared.window.Window.{Window}
 use Rattle.tatp_judge.specs.Searching.{ReleasesSome}
-use Rattle.tatp_judge.specs.Verdicts.{NeedMoreBy}
 use Rattle.tatp_judge.specs.Windows.{IsFirstOf}
 use Rattle.tatp_judge.proofs.AsideLaws.{not_aside}
 use Rattle.tatp_judge.proofs.PlaceLaws.{found_at}

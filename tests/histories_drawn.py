@@ -99,7 +99,7 @@ def of_examples(drawn):
             picture.is_file("docs/pictures/history-b.svg")
     drawn.draw("no calls", ["--gen", "1"], b"")
     picture, said = drawn.draw("an undecided history of judge", ["--gen", "1", "--most", "1"], OVERLAPPING)
-    picture.check(said == ["UNDECIDED 4", "SUBSCRIBER 1"], "judge says %s" % said)
+    picture.check(said == ["UNDECIDED 4", "SUBSCRIBER 1", "OTHERS LEGAL"], "judge says %s" % said)
 
 
 # ---- what judge may say

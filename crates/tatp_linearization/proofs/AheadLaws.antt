@@ -20,9 +20,10 @@ use Rattle.tatp_history.proofs.EventLaws.{asked_after}
 use Rattle.tatp_linearization.specs.declared.ahead.Ahead.{Ahead}
 use Rattle.tatp_linearization.specs.declared.ahead.Times.{Times}
 use Rattle.tatp_linearization.specs.Doomed.{sets_location, SawLocation}
-use Rattle.tatp_linearization.specs.Unseen.{location_answered, location_read, location_in, location_named, location_of, HasSetLocation}
+use Rattle.tatp_linearization.specs.Unseen.{location_answered, location_read, location_in, location_named, location_of, HasSetLocation, IsReplacedBy}
 use Rattle.tatp_linearization.proofs.PlaceLaws.{drop_at}
-use Rattle.tatp_linearization.specs.Ahead.{times_in, times_or_none, RaisesTimes, IsAnsweredBy, IsEndedRead, Tells, IsLastTime, IsAheadOf, LooksAhead, IsSeenAhead}
+use Rattle.tatp_linearization.specs.declared.ahead.LastRead.{LastRead}
+use Rattle.tatp_linearization.specs.Ahead.{times_in, times_or_none, RaisesTimes, IsAnsweredBy, SawOtherAfter, NotesRead, IsEndedRead, IsNoted, Tells, IsLastTime, IsAheadOf, IsReplaced, LooksAhead, IsSeenAhead}
 
 -- ---- lists
 in_either : (z : Observed) (xs ys : List Observed) → IsIn z (xs ++ ys) → IsIn z xs ⊎ IsIn z ys
@@ -107,11 +108,12 @@ same_or_other (Some w) v = elim (w == v) as (λ b. (w == v) ≡ b → (Some w �
 module _ (x : Observed) (old mid new : Ahead)
     (own : (v : ℕ) → location_of x ≡ Some v → RaisesTimes old.last x (times_in old v) (times_in mid v))
     (others : (v : ℕ) → (location_of x ≡ Some v → ⊥) → times_in mid v ≡ times_in old v)
-    (same : mid.last_update ≡ old.last_update) (end : mid.last ≡ old.last) (kept : new.locations ≡ mid.locations) (until : new.last ≡ mid.last)
+    (same : mid ≡ record old { locations = mid.locations }) (kept : new.locations ≡ mid.locations) (until : new.last ≡ mid.last)
     (update : (new.last_update ≡ mid.last_update) ⊎ ((new.last_update ≡ x.asked) × HasSetLocation x × IsAnsweredBy mid.last x.outcome))
+    (noted : NotesRead x mid new)
     (past : List Event) (tells : Tells past old) where
   same_end : new.last ≡ old.last
-  same_end = until ∙ end
+  same_end = until ∙ ap (λ (a : Ahead). a.last) same
 
   times : (v : ℕ) → times_in new v ≡ times_in mid v
   times v = ap (λ m. times_or_none (get nat_eq m v)) kept
@@ -127,6 +129,19 @@ module _ (x : Observed) (old mid new : Ahead)
 
   which : (z : Observed) → IsIn z (asked_in more) → IsIn z (asked_in past) ⊎ (z ≡ x)
   which z h = elim (asked_either z past (Asks x ∷ []) h) [ inl k ↦ inl k | inr k ↦ elim k [ inl e ↦ inr e | inr q ↦ absurd q ] ]
+
+  -- a read that was noted is noted still
+  still : (read last : LastRead) → read ≡ last → IsNoted past old.last last → IsNoted more new.last read
+  still read last e h some =
+      let found = h (subst (λ (r : LastRead). 0 < r.asked) e some) in (
+        found.0,
+        record {
+          there = asked_first found.0 past (Asks x ∷ []) found.1.there;
+          saw = found.1.saw ∙ sym (ap (λ (r : LastRead). Some r.location) e);
+          ended = subst (λ t. IsAnsweredBy t found.0.outcome) (sym same_end) found.1.ended;
+          asked = found.1.asked ∙ sym (ap (λ (r : LastRead). r.asked) e);
+        },
+      )
 
   pub tells_asked : Tells more new
   tells_asked = record {
@@ -168,10 +183,18 @@ module _ (x : Observed) (old mid new : Ahead)
         ];
     updated = λ some. elim update [
       | inl e ↦
-          let is : new.last_update ≡ old.last_update = e ∙ same in
+          let is : new.last_update ≡ old.last_update = e ∙ ap (λ (a : Ahead). a.last_update) same in
           let found = tells.updated (subst (λ n. 0 < n) is some) in
           (found.0, record { there = asked_first found.0 past (Asks x ∷ []) found.1.there; sets = found.1.sets; ended = subst (λ t. IsAnsweredBy t found.0.outcome) (sym same_end) found.1.ended; asked = found.1.asked ∙ sym is })
       | inr k ↦ (x, record { there = asked_second x past (Asks x ∷ []) (inl refl); sets = k.1; ended = subst (λ t. IsAnsweredBy t x.outcome) (sym until) k.2; asked = sym k.0 })
+    ];
+    last_read = elim noted.last_read [
+      | inl e ↦ still new.last_read old.last_read (e ∙ ap (λ (a : Ahead). a.last_read) same) tells.last_read
+      | inr r ↦ λ some. (x, record { there = asked_second x past (Asks x ∷ []) (inl refl); saw = r.saw; ended = subst (λ t. IsAnsweredBy t x.outcome) (sym until) r.ended; asked = sym r.asked })
+    ];
+    other_read = elim noted.other_read [
+      | inl e ↦ still new.other_read old.other_read (e ∙ ap (λ (a : Ahead). a.other_read) same) tells.other_read
+      | inr e ↦ still new.other_read old.last_read (e ∙ ap (λ (a : Ahead). a.last_read) same) tells.last_read
     ];
   }
     where
@@ -188,7 +211,12 @@ tells_ended asked at ahead past tells =
       sets = λ z v there sets. tells.sets z v (which z there) sets;
       ended = λ v some. let found = tells.ended v some in (found.0, record { there = asked_first found.0 past (Ends asked at ∷ []) found.1.there; saw = found.1.saw; ended = found.1.ended; asked = found.1.asked });
       updated = λ some. let found = tells.updated some in (found.0, record { there = asked_first found.0 past (Ends asked at ∷ []) found.1.there; sets = found.1.sets; ended = found.1.ended; asked = found.1.asked });
+      last_read = λ some. on ahead.last_read.location ahead.last_read.asked (tells.last_read some);
+      other_read = λ some. on ahead.other_read.location ahead.other_read.asked (tells.other_read some);
     }
+  where
+    on : (v t : ℕ) → (z : Observed) × IsEndedRead past ahead.last v t z → (z : Observed) × IsEndedRead (past ++ Ends asked at ∷ []) ahead.last v t z
+    on v t found = (found.0, record { there = asked_first found.0 past (Ends asked at ∷ []) found.1.there; saw = found.1.saw; ended = found.1.ended; asked = found.1.asked })
 
 -- ---- the events that are left
 later_than : (first : List Event) (event : Event) (rest : List Event) → TimesRise (first ++ event ∷ rest) → (z : Observed) → IsIn z (asked_in first) → z.asked < time_of event
@@ -253,11 +281,37 @@ module _ (ahead : Ahead) (first second more : List Event) (asked at : ℕ) (all 
     | inr k ↦ asked_first z second more k
   ]
 
+  is_replaced : (last : ℕ) → IsLastTime last (first ++ Ends asked at ∷ second) → Tells (first ++ Ends asked at ∷ second) ahead → (v time : ℕ) (y : Observed) → IsIn y (asked_in (first ++ Ends asked at ∷ second)) → IsReplacedBy v y → IsAnsweredBy last y.outcome
+      → at ≤ time → time < y.asked → IsReplaced ahead at rest v time y
+  is_replaced last is tells v time y there by ended le lt = record {
+    there = asked_later y there (omega (arith, le, lt));
+    by = by;
+    later = lt;
+    reads = λ few. all_in (λ (z : Observed). location_in z ≡ Some v → Precedes y z) (asked_in rest) (λ z stands saw. elim (asked_then last is z stands) [
+      | inl q ↦ let most = tells.reads z v q.0 saw in let after = q.1 in absurd (omega (arith, most, after, few))
+      | inr after ↦ answered_then y.outcome last z.asked ended after
+    ]);
+  }
+
+  by_read : (last : ℕ) → IsLastTime last (first ++ Ends asked at ∷ second) → Tells (first ++ Ends asked at ∷ second) ahead → (v time : ℕ) (read : LastRead) → at ≤ time → SawOtherAfter v time read → IsNoted (first ++ Ends asked at ∷ second) last read
+      → (y : Observed) × IsReplaced ahead at rest v time y
+  by_read last is tells v time read le one noted =
+      let lt = one.1 in
+      let y = noted (omega (arith, lt)) in
+      let same = y.1.asked in
+      (y.0, is_replaced last is tells v time y.0 y.1.there (inr (read.location, y.1.saw, one.0)) y.1.ended le (omega (arith, same, lt)))
+
   pub looks_ahead : LooksAhead ahead at rest
   looks_ahead = elim all [
     | inl none ↦ record {
       from = from;
-      next = λ time le lt. let zero_is = none.updated in absurd (omega (arith, lt, zero_is));
+      replaced = λ v time le after. elim after [
+        | inl lt ↦ let zero_is = none.updated in absurd (omega (arith, lt, zero_is))
+        | inr seen ↦ elim seen [
+          | inl one ↦ let lt = one.1 in let zero_is = none.last_read in absurd (omega (arith, lt, zero_is))
+          | inr one ↦ let lt = one.1 in let zero_is = none.other_read in absurd (omega (arith, lt, zero_is))
+        ]
+      ];
       read = λ v lt. let zero_is = none.ended v in absurd (omega (arith, lt, zero_is));
       sets = λ v x lt few by. let zero_is = none.last in absurd (omega (arith, lt, zero_is));
     }
@@ -265,20 +319,16 @@ module _ (ahead : Ahead) (first second more : List Event) (asked at : ℕ) (all 
         let tells = k.1 in
         record {
           from = from;
-          next = λ time le lt.
-              let y = tells.updated (omega (arith, lt)) in
-              let is = y.1.asked in (
-                y.0,
-                record {
-                  there = asked_later y.0 y.1.there (omega (arith, is, le, lt));
-                  sets = y.1.sets;
-                  later = omega (arith, is, lt);
-                  reads = λ v few. all_in (λ (z : Observed). location_in z ≡ Some v → Precedes y.0 z) (asked_in rest) (λ z there saw. elim (asked_then ahead.last k.0 z there) [
-                    | inl q ↦ let most = tells.reads z v q.0 saw in let after = q.1 in absurd (omega (arith, most, after, few))
-                    | inr after ↦ answered_then y.0.outcome ahead.last z.asked y.1.ended after
-                  ]);
-                },
-              );
+          replaced = λ v time le after. elim after [
+            | inl lt ↦
+                let y = tells.updated (omega (arith, lt)) in
+                let is = y.1.asked in
+                (y.0, is_replaced ahead.last k.0 tells v time y.0 y.1.there (inl y.1.sets) y.1.ended le (omega (arith, is, lt)))
+            | inr seen ↦ elim seen [
+              | inl one ↦ by_read ahead.last k.0 tells v time ahead.last_read le one tells.last_read
+              | inr one ↦ by_read ahead.last k.0 tells v time ahead.other_read le one tells.other_read
+            ]
+          ];
           read = λ v lt.
               let y = tells.ended v (omega (arith, lt)) in
               let is = y.1.asked in

@@ -123,7 +123,7 @@ until_open (suc n) asked at more c d h are = let on = one_open (Ends asked at �
 module _ (Q : Database → Type 0) where
   -- the first call of an order, which is open and writes, takes effect
   pub first_takes : (events : List Event) → HaveEnds events → (c : Configuration) → IsSettled c → AreOpen events c.opened → (x : Observed) → IsIn x c.opened → (order : List Observed) → IsOrderFrom c.rows events c.opened (x ∷ order)
-      → Q (rows_after c.rows (x ∷ order)) → (d : Configuration) × TakesOne c d × HasOrder Q d.rows events d.opened
+      → Q (rows_after c.rows (x ∷ order)) → (d : Configuration) × (one : TakesOne c d) × (one.0 ≡ x) × HasOrder Q d.rows events d.opened
   first_takes events have c settled are x opens order ok q =
       let some = chooses_some c.opened x opens in
       let v : Database = (transaction x.call c.rows).database in
@@ -136,7 +136,7 @@ module _ (Q : Database → Type 0) where
       let one : TakesOne c d = (x, some.0, record { chosen = some.1; writes = writes; may = ok.replies.0; rows = refl; settled = left.1 }) in
       let rest : HasOrder Q v events left.0
       = left_order Q events have v [] some.0 left.0 left.1 (open_chosen events c.opened x some.0 some.1 are) (order, taken_off c.rows events c.opened x some.0 order are some.1 ok, q) in
-      (d, one, rest)
+      (d, one, refl, rest)
 
   until_complete : (n asked at : ℕ) (more : List Event) → TimesRise (Ends asked at ∷ more) → HaveEnds more → (c : Configuration) → IsSettled c → length c.opened ≤ n → AreOpen (Ends asked at ∷ more) c.opened
       → (z : Observed) → IsIn z c.opened → z.asked ≡ asked → (order : List Observed) → IsOrderFrom c.rows (Ends asked at ∷ more) c.opened order → Q (rows_after c.rows order)
@@ -150,7 +150,7 @@ module _ (Q : Database → Type 0) where
       let next = first_takes events have c settled are x opens order ok q in
       let d : Configuration = next.0 in
       let one : TakesOne c d = next.1 in
-      let rest = next.2 in
+      let rest = next.3 in
       let less = one_shorter c d one in
       elim (find_asked asked d.opened) [
         | inl none ↦ (d, (d, one, inl (none, refl)), ends_order Q d.rows asked at more d.opened rest)

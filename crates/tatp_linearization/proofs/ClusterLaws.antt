@@ -191,10 +191,10 @@ module _ (ahead : Ahead) (now : ℕ) (x : Observed) (location : ℕ) (unread : I
             let c = chooses_some mid x here in
             let answered : IsAnswered x.outcome = subst IsAnswered (sym unread.answered) tt in
             let le : now ≤ unread.at = ends_from x events now unread.at unread.recorded unread.answered looks.from (on.ends x here answered) in
-            let next = looks.next unread.at le unread.early in
+            let next = looks.replaced location unread.at le unread.replaced in
             let unseen : NoneSaw location c.0 = all_in (λ (z : Observed). location_in z ≡ Some location → ⊥) c.0 (λ z h. not_seen location z (of_filter (unseeing location) z some (rest_in mid x c.0 c.1 z h)).1) in
             subst (λ zs. HasOrder Q u events zs) (sym (chosen_others mid x c.0 c.1 on.apart))
-            (without_unseen events mid x c.0 c.1 on Q u one unread.number location unread.updates answered next.0 unseen (next.1.reads location unread.unread) next.1.there next.1.sets
+            (without_unseen events mid x c.0 c.1 on Q u one unread.number location unread.updates answered next.0 unseen (next.1.reads unread.unread) next.1.there next.1.by
             (subst (IsAnsweredBefore next.0.asked) (sym unread.answered) next.1.later) first)
       ])
 

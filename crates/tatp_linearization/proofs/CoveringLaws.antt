@@ -192,11 +192,11 @@ module _ (d : Held) (old mid : List Held) (r : AreRetained (Covers d) (IsOther d
     ]) (one_too_many most d.home.s_id mid d full (r.apart d.home.s_id apart) not_there)
 
 -- ---- one call takes effect
-pub there_some : (Extra : Observed → Type 0) (c : Held) (b e : Configuration) → b.rows ≡ c.home.tables → AreButSome (λ x. IsBlind c.home.tables x × Extra x) c.overwritten c.opened.items b.opened → TakesOne b e
-    → (i : ℕ) × (i < length c.opened.items) × IsThere Extra c i e
+pub there_some : (Extra : Observed → Type 0) (c : Held) (b e : Configuration) → b.rows ≡ c.home.tables → AreButSome (λ x. IsBlind c.home.tables x × Extra x) c.overwritten c.opened.items b.opened → (one : TakesOne b e)
+    → (i : ℕ) × (i < length c.opened.items) × (there : IsThere Extra c i e) × (there.call ≡ one.0)
 there_some Extra c b e rows but one =
     let go = but_chosen (λ x. IsBlind c.home.tables x × Extra x) c.overwritten c.opened.items b.opened one.0 one.1 but one.2.chosen in
-    (go.0, go.1, record { before = b; call = one.0; left = one.1; rows = rows; takes = one.2; at = go.2; opened = go.3 })
+    (go.0, go.1, record { before = b; call = one.0; left = one.1; rows = rows; takes = one.2; at = go.2; opened = go.3 }, refl)
 
 pub there_none : (Extra : Observed → Type 0) (c : Held) (i : ℕ) (e : Configuration) → Takes c i None → IsThere Extra c i e → ⊥
 there_none Extra c i e none there = none there.call there.at there.takes.writes (subst (λ v. MayHaveReply there.call.outcome (transaction there.call.call v).reply) there.rows there.takes.may)

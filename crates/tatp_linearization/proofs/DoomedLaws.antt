@@ -84,7 +84,7 @@ none_after (InsertCallForwarding n t b e x) v u other none = subst (NoRowHas v) 
 none_after (DeleteCallForwarding n t b) v u other none = subst (NoRowHas v) (sym (deletes_for_keep u t b (home_of_key u.subscribers (Number n)))) none
 
 -- ---- a read that saw a location doesn't fit where no row has it
-row_read : (u : Database) (row : Option Tuple) (values : List ℕ) → (reads u (λ q. q) row).reply ≡ Values values → row ≡ Some values
+pub row_read : (u : Database) (row : Option Tuple) (values : List ℕ) → (reads u (λ q. q) row).reply ≡ Values values → row ≡ Some values
 row_read u None values e = absurd cc
 row_read u (Some row) values e = let is : row ≡ values = cc in ap Some is
 

@@ -61,21 +61,3 @@ end_on after asked at rest c none on = record {
   settled = on.settled;
   order = ends_order (λ v. v ≡ after) c.rows asked at rest c.opened on.order;
 }
-
--- before the end of one that is open an open call takes effect
-pub call_on : (after : Database) (asked at : ℕ) (rest : List Event) (c : Configuration) (z : Observed) → IsIn z c.opened → z.asked ≡ asked → LeadsOn after (Ends asked at ∷ rest) c
-    → (d : Configuration) × TakesOne c d × LeadsOn after (Ends asked at ∷ rest) d
-call_on after asked at rest c z there is on =
-    let events : List Event = Ends asked at ∷ rest in
-    let stands : IsIn z on.order.0 = on.order.1.all z (inl there) (answered_at z.outcome at ((on.waiting.fit z there).0 is)) in
-    elim on.order.0 as (λ xs. on.order.0 ≡ xs → (d : Configuration) × TakesOne c d × LeadsOn after (Ends asked at ∷ rest) d) [
-      | [] ↦ λ e. absurd (subst (IsIn z) e stands)
-      | x ∷ xs ↦ λ e.
-          let ok : IsOrderFrom c.rows events c.opened (x ∷ xs) = subst (IsOrderFrom c.rows events c.opened) e on.order.1 in
-          let opens : IsIn x c.opened = first_opens c.rows asked at rest on.rise c.opened on.waiting z there is x xs ok in
-          let next = first_takes (λ v. v ≡ after) events on.ends c on.settled on.waiting x opens xs ok (subst (λ ys. rows_after c.rows ys ≡ after) e on.order.2) in (
-            next.0,
-            next.1,
-            record { rise = on.rise; ends = on.ends; waiting = one_open events c next.0 next.1 on.waiting; settled = one_settled c next.0 next.1; order = next.2 },
-          )
-    ] refl

@@ -38,7 +38,7 @@ module _ (Q : Database → Type 0) where
       let opens : IsIn x c.opened = elim ok.made.0 [ inl k ↦ k | inr k ↦ absurd k ] in
       let next = first_takes Q [] tt c settled are x opens order ok q in
       let less = one_shorter c next.0 next.1 in
-      let rest = next.2 in
+      let rest = next.3 in
       let go = some_complete n rest.0 next.0 (omega (arith, few, less)) (one_settled c next.0 next.1) (one_open [] c next.0 next.1 are) rest.1 rest.2 in
       (go.0, (suc go.1.0, (next.0, next.1, go.1.1)), go.2)
 

@@ -1,11 +1,18 @@
 -- Turns in which open calls take effect, one call more in each.
-use Rattle.std.proofs.Common.{◌≡◌, ℕ, zero, suc, ◌+◌, ◌<◌, ◌≤◌, ◌⊎◌, List, [], ◌∷◌, ◌++◌, length, Some, None, slice_get, refl, sym, ◌∙◌, subst, arith, inl, inr}
+use Rattle.std.proofs.Common.{◌≡◌, ℕ, zero, suc, ◌+◌, ◌<◌, ◌≤◌, ◌⊎◌, List, [], ◌∷◌, ◌++◌, length, Option, Some, None, Ok, slice_get, remove, refl, sym, ◌∙◌, ap, subst, arith, inl, inr}
 use Rattle.std.specs.List.{AllByRecursion}
 use Rattle.tatp_tables.specs.Database.{Database}
 use Rattle.tatp_history.specs.declared.event.Event.{Event}
 use Rattle.tatp_history.specs.declared.event.Event.TheVariants.{Ends}
 use Rattle.tatp_history.specs.declared.observed.Observed.{Observed}
 use Rattle.tatp_history.specs.Locality.{AreAccepted}
+use Rattle.tatp_homes.specs.Home.{IsHome}
+use Rattle.tatp_procs.specs.declared.call.Call.{Call}
+use Rattle.tatp_procs.specs.Arguments.{arguments_accepted}
+use Rattle.tatp_procs.specs.Consistent.{IsConsistent}
+use Rattle.tatp_procs.proofs.ConsistentLaws.{IsConsistent-home}
+use Rattle.tatp_linearization.specs.declared.kinds.Kind.{Kind}
+use Rattle.tatp_linearization.specs.Kinds.{kind_of, IsTried}
 use Rattle.tatp_history.specs.JustInTime.{NoneAskedAt}
 use Rattle.tatp_history.specs.Configurations.{Configuration}
 use Rattle.tatp_history.proofs.ChoiceLaws.{find_asked}
@@ -13,15 +20,16 @@ use Rattle.tatp_linearization.specs.declared.configuration.Configuration.{Config
 use Rattle.tatp_linearization.specs.AtOnce.{TakesOne}
 use Rattle.tatp_linearization.specs.Possible.{AreMoreThan}
 use Rattle.tatp_linearization.specs.Held.{AreReady, AreApart, TakeMany}
-use Rattle.tatp_linearization.specs.Overwritten.{IsBlind}
+use Rattle.tatp_linearization.specs.Overwritten.{IsBlind, AreButSome, without_place}
 use Rattle.tatp_linearization.specs.Covering.{StandsFor, OneStandsFor, Opens, IsApart, AreEachApart, From, FromOne, MayCome, MayAnswer, IsStoodOr, Gains, AreOf}
 use Rattle.tatp_linearization.specs.Going.{LeadsOn, OneLeadsOn}
-use Rattle.tatp_linearization.specs.Turns.{IsOtherTime, IsThere, IsFewer, TakesOn, TakesAhead, Lists, LeadsFurther, IsServed, AreServed, AreAllServed, AreTriedOut, Grow, WentFrom, WentFromOne, GoesOn, AreAnswered}
+use Rattle.tatp_linearization.specs.Turns.{IsOtherTime, IsThere, IsFewer, TakesOn, TakesAhead, TakesTried, IsKindAt, Lists, LeadsFurther, IsServed, AreServed, AreAllServed, AreTriedOut, Grow, WentFrom, WentFromOne, GoesOn, AreAnswered}
 use Rattle.tatp_linearization.proofs.PossibleLaws.{more_than, come_on}
 use Rattle.tatp_linearization.proofs.PlaceLaws.{all_get, all_of_get, below_or_is, same_item}
 use Rattle.tatp_linearization.proofs.AtOnceLaws.{one_shorter}
-use Rattle.tatp_linearization.proofs.GoingLaws.{end_on, call_on}
-use Rattle.tatp_linearization.proofs.ButSomeLaws.{but_all, but_none, but_apart}
+use Rattle.tatp_linearization.proofs.GoingLaws.{end_on}
+use Rattle.tatp_linearization.proofs.KindOrderLaws.{kind_on}
+use Rattle.tatp_linearization.proofs.ButSomeLaws.{but_all, but_in, but_none, but_apart}
 use Rattle.tatp_linearization.proofs.CoveringLaws.{stands_get, stands_more, from_one, there_some, but_stands}
 
 -- ---- so many calls, and one
@@ -87,9 +95,9 @@ further_more asked at rest few many answered tried after le h = elim h [
 ]
 
 -- ---- the open calls before a place took effect
-pub record Trying (Known : List Event → Type 0) (c : Held) (asked : ℕ) (old : Lists) (i : ℕ) (new : Lists) : Type 0 where
+pub record Trying (Known : List Event → Type 0) (kind : Option Kind) (c : Held) (asked : ℕ) (old : Lists) (i : ℕ) (new : Lists) : Type 0 where
   pub grown : Grow (From MayCome c) asked old new
-  pub served : IsApart c → (at : ℕ) (rest : List Event) (after : Database) (e : Configuration) (j : ℕ) → Known (Ends asked at ∷ rest) → j < i → IsThere (IsOtherTime asked) c j e → LeadsOn after (Ends asked at ∷ rest) e
+  pub served : IsApart c → (at : ℕ) (rest : List Event) (after : Database) (e : Configuration) (j : ℕ) → Known (Ends asked at ∷ rest) → j < i → (there : IsThere (IsOtherTime asked) c j e) → IsTried kind there.call.call → LeadsOn after (Ends asked at ∷ rest) e
       → LeadsFurther asked at rest (suc (length e.opened)) new.answered new.tried after
   pub went : WentFrom c old.going new.going
   pub ready : AreReady old.answered → AreReady new.answered
@@ -97,10 +105,22 @@ pub record Trying (Known : List Event → Type 0) (c : Held) (asked : ℕ) (old 
   pub apart : AreApart c.home.s_id old.answered → AreApart c.home.s_id new.answered
   pub distinct : AreApart c.home.s_id old.tried → AreApart c.home.s_id new.tried
 
-pub trying_none : (Known : List Event → Type 0) (c : Held) (asked : ℕ) (old : Lists) → Trying Known c asked old 0 old
-trying_none Known c asked old = record {
+-- what the call at a place makes, where the place is another's
+abbrev there_at : (c : Held) (asked j i : ℕ) (e : Configuration) → j ≡ i → IsThere (IsOtherTime asked) c j e → IsThere (IsOtherTime asked) c i e
+there_at c asked j i e is there = record {
+  before = there.before;
+  call = there.call;
+  left = there.left;
+  rows = there.rows;
+  takes = there.takes;
+  at = subst (λ k. slice_get c.opened.items k ≡ Some there.call) is there.at;
+  opened = subst (λ k. AreButSome (λ x. IsBlind c.home.tables x × IsOtherTime asked x) (without_place c.overwritten (length c.opened.items) k) (remove c.opened.items k) there.left) is there.opened;
+}
+
+pub trying_none : (Known : List Event → Type 0) (kind : Option Kind) (c : Held) (asked : ℕ) (old : Lists) → Trying Known kind c asked old 0 old
+trying_none Known kind c asked old = record {
   grown = grow_none (From MayCome c) asked old;
-  served = λ own at rest after e j known lt there on. absurd (omega (arith, lt));
+  served = λ own at rest after e j known lt there tried on. absurd (omega (arith, lt));
   went = λ k d at. inl (k, at);
   ready = λ h. h;
   left = λ h. h;
@@ -108,12 +128,12 @@ trying_none Known c asked old = record {
   distinct = λ h. h;
 }
 
-pub trying_refused : (Known : List Event → Type 0) (c : Held) (asked : ℕ) (old : Lists) (i : ℕ) (new : Lists) → Trying Known c asked old i new → TakesAhead Known c i None → Trying Known c asked old (i + 1) new
-trying_refused Known c asked old i new p none = record {
+pub trying_refused : (Known : List Event → Type 0) (kind : Option Kind) (c : Held) (asked : ℕ) (old : Lists) (i : ℕ) (new : Lists) → Trying Known kind c asked old i new → TakesTried Known kind c i None → Trying Known kind c asked old (i + 1) new
+trying_refused Known kind c asked old i new p none = record {
   grown = p.grown;
-  served = λ own at rest after e j known lt there on. elim (below_or_is j i lt) [
-    | inl k ↦ p.served own at rest after e j known k there on
-    | inr is ↦ absurd (none asked after (Ends asked at ∷ rest) e known (subst (λ k. IsThere (IsOtherTime asked) c k e) is there) on)
+  served = λ own at rest after e j known lt there tried on. elim (below_or_is j i lt) [
+    | inl k ↦ p.served own at rest after e j known k there tried on
+    | inr is ↦ absurd (none asked after (Ends asked at ∷ rest) e known (there_at c asked j i e is there) tried on)
   ];
   went = p.went;
   ready = p.ready;
@@ -122,9 +142,9 @@ trying_refused Known c asked old i new p none = record {
   distinct = p.distinct;
 }
 
-module _ (Known : List Event → Type 0) (c d : Held) (asked i : ℕ) (old before : Lists) (taken : TakesOn Known c i d) (p : Trying Known c asked old i before) where
+module _ (Known : List Event → Type 0) (kind : Option Kind) (c d : Held) (asked i : ℕ) (old before : Lists) (taken : TakesOn Known c i d) (p : Trying Known kind c asked old i before) where
   pub trying_answered : (answered : List Held) → NoneAskedAt asked d.opened.items → Gains (StandsFor d) (StandsFor d) before.answered answered
-      → (AreReady before.answered → AreReady answered) → (AreApart d.home.s_id before.answered → AreApart d.home.s_id answered) → Trying Known c asked old (i + 1) (record { answered = answered; tried = before.tried; going = before.going })
+      → (AreReady before.answered → AreReady answered) → (AreApart d.home.s_id before.answered → AreApart d.home.s_id answered) → Trying Known kind c asked old (i + 1) (record { answered = answered; tried = before.tried; going = before.going })
   trying_answered answered none gains readies aparts =
       let new : Lists = record { answered = answered; tried = before.tried; going = before.going } in
       let none_of : (e : Configuration) → StandsFor d e → NoneAskedAt asked e.opened = λ e h. but_all (IsBlind d.home.tables) d.overwritten (λ (x : Observed). x.asked ≡ asked → ⊥) d.opened.items e.opened h.opened none in
@@ -139,10 +159,10 @@ module _ (Known : List Event → Type 0) (c d : Held) (asked i : ℕ) (old befor
       } in
       record {
         grown = grow_on (From MayCome c) asked old before new p.grown step;
-        served = λ own at rest after e j known lt there on. elim (below_or_is j i lt) [
-          | inl k ↦ further_on (From MayCome c) asked before new at rest (suc (length e.opened)) after step (p.served own at rest after e j known k there on)
+        served = λ own at rest after e j known lt there tried on. elim (below_or_is j i lt) [
+          | inl k ↦ further_on (From MayCome c) asked before new at rest (suc (length e.opened)) after step (p.served own at rest after e j known k there tried on)
           | inr is ↦
-              let b = taken.served asked after (Ends asked at ∷ rest) e known own (subst (λ k. IsThere (IsOtherTime asked) c k e) is there) on in
+              let b = taken.served asked after (Ends asked at ∷ rest) e known own (there_at c asked j i e is there) on in
               let stands = but_stands asked d b.0 b.1 in
               inl (b.0, gains.found b.0 stands, end_on after asked at rest b.0 (none_of b.0 stands) b.3)
         ];
@@ -154,7 +174,7 @@ module _ (Known : List Event → Type 0) (c d : Held) (asked i : ℕ) (old befor
       }
 
   pub trying_going : (tried going : List Held) → (NoneAskedAt asked d.opened.items → ⊥) → Gains (StandsFor d) (StandsFor d) before.tried tried → GoesOn d before.tried before.going going
-      → (AreReady before.tried → AreReady tried) → (AreApart d.home.s_id before.tried → AreApart d.home.s_id tried) → Trying Known c asked old (i + 1) (record { answered = before.answered; tried = tried; going = going })
+      → (AreReady before.tried → AreReady tried) → (AreApart d.home.s_id before.tried → AreApart d.home.s_id tried) → Trying Known kind c asked old (i + 1) (record { answered = before.answered; tried = tried; going = going })
   trying_going tried going some gains goes readies aparts =
       let new : Lists = record { answered = before.answered; tried = tried; going = going } in
       let went : (e : Configuration) → (OneStandsFor before.going e → OneStandsFor going e) × ((OneStandsFor going e → IsStoodOr before.going (StandsFor d) e) × (StandsFor d e → OneStandsFor before.tried e ⊎ OneStandsFor going e))
@@ -179,10 +199,10 @@ module _ (Known : List Event → Type 0) (c d : Held) (asked i : ℕ) (old befor
       } in
       record {
         grown = grow_on (From MayCome c) asked old before new p.grown step;
-        served = λ own at rest after e j known lt there on. elim (below_or_is j i lt) [
-          | inl k ↦ further_on (From MayCome c) asked before new at rest (suc (length e.opened)) after step (p.served own at rest after e j known k there on)
+        served = λ own at rest after e j known lt there tried on. elim (below_or_is j i lt) [
+          | inl k ↦ further_on (From MayCome c) asked before new at rest (suc (length e.opened)) after step (p.served own at rest after e j known k there tried on)
           | inr is ↦
-              let b = taken.served asked after (Ends asked at ∷ rest) e known own (subst (λ k. IsThere (IsOtherTime asked) c k e) is there) on in
+              let b = taken.served asked after (Ends asked at ∷ rest) e known own (there_at c asked j i e is there) on in
               let few = b.2 in
               inr (b.0, gains.found b.0 (but_stands asked d b.0 b.1), (λ none. some (but_none (IsBlind d.home.tables) d.overwritten asked d.opened.items b.0.opened b.1.opened none)), omega (arith, few), b.3)
         ];
@@ -199,23 +219,36 @@ module _ (Known : List Event → Type 0) (c d : Held) (asked i : ℕ) (old befor
         distinct = λ h. subst (λ s. AreApart s before.tried → AreApart s tried) taken.less.own aparts (p.distinct h);
       }
 
-pub trying_all : (Known : List Event → Type 0) (c : Held) (asked : ℕ) (old : Lists) (i : ℕ) (new : Lists) → Trying Known c asked old i new → length c.opened.items ≤ i → IsApart c
+-- what a call makes where it is of the kind
+pub ahead_tried : (Known : List Event → Type 0) (kind : Option Kind) (c : Held) (i : ℕ) (d : Option Held) → TakesAhead Known c i d → TakesTried Known kind c i d
+ahead_tried Known kind c i (Some d) h = h
+ahead_tried Known kind c i None h = λ asked after events e known there tried on. h asked after events e known there on
+
+-- what is of the kind of a call that is tried is tried
+tried_as : (kind : Option Kind) (x y : Call) → kind_of y ≡ kind_of x → IsTried kind x → IsTried kind y
+tried_as None x y same h = tt
+tried_as (Some kind) x y same h = same ∙ h
+
+pub trying_all : (Known : List Event → Type 0) (kind : Option Kind) (c : Held) (asked : ℕ) (old : Lists) (i : ℕ) (new : Lists) → Trying Known kind c asked old i new → length c.opened.items ≤ i → IsHome c.home → AreAccepted c.opened.items → IsKindAt asked c kind → IsApart c
     → (at : ℕ) (rest : List Event) → Known (Ends asked at ∷ rest) → AreServed asked at rest c new.answered new.tried
-trying_all Known c asked old i new p le apart at rest known d stands opens after on = elim (find_asked asked d.opened) [
+trying_all Known kind c asked old i new p le home accepted kind_is apart at rest known d stands opens after on = elim (find_asked asked d.opened) [
   | inl none ↦ absurd (opens none)
   | inr some ↦
+      let F : Observed → Type 0 = IsBlind c.home.tables in
       let but = but_apart (IsBlind c.home.tables) c.overwritten asked some.0 some.2 c.opened.items d.opened apart some.1 stands.opened in
-      let next = call_on after asked at rest d some.0 some.1 some.2 on in
+      let next = kind_on after asked at rest d (subst IsConsistent (sym stands.rows) (IsConsistent-home c.home home)) (but_all F c.overwritten (λ (x : Observed). arguments_accepted x.call ≡ Ok tt) c.opened.items d.opened stands.opened accepted) some.0 some.1 some.2 on in
       let there = there_some (IsOtherTime asked) c d next.0 stands.rows but next.1 in
       let lt = there.1 in
-      further_more asked at rest (suc (length next.0.opened)) (length d.opened) new.answered new.tried after (one_shorter d next.0 next.1) (p.served apart at rest after next.0 there.0 known (omega (arith, lt, le)) there.2 next.2)
+      let own : IsTried kind some.0.call = kind_is apart some.0 (but_in F c.overwritten c.opened.items d.opened stands.opened some.0 some.1) some.2 in
+      further_more asked at rest (suc (length next.0.opened)) (length d.opened) new.answered new.tried after (one_shorter d next.0 next.1)
+      (p.served apart at rest after next.0 there.0 known (omega (arith, lt, le)) there.2 (tried_as kind some.0.call there.2.call.call (ap (λ (w : Observed). kind_of w.call) there.3 ∙ next.2) own) next.3)
 ]
 
 -- what was too much
-pub trying_many : (Known : List Event → Type 0) (most : ℕ) (c d : Held) (asked i : ℕ) (old before : Lists) → TakesOn Known c i d → Trying Known c asked old i before
+pub trying_many : (Known : List Event → Type 0) (kind : Option Kind) (most : ℕ) (c d : Held) (asked i : ℕ) (old before : Lists) → TakesOn Known c i d → Trying Known kind c asked old i before
     → (AreMoreThan most (IsStoodOr before.answered (StandsFor d)) → AreMoreThan most (IsStoodOr old.answered (From MayCome c)))
     × (AreMoreThan most (IsStoodOr before.tried (StandsFor d)) → AreMoreThan most (IsStoodOr old.tried (From MayCome c)))
-trying_many Known most c d asked i old before taken p = (
+trying_many Known kind most c d asked i old before taken p = (
   more_than most (IsStoodOr before.answered (StandsFor d)) (IsStoodOr old.answered (From MayCome c)) (λ e h. elim h [
     | inl k ↦ elim (p.grown.answered e k) [ inl q ↦ inl q | inr q ↦ inr q.0 ]
     | inr k ↦ inr (taken.sound e k)

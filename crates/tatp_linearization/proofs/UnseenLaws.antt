@@ -1,8 +1,9 @@
--- An update of the location that nobody saw, and that another one overwrites, needn't be open.
-use Rattle.std.proofs.Common.{◌≡◌, ℕ, zero, suc, ◌<◌, ◌⊎◌, ◌==◌, Bool, true, false, cond, List, [], ◌∷◌, filter, find, Option, Some, None, set, slice_get, refl, sym, ◌∙◌, ap, subst, arith, true≢false, inl, inr}
+-- An update of the location that nobody saw, and whose location is replaced, needn't be open.
+use Rattle.std.proofs.Common.{◌≡◌, ℕ, zero, suc, ◌<◌, ◌⊎◌, ◌==◌, Bool, true, false, cond, List, [], ◌∷◌, filter, find, Option, Some, None, set, slice_get, slice_index, refl, sym, ◌∙◌, ap, subst, arith, true≢false, inl, inr}
 use Rattle.std.specs.Option.{option_map}
 use Rattle.std.specs.List.{AllByRecursion}
 use Rattle.std.proofs.lemmas.List.{get_or-set_other}
+use Rattle.std.proofs.lemmas.Option.{get_or_from_slice_get}
 use Rattle.tatp_tables.specs.Tuples.{Tuple, Tuples, has, rows_of, replace_row}
 use Rattle.tatp_tables.specs.Keys.{row_at, row_with_number, has_number, has_key}
 use Rattle.tatp_tables.specs.Database.{Database}
@@ -32,9 +33,11 @@ use Rattle.tatp_history.proofs.EventLaws.{asked_after}
 use Rattle.tatp_history.specs.Remaining.{IsLeft, HasOrder}
 use Rattle.tatp_history.proofs.RemainingLaws.{left_before}
 use Rattle.tatp_history.proofs.UnchangingLaws.{is_other, other_is, is_other_true, true_other, is_the_call, stays_left, left_other}
-use Rattle.tatp_linearization.specs.Unseen.{location_replied, location_answered, location_read, location_in, NoneSaw, SawAfter, HasSetLocation, AreOfOne}
+use Rattle.tatp_linearization.specs.Doomed.{SawLocation}
+use Rattle.tatp_linearization.specs.Unseen.{location_replied, location_answered, location_read, location_in, NoneSaw, SawAfter, HasSetLocation, IsReplacedBy, AreOfOne}
+use Rattle.tatp_linearization.proofs.AheadLaws.{saw_location}
 use Rattle.tatp_linearization.proofs.BlindLaws.{IsOnly, only_same, only_replaced}
-use Rattle.tatp_linearization.proofs.DoomedLaws.{inserts_for_keep, deletes_for_keep}
+use Rattle.tatp_linearization.proofs.DoomedLaws.{inserts_for_keep, deletes_for_keep, row_read}
 
 -- ---- rows of one subscriber
 abbrev AtMostOne : Tuples → Type 0
@@ -297,27 +300,56 @@ set_success x u s h =
 pub no_read : (call : Call) (outcome : Outcome) (n w location : ℕ) → call ≡ UpdateLocation n w → location_read call outcome ≡ Some location → ⊥
 no_read call outcome n w location updates saw = let nothing : location_read (UpdateLocation n w) outcome ≡ Some location = subst (λ (k : Call). location_read k outcome ≡ Some location) updates saw in cc
 
--- calls that don't see the location up to one that sets it anew
+-- where a read saw another location the databases don't differ
+same_seen : (location other : ℕ) (u v : Database) → Differ location u v → (x : Observed) → SawLocation other x → (other ≡ location → ⊥) → MayHaveReply x.outcome (transaction x.call v).reply → u ≡ v
+same_seen location other u v d x saw apart h =
+    let r : Tuple = d.row in
+    let new : Tuple = with_vlr_location r location in
+    let w : Database = with_location u r location in
+    let may : MayHaveReply (Answered saw.at (Exactly (Values saw.values))) (transaction (GetSubscriberData saw.s_id) w).reply
+    = subst (λ o. MayHaveReply o (transaction (GetSubscriberData saw.s_id) w).reply) saw.answered (subst (λ (call : Call). MayHaveReply x.outcome (transaction call w).reply) saw.reads (subst (λ q. MayHaveReply x.outcome (transaction x.call q).reply) d.rows h)) in
+    let found : row_at w.subscribers (saw.s_id ∷ []) ≡ Some saw.values = row_read w (row_at w.subscribers (saw.s_id ∷ [])) saw.values (sym may) in
+    let replaced = only_replaced r new u.subscribers d.only in
+    let is : saw.values ≡ new = replaced.only saw.values (row_at-has w.subscribers (saw.s_id ∷ []) saw.values found) in
+    elim (set_seen r 33 location) [
+      | inl e ↦ absurd (apart (sym saw.column ∙ (ap (λ (q : Tuple). slice_index q 33) is ∙ get_or_from_slice_get new 33 location 0 e)))
+      | inr e ↦
+          let rows : replace_row u.subscribers r new ≡ u.subscribers = only_same r (replace_row u.subscribers r new) u.subscribers (subst (λ t. IsOnly t (replace_row u.subscribers r new)) e replaced) d.only in
+          (λ i. record u { subscribers = sym rows i }) ∙ sym d.rows
+    ]
+
+pub replaced_answered : (location : ℕ) (y : Observed) → IsReplacedBy location y → IsAnswered y.outcome
+replaced_answered location y by = elim by [
+  | inl sets ↦ sets.answered
+  | inr saw ↦ subst IsAnswered (sym (saw_location saw.0 y saw.1).answered) tt
+]
+
+-- calls that don't see the location up to one at which it is replaced
 abbrev SameRuns : Database → Database → List Observed → List Observed → Type 0
 SameRuns u v order others = AreAnsweredInOrder u order × (rows_after u order ≡ rows_after v others)
 
-up_to_next : (location : ℕ) (y : Observed) → HasSetLocation y → (order : List Observed) (u v : Database) → Differ location u v → SawAfter y location order → KeepsRealTime order → IsIn y order → AreAnsweredInOrder v order → SameRuns u v order order
-up_to_next location y sets [] u v d none time there runs = absurd there
-up_to_next location y sets (z ∷ zs) u v d none time there runs =
+up_to_next : (location : ℕ) (y : Observed) → IsReplacedBy location y → (order : List Observed) (u v : Database) → Differ location u v → SawAfter y location order → KeepsRealTime order → IsIn y order → AreAnsweredInOrder v order → SameRuns u v order order
+up_to_next location y by [] u v d none time there runs = absurd there
+up_to_next location y by (z ∷ zs) u v d none time there runs =
     let step = goes location z.call u v d in
-    let unseen : location_in z ≡ Some location → ⊥ = λ saw. elim there [
-      | inl is ↦ let s : HasSetLocation z = subst HasSetLocation is sets in no_read z.call z.outcome s.number s.location location s.updates saw
-      | inr later ↦ in_all (λ (k : Observed). Precedes k z → ⊥) y zs time.0 later (none.0 saw)
+    let own : (y ≡ z) → IsReplacedBy location z = λ is. subst (IsReplacedBy location) is by in
+    let unseen : location_in z ≡ Some location → ⊥ = λ seen. elim there [
+      | inl is ↦ elim (own is) [
+        | inl s ↦ no_read z.call z.outcome s.number s.location location s.updates seen
+        | inr saw ↦ let same : Some saw.0 ≡ Some location = sym saw.1 ∙ seen in saw.2 cc
+      ]
+      | inr later ↦ in_all (λ (k : Observed). Precedes k z → ⊥) y zs time.0 later (none.0 seen)
     ] in
     let fits : MayHaveReply z.outcome (transaction z.call u).reply = step.fits z.outcome unseen runs.0 in
     let equal : (transaction z.call u).database ≡ (transaction z.call v).database → SameRuns u v (z ∷ zs) (z ∷ zs)
     = λ e. ((fits, subst (λ w. AreAnsweredInOrder w zs) (sym e) runs.1), ap (λ w. rows_after w zs) e) in
     elim there [
-      | inl is ↦
-          let ok = set_success z v (subst HasSetLocation is sets) runs.0 in
-          equal (step.over ok.0 ok.1 ok.2 ok.3)
+      | inl is ↦ elim (own is) [
+        | inl sets ↦ let ok = set_success z v sets runs.0 in equal (step.over ok.0 ok.1 ok.2 ok.3)
+        | inr saw ↦ let same = same_seen location saw.0 u v d z (saw_location saw.0 z saw.1) saw.2 runs.0 in equal (ap (λ w. (transaction z.call w).database) same)
+      ]
       | inr later ↦ elim step.after [
-        | inl e ↦ let rest = up_to_next location y sets zs (transaction z.call u).database (transaction z.call v).database e none.1 time.1 later runs.1 in ((fits, rest.0), rest.1)
+        | inl e ↦ let rest = up_to_next location y by zs (transaction z.call u).database (transaction z.call v).database e none.1 time.1 later runs.1 in ((fits, rest.0), rest.1)
         | inr e ↦ equal e
       ]
     ]
@@ -333,7 +365,7 @@ pub all_others : (time : ℕ) (order : List Observed) → AllByRecursion (λ (z 
 all_others time [] h = refl
 all_others time (z ∷ zs) h = ap (λ b. cond b (z ∷ filter (is_other time) zs) (filter (is_other time) zs)) (is_other_true time z (λ e. h.0 (sym e))) ∙ ap (λ ys. z ∷ ys) (all_others time zs h.1)
 
-module _ (location n : ℕ) (w y : Observed) (updates : w.call ≡ UpdateLocation n location) (sets : HasSetLocation y) (before : Precedes w y) (apart : w.asked ≡ y.asked → ⊥) where
+module _ (location n : ℕ) (w y : Observed) (updates : w.call ≡ UpdateLocation n location) (by : IsReplacedBy location y) (before : Precedes w y) (apart : w.asked ≡ y.asked → ⊥) where
   abbrev others : Observed → Bool
   others = is_other w.asked
 
@@ -359,17 +391,17 @@ module _ (location n : ℕ) (w y : Observed) (updates : w.call ≡ UpdateLocatio
         let v : Database = (transaction z.call u).database in
         let differs : Differ location u v ⊎ (u ≡ v) = subst (λ (c : Call). Differ location u (transaction c u).database ⊎ (u ≡ (transaction c u).database)) (sym call) (set_differs u n location one) in
         let go : SameRuns u v zs zs = elim differs [
-          | inl d ↦ up_to_next location y sets zs u v d none.1 time.1 later' runs.1
+          | inl d ↦ up_to_next location y by zs u v d none.1 time.1 later' runs.1
           | inr k ↦ subst (λ q. SameRuns q v zs zs) (sym k) (runs.1, refl)
         ] in
         subst (λ ys. SameRuns u v ys zs) (sym left) go
   ] refl
 
--- an open update of the location that was answered needn't be open, where one that is asked after its
--- end sets the location too, and no call saw its location that isn't asked after the end of that one
+-- an open update of the location that was answered needn't be open, where its location is replaced by
+-- a call that is asked after its end, and each call that saw it is asked after the end of that one
 module _ (events : List Event) (opened : List Observed) (w : Observed) (left : List Observed) (c : Chooses opened w left) (are : AreOpen events opened) where
-  pub without_unseen : (Q : Database → Type 0) (u : Database) → AreOfOne u → (n location : ℕ) → w.call ≡ UpdateLocation n location → IsAnswered w.outcome → (y : Observed) → NoneSaw location left → SawAfter y location (asked_in events) → IsIn y (asked_in events) → HasSetLocation y → Precedes w y → HasOrder Q u events opened → HasOrder Q u events left
-  without_unseen Q u one n location updates answered y unseen later asked sets before h =
+  pub without_unseen : (Q : Database → Type 0) (u : Database) → AreOfOne u → (n location : ℕ) → w.call ≡ UpdateLocation n location → IsAnswered w.outcome → (y : Observed) → NoneSaw location left → SawAfter y location (asked_in events) → IsIn y (asked_in events) → IsReplacedBy location y → Precedes w y → HasOrder Q u events opened → HasOrder Q u events left
+  without_unseen Q u one n location updates answered y unseen later asked by before h =
       let test : Observed → Bool = is_other w.asked in
       let after : (z : Observed) → IsLeft events opened z → location_in z ≡ Some location → Precedes y z = λ z k saw. elim k [
         | inl q ↦ elim (in_cases opened w left c z q) [
@@ -379,11 +411,11 @@ module _ (events : List Event) (opened : List Observed) (w : Observed) (left : L
         | inr q ↦ in_all (λ (x : Observed). location_in x ≡ Some location → Precedes y x) z (asked_in events) later q saw
       ] in
       let lt : w.asked < y.asked = asked_after w.asked events y (are.before w (chosen_in opened w left c)) asked in
-      let runs = without location n w y updates sets before (λ e. omega (arith, lt, e)) h.0 u one
+      let runs = without location n w y updates by before (λ e. omega (arith, lt, e)) h.0 u one
       (all_map (IsLeft events opened) (λ (z : Observed). z.asked ≡ w.asked → z ≡ w) (λ z k. is_the_call events opened w left c are z k) h.0 h.1.made)
       h.1.once h.1.real_time
       (all_map (IsLeft events opened) (λ (z : Observed). location_in z ≡ Some location → Precedes y z) after h.0 h.1.made)
-      (h.1.all w (inl (chosen_in opened w left c)) answered) (h.1.all y (inr asked) sets.answered) h.1.replies in (
+      (h.1.all w (inl (chosen_in opened w left c)) answered) (h.1.all y (inr asked) (replaced_answered location y by)) h.1.replies in (
         filter test h.0,
         record {
           made = all_map (λ z. IsLeft events opened z × (test z ≡ true)) (IsLeft events left) (λ z k. stays_left events opened w left c are z k.0 (true_other w.asked z k.1)) (filter test h.0)

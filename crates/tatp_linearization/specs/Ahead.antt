@@ -13,8 +13,9 @@ use Rattle.tatp_history.specs.Events.{asked_in, time_of}
 use Rattle.tatp_linearization.specs.declared.configuration.Configuration.{Configuration as Held}
 use Rattle.tatp_linearization.specs.declared.ahead.Ahead.{Ahead}
 use Rattle.tatp_linearization.specs.declared.ahead.Times.{Times}
+use Rattle.tatp_linearization.specs.declared.ahead.LastRead.{LastRead}
 use Rattle.tatp_linearization.specs.Doomed.{sets_location, SawLocation, NoneHasLocation, NoneSets}
-use Rattle.tatp_linearization.specs.Unseen.{location_in, HasSetLocation, SawAfter, SetAfter}
+use Rattle.tatp_linearization.specs.Unseen.{location_in, HasSetLocation, IsReplacedBy, SawAfter, SetAfter}
 
 -- ---- what is kept of a location
 abbrev pub no_times : Times
@@ -26,6 +27,16 @@ times_or_none (Some times) = times
 
 abbrev pub times_in : Ahead → ℕ → Times
 times_in ahead location = times_or_none (get nat_eq ahead.locations location)
+
+-- the read saw another location than this, and was asked after the time
+abbrev pub SawOtherAfter : ℕ → ℕ → LastRead → Type 0
+SawOtherAfter location time read = (read.location ≡ location → ⊥) × (time < read.asked)
+
+-- a call that is asked after the time replaces the location, at the latest: one that updates it, or
+-- one that saw another
+abbrev pub IsReplacedAfter : Ahead → ℕ → ℕ → Type 0
+IsReplacedAfter ahead location time = (time < ahead.last_update)
+    ⊎ (SawOtherAfter location time ahead.last_read ⊎ SawOtherAfter location time ahead.other_read)
 
 -- the call was answered by this time
 abbrev pub IsAnsweredBy : ℕ → Outcome → Type 0
@@ -42,6 +53,17 @@ pub record RaisesTimes (last : ℕ) (x : Observed) (old new : Times) : Type 0 wh
   pub ended : (new.ended ≡ old.ended) ⊎ ((new.ended ≡ x.asked) × IsAnsweredBy last x.outcome
       × ((location : ℕ) × (location_in x ≡ Some location)))
 
+-- it is the call, which ends by the time
+pub record IsReadOf (last : ℕ) (x : Observed) (read : LastRead) : Type 0 where
+  pub saw : location_in x ≡ Some read.location
+  pub ended : IsAnsweredBy last x.outcome
+  pub asked : read.asked ≡ x.asked
+
+-- the reads that are noted last are those of before, once a call is asked
+pub record NotesRead (x : Observed) (old new : Ahead) : Type 0 where
+  pub last_read : (new.last_read ≡ old.last_read) ⊎ IsReadOf old.last x new.last_read
+  pub other_read : (new.other_read ≡ old.other_read) ⊎ (new.other_read ≡ old.last_read)
+
 -- ---- what it tells of the events of a window
 -- a read that saw the location, and ends in the window, is asked at the time
 pub record IsEndedRead (events : List Event) (last location time : ℕ) (x : Observed) : Type 0 where
@@ -57,6 +79,11 @@ pub record IsEndedUpdate (events : List Event) (last time : ℕ) (x : Observed) 
   pub ended : IsAnsweredBy last x.outcome
   pub asked : x.asked ≡ time
 
+-- where there is a time, a read that saw the location, and ends in the window, is asked then
+abbrev pub IsNoted : List Event → ℕ → LastRead → Type 0
+IsNoted events last read =
+    0 < read.asked → (x : Observed) × IsEndedRead events last read.location read.asked x
+
 pub record Tells (events : List Event) (ahead : Ahead) : Type 0 where
   pub reads : (x : Observed) (location : ℕ) → IsIn x (asked_in events)
       → location_in x ≡ Some location → x.asked ≤ (times_in ahead location).read
@@ -66,11 +93,15 @@ pub record Tells (events : List Event) (ahead : Ahead) : Type 0 where
       → (x : Observed) × IsEndedRead events ahead.last location (times_in ahead location).ended x
   pub updated : 0 < ahead.last_update
       → (x : Observed) × IsEndedUpdate events ahead.last ahead.last_update x
+  pub last_read : IsNoted events ahead.last ahead.last_read
+  pub other_read : IsNoted events ahead.last ahead.other_read
 
 -- it tells nothing
 pub record TellsNothing (ahead : Ahead) : Type 0 where
   pub ended : (location : ℕ) → (times_in ahead location).ended ≡ 0
   pub updated : ahead.last_update ≡ 0
+  pub last_read : ahead.last_read.asked ≡ 0
+  pub other_read : ahead.other_read.asked ≡ 0
   pub last : ahead.last ≡ 0
 
 -- the window's last event has this time
@@ -84,15 +115,14 @@ abbrev pub IsAheadOf : List Event → Ahead → Type 0
 IsAheadOf events ahead = TellsNothing ahead ⊎ (IsLastTime ahead.last events × Tells events ahead)
 
 -- ---- what it tells of the events that are left, at a time
--- an update of the location, asked after `time` in the events, was answered, and not with a failure,
--- and each read of a location that isn't read any more in the window is asked after its end
-pub record IsNextUpdate (ahead : Ahead) (now : ℕ) (rest : List Event) (time : ℕ) (x : Observed)
-    : Type 0 where
+-- the location is replaced, at the latest, by a call that is asked after `time` in the events, and
+-- who reads a location that isn't read any more in the window is asked after its end
+pub record IsReplaced (ahead : Ahead) (now : ℕ) (rest : List Event) (location time : ℕ)
+    (x : Observed) : Type 0 where
   pub there : IsIn x (asked_in rest)
-  pub sets : HasSetLocation x
+  pub by : IsReplacedBy location x
   pub later : time < x.asked
-  pub reads : (location : ℕ) → (times_in ahead location).read ≤ now
-      → SawAfter x location (asked_in rest)
+  pub reads : (times_in ahead location).read ≤ now → SawAfter x location (asked_in rest)
 
 -- a read that is asked in the events saw the location, and ends in the window
 pub record IsNextRead (last location : ℕ) (rest : List Event) (x : Observed) : Type 0 where
@@ -104,8 +134,8 @@ pub record IsNextRead (last location : ℕ) (rest : List Event) (x : Observed) :
 -- of each call that ends in the window
 pub record LooksAhead (ahead : Ahead) (now : ℕ) (rest : List Event) : Type 0 where
   pub from : AllByRecursion (λ event. now ≤ time_of event) rest
-  pub next : (time : ℕ) → now ≤ time → time < ahead.last_update
-      → (x : Observed) × IsNextUpdate ahead now rest time x
+  pub replaced : (location time : ℕ) → now ≤ time → IsReplacedAfter ahead location time
+      → (x : Observed) × IsReplaced ahead now rest location time x
   pub read : (location : ℕ) → now < (times_in ahead location).ended
       → (x : Observed) × IsNextRead ahead.last location rest x
   pub sets : (location : ℕ) (x : Observed) → now < ahead.last

@@ -1,7 +1,7 @@
 -- Clusters (Gibbons and Korach, 1997): an open update of the location, and the open reads that saw
 -- what it set. Where nobody sees that any more, and another update overwrites it in any order, they
 -- may take effect right before an update that takes effect now.
-use Rattle.std.specs.Prelude.{◌≡◌, ℕ, ◌<◌, ◌≤◌, not, Bool, true, List, Some, filter, slice_get, remove}
+use Rattle.std.specs.Prelude.{◌≡◌, ℕ, ◌≤◌, not, Bool, true, List, Some, filter, slice_get, remove}
 use Rattle.std.specs.List.{AllByRecursion}
 use Rattle.tatp_tables.specs.Database.{Database}
 use Rattle.tatp_procs.specs.declared.call.Call.{Call}
@@ -19,18 +19,18 @@ use Rattle.tatp_linearization.specs.AtOnce.{FitsAtOnce}
 use Rattle.tatp_linearization.specs.Possible.{CallsTakeEffect}
 use Rattle.tatp_linearization.specs.Overwritten.{SetsLocation}
 use Rattle.tatp_linearization.specs.Unseen.{sees, AreOfOne}
-use Rattle.tatp_linearization.specs.Ahead.{times_in, LooksAhead}
+use Rattle.tatp_linearization.specs.Ahead.{times_in, IsReplacedAfter, LooksAhead}
 
 -- ---- an update that may go
--- the call sets the location, which is read no more in the window, and it was answered before the
--- last update of the window is asked
+-- the call sets the location, which is read no more in the window, and is replaced there by a call
+-- that is asked after its answer
 pub record IsUnread (ahead : Ahead) (now : ℕ) (x : Observed) (location : ℕ) : Type 0 where
   pub number : ℕ
   pub at : ℕ
   pub recorded : Recorded
   pub updates : x.call ≡ UpdateLocation number location
   pub answered : x.outcome ≡ Answered at recorded
-  pub early : at < ahead.last_update
+  pub replaced : IsReplacedAfter ahead location at
   pub unread : (times_in ahead location).read ≤ now
 
 -- the reads that saw the location fit these rows

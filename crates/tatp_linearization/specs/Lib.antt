@@ -14,4 +14,5 @@ pub mod Unseen
 pub mod Going
 pub mod Ahead
 pub mod Clusters
+pub mod Kinds
 pub mod Turns

@@ -5,6 +5,7 @@ use Rattle.tatp_tables.specs.Database.{Database}
 use Rattle.tatp_history.specs.declared.event.Event.{Event}
 use Rattle.tatp_history.specs.declared.event.Event.TheVariants.{Asks, Ends}
 use Rattle.tatp_history.specs.declared.observed.Observed.{Observed}
+use Rattle.tatp_history.specs.Histories.{IsIn}
 use Rattle.tatp_history.specs.Locality.{AreAccepted}
 use Rattle.tatp_history.specs.JustInTime.{NoneAskedAt}
 use Rattle.tatp_history.specs.Configurations.{Configuration}
@@ -13,6 +14,8 @@ use Rattle.tatp_linearization.specs.AtOnce.{TakesWrite}
 use Rattle.tatp_linearization.specs.Overwritten.{IsBlind, AreButSome, without_place}
 use Rattle.tatp_linearization.specs.Covering.{StandsFor, OneStandsFor, Opens, IsApart, AreEachApart, From, FromOne, MayCome, MayFollow, IsStoodOr, AreCovered}
 use Rattle.tatp_linearization.specs.Going.{LeadsOn, OneLeadsOn}
+use Rattle.tatp_linearization.specs.declared.kinds.Kind.{Kind}
+use Rattle.tatp_linearization.specs.Kinds.{IsTried}
 
 -- ---- one call takes effect
 abbrev pub IsOtherTime : ℕ → Observed → Type 0
@@ -60,6 +63,19 @@ TakesAhead Known c i (Some d) = TakesOn Known c i d
 TakesAhead Known c i None =
     (asked : ℕ) (after : Database) (events : List Event) (e : Configuration)
     → Known events → IsThere (IsOtherTime asked) c i e → LeadsOn after events e → ⊥
+
+-- so it is for a call of the kind, if one is given
+abbrev pub TakesTried : (List Event → Type 0) → Option Kind → Held → ℕ → Option Held → Type 0
+TakesTried Known kind c i (Some d) = TakesOn Known c i d
+TakesTried Known kind c i None =
+    (asked : ℕ) (after : Database) (events : List Event) (e : Configuration)
+    → Known events → (there : IsThere (IsOtherTime asked) c i e) → IsTried kind there.call.call
+    → LeadsOn after events e → ⊥
+
+-- the call that was asked at this time is of the kind, if one is given
+abbrev pub IsKindAt : ℕ → Held → Option Kind → Type 0
+IsKindAt asked c kind =
+    IsApart c → (x : Observed) → IsIn x c.opened.items → x.asked ≡ asked → IsTried kind x.call
 
 -- ---- lists of them
 -- those where the call was answered, those that were tried, and those that go on

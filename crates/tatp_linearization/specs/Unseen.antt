@@ -91,6 +91,15 @@ pub record HasSetLocation (x : Observed) : Type 0 where
   pub answered : IsAnswered x.outcome
   pub written : has_failed x.outcome ≡ false
 
+-- the call saw another location
+abbrev pub SawOther : ℕ → Observed → Type 0
+SawOther location x =
+    (other : ℕ) × (location_in x ≡ Some other) × (other ≡ location → ⊥)
+
+-- where the call takes effect the location is replaced, at the latest
+abbrev pub IsReplacedBy : ℕ → Observed → Type 0
+IsReplacedBy location x = HasSetLocation x ⊎ SawOther location x
+
 -- the rows are those of one subscriber, or of none
 abbrev pub AreOfOne : Database → Type 0
 AreOfOne u = (row other : Tuple) → has u.subscribers row ≡ true

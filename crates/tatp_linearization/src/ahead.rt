@@ -6,7 +6,7 @@ ghost use Rattle.tatp_history.specs.declared.event.Event.TheVariants.{Asks};
 ghost use Rattle.tatp_history.specs.Events.{time_of as time_then};
 ghost use Rattle.tatp_linearization.specs.Unseen.{HasSetLocation, location_in, location_of as location_then};
 ghost use Rattle.tatp_linearization.specs.Doomed.{sets_location as sets};
-ghost use Rattle.tatp_linearization.specs.Ahead.{IsAheadOf, IsAnsweredBy, IsLastTime, RaisesTimes, Tells, TellsNothing, times_in};
+ghost use Rattle.tatp_linearization.specs.Ahead.{IsAheadOf, IsAnsweredBy, IsReplacedAfter, NotesRead, RaisesTimes, SawOtherAfter, Tells, TellsNothing, times_in};
 
 use crate::locations::{has_set_location, location_of, location_seen};
 use indexmap::IndexMap;
@@ -15,6 +15,11 @@ use tatp_history::{Event, Observed, Outcome};
 
 /// A window with no more events than these is gone through sooner than its locations are noted.
 const FEW: usize = 24;
+
+const NO_READ: LastRead = LastRead {
+    location: 0,
+    asked: 0,
+};
 
 /// The last times at which calls of a window are asked, of three kinds; 0 where there is none.
 #[derive(Clone, Copy, Debug)]
@@ -27,6 +32,15 @@ pub(crate) struct Times {
     pub(crate) set: u64,
 }
 
+/// A read of the subscriber, 0 where there is none.
+#[derive(Clone, Copy, Debug)]
+pub(crate) struct LastRead {
+    /// The location that it saw.
+    pub(crate) location: u64,
+    /// The time at which it is asked.
+    pub(crate) asked: u64,
+}
+
 /// What a window's events tell ahead.
 #[derive(Drop)]
 pub(crate) struct Ahead {
@@ -34,6 +48,10 @@ pub(crate) struct Ahead {
     pub(crate) locations: IndexMap<u64, Times>,
     /// When the last update of the location is asked that ends in the window, and doesn't fail.
     pub(crate) last_update: u64,
+    /// The last read that saw a location, and ends in the window.
+    pub(crate) last_read: LastRead,
+    /// One before it, that saw another location.
+    pub(crate) other_read: LastRead,
     /// The time of the window's last event.
     pub(crate) last: u64,
 }
@@ -47,6 +65,8 @@ fn nothing(alloc: Global, last: u64) -> Ahead
     Ahead {
         locations: IndexMap::new(alloc),
         last_update: 0,
+        last_read: NO_READ,
+        other_read: NO_READ,
         last,
     }
 }
@@ -72,6 +92,22 @@ fn later(time: u64, other: u64) -> u64
     ensures one { (result ≡ time) ⊎ (result ≡ other) }
 {
     if time < other { other } else { time }
+}
+
+/// Whether a read saw another location, and is asked after a time.
+fn saw_other_after(read: &LastRead, location: u64, time: u64) -> bool
+    ensures { IsTrue result → SawOtherAfter location time read.now }
+{
+    read.location != location && time < read.asked
+}
+
+/// Whether a call that is asked after a time replaces the location, at the latest.
+pub(crate) fn is_replaced_after(ahead: &Ahead, location: u64, time: u64) -> bool
+    ensures { IsTrue result → IsReplacedAfter ahead.now location time }
+{
+    time < ahead.last_update
+        || saw_other_after(&ahead.last_read, location, time)
+        || saw_other_after(&ahead.other_read, location, time)
 }
 
 /// Whether a call was answered by this time.
@@ -122,8 +158,7 @@ fn add_times(ahead: &mut Ahead, x: &Observed) -> Result<(), AllocError>
         → RaisesTimes ahead.old.last x.now (times_in ahead.old location) (times_in ahead.new location)) }
     ensures others { OnOk result ((location : ℕ) → (location_then x.now ≡ Some location → ⊥)
         → times_in ahead.new location ≡ times_in ahead.old location) }
-    ensures same { OnOk result (ahead.new.last_update ≡ ahead.old.last_update) }
-    ensures last { OnOk result (ahead.new.last ≡ ahead.old.last) }
+    ensures same { OnOk result (ahead.new ≡ record ahead.old { locations = ahead.new.locations }) }
 {
     match location_of(x) {
         Some(location) => {
@@ -135,16 +170,45 @@ fn add_times(ahead: &mut Ahead, x: &Observed) -> Result<(), AllocError>
     }
 }
 
-/// Notes the time of a call, if it is an update of the location that ends in time.
-fn add_update(ahead: &mut Ahead, x: &Observed)
+/// Notes a read of the subscriber as the last one. The one before stays, if it saw another location.
+fn add_read(ahead: &mut Ahead, x: &Observed)
+    requires ended { IsAnsweredBy ahead.old.last x.now.outcome }
+    ensures read { NotesRead x.now ahead.old ahead.new }
+    ensures same { ahead.new ≡ record ahead.old {
+      last_read = ahead.new.last_read;
+      other_read = ahead.new.other_read;
+    } }
+{
+    match location_seen(x) {
+        Some(location) => {
+            if ahead.last_read.location != location {
+                ahead.other_read = ahead.last_read;
+            }
+            ahead.last_read = LastRead {
+                location,
+                asked: x.asked,
+            };
+        }
+        None => {}
+    }
+}
+
+/// Notes a call that ends in the window as the last update of the location, or the last read.
+fn add_last(ahead: &mut Ahead, x: &Observed)
     ensures same { ahead.new.locations ≡ ahead.old.locations }
     ensures last { ahead.new.last ≡ ahead.old.last }
     ensures update { (ahead.new.last_update ≡ ahead.old.last_update)
         ⊎ ((ahead.new.last_update ≡ x.now.asked) × HasSetLocation x.now
         × IsAnsweredBy ahead.old.last x.now.outcome) }
+    ensures read { NotesRead x.now ahead.old ahead.new }
 {
-    if has_set_location(x) && is_answered_by(&x.outcome, ahead.last) {
+    if !is_answered_by(&x.outcome, ahead.last) {
+        return;
+    }
+    if has_set_location(x) {
         ahead.last_update = later(ahead.last_update, x.asked);
+    } else {
+        add_read(ahead, x);
     }
 }
 
@@ -157,7 +221,7 @@ fn add_event(ahead: &mut Ahead, event: &Event) -> Result<(), AllocError>
     match event {
         Event::Asks(x) => {
             add_times(ahead, x)?;
-            add_update(ahead, x);
+            add_last(ahead, x);
             Ok(())
         }
         Event::Ends { .. } => Ok(()),

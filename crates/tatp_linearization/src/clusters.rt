@@ -6,7 +6,7 @@ ghost use Rattle.tatp_history.specs.Histories.{AreAskedApart};
 ghost use Rattle.tatp_history.specs.Locality.{AreAccepted};
 ghost use Rattle.tatp_linearization.specs.Clusters.{GoFirst, GoTo, GoesWith, IsUnread, LosesNone, SeersFit};
 
-use crate::ahead::{Ahead, times_of};
+use crate::ahead::{Ahead, is_replaced_after, times_of};
 use crate::locations::sees;
 use crate::reading::fits_at_once;
 use tatp_evaluation::evaluate;
@@ -14,13 +14,15 @@ use tatp_history::{Observed, Outcome};
 use tatp_homes::{Home, what_holds_of_every_home};
 use tatp_procs::{Call, Reply};
 
-/// The location that an open call sets, if something overwrites it and no read sees it later.
+/// The location that an open call sets, if it is replaced, and no read sees it later.
 fn unread_location(x: &Observed, ahead: &Ahead, now: u64) -> Option<u64>
     ensures { IfSome result (λ location. IsUnread ahead.now now x.now location) }
 {
     match (&x.call, &x.outcome) {
         (Call::UpdateLocation { vlr_location, .. }, Outcome::Answered { at, .. }) => {
-            if *at < ahead.last_update && times_of(ahead, *vlr_location).read <= now {
+            if times_of(ahead, *vlr_location).read <= now
+                && is_replaced_after(ahead, *vlr_location, *at)
+            {
                 Some(*vlr_location)
             } else {
                 None
@@ -90,7 +92,7 @@ pub(crate) fn let_clusters_go(before: &Home, opened: &mut Vec<Observed>, ahead: 
     ensures kept { AreAskedApart opened.old.items
         → LosesNone ahead.now now opened.old.items opened.new.items }
 {
-    if ahead.last_update <= now {
+    if ahead.last <= now {
         return;
     }
     let mut home = before.copy();

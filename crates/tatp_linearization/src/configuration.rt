@@ -180,7 +180,7 @@ pub(crate) fn take(
     requires accepted { AreAccepted c.now.opened.items }
     ensures { IfOk result (Takes c.now i) }
 {
-    let x = c.opened[i];
+    let x = &c.opened[i];
     if x.changes_nothing() {
         return Ok(None);
     }

@@ -1,6 +1,7 @@
 //! Configurations that stand for others: open updates of the location that were overwritten may be
 //! left out.
-ghost use Rattle.std.specs.Prelude.{◌≡◌, ℕ, ◌≤◌, ◌<◌, ◌↔◌, ◌-◌, ◌⊎◌, IsTrue, OnOk, IsErrOf, Some, false, length, slice_get};
+ghost use Rattle.std.specs.Prelude.{◌≡◌, ℕ, ◌≤◌, ◌<◌, ◌↔◌, ◌-◌, ◌⊎◌, IsTrue, OnOk, IsErrOf, Some, [], ◌∷◌, false, length, slice_get};
+ghost use Rattle.tatp_homes.specs.Changes.{cell};
 ghost use Rattle.tatp_history.specs.declared.observed.Observed.{Observed as Asked};
 ghost use Rattle.tatp_history.specs.Locality.{AreAccepted};
 ghost use Rattle.tatp_linearization.specs.declared.configuration.Configuration.{Configuration as Held};
@@ -11,6 +12,7 @@ ghost use Rattle.tatp_linearization.specs.Covering.{AreCovered, Covers, Gains, I
 
 use crate::comparing::is_same_call;
 use crate::configuration::Configuration;
+use crate::locations::VLR_LOCATION;
 use crate::stopped::Stopped;
 use tatp_history::Observed;
 use tatp_homes::Home;
@@ -87,12 +89,27 @@ fn is_opened_within(c: &Configuration, d: &Configuration) -> bool
     j == d.opened.len()
 }
 
+/// The location of the home's subscriber.
+fn location_of(home: &Home) -> Option<u64>
+    ensures { result ≡ cell home.now.tables 33 (home.now.s_id ∷ 0 ∷ 0 ∷ []) }
+{
+    home.get(VLR_LOCATION, [home.s_id(), 0, 0])
+}
+
+/// Whether the first configuration may stand for what the second does, by how many calls are open
+/// and the location alone. That tells most configurations apart at a glance, without a look at a call.
+fn is_near(c: &Configuration, d: &Configuration) -> bool
+    ensures { c.now.home.s_id ≡ d.now.home.s_id → seen c.now ≡ seen d.now → IsTrue result }
+{
+    d.opened.len() <= c.opened.len() && location_of(&c.home) == location_of(&d.home)
+}
+
 /// Whether the first configuration stands for each one for which the second does.
 fn covers(c: &Configuration, d: &Configuration) -> bool
     ensures covers { IsTrue result → Covers c.now d.now }
     ensures other { result ≡ false → IsOther c.now d.now }
 {
-    is_asked_within(c, d) && c.home == d.home && is_opened_within(c, d)
+    is_near(c, d) && is_asked_within(c, d) && c.home == d.home && is_opened_within(c, d)
 }
 
 /// Whether one of these stands for each configuration for which `d` does.

@@ -1,57 +1,17 @@
 //! Configurations from which no order explains the rest of a window.
-ghost use Rattle.std.specs.Prelude.{◌≡◌, ℕ, ◌⊎◌, ◌<◌, IsTrue, IfSome, false, drop, length};
+ghost use Rattle.std.specs.Prelude.{◌≡◌, ℕ, ◌⊎◌, ◌<◌, IsTrue, false, drop, length};
 ghost use Rattle.tatp_history.specs.Configurations.{Configuration as Seen};
 ghost use Rattle.tatp_linearization.specs.Held.{AreApart, AreReady, seen};
 ghost use Rattle.tatp_linearization.specs.Covering.{OneStandsFor};
-ghost use Rattle.tatp_linearization.specs.Doomed.{IsDoomed, NoneHasLocation, NoneSets, NoneSetsUntil, SawLocation, sets_location as sets};
+ghost use Rattle.tatp_linearization.specs.Doomed.{IsDoomed, NoneHasLocation, NoneSets, NoneSetsUntil};
 
 use crate::configuration::Configuration;
-use tatp_history::{Event, Observed, Outcome, Recorded};
+use crate::locations::{VLR_LOCATION, location_seen, sets_location};
+use tatp_history::{Event, Observed};
 use tatp_homes::{Home, what_holds_of_every_home};
-use tatp_procs::{Call, Reply};
-
-/// The column of a Subscriber row.
-const VLR_LOCATION: u8 = 33;
 
 /// Where no more configurations are kept, to go on with each costs less than to look at it.
 const FEW: usize = 4;
-
-/// The location with which a read of the subscriber was answered.
-fn location_seen(x: &Observed) -> Option<u64>
-    ensures { IfSome result (λ location. SawLocation location x.now) }
-{
-    if !matches!(x.call, Call::GetSubscriberData { .. }) {
-        return None;
-    }
-    match &x.outcome {
-        Outcome::Answered {
-            recorded: Recorded::Exactly(Reply::Values(values)),
-            ..
-        } => {
-            let values = values.as_slice();
-            if values.len() <= VLR_LOCATION as usize {
-                return None;
-            }
-            Some(values[VLR_LOCATION as usize])
-        }
-        _ => None,
-    }
-}
-
-/// Whether a call sets this location.
-fn sets_location(call: &Call, location: u64) -> bool
-    ensures { result ≡ sets location call.now }
-{
-    match call {
-        Call::GetSubscriberData { .. } => false,
-        Call::GetNewDestination { .. } => false,
-        Call::GetAccessData { .. } => false,
-        Call::UpdateSubscriberData { .. } => false,
-        Call::UpdateLocation { vlr_location, .. } => *vlr_location == location,
-        Call::InsertCallForwarding { .. } => false,
-        Call::DeleteCallForwarding { .. } => false,
-    }
-}
 
 /// Whether the subscriber has this location.
 pub(crate) fn has_location(home: &Home, location: u64) -> bool

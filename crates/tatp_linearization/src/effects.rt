@@ -1,5 +1,5 @@
 //! Calls that take effect before one is answered.
-ghost use Rattle.std.specs.Prelude.{ℕ, ◌⊎◌, IfOk, OnOk, IsErrOf, List, [], ◌∷◌};
+ghost use Rattle.std.specs.Prelude.{ℕ, ◌⊎◌, IfOk, OnOk, IsErrOf, List, [], ◌∷◌, ◌<◌, length};
 ghost use Rattle.tatp_history.specs.declared.event.Event.{Event as Happens};
 ghost use Rattle.tatp_history.specs.declared.event.Event.TheVariants.{Ends};
 ghost use Rattle.tatp_history.specs.Configurations.{Configuration as Seen};
@@ -8,14 +8,16 @@ ghost use Rattle.tatp_linearization.specs.Possible.{AreMoreThan};
 ghost use Rattle.tatp_linearization.specs.Ahead.{LooksAhead};
 ghost use Rattle.tatp_linearization.specs.Held.{AreApart, AreReady};
 ghost use Rattle.tatp_linearization.specs.Covering.{AreEachApart, AreOf, From, FromOne, Gains, IsApart, IsStoodOr, MayAnswer, MayCome, OneStandsFor, StandsFor};
-ghost use Rattle.tatp_linearization.specs.Turns.{AreAllServed, AreAnswered, AreServed, AreTriedOut, GoesOn, Grow, WentFrom, WentFromOne};
+ghost use Rattle.tatp_linearization.specs.Turns.{AreAllServed, AreAnswered, AreServed, AreTriedOut, GoesOn, Grow, IsKindAt, TakesTried, WentFrom, WentFromOne};
 
 use crate::ahead::Ahead;
 use crate::configuration::{Configuration, copy, none_asked};
 use crate::covering::{add, is_covered};
+use crate::kinds::{Kind, is_tried, kind_of};
 use crate::stopped::Stopped;
 use crate::taking::take_ahead;
-use std::alloc::Global;
+use std::alloc::{AllocError, Global};
+use tatp_homes::what_holds_of_every_home;
 
 /// Adds a configuration to those that were tried and to those that go on, unless one that was tried
 /// stands for all for which it does.
@@ -44,7 +46,41 @@ fn go_on(
     Ok(())
 }
 
-/// Lets each open call of a configuration that writes take effect. The configuration after that is
+/// The kind of the open call that was asked at a time.
+fn kind_at(c: &Configuration, asked: u64) -> Option<Kind>
+    ensures { IsKindAt asked c.now result }
+{
+    for i in 0..c.opened.len() {
+        let x = &c.opened[i];
+        if x.asked == asked {
+            return Some(kind_of(&x.call));
+        }
+    }
+    None
+}
+
+/// The configuration after its open call at the place `i` took effect, if it is of the kind. `None`
+/// means that it isn't, that it can't take effect there, or that no order leads on.
+fn take_tried(
+    alloc: Global,
+    c: &Configuration,
+    i: usize,
+    kind: Option<Kind>,
+    ahead: &Ahead,
+    now: u64,
+) -> Result<Option<Configuration>, AllocError>
+    requires inside { i < length c.now.opened.items }
+    requires accepted { AreAccepted c.now.opened.items }
+    ensures { IfOk result (TakesTried (LooksAhead ahead.now now) kind c.now i) }
+{
+    if !is_tried(kind, &c.opened[i].call) {
+        return Ok(None);
+    }
+    take_ahead(alloc, c, i, ahead, now)
+}
+
+/// Lets each open call of a configuration take effect that writes, and is of the kind of the one
+/// that is answered: calls of other kinds may as well do so later. The configuration after that is
 /// added to `answered` where the call asked at the time `asked` isn't open, and else it goes on.
 fn try_each(
     alloc: Global,
@@ -80,8 +116,10 @@ fn try_each(
         → AreMoreThan most (IsStoodOr answered.old.items (From MayCome c.now))
         ⊎ AreMoreThan most (IsStoodOr tried.old.items (From MayCome c.now)) }
 {
+    what_holds_of_every_home(&c.home);
+    let kind = kind_at(c, asked);
     'calls: for i in 0..c.opened.len() {
-        match take_ahead(alloc, c, i, ahead, now)? {
+        match take_tried(alloc, c, i, kind, ahead, now)? {
             Some(d) => {
                 if none_asked(&d, asked) {
                     add(answered, d, most)?;

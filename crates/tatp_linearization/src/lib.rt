@@ -12,6 +12,7 @@ mod effects;
 mod explanations;
 mod first;
 mod following;
+mod kinds;
 mod legal;
 mod locations;
 mod lost;

@@ -6,10 +6,22 @@ ghost use Rattle.tatp_history.specs.Locality.{AreAccepted};
 ghost use Rattle.tatp_linearization.specs.AtOnce.{FitsAtOnce, IsSettledAt, NeedsNoPlace};
 ghost use Rattle.tatp_linearization.specs.Overwritten.{AreLeftOf};
 
+use crate::doomed::has_location;
+use crate::locations::location_seen;
 use tatp_evaluation::evaluate;
 use tatp_history::{Observed, Outcome, only_reads};
 use tatp_homes::Home;
 use tatp_procs::Reply;
+
+/// Whether a read may fit the home, by the location that it saw alone.
+fn may_fit(home: &Home, x: &Observed) -> bool
+    ensures { result ≡ false → FitsAtOnce home.now.tables x.now → ⊥ }
+{
+    match location_seen(x) {
+        Some(location) => has_location(home, location),
+        None => true,
+    }
+}
 
 /// Whether a call changes nothing, and may have ended with the reply that it has on this home. The
 /// home keeps its rows.
@@ -19,7 +31,7 @@ pub(crate) fn fits_at_once(home: &mut Home, x: &Observed) -> bool
     ensures rows { home.new.tables ≡ home.old.tables }
     ensures own { home.new.s_id ≡ home.old.s_id }
 {
-    if !x.changes_nothing() {
+    if !x.changes_nothing() || !may_fit(home, x) {
         return false;
     }
     let mut reply = Reply::Refused;

@@ -12,9 +12,9 @@ use Rattle.tatp_linearization.proofs.configuration.take.Goals.{then-updates_loca
 
 pub returns : goal.returns
 returns c =
-    let x : Observed = c.index.result.now in
+    let x : Observed = c.index-x.result.now in
     let own = c.args.c.now in
-    let at : slice_get c.args.c.now.opened.items c.args.i ≡ Some x = get_at _ _ _ c.requires.inside c.index.ensures in
+    let at : slice_get c.args.c.now.opened.items c.args.i ≡ Some x = get_at _ _ _ c.requires.inside c.index-x.ensures in
     let rows : c.evaluate.new.home.tables ≡ (transaction x.call c.args.c.now.home.tables).database = c.evaluate.ensures.rows ∙ ap (λ (h : SubscriberRows). (transaction x.call h.tables).database) c.copy-home.ensures in
     let reply = c.evaluate.ensures.reply ∙ ap (λ (h : SubscriberRows). (transaction x.call h.tables).reply) c.copy-home.ensures in
     let others = c.remove.ensures.items ∙ ap (λ xs. remove xs c.args.i) (c.in_ok-opened.ensures.items ∙ c.as_slice.ensures.value) in
@@ -44,15 +44,15 @@ returns c =
 
 pub returns-then-changes_nothing : goal.returns-then-changes_nothing
 returns-then-changes_nothing c = λ y there writes may.
-    let x : Observed = c.index.result.now in
-    let at : slice_get c.args.c.now.opened.items c.args.i ≡ Some x = get_at _ _ _ c.requires.inside c.index.ensures in
+    let x : Observed = c.index-x.result.now in
+    let at : slice_get c.args.c.now.opened.items c.args.i ≡ Some x = get_at _ _ _ c.requires.inside c.index-x.ensures in
     let one : y ≡ x = same_item c.args.c.now.opened.items c.args.i y x there at in
     true≢false (sym c.if-changes_nothing.true ∙ (c.changes_nothing.ensures ∙ (ap changes_nothing (sym one) ∙ writes)))
 
 pub returns-then-not-allows : goal.returns-then-not-allows
 returns-then-not-allows c = λ y there writes may.
-    let x : Observed = c.index.result.now in
-    let at : slice_get c.args.c.now.opened.items c.args.i ≡ Some x = get_at _ _ _ c.requires.inside c.index.ensures in
+    let x : Observed = c.index-x.result.now in
+    let at : slice_get c.args.c.now.opened.items c.args.i ≡ Some x = get_at _ _ _ c.requires.inside c.index-x.ensures in
     let one : y ≡ x = same_item c.args.c.now.opened.items c.args.i y x there at in
     let own : MayHaveReply x.outcome (transaction x.call c.args.c.now.home.tables).reply = subst (λ (z : Observed). MayHaveReply z.outcome (transaction z.call c.args.c.now.home.tables).reply) one may in
     let reply = c.evaluate.ensures.reply ∙ ap (λ (h : SubscriberRows). (transaction x.call h.tables).reply) c.copy-home.ensures in

@@ -5,55 +5,56 @@ use Rattle.tatp_history.specs.JustInTime.{NoneAskedAt}
 use Rattle.tatp_linearization.specs.declared.configuration.Configuration.{Configuration as Held}
 use Rattle.tatp_linearization.specs.Held.{AreApart}
 use Rattle.tatp_linearization.specs.Ahead.{LooksAhead}
-use Rattle.tatp_linearization.specs.Turns.{TakesOn, TakesAhead, Lists}
+use Rattle.tatp_linearization.specs.Turns.{TakesOn, TakesTried, Lists}
 use Rattle.tatp_linearization.proofs.TurnLaws.{Trying, trying_none, trying_refused, trying_answered, trying_going, trying_all, trying_many}
 use Rattle.tatp_linearization.proofs.effects.try_each.Goals as goal
 use Rattle.tatp_linearization.proofs.effects.try_each.Goals.{in-Some+then-none_asked+in_ok-add-in-Some, in-Some+else-none_asked+in_ok-go_on-in-Some, in-None}
 
 pub calls-init : goal.calls-init
-calls-init c = trying_none (LooksAhead c.args.ahead.now c.args.now) c.args.c.now c.args.asked (record { answered = c.args.answered.now.items; tried = c.args.tried.now.items; going = c.args.going.now.items })
+calls-init c = trying_none (LooksAhead c.args.ahead.now c.args.now) c.kind_at-kind.result c.args.c.now c.args.asked (record { answered = c.args.answered.now.items; tried = c.args.tried.now.items; going = c.args.going.now.items })
 
 pub calls-preserved : goal.calls-preserved
 calls-preserved c =
     let K : List Event → Type 0 = LooksAhead c.args.ahead.now c.args.now in
+    let kind = c.kind_at-kind.result in
     let k = c.args.c.now in
     let i = c.calls.i in
     let asked = c.args.asked in
     let old : Lists = record { answered = c.args.answered.now.items; tried = c.args.tried.now.items; going = c.args.going.now.items } in
     let before : Lists = record { answered = c.calls.answered.items; tried = c.calls.tried.items; going = c.calls.going.items } in
     let inv = c.calls.invariant in
-    let All : Vec Held Global → Vec Held Global → Vec Held Global → Type 0 = λ a t g. Trying (LooksAhead c.args.ahead.now c.args.now) c.args.c.now c.args.asked (record { answered = c.args.answered.now.items; tried = c.args.tried.now.items; going = c.args.going.now.items }) (c.calls.i + 1) (record { answered = a.items; tried = t.items; going = g.items }) in
+    let All : Vec Held Global → Vec Held Global → Vec Held Global → Type 0 = λ a t g. Trying (LooksAhead c.args.ahead.now c.args.now) c.kind_at-kind.result c.args.c.now c.args.asked (record { answered = c.args.answered.now.items; tried = c.args.tried.now.items; going = c.args.going.now.items }) (c.calls.i + 1) (record { answered = a.items; tried = t.items; going = g.items }) in
     elim c.match-branch-2.branch [
       | in-Some+then-none_asked+in_ok-add-in-Some w ↦
-          let taken : TakesOn (LooksAhead c.args.ahead.now c.args.now) c.args.c.now c.calls.i w.in-Some.d = subst (TakesAhead (LooksAhead c.args.ahead.now c.args.now) c.args.c.now c.calls.i) w.in-Some.is c.in_ok-d.ensures in
+          let taken : TakesOn (LooksAhead c.args.ahead.now c.args.now) c.args.c.now c.calls.i w.in-Some.d = subst (TakesTried (LooksAhead c.args.ahead.now c.args.now) c.kind_at-kind.result c.args.c.now c.calls.i) w.in-Some.is c.in_ok-d.ensures in
           let last : NoneAskedAt c.args.asked w.in-Some.d.opened.items = w.none_asked.ensures.0 w.if-none_asked.true in
           subst (λ (a : Vec Held Global). All a c.match-branch-2.tried c.match-branch-2.going) (sym w.answered-is)
           (subst (λ (t : Vec Held Global). All w.add.new.set t c.match-branch-2.going) (sym w.tried-is)
           (subst (λ (g : Vec Held Global). All w.add.new.set c.calls.tried g) (sym w.going-is)
-          (trying_answered K k w.in-Some.d asked i old before taken inv w.add.new.set.items last w.in_ok-add-in-Some.ensures.gained w.in_ok-add-in-Some.ensures.ready w.in_ok-add-in-Some.ensures.apart)))
+          (trying_answered K kind k w.in-Some.d asked i old before taken inv w.add.new.set.items last w.in_ok-add-in-Some.ensures.gained w.in_ok-add-in-Some.ensures.ready w.in_ok-add-in-Some.ensures.apart)))
       | in-Some+else-none_asked+in_ok-go_on-in-Some w ↦
-          let taken : TakesOn (LooksAhead c.args.ahead.now c.args.now) c.args.c.now c.calls.i w.in-Some.d = subst (TakesAhead (LooksAhead c.args.ahead.now c.args.now) c.args.c.now c.calls.i) w.in-Some.is c.in_ok-d.ensures in
+          let taken : TakesOn (LooksAhead c.args.ahead.now c.args.now) c.args.c.now c.calls.i w.in-Some.d = subst (TakesTried (LooksAhead c.args.ahead.now c.args.now) c.kind_at-kind.result c.args.c.now c.calls.i) w.in-Some.is c.in_ok-d.ensures in
           let other : NoneAskedAt c.args.asked w.in-Some.d.opened.items → ⊥ = λ last. true≢false (sym (w.none_asked.ensures.1 last) ∙ w.if-none_asked.false) in
           subst (λ (a : Vec Held Global). All a c.match-branch-2.tried c.match-branch-2.going) (sym w.answered-is)
           (subst (λ (t : Vec Held Global). All c.calls.answered t c.match-branch-2.going) (sym w.tried-is)
           (subst (λ (g : Vec Held Global). All c.calls.answered w.go_on.new.tried g) (sym w.going-is)
-          (trying_going K k w.in-Some.d asked i old before taken inv w.go_on.new.tried.items w.go_on.new.going.items other w.in_ok-go_on-in-Some.ensures.gained w.in_ok-go_on-in-Some.ensures.goes w.in_ok-go_on-in-Some.ensures.ready w.in_ok-go_on-in-Some.ensures.apart)))
+          (trying_going K kind k w.in-Some.d asked i old before taken inv w.go_on.new.tried.items w.go_on.new.going.items other w.in_ok-go_on-in-Some.ensures.gained w.in_ok-go_on-in-Some.ensures.goes w.in_ok-go_on-in-Some.ensures.ready w.in_ok-go_on-in-Some.ensures.apart)))
       | in-None w ↦
-          let none : TakesAhead (LooksAhead c.args.ahead.now c.args.now) c.args.c.now c.calls.i None = subst (TakesAhead (LooksAhead c.args.ahead.now c.args.now) c.args.c.now c.calls.i) w.in-None.is c.in_ok-d.ensures in
+          let none : TakesTried (LooksAhead c.args.ahead.now c.args.now) c.kind_at-kind.result c.args.c.now c.calls.i None = subst (TakesTried (LooksAhead c.args.ahead.now c.args.now) c.kind_at-kind.result c.args.c.now c.calls.i) w.in-None.is c.in_ok-d.ensures in
           subst (λ (a : Vec Held Global). All a c.match-branch-2.tried c.match-branch-2.going) (sym w.answered-is)
           (subst (λ (t : Vec Held Global). All c.calls.answered t c.match-branch-2.going) (sym w.tried-is)
           (subst (λ (g : Vec Held Global). All c.calls.answered c.calls.tried g) (sym w.going-is)
-          (trying_refused K k asked old i before inv none)))
+          (trying_refused K kind k asked old i before inv none)))
     ]
 
 pub add-requires : goal.add-requires
 add-requires c =
-    let taken : TakesOn (LooksAhead c.args.ahead.now c.args.now) c.args.c.now c.calls.i c.in-Some.d = subst (TakesAhead (LooksAhead c.args.ahead.now c.args.now) c.args.c.now c.calls.i) c.in-Some.is c.in_ok-d.ensures in
+    let taken : TakesOn (LooksAhead c.args.ahead.now c.args.now) c.args.c.now c.calls.i c.in-Some.d = subst (TakesTried (LooksAhead c.args.ahead.now c.args.now) c.kind_at-kind.result c.args.c.now c.calls.i) c.in-Some.is c.in_ok-d.ensures in
     record { accepted = taken.less.accepted c.requires.accepted }
 
 pub go_on-requires : goal.go_on-requires
 go_on-requires c =
-    let taken : TakesOn (LooksAhead c.args.ahead.now c.args.now) c.args.c.now c.calls.i c.in-Some.d = subst (TakesAhead (LooksAhead c.args.ahead.now c.args.now) c.args.c.now c.calls.i) c.in-Some.is c.in_ok-d.ensures in
+    let taken : TakesOn (LooksAhead c.args.ahead.now c.args.now) c.args.c.now c.calls.i c.in-Some.d = subst (TakesTried (LooksAhead c.args.ahead.now c.args.now) c.kind_at-kind.result c.args.c.now c.calls.i) c.in-Some.is c.in_ok-d.ensures in
     record { accepted = taken.less.accepted c.requires.accepted }
 
 pub returns-clause-grown : goal.returns-clause-grown
@@ -62,8 +63,8 @@ returns-clause-grown c = c.calls.invariant.grown
 pub returns-clause-served : goal.returns-clause-served
 returns-clause-served c =
     let all : length c.args.c.now.opened.items ≤ c.calls.i = omega (arith, c.calls-test.false, c.len-i-end.ensures, c.args.c.now.opened.ok.0) in
-    trying_all (LooksAhead c.args.ahead.now c.args.now) c.args.c.now c.args.asked (record { answered = c.args.answered.now.items; tried = c.args.tried.now.items; going = c.args.going.now.items }) c.calls.i
-    (record { answered = c.calls.answered.items; tried = c.calls.tried.items; going = c.calls.going.items }) c.calls.invariant all
+    trying_all (LooksAhead c.args.ahead.now c.args.now) c.kind_at-kind.result c.args.c.now c.args.asked (record { answered = c.args.answered.now.items; tried = c.args.tried.now.items; going = c.args.going.now.items }) c.calls.i
+    (record { answered = c.calls.answered.items; tried = c.calls.tried.items; going = c.calls.going.items }) c.calls.invariant all c.what_holds_of_every_home.ensures c.requires.accepted c.kind_at-kind.ensures
 
 pub returns-clause-ready : goal.returns-clause-ready
 returns-clause-ready c = c.calls.invariant.ready
@@ -87,10 +88,10 @@ returns-in_err-add-in-Some-clause-many c =
     let d : Held = c.in-Some.d in
     let old : Lists = record { answered = c.args.answered.now.items; tried = c.args.tried.now.items; going = c.args.going.now.items } in
     let before : Lists = record { answered = c.calls.answered.items; tried = c.calls.tried.items; going = c.calls.going.items } in
-    let taken : TakesOn (LooksAhead c.args.ahead.now c.args.now) c.args.c.now c.calls.i d = subst (TakesAhead (LooksAhead c.args.ahead.now c.args.now) c.args.c.now c.calls.i) c.in-Some.is c.in_ok-d.ensures in
+    let taken : TakesOn (LooksAhead c.args.ahead.now c.args.now) c.args.c.now c.calls.i d = subst (TakesTried (LooksAhead c.args.ahead.now c.args.now) c.kind_at-kind.result c.args.c.now c.calls.i) c.in-Some.is c.in_ok-d.ensures in
     rw (p.1, p.2) (λ is answered tried.
     let apart : AreApart d.home.s_id c.calls.answered.items = subst (λ s. AreApart s c.calls.answered.items) (sym taken.less.own) (c.calls.invariant.apart answered) in
-    inl ((trying_many (LooksAhead c.args.ahead.now c.args.now) c.args.most k d c.args.asked c.calls.i old before taken c.calls.invariant).0 (c.in_err-add-in-Some.ensures.many is apart)))
+    inl ((trying_many (LooksAhead c.args.ahead.now c.args.now) c.kind_at-kind.result c.args.most k d c.args.asked c.calls.i old before taken c.calls.invariant).0 (c.in_err-add-in-Some.ensures.many is apart)))
 
 pub returns-in_err-go_on-in-Some-clause-many : goal.returns-in_err-go_on-in-Some-clause-many
 returns-in_err-go_on-in-Some-clause-many c =
@@ -99,7 +100,7 @@ returns-in_err-go_on-in-Some-clause-many c =
     let d : Held = c.in-Some.d in
     let old : Lists = record { answered = c.args.answered.now.items; tried = c.args.tried.now.items; going = c.args.going.now.items } in
     let before : Lists = record { answered = c.calls.answered.items; tried = c.calls.tried.items; going = c.calls.going.items } in
-    let taken : TakesOn (LooksAhead c.args.ahead.now c.args.now) c.args.c.now c.calls.i d = subst (TakesAhead (LooksAhead c.args.ahead.now c.args.now) c.args.c.now c.calls.i) c.in-Some.is c.in_ok-d.ensures in
+    let taken : TakesOn (LooksAhead c.args.ahead.now c.args.now) c.args.c.now c.calls.i d = subst (TakesTried (LooksAhead c.args.ahead.now c.args.now) c.kind_at-kind.result c.args.c.now c.calls.i) c.in-Some.is c.in_ok-d.ensures in
     rw (p.1, p.2) (λ is answered tried.
     let apart : AreApart d.home.s_id c.calls.tried.items = subst (λ s. AreApart s c.calls.tried.items) (sym taken.less.own) (c.calls.invariant.distinct tried) in
-    inr ((trying_many (LooksAhead c.args.ahead.now c.args.now) c.args.most k d c.args.asked c.calls.i old before taken c.calls.invariant).1 (c.in_err-go_on-in-Some.ensures.many is apart)))
+    inr ((trying_many (LooksAhead c.args.ahead.now c.args.now) c.kind_at-kind.result c.args.most k d c.args.asked c.calls.i old before taken c.calls.invariant).1 (c.in_err-go_on-in-Some.ensures.many is apart)))

@@ -24,7 +24,7 @@ use Rattle.tatp_judge.specs.declared.judge.Judge.{Judge}
 use Rattle.tatp_judge.specs.declared.judge.Verdict.{Verdict}
 use Rattle.tatp_judge.specs.declared.judge.Verdict.TheVariants as verdicts
 use Rattle.tatp_judge.specs.declared.stakes.Stakes.{Stakes}
-use Rattle.tatp_judged_inputs.specs.Views.{HasCounted, IsBegun, IsFinalVerdictOn, IsFirstUnreached, AreUndecided, IsLegalBut, IsSaid, LeadsTo, NeedMoreBy, View, seen}
+use Rattle.tatp_judged_inputs.specs.Views.{HasCounted, IsBegun, IsFinalVerdictOn, IsFirstUnreached, AreUndecided, IsLegalBut, IsSaid, LeadsTo, NeedMoreBy, View}
 use Rattle.tatp_judge.specs.declared.aside.Undecided.{Undecided}
 use Rattle.tatp_judge.specs.Aside.{undecided_in}
 use Rattle.tatp_judge.specs.Verdicts.{AreInOrder}

@@ -1,7 +1,6 @@
 -- What is said of a history by the numbers of its lines in the input.
 use Rattle.std.specs.Prelude.{◌≡◌, ℕ, zero, suc, ◌+◌, ◌-◌, ◌<◌, ◌≤◌, List, [], length, map, take, slice_get, slice_index, Option, Some, None, IfSome, Ok}
 use Rattle.std.specs.List.{AllByRecursion}
-use Rattle.tatp_tables.specs.Database.{Database}
 use Rattle.tatp_judge.specs.declared.aside.Undecided.{Undecided}
 use Rattle.tatp_judge.specs.Verdicts.{AreInOrder, IsOther}
 use Rattle.tatp_judged_inputs.specs.HistoryTexts.{Told, history_from, none_open}

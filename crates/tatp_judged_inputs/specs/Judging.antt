@@ -3,7 +3,7 @@
 use Rattle.std.specs.Prelude.{◌≡◌, ◌⊎◌, ℕ, zero, suc, ◌+◌, ◌-◌, length, take, Bool, true, false, if◌then◌else◌, List, [], ◌∷◌, ◌++◌, Option, Some, None, Ok, Err, codes, decimal}
 use Rattle.std.specs.Io.KnownBytes.{Appends}
 use Rattle.tatp_lines.specs.Lines.{lines_of}
-use Rattle.tatp_tables.specs.Database.{Database, database_of}
+use Rattle.tatp_tables.specs.Database.{database_of}
 use Rattle.tatp_tables.specs.declared.row.Rows.{Rows}
 use Rattle.tatp_extents.specs.Opening.{RefusesRows}
 use Rattle.tatp_streams.specs.Writing.{LeavesText}

@@ -1,6 +1,5 @@
 -- What was read of a history, and why it is none.
 use Rattle.std.specs.Prelude.{◌≡◌, ℕ, ◌+◌, List, [], ◌∷◌, ◌++◌, length, Option, Some, Result, Ok, Err}
-use Rattle.tatp_tables.specs.Database.{Database}
 use Rattle.tatp_streams.specs.LineReading.{LinesLeft}
 use Rattle.tatp_streams.specs.declared.fault.StreamFault.TheVariants.{WriteFault}
 use Rattle.tatp_history.specs.declared.line.Line.{Line}

@@ -1,6 +1,6 @@
 -- What a judge says of the part of a history that it is asked for: where lines stand here, it is
 -- said of what these say of the part's calls.
-use Rattle.std.specs.Prelude.{◌≡◌, ℕ, List, [], length, Option}
+use Rattle.std.specs.Prelude.{◌≡◌, ℕ, List, [], Option}
 use Rattle.tatp_tables.specs.Database.{Database}
 use Rattle.tatp_procs.specs.declared.call.Call.{Call}
 use Rattle.tatp_procs.specs.declared.reply.Reply.{Reply}

@@ -1,4 +1,4 @@
-use Rattle.std.specs.Prelude.{ℕ, [], IfSome}
+use Rattle.std.specs.Prelude.{ℕ, IfSome}
 use Rattle.std.proofs.Common.{sym, subst}
 use Rattle.std.proofs.lemmas.Result.{IfOk-weaker}
 use Rattle.tatp_streams.specs.LineReading.{lines_left}

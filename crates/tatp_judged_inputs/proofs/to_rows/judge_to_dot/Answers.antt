@@ -1,6 +1,6 @@
 use Rattle.std.specs.Prelude.{ℕ, List, [], IfSome}
 use Rattle.std.specs.Option.{option_map}
-use Rattle.std.proofs.Common.{◌≡◌, ◌∷◌, ◌++◌, ◌+◌, ◌-◌, Option, Ok, Some, None, refl, sym, ap, ◌∙◌, subst, arith}
+use Rattle.std.proofs.Common.{◌≡◌, ◌∷◌, ◌++◌, ◌+◌, Option, Ok, Some, None, refl, sym, ap, ◌∙◌, subst}
 use Rattle.std.proofs.lemmas.Result.{err_from_is_err_and}
 use Rattle.tatp_history.specs.declared.line.Line.{Line}
 use Rattle.tatp_streams.specs.LineReading.{lines_left, Stays, with_line}

@@ -46,7 +46,7 @@ def calls(program, plan, client):
 
 class Verdict:
     """What the judge says of a history: its first line, and the lines that explain it. Of a legal one these tell what
-    was at stake; where it isn't known, the subscriber of whom too many configurations are possible."""
+    was at stake; where it isn't known, of which subscribers, and what all others are."""
 
     STATUS = {"LEGAL": 0, "ILLEGAL": 1, "UNDECIDED": 3}
 

@@ -18,7 +18,7 @@ from interpreter import go_on_with
 from plan import ENGINES
 
 COLUMNS = ("database", "isolation", "mode", "disk", "subscribers", "clients", "calls", "aborted", "lost",
-           "overlapped", "widest", "load s", "run s", "judge s", "verdict")
+           "overlapped", "conflicted", "widest", "load s", "run s", "judge s", "verdict")
 
 # A run that isn't judged yet: the engine's name, the file of the history with the rows at its end, what is counted in
 # it, and the seconds that it took to make the database with its rows.
@@ -36,7 +36,7 @@ class Result:
         plan, words = self.plan, self.run.counts.words
         return (self.run.name, plan.isolation, plan.mode_name, "waits" if plan.is_durable else "no wait",
                 counted(plan.subscribers), str(plan.clients), counted(words["ask"]), counted(words["abort"]),
-                counted(words["lost"]), self.verdict.told("OVERLAPPED"), self.verdict.told("WIDEST"),
+                counted(words["lost"]), *map(self.verdict.told, ("OVERLAPPED", "CONFLICTED", "WIDEST")),
                 "%.1f" % self.run.loading, "%.1f" % self.run.counts.seconds,
                 "%.1f" % self.judging, self.verdict.line)
 

@@ -99,7 +99,7 @@ def of_examples(drawn):
             picture.is_file("docs/pictures/history-b.svg")
     drawn.draw("no calls", ["--gen", "1"], b"")
     picture, said = drawn.draw("an undecided history of judge", ["--gen", "1", "--most", "1"], OVERLAPPING)
-    picture.check(said == ["UNDECIDED 4", "SUBSCRIBER 1"], "judge says %s" % said)
+    picture.check(said == ["UNDECIDED 4", "SUBSCRIBER 1", "OTHERS LEGAL"], "judge says %s" % said)
 
 
 # ---- what judge may say
@@ -130,16 +130,17 @@ def of_verdicts(stand_in):
     picture = stand_in.picture("one subscriber", ["--gen", "2", "--subscriber", "2"], WITHOUT_ANSWER)
     picture.has('class="hit"', 2)
     picture.has(">1 call of 1 client on 1 subscriber: 1 without an answer<")
-    stand_in.says(3, "UNDECIDED 3\nSUBSCRIBER 1\n")
+    stand_in.says(3, "UNDECIDED 3\nSUBSCRIBER 1\nOTHERS LEGAL\n")
     picture, _ = stand_in.draw("an undecided history", ["--gen", "2"], WITHOUT_ANSWER)
-    picture.has(">UNDECIDED 3: too many orders are possible. Subscriber 1.<")
+    picture.has(">UNDECIDED 3: too many orders are possible. Subscriber 1. OTHERS LEGAL.<")
 
 
 def of_large_histories(stand_in):
     calls = b"".join(b"ask %d GET_ACCESS_DATA 1 1\nend %d FAILED 1\n" % (client, client) for client in range(1, 401))
     # (80 lines at line 600 of 40 calls, and all those of 300 calls)
     for status, verdict, note, hits in ((1, "ILLEGAL 600\nSUBSCRIBER 1\n", "the last 40 before line 600", 80),
-                                        (3, "UNDECIDED 600\nSUBSCRIBER 1\n", "the last 40 before line 600", 80),
+                                        (3, "UNDECIDED 600\nSUBSCRIBER 1\nOTHERS LEGAL\n",
+                                         "the last 40 before line 600", 80),
                                         (0, "LEGAL\n", "the first 300", 600)):
         stand_in.says(status, verdict)
         picture = stand_in.picture("a large history, " + verdict.split("\n")[0], ["--gen", "1"], calls)

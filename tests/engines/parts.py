@@ -265,7 +265,7 @@ JUDGED = {
     "a write that is lost": (UPDATE + "end 0 OK\n", None, 65536, ("ILLEGAL 3", 1, ["SUBSCRIBER 1"])),
     "a write without an answer": (UPDATE, 7, 65536, ("LEGAL", 0, ["ANSWERED 0", "ABORTED 0", "UNANSWERED 1",
                                                                  *at_stake(0, 0, 1)[3:]])),
-    "not known": (UPDATES + "end 0 OK\nend 1 OK\n", 1, 1, ("UNDECIDED 4", 3, ["SUBSCRIBER 1"])),
+    "not known": (UPDATES + "end 0 OK\nend 1 OK\n", 1, 1, ("UNDECIDED 4", 3, ["SUBSCRIBER 1", "OTHERS LEGAL"])),
     "known with more": (UPDATES + "end 0 OK\nend 1 OK\n", 1, 65536, ("LEGAL", 0, at_stake(2, 1, 2))),
 }
 

@@ -194,7 +194,7 @@ def verdict_words(judgement):
         return f"{judgement.said}: one order of all calls explains every answer."
     if judgement.verdict == "ILLEGAL":
         return f"{judgement.said}: no order of the calls explains the answers up to this line.{about}"
-    return f"{judgement.said}: too many orders are possible.{about}"
+    return f"{judgement.said}: too many orders are possible.{about} {judgement.others}."
 
 
 def replies_told(choice, judgement, places):

@@ -9,7 +9,8 @@ VERDICTS = ("LEGAL", "ILLEGAL", "UNDECIDED")
 
 class Judgement:
     """The verdict, with the line of the input that it names, `wrong` where it is the first illegal one; the subscriber,
-    the lines of the window that ends there, and the replies that would have been legal, as far as they are told.
+    the lines of the window that ends there, and the replies that would have been legal, as far as they are told. Of an
+    undecided history these are the first undecided subscriber, and what is said of all others.
     """
 
     def __init__(self, said):
@@ -22,7 +23,8 @@ class Judgement:
         self.window = []
         self.could = []
         self.more = 0
-        for line in lines[1:]:
+        self.others = next((line for line in lines if line.startswith("OTHERS ")), None)
+        for line in lines[1:2] if self.verdict == "UNDECIDED" else lines[1:]:
             self._take(*line.partition(" ")[::2])
 
     def _take(self, word, rest):

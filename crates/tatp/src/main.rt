@@ -18,7 +18,7 @@ use tatp_command_line::{Asked, not_explained, not_text, task_of};
 use tatp_console::{run_call, run_trace};
 use tatp_explanations::{run_explain, run_explain_all};
 use tatp_inputs::run_audit;
-use tatp_judged_inputs::{JudgeFault, Judged, LineReporter, NoProgress, run_judge};
+use tatp_judged_inputs::{JudgeFault, Judged, Judgement, LineReporter, NoProgress, run_judge};
 use tatp_load::{run_calls, run_rows};
 use tatp_streams::StreamFault;
 use tatp_tasks::Task;
@@ -125,12 +125,18 @@ fn bench<R: Print + Eprint + Threads + Wait + Sync, P: Progress + Sync>(
 }
 
 /// The status of a command that judged a history, or stops.
-fn judged(rt: &impl Eprint, ended: Result<Judged, JudgeFault>) -> ExitCode {
+fn judged(rt: &impl Eprint, ended: Result<Judgement, JudgeFault>) -> ExitCode {
     match ended {
-        Ok(Judged::Legal(_)) => ExitCode::SUCCESS,
-        Ok(Judged::Illegal { .. }) => ExitCode::from(STOPPED),
-        Ok(Judged::Unreached { .. }) => ExitCode::from(STOPPED),
-        Ok(Judged::Undecided { .. }) => ExitCode::from(UNDECIDED),
+        Ok(judgement) => {
+            if !judgement.undecided.is_empty() {
+                return ExitCode::from(UNDECIDED);
+            }
+            match judgement.judged {
+                Judged::Legal(_) => ExitCode::SUCCESS,
+                Judged::Illegal { .. } => ExitCode::from(STOPPED),
+                Judged::Unreached { .. } => ExitCode::from(STOPPED),
+            }
+        }
         Err(fault) => tell(rt, &fault),
     }
 }

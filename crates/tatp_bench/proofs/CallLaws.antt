@@ -16,14 +16,15 @@ use Rattle.tatp_procs.specs.declared.call.Call.TheVariants.{GetSubscriberData, G
 use Rattle.tatp_procs.specs.declared.domains.BadArgument.{BadArgument as Bad}
 use Rattle.tatp_procs.specs.Arguments.{arguments_accepted}
 use Rattle.tatp_procs.specs.Standard.{standard_module}
-use Rattle.tatp_driver.specs.declared.distribution.Distribution.{Distribution}
-use Rattle.tatp_driver.specs.declared.distribution.Distribution.TheVariants.{Skewed, Uniform}
+use Rattle.tatp_tasks.specs.declared.distribution.Distribution.{Distribution}
+use Rattle.tatp_tasks.specs.declared.distribution.Distribution.TheVariants.{Skewed, Uniform}
 use Rattle.tatp_driver.specs.DrawnCall.{drawn_subscriber, drawn_call}
 use Rattle.tatp_driver.specs.DrawnCalls.{next_calls}
 use Rattle.tatp_driver.specs.DrawnWords.{next_words}
 use Rattle.tatp_driver.proofs.DrawnCallLaws.{call_on_accepted}
 use Rattle.tatp_procs.specs.Asked.{has_procedure, bad_argument}
-use Rattle.tatp_settle.specs.Runs.{joined, lists_of}
+use Rattle.tatp_logs.specs.Lists.{lists_of}
+use Rattle.tatp_settle.specs.Runs.{joined}
 use Rattle.tatp_threads.specs.declared.refusal.RunRefusal.{RunRefusal}
 use Rattle.tatp_threads.specs.declared.refusal.RunRefusal.TheVariants.{NoProcedure, BadArgument}
 use Rattle.tatp_threads.specs.Calls.{obstacle_to, first_of, obstacle_in, obstacle_among}

@@ -14,7 +14,8 @@ use Rattle.tatp_procs.specs.Standard.{standard_module}
 use Rattle.tatp_population.proofs.PopulatedLaws.{populated}
 use Rattle.tatp_driver.specs.DrawnCalls.{next_calls}
 use Rattle.tatp_driver.specs.DrawnWords.{words_of, client_generator}
-use Rattle.tatp_settle.specs.Runs.{joined, lists_of}
+use Rattle.tatp_logs.specs.Lists.{lists_of}
+use Rattle.tatp_settle.specs.Runs.{joined}
 use Rattle.tatp_threads.specs.Calls.{obstacle_among, AreOpened}
 use Rattle.tatp_tasks.specs.declared.plan.BenchPlan.{BenchPlan}
 use Rattle.tatp_tasks.specs.Plans.{IsPlan}

@@ -7,7 +7,7 @@ use Rattle.tatp_logs.specs.Receipts.{ReceiptsState}
 use Rattle.tatp_run_history.specs.ClientLines.{all_lines}
 use Rattle.tatp_run_history.specs.Telling.{TellsMerged, TellsClients}
 use Rattle.tatp_settle.specs.declared.settled.Settled.{Settled}
-use Rattle.tatp_settle.specs.Runs.{lists_of}
+use Rattle.tatp_logs.specs.Lists.{lists_of}
 use Rattle.tatp_streams.specs.declared.fault.StreamFault.{StreamFault}
 use Rattle.tatp_streams.specs.declared.fault.StreamFault.TheVariants.{NoMemory, WriteFault}
 use Rattle.tatp_streams.specs.Writing.{AppendsFront, WritesText, WritesFrontOfText}

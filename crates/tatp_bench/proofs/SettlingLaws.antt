@@ -12,7 +12,8 @@ use Rattle.tatp_settle.specs.declared.settled.Settled.{Settled}
 use Rattle.tatp_settle.specs.Closings.{closed_site}
 use Rattle.tatp_settle.specs.Receipts.{is_done}
 use Rattle.tatp_settle.specs.Answering.{is_of_kind}
-use Rattle.tatp_settle.specs.Runs.{Run, joined, lists_of}
+use Rattle.tatp_logs.specs.Lists.{lists_of}
+use Rattle.tatp_settle.specs.Runs.{Run, joined}
 use Rattle.tatp_settle.specs.Settlements.{IsSettled}
 use Rattle.tatp_settle.proofs.JudgeLaws.{as_many_receipts}
 use Rattle.tatp_tasks.specs.declared.plan.BenchPlan.{BenchPlan}

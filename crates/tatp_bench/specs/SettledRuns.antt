@@ -14,7 +14,8 @@ use Rattle.tatp_settle.specs.declared.refusals.SettleError.TheVariants.{Because,
 use Rattle.tatp_settle.specs.Causes.{IsFirstCause}
 use Rattle.tatp_settle.specs.Closings.{closed_of, IsClosedSite, IsClosed}
 use Rattle.tatp_logs.specs.Receipts.{receipts_of}
-use Rattle.tatp_settle.specs.Runs.{Run, joined, lists_of}
+use Rattle.tatp_logs.specs.Lists.{lists_of}
+use Rattle.tatp_settle.specs.Runs.{Run, joined}
 use Rattle.tatp_settle.specs.Settlements.{IsSettled, IsLeastMissing}
 use Rattle.tatp_settle.specs.Interleaving.{IsOneHistoryInAnyOrder}
 use Rattle.tatp_threads.specs.declared.outcome.RunOutcomeParts.{RunOutcomeParts}

@@ -1,7 +1,7 @@
 -- What the threads of a run are handed.
 use Rattle.std.specs.Prelude.{◌≡◌}
 use Rattle.tatp_procs.specs.Standard.{standard_module}
-use Rattle.tatp_settle.specs.Runs.{lists_of}
+use Rattle.tatp_logs.specs.Lists.{lists_of}
 use Rattle.tatp_tasks.specs.declared.plan.BenchPlan.{BenchPlan}
 use Rattle.tatp_workload.specs.Drawn.{rows_drawn, calls_drawn, moves_drawn, stops_drawn}
 use Rattle.tatp_bench.specs.declared.work.Work.{Work}

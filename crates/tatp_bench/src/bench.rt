@@ -2,7 +2,7 @@
 ghost use Rattle.std.specs.Prelude.{◌≡◌, ◌+◌, ◌*◌, IfOk, IfErr};
 ghost use Rattle.tatp_tables.specs.Clean.{IsClean};
 ghost use Rattle.tatp_tasks.specs.Plans.{IsPlan};
-ghost use Rattle.tatp_settle.specs.Runs.{lists_of};
+ghost use Rattle.tatp_logs.specs.Lists.{lists_of};
 ghost use Rattle.tatp_workload.specs.Drawn.{rows_drawn, calls_drawn};
 ghost use Rattle.tatp_workload.specs.Workloads.{IsWorkload};
 ghost use Rattle.tatp_bench.specs.Benching.{SettlesPlan, ReceivesPlan, RefusesBench, kinds_drawn};

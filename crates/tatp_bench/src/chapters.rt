@@ -1,6 +1,7 @@
 //! The chapters that all executors kept, in one list.
 ghost use Rattle.std.specs.Prelude.{◌≡◌, ◌++◌, IfOk};
-ghost use Rattle.tatp_settle.specs.Runs.{joined, lists_of};
+ghost use Rattle.tatp_logs.specs.Lists.{lists_of};
+ghost use Rattle.tatp_settle.specs.Runs.{joined};
 
 use std::alloc::{AllocError, Global};
 use tatp_extents::{Chapter, discard_all};

@@ -1,7 +1,8 @@
 //! What a run left is gathered and settled.
 ghost use Rattle.std.specs.Prelude.{◌≡◌, ◌<◌, ◌^◌, IfOk, IfErr, length};
 ghost use Rattle.tatp_tables.specs.Clean.{IsClean};
-ghost use Rattle.tatp_settle.specs.Runs.{joined, lists_of};
+ghost use Rattle.tatp_logs.specs.Lists.{lists_of};
+ghost use Rattle.tatp_settle.specs.Runs.{joined};
 ghost use Rattle.tatp_bench.specs.SettledRuns.{run_left, SettlesRun, RefusesToSettleRun};
 
 use crate::BenchFault;

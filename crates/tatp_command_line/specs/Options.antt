@@ -3,8 +3,8 @@ use Rattle.std.specs.Prelude.{ℕ, ◌^◌, ◌-◌, ◌==◌, Bool, true, false
 use Rattle.std.specs.Option.{option_map_or}
 use Rattle.clap.specs.Walk.{Row, first_of}
 use Rattle.tatp_limits.specs.declared.limits.TheConstants.{MAX_BENCH_CALLS, MAX_BENCH_CHAPTER, MAX_BENCH_MOVES, MAX_BENCH_STOPS, MAX_CLIENTS, MAX_CONFIGURATIONS, MAX_DRAWN_CALLS, MAX_INPUT_LIMIT, MAX_PARTITIONS, MAX_PARTS, MAX_SUBSCRIBERS}
-use Rattle.tatp_driver.specs.declared.distribution.Distribution.{Distribution}
-use Rattle.tatp_driver.specs.declared.distribution.Distribution.TheVariants.{Skewed, Uniform}
+use Rattle.tatp_tasks.specs.declared.distribution.Distribution.{Distribution}
+use Rattle.tatp_tasks.specs.declared.distribution.Distribution.TheVariants.{Skewed, Uniform}
 use Rattle.tatp_tasks.specs.declared.judging.JudgePlan.{JudgePlan}
 use Rattle.tatp_tasks.specs.declared.load.CallsPlan.{CallsPlan}
 use Rattle.tatp_tasks.specs.declared.load.RowsPlan.{RowsPlan}

@@ -141,7 +141,8 @@ come where line L is no answer, or where too many rows are possible there.
 
 Prints UNDECIDED L and a line SUBSCRIBER S where it doesn't know: by line L more than M
 configurations of subscriber S are possible, each of them rows that it may have and open calls that
-may still take effect. Then the status is 3, and a larger --most may help.
+may still take effect. After all such pairs OTHERS LEGAL or OTHERS ILLEGAL L tells what the calls of
+all other subscribers are. Then the status is 3, and a larger --most may help.
 
 With --part I --parts K only the calls on the subscribers S are judged of which S mod K is I - 1,
 and their rows at the end; calls that name no subscriber are of part 1. A history is LEGAL where

@@ -23,9 +23,10 @@ use crate::options::{
 use clap::error::ErrorKind;
 use clap::{ArgMatches, Command, Error};
 use std::alloc::{AllocError, Global};
-use tatp_driver::Distribution;
 use tatp_limits::{MAX_CLIENTS, MAX_PARTITIONS};
-use tatp_tasks::{BenchPlan, CallsPlan, JudgePlan, Population, Procedures, RowsPlan, Setup, Task};
+use tatp_tasks::{
+    BenchPlan, CallsPlan, Distribution, JudgePlan, Population, Procedures, RowsPlan, Setup, Task,
+};
 
 /// Where the procedures of a run come from.
 fn procedures_of(options: &ArgMatches<'_>) -> Procedures

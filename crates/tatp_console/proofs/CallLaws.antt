@@ -1,24 +1,63 @@
 -- What is answered to the lines of `call`.
-use Rattle.std.proofs.Common.{◌≡◌, ℕ, ◌∙◌, sym, ap, subst, Bool, List, [], ◌∷◌, ◌++◌, length, Option, Some, None, Result, Ok, Err, refl, append_assoc, inl, inr}
+use Rattle.std.proofs.Common.{◌≡◌, ℕ, ◌+◌, ◌<◌, ◌∙◌, sym, ap, subst, arith, Bool, true, false, List, [], ◌∷◌, ◌++◌, length, Some, Result, Ok, Err, refl, append_assoc, inl, inr}
+use Rattle.std.specs.Result.{result_err}
 use Rattle.std.proofs.lemmas.List.{append-nil}
+use Rattle.tatp_limits.specs.declared.limits.TheConstants.{MAX_INPUT_LIMIT}
 use Rattle.tatp_encoding.specs.Modules.{ModuleState}
 use Rattle.tatp_tables.specs.Database.{Database}
 use Rattle.tatp_procs.specs.declared.ask.Ask.TheVariants.{Txn}
 use Rattle.tatp_procs.specs.declared.call.Call.{Call}
+use Rattle.tatp_procs.specs.declared.call.Call.TheVariants.{GetSubscriberData, GetNewDestination, GetAccessData, UpdateSubscriberData, UpdateLocation, InsertCallForwarding, DeleteCallForwarding}
+use Rattle.tatp_procs.specs.declared.domains.BadArgument.{BadArgument as Bad}
 use Rattle.tatp_procs.specs.declared.reply.Reply.{Reply}
 use Rattle.tatp_procs.specs.Arguments.{arguments_accepted}
+use Rattle.tatp_procs.specs.Asked.{has_procedure, bad_argument}
 use Rattle.tatp_procs.specs.ReplyText.{reply_text}
 use Rattle.tatp_procs.specs.Standard.{standard_module}
 use Rattle.tatp_events.specs.declared.refusal.Refusal.{Refusal}
-use Rattle.tatp_dispatch.specs.Calling.{MakesCall}
+use Rattle.tatp_events.specs.declared.refusal.Refusal.TheVariants.{BadArgument}
+use Rattle.tatp_trace_lines.specs.AnswerText.{refused_text}
+use Rattle.tatp_dispatch.specs.Calling.{MakesCall, CallsOnce}
+use Rattle.tatp_dispatch.specs.Resting.{IsAtRest, IsOutcomeAtRest}
 use Rattle.tatp_dispatch.specs.Shown.{set_back}
 use Rattle.tatp_dispatch.specs.Worlds.{WorldState}
+use Rattle.tatp_dispatch.proofs.RestLaws.{longer_at_rest, call_from_rest}
 use Rattle.tatp_tasks.specs.declared.setup.Setup.{Setup}
 use Rattle.tatp_inputs.specs.Work.{Work}
-use Rattle.tatp_console.specs.Answers.{AppendsAnswer, AnswersLines, AnswersWork, AnswersSome, AnswersFront}
+use Rattle.tatp_console.specs.Answers.{IsReady, StaysReady, AppendsAnswer, AnswersLines, AnswersWork, AnswersSome, AnswersFront}
 use Rattle.tatp_console.specs.RowsWritten.{rows_if_asked}
-use Rattle.tatp_console.specs.Replying.{AnswersCall, AnswersLine, RepliesTo, answers_call, outcome_text, rows_after}
+use Rattle.tatp_console.specs.Replying.{IsAtRestAfter, AnswersCall, AnswersLine, RepliesTo, answers_call, outcome_text, rows_after}
 use Rattle.tatp_console.specs.Served.{call_in, call_answer, line_answer, replies, database_after, rows_left, Served, ServedFront}
+
+-- ---- from rest
+has_standard : (call : Call) → has_procedure standard_module (Txn call) ≡ true
+has_standard (GetSubscriberData s) = refl
+has_standard (GetNewDestination s t b e) = refl
+has_standard (GetAccessData s t) = refl
+has_standard (UpdateSubscriberData s x t y) = refl
+has_standard (UpdateLocation n v) = refl
+has_standard (InsertCallForwarding n t b e x) = refl
+has_standard (DeleteCallForwarding n t b) = refl
+
+made_from_rest : (lines : ℕ) (call : Call) (w w' : WorldState) (outcome : Result Reply Refusal) → lines < MAX_INPUT_LIMIT → IsAtRestAfter lines w → MakesCall w 0 (Txn call) outcome w' → IsOutcomeAtRest (bad_argument (Txn call)) outcome × IsAtRest (lines + 1) w'
+made_from_rest lines call w w' outcome few at made =
+    call_from_rest w lines (Txn call) outcome w' at.world at.rest (omega (arith, few))
+    (ap (λ (m : ModuleState). has_procedure m (Txn call)) at.standard ∙ has_standard call) made
+
+-- whatever becomes of the call
+pub rests_after : (call : Call) (w w' : WorldState) → ((outcome : Result Reply Refusal) × MakesCall w 0 (Txn call) outcome w') → StaysReady IsAtRestAfter w w'
+rests_after call w w' made = λ lines few at. record {
+  standard = made.1.modul ∙ at.standard;
+  world = made.1.world;
+  rest = (made_from_rest lines call w w' made.0 few at made.1).1;
+}
+
+-- nothing was done for the line
+pub rests_on : (w : WorldState) → StaysReady IsAtRestAfter w w
+rests_on w = λ lines few at. record { standard = at.standard; world = at.world; rest = longer_at_rest lines (lines + 1) w (omega arith) at.rest }
+
+pub standard_after : (w b : WorldState) → IsReady IsAtRestAfter w → StaysReady IsAtRestAfter w b → b.modul ≡ standard_module
+standard_after w b ready stays = (stays ready.0 ready.1 ready.2).standard
 
 -- ---- a line
 reply_appended : (w w' : WorldState) (line old told new : List ℕ) → AnswersLine line (set_back w) old told (set_back w') → new ≡ told ++ 10 ∷ [] → AppendsAnswer answers_call w line old new w'
@@ -30,25 +69,33 @@ reply_appended w w' line old told new a e =
       appended = e ∙ (ap (λ ts. ts ++ 10 ∷ []) a.told ∙ append_assoc old text (10 ∷ []));
     }
 
--- a call with arguments in their domains is answered as its line is
-pub call_answered : (line : List ℕ) (call : Call) (w w' : WorldState) (old new : List ℕ) → call_in line ≡ Some call → Ok tt ≡ arguments_accepted call → w.modul ≡ standard_module → AnswersCall w call old new w' → AnswersLine line (set_back w) old new (set_back w')
-call_answered line call w w' old new is fits standard a = by_outcome a.outcome a.made a.told
+-- a call is answered as its line is
+pub call_answered : (line : List ℕ) (call : Call) (w w' : WorldState) (old new : List ℕ) → call_in line ≡ Some call → IsReady IsAtRestAfter w → AnswersCall w call old new w' → AnswersLine line (set_back w) old new (set_back w')
+call_answered line call w w' old new is ready a =
+    by_outcome (arguments_accepted call) refl a.outcome (made_from_rest ready.0 call w w' a.outcome ready.1 ready.2 a.made).0 a.made a.told
   where
-    answer_is : (refused : Option Refusal) → line_answer refused (call_in line) (set_back w) ≡ call_answer refused call (Ok tt) (set_back w)
-    answer_is refused = ap (λ c. line_answer refused c (set_back w)) is ∙ ap (λ f. call_answer refused call f (set_back w)) (sym fits)
+    answer_is : (refused : Bool) (fits : Result (Unit {0}) Bad) → arguments_accepted call ≡ fits → line_answer refused (call_in line) (set_back w) ≡ call_answer refused call fits (set_back w)
+    answer_is refused fits e = ap (λ c. line_answer refused c (set_back w)) is ∙ ap (λ f. call_answer refused call f (set_back w)) e
 
-    by_outcome : (outcome : Result Reply Refusal) → MakesCall w 0 (Txn call) outcome w' → new ≡ old ++ outcome_text call outcome → AnswersLine line (set_back w) old new (set_back w')
-    by_outcome (Ok reply) made told =
-        let replied = made.transaction call standard refl in
+    by_outcome : (fits : Result (Unit {0}) Bad) → arguments_accepted call ≡ fits → (outcome : Result Reply Refusal) → IsOutcomeAtRest (result_err fits) outcome → MakesCall w 0 (Txn call) outcome w' → new ≡ old ++ outcome_text call outcome → AnswersLine line (set_back w) old new (set_back w')
+    by_outcome (Err bad) e outcome by made told =
+        let same : CallsOnce w 0 (Txn call) (Err (BadArgument bad)) w' = subst (λ (o : Result Reply Refusal). CallsOnce w 0 (Txn call) o w') by made.call in
         record {
-          refused = None;
-          told = told ∙ ap (λ r. old ++ reply_text (Txn call) r) (sym (ap (λ t. t.reply) replied)) ∙ ap (λ t. old ++ t.text) (sym (answer_is None));
-          database = sym (ap (λ t. t.database) replied) ∙ ap (λ t. t.database) (sym (answer_is None));
+          refused = false;
+          told = told ∙ ap (λ o. old ++ outcome_text call o) by ∙ ap (λ t. old ++ t.text) (sym (answer_is false (Err bad) e));
+          database = same.back ∙ ap (λ t. t.database) (sym (answer_is false (Err bad) e));
         }
-    by_outcome (Err refusal) made told = record {
-      refused = Some refusal;
-      told = told ∙ ap (λ t. old ++ t.text) (sym (answer_is (Some refusal)));
-      database = made.call.back ∙ ap (λ t. t.database) (sym (answer_is (Some refusal)));
+    by_outcome (Ok fit) e (Ok reply) by made told =
+        let replied = made.transaction call ready.2.standard refl in
+        record {
+          refused = false;
+          told = told ∙ ap (λ r. old ++ reply_text (Txn call) r) (sym (ap (λ t. t.reply) replied)) ∙ ap (λ t. old ++ t.text) (sym (answer_is false (Ok fit) e));
+          database = sym (ap (λ t. t.database) replied) ∙ ap (λ t. t.database) (sym (answer_is false (Ok fit) e));
+        }
+    by_outcome (Ok fit) e (Err refusal) by made told = record {
+      refused = true;
+      told = told ∙ ap (λ r. old ++ refused_text r) by ∙ ap (λ t. old ++ t.text) (sym (answer_is true (Ok fit) e));
+      database = made.call.back ∙ ap (λ t. t.database) (sym (answer_is true (Ok fit) e));
     }
 
 -- what is kept of calls is let go after it
@@ -56,12 +103,12 @@ pub line_replied : (w b w' : WorldState) (line old told new : List ℕ) → Answ
     → AppendsAnswer answers_call w line old new w'
 line_replied w b w' line old told new a e back = reply_appended w w' line old told new (subst (λ (u : Database). AnswersLine line (set_back w) old told u) (sym back) a) e
 
--- ---- lines, whichever refusals and lines come after them
--- some refusals are those of the lines: with others after them the replies to the lines and to others are the text, and after it the replies to the others
+-- ---- lines, whichever marks and lines come after them
+-- some marks are those of the lines: with others after them the replies to the lines and to others are the text, and after it the replies to the others
 abbrev HasReplies : WorldState → List (List ℕ) → List ℕ → WorldState → Type 0
 HasReplies w lines text w' =
-    (refusals : List (Option Refusal)) × ((later : List (Option Refusal)) (more : List (List ℕ)) → replies (refusals ++ later) (lines ++ more) (set_back w) ≡ text ++ replies later more (set_back w'))
-    × ((later : List (Option Refusal)) (more : List (List ℕ)) → database_after (refusals ++ later) (lines ++ more) (set_back w) ≡ database_after later more (set_back w'))
+    (marks : List Bool) × ((later : List Bool) (more : List (List ℕ)) → replies (marks ++ later) (lines ++ more) (set_back w) ≡ text ++ replies later more (set_back w'))
+    × ((later : List Bool) (more : List (List ℕ)) → database_after (marks ++ later) (lines ++ more) (set_back w) ≡ database_after later more (set_back w'))
 
 no_line : (w w' : WorldState) (text : List ℕ) → text ≡ [] → w' ≡ w → HasReplies w [] text w'
 no_line w w' text e same = ([], λ later more. rw (e, same) refl, λ later more. rw same refl)

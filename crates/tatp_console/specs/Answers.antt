@@ -1,13 +1,13 @@
 -- What is answered to lines, one after another.
-use Rattle.std.specs.Prelude.{◌≡◌, ◌⊎◌, ℕ, ◌≤◌, List, [], ◌∷◌, ◌++◌, length, Option}
+use Rattle.std.specs.Prelude.{◌≡◌, ◌⊎◌, ℕ, ◌+◌, ◌<◌, ◌≤◌, List, [], ◌∷◌, ◌++◌, length, Option}
 use Rattle.std.specs.Io.KnownBytes.{Appends}
-use Rattle.tatp_limits.specs.declared.limits.TheConstants.{MAX_SUBSCRIBERS}
+use Rattle.tatp_limits.specs.declared.limits.TheConstants.{MAX_INPUT_LIMIT, MAX_SUBSCRIBERS}
 use Rattle.tatp_tables.specs.Clean.{IsClean}
+use Rattle.tatp_tables.specs.declared.row.Rows.{Rows}
 use Rattle.tatp_encoding.specs.Modules.{ModuleState}
 use Rattle.tatp_dispatch.specs.Opened.{IsOpened}
 use Rattle.tatp_dispatch.specs.Serving.{IsWorld}
 use Rattle.tatp_dispatch.specs.Worlds.{WorldState}
-use Rattle.tatp_tasks.specs.declared.procedures.Procedures.{Procedures}
 use Rattle.tatp_tasks.specs.declared.setup.Setup.{Setup}
 use Rattle.tatp_inputs.specs.Work.{Work}
 use Rattle.tatp_console.specs.Brought.{IsModuleFor}
@@ -22,9 +22,27 @@ Answering = WorldState → List ℕ → List ℕ → WorldState → Type 0
 abbrev pub Ending : Type 0
 Ending = ℕ → WorldState → List ℕ
 
--- what has to hold before a line does before the first
-abbrev pub IsReadyUnder : (WorldState → Type 0) → Procedures → Type 0
-IsReadyUnder ready procedures = (w : WorldState) → IsModuleFor procedures w.modul → ready w
+-- ---- what has to hold of the system before a line
+-- it may depend on how many lines were taken
+abbrev pub Readiness : Type 1
+Readiness = ℕ → WorldState → Type 0
+
+-- it holds after some number of lines, which isn't the most
+abbrev pub IsReady : Readiness → WorldState → Type 0
+IsReady ready w = (lines : ℕ) × (lines < MAX_INPUT_LIMIT) × ready lines w
+
+-- where it holds before a line, it holds after it
+abbrev pub StaysReady : Readiness → WorldState → WorldState → Type 0
+StaysReady ready w w' =
+    (lines : ℕ) → lines < MAX_INPUT_LIMIT → ready lines w → ready (lines + 1) w'
+
+-- it holds of a system that was just opened so, whatever was read before
+abbrev pub IsReadyFirst : Readiness → Setup → Type 0
+IsReadyFirst ready setup = (m : ModuleState) (rows : Rows) (lines : ℕ) (w : WorldState)
+    → IsModuleFor setup.procedures m → IsOpened m rows setup.partitions setup.clients w → IsWorld w
+    → ready lines w
+
+-- ---- what is answered
 
 -- new is what old is and after it what is answered to the line
 pub record AppendsAnswer (answers : Answering) (w : WorldState) (line : List ℕ)

@@ -1,13 +1,16 @@
 //! The command `call`: a reply to each line, and then the rows, where they are asked for.
-ghost use Rattle.std.specs.Prelude.{◌≡◌, ◌≤◌, true, false, length, IfErr, OnOk, IfSome};
+ghost use Rattle.std.specs.Prelude.{◌≡◌, ◌≤◌, true, false, Result, length, IfErr, OnOk, IfSome};
 ghost use Rattle.std.specs.String.{string_bytes};
-ghost use Rattle.tatp_procs.specs.Standard.{standard_module};
+ghost use Rattle.tatp_procs.specs.declared.ask.Ask.TheVariants.{Txn};
+ghost use Rattle.tatp_procs.specs.declared.reply.Reply.{Reply};
+ghost use Rattle.tatp_events.specs.declared.refusal.Refusal.{Refusal};
+ghost use Rattle.tatp_dispatch.specs.Calling.{MakesCall};
 ghost use Rattle.tatp_dispatch.specs.Shown.{set_back};
 ghost use Rattle.tatp_tasks.specs.Populations.{IsPopulation, IsInputLimit};
 ghost use Rattle.tatp_tasks.specs.declared.procedures.Procedures.TheVariants.{Standard};
-ghost use Rattle.tatp_console.specs.Answers.{AppendsAnswer};
+ghost use Rattle.tatp_console.specs.Answers.{IsReady, StaysReady, AppendsAnswer};
 ghost use Rattle.tatp_console.specs.Served.{call_in, Served, ServedFront};
-ghost use Rattle.tatp_console.specs.Replying.{AnswersCall, AnswersLine, answers_call, rows_after};
+ghost use Rattle.tatp_console.specs.Replying.{IsAtRestAfter, AnswersCall, AnswersLine, answers_call, rows_after};
 ghost use Rattle.tatp_console.specs.Works.{WritesOfWork, Leaves};
 
 use crate::ConsoleFault;
@@ -18,7 +21,7 @@ use std::alloc::{AllocError, Global};
 use std::io::{Read, Write};
 use tatp_dispatch::World;
 use tatp_limits::MAX_PARTITIONS;
-use tatp_procs::{Ask, Call, args_ok, push_reply, read_call};
+use tatp_procs::{Ask, Call, push_reply, read_call};
 use tatp_streams::{StreamFault, text_of};
 use tatp_tasks::{Population, Procedures, Setup};
 
@@ -44,7 +47,8 @@ fn call_in(line: &[u8]) -> Option<Call>
 fn answer_call(world: &mut World<'_>, call: Call, pending: &mut String) -> Result<(), AllocError>
     ensures answered { OnOk result (AnswersCall world.old call
         (string_bytes pending.old) (string_bytes pending.new) world.new) }
-    ensures modul { world.new.modul ≡ world.old.modul }
+    ensures made { (outcome : Result Reply Refusal)
+        × MakesCall world.old 0 (Txn call) outcome world.new }
 {
     let ask = Ask::Txn(call);
     match world.call(0, ask) {
@@ -56,20 +60,15 @@ fn answer_call(world: &mut World<'_>, call: Call, pending: &mut String) -> Resul
 /// Appends the reply to a line, without a line feed.
 #[tactic(auto, using(crate::proofs::CallLaws::call_answered))]
 fn answer_line(world: &mut World<'_>, line: &[u8], pending: &mut String) -> Result<(), AllocError>
-    requires standard { world.old.modul ≡ standard_module }
+    requires ready { IsReady IsAtRestAfter world.old }
     ensures answered { OnOk result (AnswersLine line.now (set_back world.old)
         (string_bytes pending.old) (string_bytes pending.new) (set_back world.new)) }
-    ensures standard { world.new.modul ≡ standard_module }
+    ensures ready { StaysReady IsAtRestAfter world.old world.new }
 {
-    let Some(call) = call_in(line) else {
-        pending.push_str("REFUSED 5 BadLine")?;
-        return Ok(());
-    };
-    if let Err(bad) = args_ok(&call) {
-        write!(pending, "REFUSED 26 BadArgument {}", bad.0)?;
-        return Ok(());
+    match call_in(line) {
+        Some(call) => answer_call(world, call, pending),
+        None => pending.push_str("REFUSED 5 BadLine"),
     }
-    answer_call(world, call, pending)
 }
 
 /// Appends the reply to a line, and a line feed.
@@ -79,10 +78,10 @@ fn reply_to_line(
     line: &[u8],
     pending: &mut String,
 ) -> Result<(), AllocError>
-    requires standard { world.old.modul ≡ standard_module }
+    requires ready { IsReady IsAtRestAfter world.old }
     ensures answered { OnOk result (AppendsAnswer answers_call world.old line.now
         (string_bytes pending.old) (string_bytes pending.new) world.new) }
-    ensures standard { world.new.modul ≡ standard_module }
+    ensures ready { StaysReady IsAtRestAfter world.old world.new }
 {
     let completed = world.completions().len();
     answer_line(world, line, pending)?;
@@ -94,7 +93,7 @@ fn reply_to_line(
 impl LineCommand for Calls {
     ghost answers = { answers_call };
 
-    ghost ready = { λ w. w.modul ≡ standard_module };
+    ghost ready = { IsAtRestAfter };
 
     ghost ending = { rows_after false };
 
@@ -120,7 +119,7 @@ impl LineCommand for Calls {
 impl LineCommand for CallsAndRows {
     ghost answers = { answers_call };
 
-    ghost ready = { λ w. w.modul ≡ standard_module };
+    ghost ready = { IsAtRestAfter };
 
     ghost ending = { rows_after true };
 

@@ -6,7 +6,7 @@ ghost use Rattle.tatp_dispatch.specs.Worlds.{WorldState};
 ghost use Rattle.tatp_streams.specs.LineReading.{lines_left, TakesLine, MeetsEnd, IsWithinLimit};
 ghost use Rattle.tatp_streams.specs.Writing.{AppendsFront, KeepsOrAppends};
 ghost use Rattle.tatp_tasks.specs.Populations.{IsSetup};
-ghost use Rattle.tatp_console.specs.Answers.{IsReadyUnder, AppendsAnswer, AnswersAll, AnswersUpTo, AnswersToEnd, AnswersInEnding, AnswersWork, AnswersFront};
+ghost use Rattle.tatp_console.specs.Answers.{IsReady, StaysReady, IsReadyFirst, AppendsAnswer, AnswersAll, AnswersUpTo, AnswersToEnd, AnswersInEnding, AnswersWork, AnswersFront};
 ghost use Rattle.tatp_console.specs.Works.{WritesOfWork, Leaves};
 
 use crate::ConsoleFault;
@@ -24,8 +24,8 @@ pub(crate) trait LineCommand {
     /// answered, and the system after.
     ghost answers: { WorldState → List ℕ → List ℕ → WorldState → Type 0 };
 
-    /// What has to hold of the system before a line.
-    ghost ready: { WorldState → Type 0 } = { λ _. ⊤ };
+    /// What has to hold of the system after so many lines, if one more is to be answered.
+    ghost ready: { ℕ → WorldState → Type 0 } = { λ _ _. ⊤ };
 
     /// What is written after the answers to all lines, by the number of subscribers and the system
     /// as it is then.
@@ -39,10 +39,10 @@ pub(crate) trait LineCommand {
         line: &[u8],
         pending: &mut String,
     ) -> Result<(), AllocError>
-        requires ready { ready world.old }
+        requires ready { IsReady ready world.old }
         ensures answered { OnOk result (AppendsAnswer answers world.old line.now
             (string_bytes pending.old) (string_bytes pending.new) world.new) }
-        ensures ready { ready world.new };
+        ensures ready { StaysReady ready world.old world.new };
 
     /// Writes what follows the answers to all lines. `subscribers` is their number.
     fn end<W: Write>(
@@ -92,7 +92,7 @@ fn answer_lines<C: LineCommand, R: Read, W: Write>(
     reader: &mut R,
     writer: &mut W,
 ) -> Result<(), StreamFault>
-    requires ready { C.ready world.old }
+    requires ready { C.ready lines.old.number world.old }
     ensures ok { OnOk result (IfSome (lines_left lines.old (R.remaining reader.old)) (λ all.
         AnswersAll C.answers world.old all.lines
         (W.contents writer.old) (W.contents writer.new) world.new)) }
@@ -121,7 +121,7 @@ fn answer_to_the_end<C: LineCommand, R: Read, W: Write>(
     reader: &mut R,
     writer: &mut W,
 ) -> Result<(), StreamFault>
-    requires ready { C.ready world.old }
+    requires ready { C.ready lines.old.number world.old }
     ensures ok { OnOk result (IfSome (lines_left lines.old (R.remaining reader.old)) (λ all.
         AnswersToEnd C.answers (C.ending subscribers) world.old all.lines
         (W.contents writer.old) (W.contents writer.new))) }
@@ -147,7 +147,7 @@ pub(crate) fn answer_all<C: LineCommand, R: Read, W: Write>(
     setup: Setup,
 ) -> Result<(), ConsoleFault>
     requires setup { IsSetup setup }
-    requires ready { IsReadyUnder C.ready setup.procedures }
+    requires ready { IsReadyFirst C.ready setup }
     ensures answered { OnOk result (IfSome (R.remaining reader.old) (λ input.
         WritesOfWork (AnswersWork C.answers C.ending setup) setup.procedures setup.population input
         (W.contents writer.old) (W.contents writer.new))) }

@@ -1,8 +1,9 @@
 //! What is kept of completed calls, let go in a run of many calls.
-ghost use Rattle.std.specs.Prelude.{◌≡◌, ◌≤◌, IfSome};
+ghost use Rattle.std.specs.Prelude.{◌≡◌, ℕ, ◌≤◌, IfSome};
 ghost use Rattle.tatp_procs.specs.Standard.{standard_module};
 ghost use Rattle.tatp_dispatch.specs.Gathered.{gathered};
 ghost use Rattle.tatp_dispatch.specs.Shown.{set_back};
+ghost use Rattle.tatp_console.specs.Replying.{IsAtRestAfter};
 
 use crate::rows::is_at_rest;
 use std::alloc::Global;
@@ -28,11 +29,11 @@ fn partitions_of(world: &World<'_>) -> u8
 }
 
 /// The system with the same rows, opened anew, where no call runs; none where memory is refused.
-#[tactic(auto, using(crate::proofs::RenewalLaws::rows_clean, crate::proofs::RenewalLaws::rows_few, crate::proofs::RenewalLaws::opened_standard, crate::proofs::RenewalLaws::opened_back))]
+#[tactic(auto, using(crate::proofs::RenewalLaws::rows_clean, crate::proofs::RenewalLaws::rows_few, crate::proofs::RenewalLaws::opened_rest, crate::proofs::RenewalLaws::opened_back))]
 fn opened_anew<'m>(alloc: Global, world: &World<'m>) -> Option<World<'m>>
     requires standard { world.now.modul ≡ standard_module }
     requires rest { set_back world.now ≡ gathered world.now }
-    ensures standard { IfSome result (λ fresh. fresh.modul ≡ standard_module) }
+    ensures rest { IfSome result (λ fresh. (lines : ℕ) → IsAtRestAfter lines fresh) }
     ensures back { IfSome result (λ fresh. set_back fresh ≡ set_back world.now) }
 {
     let loaded = world.site(0)?.loaded();
@@ -48,7 +49,7 @@ fn opened_anew<'m>(alloc: Global, world: &World<'m>) -> Option<World<'m>>
 /// The same, but none where a call runs.
 fn opened_anew_at_rest<'m>(alloc: Global, world: &World<'m>) -> Option<World<'m>>
     requires standard { world.now.modul ≡ standard_module }
-    ensures standard { IfSome result (λ fresh. fresh.modul ≡ standard_module) }
+    ensures rest { IfSome result (λ fresh. (lines : ℕ) → IsAtRestAfter lines fresh) }
     ensures back { IfSome result (λ fresh. set_back fresh ≡ set_back world.now) }
 {
     if is_at_rest(world) {
@@ -63,7 +64,7 @@ fn opened_anew_at_rest<'m>(alloc: Global, world: &World<'m>) -> Option<World<'m>
 /// rows depend on it.
 pub(crate) fn let_calls_go<'m>(alloc: Global, world: &mut World<'m>, before: usize)
     requires standard { world.old.modul ≡ standard_module }
-    ensures standard { world.new.modul ≡ standard_module }
+    ensures rest { (lines : ℕ) → IsAtRestAfter lines world.old → IsAtRestAfter lines world.new }
     ensures back { set_back world.new ≡ set_back world.old }
 {
     let completed = world.completions().len();

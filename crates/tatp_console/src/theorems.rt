@@ -1,15 +1,14 @@
 //! Laws of the definitions, for their readers. Nothing runs here: a clause is the law.
-ghost use Rattle.std.specs.Prelude.{◌≡◌, ℕ, ◌++◌, ◌∷◌, [], Bool, List, Option, length};
+ghost use Rattle.std.specs.Prelude.{◌≡◌, ℕ, ◌++◌, ◌∷◌, [], Bool, List, length};
 ghost use Rattle.tatp_tables.specs.Database.{Database, database_of};
 ghost use Rattle.tatp_procs.specs.Order.{in_order};
 ghost use Rattle.tatp_events.specs.Answers.{Answered};
-ghost use Rattle.tatp_events.specs.declared.refusal.Refusal.{Refusal};
 ghost use Rattle.tatp_dispatch.specs.Runs.{Runs};
 ghost use Rattle.tatp_dispatch.specs.Serving.{IsWorld};
 ghost use Rattle.tatp_dispatch.specs.Worlds.{WorldState};
 ghost use Rattle.tatp_inputs.specs.Work.{Work};
 ghost use Rattle.tatp_console.specs.EventLines.{events_in, TellsOf, TellsLines};
-ghost use Rattle.tatp_console.specs.AnsweredCalls.{calls_of, told, refusals_after};
+ghost use Rattle.tatp_console.specs.AnsweredCalls.{calls_of, told, marks_after};
 ghost use Rattle.tatp_console.specs.RowsWritten.{rows_if_asked};
 ghost use Rattle.tatp_console.specs.Served.{replies, database_after, ServesWork};
 
@@ -18,19 +17,19 @@ ghost use Rattle.tatp_console.specs.Served.{replies, database_after, ServesWork}
 /// change nothing. This holds of lines, of lines after others, of the database after all of them,
 /// and of all that is written for an input.
 pub fn served_calls_are_in_order()
-    ensures told { (refusals : List (Option Refusal)) (lines : List (List ℕ)) (u : Database)
-        → replies refusals lines u
-        ≡ told refusals lines (in_order u (calls_of refusals lines)).replies }
-    ensures later { (refusals : List (Option Refusal)) (lines more : List (List ℕ)) (u : Database)
-        → replies refusals (lines ++ more) u
-        ≡ replies refusals lines u ++ replies (refusals_after lines refusals) more
-        (in_order u (calls_of refusals lines)).database }
-    ensures after { (refusals : List (Option Refusal)) (lines : List (List ℕ)) (u : Database)
-        → database_after refusals lines u ≡ (in_order u (calls_of refusals lines)).database }
-    ensures served { (rows : Bool) (refusals : List (Option Refusal)) (work : Work)
-        (text : List ℕ) → ServesWork rows refusals work text
-        → let all = in_order (database_of work.rows) (calls_of refusals work.lines) in
-        text ≡ told refusals work.lines all.replies
+    ensures told { (marks : List Bool) (lines : List (List ℕ)) (u : Database)
+        → replies marks lines u
+        ≡ told marks lines (in_order u (calls_of marks lines)).replies }
+    ensures later { (marks : List Bool) (lines more : List (List ℕ)) (u : Database)
+        → replies marks (lines ++ more) u
+        ≡ replies marks lines u ++ replies (marks_after lines marks) more
+        (in_order u (calls_of marks lines)).database }
+    ensures after { (marks : List Bool) (lines : List (List ℕ)) (u : Database)
+        → database_after marks lines u ≡ (in_order u (calls_of marks lines)).database }
+    ensures served { (rows : Bool) (marks : List Bool) (work : Work)
+        (text : List ℕ) → ServesWork rows marks work text
+        → let all = in_order (database_of work.rows) (calls_of marks work.lines) in
+        text ≡ told marks work.lines all.replies
         ++ rows_if_asked rows (length work.rows.subscribers) all.database }
 {}
 

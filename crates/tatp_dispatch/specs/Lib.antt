@@ -17,6 +17,7 @@ pub mod Opened
 pub mod Fields
 pub mod Advancing
 pub mod Calling
+pub mod Resting
 pub mod Runs
 pub mod Benchmark
 pub mod Offering

@@ -1,22 +1,28 @@
 //! The theorem, and the laws of the definitions for the crates above. Nothing runs here: a clause
 //! is the law.
-ghost use Rattle.std.specs.Prelude.{◌≡◌, ◌≤◌, ◌⊎◌, ◌∷◌, ◌++◌, ℕ, List, [], None, Some, length, slice_get};
+ghost use Rattle.std.specs.Prelude.{◌≡◌, ◌<◌, ◌≤◌, ◌+◌, ◌^◌, ◌⊎◌, ◌∷◌, ◌++◌, ℕ, true, List, [], None, Some, Result, length, slice_get};
 ghost use Rattle.tatp_encoding.specs.Modules.{ModuleState};
 ghost use Rattle.tatp_tables.specs.Clean.{IsClean};
 ghost use Rattle.tatp_tables.specs.Database.{database_of};
 ghost use Rattle.tatp_tables.specs.declared.row.Rows.{Rows};
 ghost use Rattle.tatp_audits.specs.Audits.{IsVerdict, clean_of};
+ghost use Rattle.tatp_procs.specs.Asked.{has_procedure, bad_argument};
+ghost use Rattle.tatp_procs.specs.declared.ask.Ask.{Ask};
+ghost use Rattle.tatp_procs.specs.declared.reply.Reply.{Reply};
 ghost use Rattle.tatp_extents.specs.Extents.{ExtentState};
 ghost use Rattle.tatp_extents.specs.Opening.{extent_count};
 ghost use Rattle.tatp_partition.specs.Moving.{LandedState};
 ghost use Rattle.tatp_partition.specs.Sites.{SiteState};
 ghost use Rattle.tatp_events.specs.declared.event.Event.{Event};
 ghost use Rattle.tatp_events.specs.Answers.{Answered};
+ghost use Rattle.tatp_events.specs.declared.refusal.Refusal.{Refusal};
 ghost use Rattle.tatp_dispatch.specs.Benchmark.{IsTheBenchmark};
+ghost use Rattle.tatp_dispatch.specs.Calling.{MakesCall};
 ghost use Rattle.tatp_dispatch.specs.Events.{Happens};
 ghost use Rattle.tatp_dispatch.specs.InHand.{HoldsParcel, HoldsLanding, HasLanded, WasTold, NoneInHand, NamesTheHolder};
 ghost use Rattle.tatp_dispatch.specs.Opened.{IsOpened};
 ghost use Rattle.tatp_dispatch.specs.Populated.{IsPopulated};
+ghost use Rattle.tatp_dispatch.specs.Resting.{IsAtRest, IsOutcomeAtRest};
 ghost use Rattle.tatp_dispatch.specs.Runs.{Runs};
 ghost use Rattle.tatp_dispatch.specs.Seen.{ShowsItsCall, ShowsItsHomes};
 ghost use Rattle.tatp_dispatch.specs.Gathered.{gathered, gathered_rows};
@@ -57,6 +63,22 @@ pub fn transactions_are_served_in_order()
 pub fn nothing_is_set_back_where_no_call_runs()
     ensures { (w : WorldState) → ((client : ℕ) → (shown w).calls client ≡ None)
         → set_back w ≡ gathered w }
+{}
+
+// ---- one client
+
+/// A system that was just opened for one client is at rest. From rest a call of a procedure of the
+/// module is refused for an argument, or comes to its end, or is refused memory alone. Then the
+/// system is at rest again.
+pub fn calls_from_rest_are_refused_memory_alone()
+    ensures opened { (modul : ModuleState) (population : Rows) (partitions : ℕ)
+        (opened : WorldState)
+        → IsOpened modul population partitions 1 opened → IsAtRest 0 opened }
+    ensures call { (before after : WorldState) (calls : ℕ) (ask : Ask)
+        (outcome : Result Reply Refusal)
+        → IsWorld before → IsAtRest calls before → calls + 1 < 2 ^ 64
+        → has_procedure before.modul ask ≡ true → MakesCall before 0 ask outcome after
+        → IsOutcomeAtRest (bad_argument ask) outcome × IsAtRest (calls + 1) after }
 {}
 
 // ---- the rows

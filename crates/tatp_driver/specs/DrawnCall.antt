@@ -6,8 +6,8 @@ use Rattle.tatp_numbers.specs.declared.key.Key.{Key}
 use Rattle.tatp_numbers.specs.declared.key.Key.TheVariants.{Id, Number}
 use Rattle.tatp_procs.specs.declared.call.Call.{Call}
 use Rattle.tatp_procs.specs.declared.call.Call.TheVariants.{GetSubscriberData, GetNewDestination, GetAccessData, UpdateSubscriberData, UpdateLocation, InsertCallForwarding, DeleteCallForwarding}
-use Rattle.tatp_driver.specs.declared.distribution.Distribution.{Distribution}
-use Rattle.tatp_driver.specs.declared.distribution.Distribution.TheVariants.{Skewed, Uniform}
+use Rattle.tatp_tasks.specs.declared.distribution.Distribution.{Distribution}
+use Rattle.tatp_tasks.specs.declared.distribution.Distribution.TheVariants.{Skewed, Uniform}
 
 -- the place of the call among 100 calls of the mix, 0 to 99
 abbrev pub place_in_mix : List ℕ → ℕ

@@ -4,7 +4,7 @@ use Rattle.rand_core.specs.Stream.{Stream, next_u64}
 use Rattle.rand_core.specs.Steps.{stream_of, steps_u64_low}
 use Rattle.rand_pcg.specs.Lcg.{Lcg, started, increment_of}
 use Rattle.rand_pcg.specs.Pcg.{pcg64, multiplier_128}
-use Rattle.tatp_driver.specs.declared.distribution.Distribution.{Distribution}
+use Rattle.tatp_tasks.specs.declared.distribution.Distribution.{Distribution}
 
 -- the next n words, and the stream that is left after them
 unfoldable pub next_words : ℕ → Stream → List ℕ × Stream

@@ -5,12 +5,13 @@ ghost use Rattle.tatp_procs.specs.Calls.{key_of_call};
 ghost use Rattle.tatp_driver.specs.DrawnCall.{drawn_call, NamesOneOf};
 ghost use Rattle.tatp_driver.specs.DrawnWords.{next_words, words_of, client_generator};
 
-use crate::{Distribution, call_of};
+use crate::call_of;
 use rand_core::Rng;
 use rand_pcg::Pcg64;
 use std::marker::Model;
 use tatp_limits::MAX_SUBSCRIBERS;
 use tatp_procs::Call;
+use tatp_tasks::Distribution;
 
 /// Draws the calls of one client. It takes no memory.
 #[derive(Drop)]

@@ -274,7 +274,7 @@ first_told w number events (Ok Undecided) same some never explained unexplained 
     (subst (λ es. NeedMore most (of_subscriber u s) (is.before ++ events_by many.0 es)) same (subst (λ m. NeedMore m (of_subscriber u s) (is.before ++ events_by many.0 events)) is.most_is many.1))
 
 -- ---- a window that stays as it was
-pub same_window : (u : Database) (most s : ℕ) (lines : List Line) (w after : Window) → IsWindowAfter u most s lines w → after.explanations ≡ w.explanations → after.events ≡ w.events → after.numbers ≡ w.numbers → after.from ≡ w.from → after.waiting ≡ w.waiting → after.only ≡ w.only
+pub same_window : (u : Database) (most s : ℕ) (lines : List Line) (w after : Window) → IsWindowAfter u most s lines w → after.explanations ≡ w.explanations → after.events ≡ w.events → after.numbers ≡ w.numbers → after.from ≡ w.from → after.waiting ≡ w.waiting → after.only ≡ w.only → after.aside ≡ w.aside
     → IsWindowAfter u most s lines after
-same_window u most s lines w after is explanations events numbers from waiting only =
-    subst (IsWindowAfter u most s lines) (λ i. record { explanations = sym explanations i; from = sym from i; events = sym events i; numbers = sym numbers i; waiting = sym waiting i; only = sym only i }) is
+same_window u most s lines w after is explanations events numbers from waiting only aside =
+    subst (IsWindowAfter u most s lines) (λ i. record { explanations = sym explanations i; from = sym from i; events = sym events i; numbers = sym numbers i; waiting = sym waiting i; only = sym only i; aside = sym aside i }) is

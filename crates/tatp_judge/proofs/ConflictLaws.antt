@@ -1,5 +1,5 @@
 -- Calls that conflict with open ones, after one line more.
-use Rattle.std.proofs.Common.{◌≡◌, ◌≢◌, ℕ, zero, suc, ◌+◌, ◌-◌, ◌<◌, ◌≤◌, ◌⊎◌, ◌∙◌, ◌==◌, sym, ap, subst, Bool, true, false, cond, nat_lt, lt-ltb, le-ltb, List, [], ◌∷◌, ◌++◌, length, map, take, set, get_or, replicate, slice_get, refl, arith, Option, Some, None, eq-eqb, ne_eqb, inl, inr}
+use Rattle.std.proofs.Common.{◌≡◌, ℕ, suc, ◌+◌, ◌-◌, ◌<◌, ◌≤◌, ◌⊎◌, ◌∙◌, ◌==◌, sym, ap, subst, Bool, true, false, cond, nat_lt, lt-ltb, le-ltb, List, [], ◌∷◌, ◌++◌, length, map, take, set, get_or, replicate, slice_get, refl, arith, Option, Some, None, eq-eqb, ne_eqb, inl, inr}
 use Rattle.std.proofs.lemmas.Bool.{cases_lt, true≢false, false≢true}
 use Rattle.std.proofs.lemmas.List.{length-append, length-map, length-set, length-replicate, get_or-replicate, map-append}
 use Rattle.std.proofs.lemmas.Option.{none-some, same_Some}
@@ -15,20 +15,20 @@ use Rattle.tatp_history.proofs.SubscriberEventLaws.{same_or_not, with_same, with
 use Rattle.tatp_history.specs.Changes.{only_reads}
 use Rattle.tatp_judge.specs.declared.asked.Asked.{Asked}
 use Rattle.tatp_judge.specs.declared.conflicts.Conflicts.{Conflicts}
-use Rattle.tatp_judge.specs.Asked.{AskedCalls, none_asked, with_asked, asked_call, asked_by, asked_after, asked_in_all, asked_on}
-use Rattle.tatp_judge.specs.Conflicts.{write_line, open_writes, other_writes, written, AreConflicts, HasConflicts, HasConflictsOfOthers, one_more}
+use Rattle.tatp_judge.specs.Asked.{AskedCalls, none_asked, with_asked, asked_by, asked_after, asked_in_all, asked_on}
+use Rattle.tatp_judge.specs.Conflicts.{write_line, open_writes, other_writes, written, HasConflicts, HasConflictsOfOthers, one_more}
 use Rattle.tatp_judge.specs.Counted.{AreOthersOn}
 use Rattle.tatp_judge.specs.Population.{IsDirectoryOf}
-use Rattle.tatp_judge.specs.Stakes.{IsNumberOf, Asks, HasOpen, MeetsConflict}
+use Rattle.tatp_judge.specs.Stakes.{IsNumberOf, HasOpen, MeetsConflict}
 use Rattle.tatp_judge.specs.Steps.{fewer}
 use Rattle.tatp_judge.specs.Windows.{AreCounted}
 use Rattle.tatp_judge.proofs.JudgeLaws.{asked_within}
 use Rattle.tatp_judge.proofs.NextLineLaws.{opened_other, opened_next}
 use Rattle.tatp_judge.proofs.NumberLaws.{front}
-use Rattle.tatp_judge.proofs.PlaceLaws.{found_at, got_other}
+use Rattle.tatp_judge.proofs.PlaceLaws.{got_other}
 use Rattle.tatp_judge.proofs.SearchLaws.{named_within}
 use Rattle.tatp_judge.proofs.StakeLaws.{some_among, among_some, number_same, number_more, got_before, got_either, got_now, got_within, or_got, got_written, asks_on_it, AsksNone, all_before}
-use Rattle.tatp_judge.proofs.WindowLaws.{AreOthers, others_of, counted_closed, counted_asked, fewer_at_most, some_waits}
+use Rattle.tatp_judge.proofs.WindowLaws.{AreOthers, others_of, counted_closed, counted_asked, some_waits}
 
 -- ---- calls that write, among all that are open
 -- when the open call was asked, if it is on the subscriber and writes

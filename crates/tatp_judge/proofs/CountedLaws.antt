@@ -1,5 +1,5 @@
 -- What is counted, after one line more.
-use Rattle.std.proofs.Common.{◌≡◌, ℕ, suc, ◌+◌, ◌-◌, ◌<◌, ◌≤◌, ◌⊎◌, ◌∙◌, sym, ap, subst, Bool, true, false, cond, nat_lt, lt-ltb, le-ltb, List, [], ◌∷◌, ◌++◌, length, set, get_or, replicate, slice_get, refl, arith, Option, Some, None, eq-eqb, ne_eqb, inl, inr, nat_eq}
+use Rattle.std.proofs.Common.{◌≡◌, ℕ, suc, ◌+◌, ◌-◌, ◌≤◌, ◌⊎◌, ◌∙◌, sym, ap, subst, Bool, true, false, cond, nat_lt, lt-ltb, le-ltb, List, [], ◌∷◌, ◌++◌, length, set, get_or, replicate, slice_get, refl, arith, Option, Some, None, eq-eqb, ne_eqb, inl, inr, nat_eq}
 use Rattle.std.proofs.lemmas.Bool.{cases_lt, false≢true}
 use Rattle.std.proofs.lemmas.List.{length-append, length-set, length-replicate, get_or-replicate, take_all}
 use Rattle.std.proofs.lemmas.Option.{none-some, same_Some}
@@ -23,7 +23,8 @@ use Rattle.tatp_judge.specs.Steps.{fewer}
 use Rattle.tatp_judge.specs.Counted.{AreMarked, AreOthersOn, HasCountedCalls}
 use Rattle.tatp_judge.specs.declared.stakes.Counts.{Counts}
 use Rattle.tatp_judge.specs.Stakes.{was_answered, was_aborted, IsNumberOf, IsCalled, MeetsOthers, IsWidest}
-use Rattle.tatp_judge.specs.Windows.{IsAmong, AreCounted, IsWindowAfter}
+use Rattle.tatp_judge.specs.Windows.{IsAmong, AreCounted, IsKept}
+use Rattle.tatp_judge.proofs.AsideLaws.{kept_counted, kept_few}
 use Rattle.tatp_judge.proofs.CountLaws.{asks_one, asked_next_line, one_if, none_if, count_next}
 use Rattle.tatp_judge.proofs.JudgeLaws.{opened_is}
 use Rattle.tatp_judge.proofs.PlaceLaws.{got_other}
@@ -226,13 +227,13 @@ pub others_there : (u : Database) (most : ℕ) (lines : List Line) (judge : Judg
     → one ≡ get nat_eq judge.asked client → n ≡ fewer (asked_on s one) w.waiting → AreOthersOn u s client lines n
 others_there u most lines judge client s n one w h first last at is others =
     let same : suc (s - 1) ≡ s = omega (arith, first) in
-    let window = subst (λ k. IsWindowAfter u most k lines w) same (h.noted.windows_are (s - 1) w at) in
-    let few = window.few in
+    let window = subst (λ k. IsKept u most k lines w) same (h.noted.windows_are (s - 1) w at) in
+    let few = kept_few u most s lines w window in
     let fewer_is = fewer_at_most (asked_on s one) w.waiting in
     let opened : opened_after u s 1 no_calls lines client ≡ asked_on s one = opened_is u s lines client ∙ ap (asked_on s) (sym (is ∙ h.noted.asked_are client)) in
     record {
       all = w.waiting;
-      counted = window.counted;
+      counted = kept_counted u most s lines w window;
       others = others ∙ ap (λ o. fewer o w.waiting) (sym opened);
       few = omega (arith, few, fewer_is, others);
     }

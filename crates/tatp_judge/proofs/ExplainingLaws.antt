@@ -8,7 +8,7 @@ use Rattle.tatp_judge.specs.declared.judge.Judge.{Judge}
 use Rattle.tatp_judge.specs.declared.window.Window.{Window}
 use Rattle.tatp_judge.specs.Explained.{AreWindowNumbers}
 use Rattle.tatp_judge.specs.Followed.{HasKept}
-use Rattle.tatp_judge.specs.Verdicts.{IsUnexplained}
+use Rattle.tatp_judge.specs.Verdicts.{IsAside, IsUnexplained}
 use Rattle.tatp_judge.specs.Windows.{IsSpent, IsWindowAfter}
 use Rattle.tatp_judge.proofs.ClosingLaws.{begins_after}
 use Rattle.tatp_judge.proofs.FirstLinesLaws.{taken}
@@ -31,11 +31,18 @@ numbers_of u most s lines line w within fails kept = elim kept [
   ]
 ]
 
-pub numbers_told : (u : Database) (lines : List Line) (judge : Judge) (line s : ℕ) (w : Window) → HasKept u lines judge → line ≤ length lines → IsUnexplained u lines line (Some s) → 1 ≤ s → slice_get judge.windows.items (s - 1) ≡ Some w
-    → AreWindowNumbers u s (take line lines) (filter (λ n. nat_le n line) w.numbers.items)
-numbers_told u lines judge line s w kept within fails some at =
+-- the window of a subscriber that isn't set aside
+pub kept_window : (u : Database) (lines : List Line) (judge : Judge) (s : ℕ) (w : Window) (kept : HasKept u lines judge) → (IsAside judge.undecided.items s → ⊥) → 1 ≤ s → slice_get judge.windows.items (s - 1) ≡ Some w → IsWindowAfter u kept.most s lines w ⊎ IsSpent u s lines w
+kept_window u lines judge s w kept other some at =
     let same : suc (s - 1) ≡ s = omega (arith, some) in
-    numbers_of u kept.most s lines line w within fails (subst (λ k. IsWindowAfter u kept.most k lines w ⊎ IsSpent u k lines w) same (elim (kept.searchable.windows_are (s - 1) w at) [ inl window ↦ inl window | inr spent ↦ inr spent.1 ]))
+    subst (λ k. IsWindowAfter u kept.most k lines w ⊎ IsSpent u k lines w) same (elim (kept.searchable.windows_are (s - 1) w at) [
+      | inl window ↦ elim window [ inl k ↦ inl k.1 | inr c ↦ absurd (other (subst (IsAside judge.undecided.items) same (kept.searchable.aside.listed (s - 1) w at c.aside))) ]
+      | inr spent ↦ inr spent.3
+    ])
+
+pub numbers_told : (u : Database) (lines : List Line) (judge : Judge) (line s : ℕ) (w : Window) → HasKept u lines judge → line ≤ length lines → IsUnexplained u lines line (Some s) → (IsAside judge.undecided.items s → ⊥) → 1 ≤ s → slice_get judge.windows.items (s - 1) ≡ Some w
+    → AreWindowNumbers u s (take line lines) (filter (λ n. nat_le n line) w.numbers.items)
+numbers_told u lines judge line s w kept within fails other some at = numbers_of u kept.most s lines line w within fails (kept_window u lines judge s w kept other some at)
 
 pub each_within : (P : ℕ → Type 0) (xs : List ℕ) → AllByRecursion P xs → All P xs
 each_within P [] h k d lt = absurd (omega (arith, lt))

@@ -1,8 +1,8 @@
 -- Whether some order of the calls leads to rows, subscriber by subscriber.
-use Rattle.std.proofs.Common.{◌≡◌, ℕ, zero, suc, ◌+◌, ◌-◌, ◌<◌, ◌≤◌, ◌∙◌, ◌&&◌, sym, ap, subst, nat_le, true, false, List, [], ◌∷◌, length, set, get_or, slice_get, take, refl, arith, Option, Some, None, Ok, cond, is_some, inl, inr}
+use Rattle.std.proofs.Common.{◌≡◌, ℕ, zero, suc, ◌+◌, ◌-◌, ◌<◌, ◌≤◌, ◌⊎◌, ◌∙◌, ◌&&◌, sym, ap, subst, nat_le, true, false, List, [], ◌∷◌, ◌++◌, length, set, get_or, slice_get, take, refl, arith, Option, Some, None, Ok, cond, is_some, inl, inr}
 use Rattle.std.specs.Option.{option_map}
-use Rattle.std.proofs.lemmas.Bool.{cases_lt, false≢true}
-use Rattle.std.proofs.lemmas.List.{length-set}
+use Rattle.std.proofs.lemmas.Bool.{cases_lt}
+use Rattle.std.proofs.lemmas.List.{length-set, take_all}
 use Rattle.std.proofs.lemmas.Option.{none-some}
 use Rattle.tatp_tables.specs.Tuples.{Tuple, Tuples, has, set_of}
 use Rattle.tatp_tables.specs.Keys.{has_key, row_at}
@@ -33,6 +33,7 @@ use Rattle.tatp_history.specs.HistoryLines.{calls_of, AreAcceptedLines}
 use Rattle.tatp_history.specs.Locality.{AreAccepted, calls_on, is_on}
 use Rattle.tatp_history.proofs.LineLaws.{are_calls}
 use Rattle.tatp_history.proofs.OrderLaws.{all_filter, all_map, in_all}
+use Rattle.tatp_judge.specs.declared.aside.Undecided.{Undecided}
 use Rattle.tatp_judge.specs.declared.judge.Judge.{Judge}
 use Rattle.tatp_judge.specs.declared.window.Window.{Window}
 use Rattle.tatp_judge.specs.declared.part.Part.{Part}
@@ -40,9 +41,14 @@ use Rattle.tatp_judge.specs.Finishing.{Leaves, LeaveInPart, IsFirstUnreached}
 use Rattle.tatp_judge.specs.Parts.{is_of_part}
 use Rattle.tatp_judge.specs.Followed.{HasFollowed}
 use Rattle.tatp_judge.specs.Population.{IsDirectoryOf}
+use Rattle.tatp_judge.specs.Aside.{SetsAside}
+use Rattle.tatp_judge.specs.Steps.{AreEach}
+use Rattle.tatp_judge.specs.Verdicts.{AreOthersLegal, AreUndecided, IsAside, IsLegalBut, NeedMoreBy}
 use Rattle.tatp_judge.specs.Windows.{IsWindowAfter}
+use Rattle.tatp_judge.proofs.AsideLaws.{aside_last, aside_more, aside_one, kept_open, not_aside, undecided_more}
+use Rattle.tatp_history.proofs.SubscriberEventLaws.{same_or_not}
 use Rattle.tatp_judge.proofs.PlaceLaws.{found_at, got_other}
-use Rattle.tatp_judge.proofs.SearchLaws.{none_on, not_on}
+use Rattle.tatp_judge.proofs.SearchLaws.{legal_but, none_on, not_on, others_now}
 
 -- ---- a subscriber that isn't there has no rows
 no_row : (o : Option Tuple) → option_map s_id_of o ≡ None → o ≡ None
@@ -124,68 +130,139 @@ listed_none u n s d is out = sym (is.keys (Id s)) ∙ elim (nat_le 1 s && nat_le
 ] refl
 
 -- ---- the loop over subscribers
--- of those of the part up to a place some order leaves the rows; the windows of the others are as they were
-pub record LeavesSoFar (u : Database) (part : Part) (lines : List Line) (after : Database) (i : ℕ) (old now : List Window) : Type 0 where
-  pub count : length now ≡ length old
-  pub later : (place : ℕ) → i ≤ place → slice_get now place ≡ slice_get old place
-  pub each : (place : ℕ) → place < i → is_of_part part (Some (suc place)) ≡ true → Leaves u (suc place) lines (of_subscriber after (suc place))
+-- of those of the part up to a place some order leaves the rows, but for those set aside; the windows of the others are as they were
+pub record LeavesSoFar (u : Database) (most : ℕ) (part : Part) (lines : List Line) (after : Database) (i : ℕ) (old now : Judge) : Type 0 where
+  pub count : length now.windows.items ≡ length old.windows.items
+  pub later : (place : ℕ) (w : Window) → i ≤ place → slice_get now.windows.items place ≡ Some w → slice_get old.windows.items place ≡ Some w
+  pub undecided : AreUndecided u most lines now.undecided.items
+  pub number_is : now.number ≡ old.number
+  pub still : (s : ℕ) → IsAside old.undecided.items s → IsAside now.undecided.items s
+  pub fresh : (s : ℕ) → IsAside now.undecided.items s → IsAside old.undecided.items s ⊎ (s ≤ i)
+  pub each : (place : ℕ) → place < i → is_of_part part (Some (suc place)) ≡ true → (IsAside now.undecided.items (suc place) → ⊥) → Leaves u (suc place) lines (of_subscriber after (suc place))
 
-pub none_left_yet : (u : Database) (part : Part) (lines : List Line) (after : Database) (ws : List Window) → LeavesSoFar u part lines after 0 ws ws
-none_left_yet u part lines after ws = record { count = refl; later = λ place le. refl; each = λ place lt. absurd (omega (arith, lt)) }
-
-pub one_left_more : (u : Database) (part : Part) (lines : List Line) (after : Database) (i : ℕ) (old now : List Window) (new : Window) → LeavesSoFar u part lines after i old now → i < length now → Leaves u (suc i) lines (of_subscriber after (suc i))
-    → LeavesSoFar u part lines after (i + 1) old (set now i new)
-one_left_more u part lines after i old now new is lt here = record {
-  count = length-set now i new ∙ is.count;
-  later = λ place le. got_other now i place new (λ e. omega (arith, e, le)) ∙ is.later place (omega (arith, le));
-  each = λ place early own. elim (cases_lt place i) [
-    | inl before ↦ is.each place before own
-    | inr late ↦ let same : i ≡ place = omega (arith, early, late) in subst (λ p. Leaves u (suc p) lines (of_subscriber after (suc p))) same here
-  ];
+pub none_left_yet : (u : Database) (most : ℕ) (part : Part) (lines : List Line) (after : Database) (judge : Judge) → HasFollowed u most lines judge → LeavesSoFar u most part lines after 0 judge judge
+none_left_yet u most part lines after judge is = record {
+  count = refl;
+  later = λ place w le at. at;
+  undecided = is.noted.aside.undecided;
+  number_is = refl;
+  still = λ s own. own;
+  fresh = λ s own. inl own;
+  each = λ place lt. absurd (omega (arith, lt));
 }
 
-pub one_passed_over : (u : Database) (part : Part) (lines : List Line) (after : Database) (i : ℕ) (old now : List Window) → LeavesSoFar u part lines after i old now → is_of_part part (Some (suc i)) ≡ false → LeavesSoFar u part lines after (i + 1) old now
-one_passed_over u part lines after i old now is other = record {
+-- one subscriber more, of which this is so
+passed : (u : Database) (most : ℕ) (part : Part) (lines : List Line) (after : Database) (i : ℕ) (old now : Judge) → LeavesSoFar u most part lines after i old now → (is_of_part part (Some (suc i)) ≡ true → (IsAside now.undecided.items (suc i) → ⊥) → Leaves u (suc i) lines (of_subscriber after (suc i)))
+    → (place : ℕ) → place < i + 1 → is_of_part part (Some (suc place)) ≡ true → (IsAside now.undecided.items (suc place) → ⊥) → Leaves u (suc place) lines (of_subscriber after (suc place))
+passed u most part lines after i old now is here place early = elim (cases_lt place i) [
+  | inl before ↦ is.each place before
+  | inr late ↦ let same : i ≡ place = omega (arith, early, late) in subst (λ p. is_of_part part (Some (suc p)) ≡ true → (IsAside now.undecided.items (suc p) → ⊥) → Leaves u (suc p) lines (of_subscriber after (suc p))) same here
+]
+
+wider : (s i : ℕ) (was : Type 0) → was ⊎ (s ≤ i) → was ⊎ (s ≤ i + 1)
+wider s i was h = elim h [ inl k ↦ inl k | inr le ↦ inr (omega (arith, le)) ]
+
+pub one_passed_over : (u : Database) (most : ℕ) (part : Part) (lines : List Line) (after : Database) (i : ℕ) (old now : Judge) → LeavesSoFar u most part lines after i old now
+    → (is_of_part part (Some (suc i)) ≡ true → (IsAside now.undecided.items (suc i) → ⊥) → Leaves u (suc i) lines (of_subscriber after (suc i))) → LeavesSoFar u most part lines after (i + 1) old now
+one_passed_over u most part lines after i old now is here = record {
   count = is.count;
-  later = λ place le. is.later place (omega (arith, le));
-  each = λ place early own. elim (cases_lt place i) [
-    | inl before ↦ is.each place before own
-    | inr late ↦ let same : place ≡ i = omega (arith, early, late) in absurd (false≢true (sym other ∙ (ap (λ p. is_of_part part (Some (suc p))) (sym same) ∙ own)))
-  ];
+  later = λ place w le at. is.later place w (omega (arith, le)) at;
+  undecided = is.undecided;
+  number_is = is.number_is;
+  still = is.still;
+  fresh = λ s own. wider s i (IsAside old.undecided.items s) (is.fresh s own);
+  each = passed u most part lines after i old now is here;
 }
 
-pub window_there : (u : Database) (part : Part) (most : ℕ) (lines : List Line) (after : Database) (i : ℕ) (judge : Judge) (now : List Window) (w : Window) → HasFollowed u most lines judge → LeavesSoFar u part lines after i judge.windows.items now → i < length now → w ≡ get_or now i w
-    → IsWindowAfter u most (suc i) lines w
-window_there u part most lines after i judge now w is so_far lt at = is.noted.windows_are i w (sym (so_far.later i (omega arith)) ∙ found_at now i w lt at)
+pub one_left_more : (u : Database) (most : ℕ) (part : Part) (lines : List Line) (after : Database) (i : ℕ) (old now new : Judge) (w : Window) → LeavesSoFar u most part lines after i old now → new.windows.items ≡ set now.windows.items i w → new.undecided.items ≡ now.undecided.items → new.number ≡ now.number → Leaves u (suc i) lines (of_subscriber after (suc i))
+    → LeavesSoFar u most part lines after (i + 1) old new
+one_left_more u most part lines after i old now new w is windows undecided number here = record {
+  count = ap length windows ∙ (length-set now.windows.items i w ∙ is.count);
+  later = λ place v le at. is.later place v (omega (arith, le)) (sym (got_other now.windows.items i place w (λ e. omega (arith, e, le))) ∙ (ap (λ ws. slice_get ws place) (sym windows) ∙ at));
+  undecided = subst (AreUndecided u most lines) (sym undecided) is.undecided;
+  number_is = number ∙ is.number_is;
+  still = λ s own. subst (λ xs. IsAside xs s) (sym undecided) (is.still s own);
+  fresh = λ s own. wider s i (IsAside old.undecided.items s) (is.fresh s (subst (λ xs. IsAside xs s) undecided own));
+  each = λ place early own other. passed u most part lines after i old now is (λ _ _. here) place early own (λ k. other (subst (λ xs. IsAside xs (suc place)) (sym undecided) k));
+}
+
+-- one that is set aside
+pub one_aside_more : (u : Database) (most : ℕ) (part : Part) (lines : List Line) (after : Database) (i : ℕ) (old now mid new : Judge) (w : Window) → HasFollowed u most lines old → LeavesSoFar u most part lines after i old now → mid.windows.items ≡ set now.windows.items i w → mid.undecided.items ≡ now.undecided.items → mid.number ≡ now.number
+    → new.number ≡ mid.number → new.undecided.items ≡ mid.undecided.items ++ record { line = mid.number; s_id = i + 1 } ∷ [] → AreEach (SetsAside (i + 1)) mid.windows.items new.windows.items → NeedMoreBy u most lines (length lines) (suc i) → (IsAside now.undecided.items (suc i) → ⊥) → LeavesSoFar u most part lines after (i + 1) old new
+one_aside_more u most part lines after i old now mid new w followed is windows undecided number numbered told sets many other =
+    let one : Undecided = record { line = mid.number; s_id = i + 1 } in
+    let next : suc i ≡ i + 1 = omega arith in
+    let all : new.undecided.items ≡ now.undecided.items ++ one ∷ [] = told ∙ ap (λ xs. xs ++ one ∷ []) undecided in
+    record {
+      count = sets.count ∙ (ap length windows ∙ (length-set now.windows.items i w ∙ is.count));
+      later = λ place v le at.
+          let found = sets.each place v at in
+          elim found.2 [
+            | inl k ↦ absurd (omega (arith, k.0, le))
+            | inr k ↦ is.later place v (omega (arith, le)) (sym (got_other now.windows.items i place w (λ e. omega (arith, e, le))) ∙ (ap (λ ws. slice_get ws place) (sym windows) ∙ (found.1 ∙ ap Some (sym k.1))))
+          ];
+      undecided = subst (AreUndecided u most lines) (sym all) (undecided_more u most lines now.undecided.items one is.undecided (number ∙ (is.number_is ∙ followed.noted.read.number_is))
+          (subst (NeedMoreBy u most lines (length lines)) next many) (λ k. other (subst (IsAside now.undecided.items) (sym next) k)));
+      number_is = numbered ∙ (number ∙ is.number_is);
+      still = λ s own. subst (λ xs. IsAside xs s) (sym all) (aside_more now.undecided.items (one ∷ []) s (is.still s own));
+      fresh = λ s own. elim (aside_one now.undecided.items one s (subst (λ xs. IsAside xs s) all own)) [
+        | inl was ↦ wider s i (IsAside old.undecided.items s) (is.fresh s was)
+        | inr same ↦ inr (omega (arith, same))
+      ];
+      each = λ place early own apart. elim (same_or_not place i) [
+        | inl e ↦ absurd (apart (subst (λ xs. IsAside xs (suc place)) (sym all) (subst (IsAside (now.undecided.items ++ one ∷ [])) (omega (arith, e)) (aside_last now.undecided.items one))))
+        | inr n ↦ is.each place (omega (arith, early, n)) own (λ k. apart (subst (λ xs. IsAside xs (suc place)) (sym all) (aside_more now.undecided.items (one ∷ []) (suc place) k)))
+      ];
+    }
+
+-- a window that isn't marked
+pub window_there : (u : Database) (most : ℕ) (part : Part) (lines : List Line) (after : Database) (i : ℕ) (old now : Judge) (w : Window) → HasFollowed u most lines old → LeavesSoFar u most part lines after i old now → i < length now.windows.items → w ≡ get_or now.windows.items i w → w.aside ≡ false → IsWindowAfter u most (suc i) lines w
+window_there u most part lines after i old now w is so_far lt at unmarked =
+    kept_open u most (suc i) lines w (is.noted.windows_are i w (so_far.later i w (omega arith) (found_at now.windows.items i w lt at))) unmarked
+
+pub not_yet_aside : (u : Database) (most : ℕ) (part : Part) (lines : List Line) (after : Database) (i : ℕ) (old now : Judge) (w : Window) → HasFollowed u most lines old → LeavesSoFar u most part lines after i old now → i < length now.windows.items → w ≡ get_or now.windows.items i w → w.aside ≡ false → IsAside now.undecided.items (suc i) → ⊥
+not_yet_aside u most part lines after i old now w is so_far lt at unmarked own = elim (so_far.fresh (suc i) own) [
+  | inl was ↦ not_aside u most lines old i w is.noted.aside (so_far.later i w (omega arith) (found_at now.windows.items i w lt at)) unmarked was
+  | inr le ↦ omega (arith, le)
+]
+
+pub aside_there : (u : Database) (most : ℕ) (part : Part) (lines : List Line) (after : Database) (i : ℕ) (old now : Judge) (w : Window) → HasFollowed u most lines old → LeavesSoFar u most part lines after i old now → i < length now.windows.items → w ≡ get_or now.windows.items i w → w.aside ≡ true → IsAside now.undecided.items (suc i)
+aside_there u most part lines after i old now w is so_far lt at mark = so_far.still (suc i) (is.noted.aside.listed i w (so_far.later i w (omega arith) (found_at now.windows.items i w lt at)) mark)
 
 -- ---- the verdict
-pub not_reached : (u : Database) (part : Part) (lines : List Line) (after : Database) (i : ℕ) (old now : List Window) → LeavesSoFar u part lines after i old now → is_of_part part (Some (suc i)) ≡ true
-    → (Leaves u (suc i) lines (of_subscriber after (suc i)) → ⊥) → IsFirstUnreached u part lines after (i + 1)
-not_reached u part lines after i old now so_far own never =
+pub not_reached : (u : Database) (most : ℕ) (part : Part) (lines : List Line) (after : Database) (i : ℕ) (old now : Judge) → LeavesSoFar u most part lines after i old now → is_of_part part (Some (suc i)) ≡ true → (IsAside now.undecided.items (suc i) → ⊥)
+    → (Leaves u (suc i) lines (of_subscriber after (suc i)) → ⊥) → IsFirstUnreached u part now.undecided.items lines after (i + 1)
+not_reached u most part lines after i old now so_far own other never =
     let next : suc i ≡ i + 1 = omega arith in
-    subst (IsFirstUnreached u part lines after) next (record {
+    subst (IsFirstUnreached u part now.undecided.items lines after) next (record {
       first = omega arith;
       own = own;
+      other = other;
       here = never;
-      before = λ t least lt there. let one : suc (t - 1) ≡ t = omega (arith, least) in
-          subst (λ s. Leaves u s lines (of_subscriber after s)) one (so_far.each (t - 1) (omega (arith, least, lt)) (ap (λ s. is_of_part part (Some s)) one ∙ there));
+      before = λ t least lt there apart. let one : suc (t - 1) ≡ t = omega (arith, least) in
+          subst (λ s. Leaves u s lines (of_subscriber after s)) one (so_far.each (t - 1) (omega (arith, least, lt)) (ap (λ s. is_of_part part (Some s)) one ∙ there) (λ k. apart (subst (IsAside now.undecided.items) one k)));
     })
 
 -- there are more subscribers at the end
-pub more_at_end : (u : Database) (part : Part) (most : ℕ) (lines : List Line) (r : Rows) (i : ℕ) (judge : Judge) (now : List Window) → HasFollowed u most lines judge → IsClean r → LeavesSoFar u part lines (database_of r) i judge.windows.items now
-    → is_of_part part (Some (suc i)) ≡ true → i < length r.subscribers → length now ≤ i → IsFirstUnreached u part lines (database_of r) (i + 1)
-more_at_end u part most lines r i judge now is clean so_far own lt all =
+pub more_at_end : (u : Database) (most : ℕ) (part : Part) (lines : List Line) (r : Rows) (i : ℕ) (old now : Judge) → HasFollowed u most lines old → IsClean r → LeavesSoFar u most part lines (database_of r) i old now
+    → is_of_part part (Some (suc i)) ≡ true → i < length r.subscribers → length now.windows.items ≤ i → IsFirstUnreached u part now.undecided.items lines (database_of r) (i + 1)
+more_at_end u most part lines r i old now is clean so_far own lt all =
     let read = is.noted.read in
-    not_reached u part lines (database_of r) i judge.windows.items now so_far own (λ leaves.
-    none-some (suc i) (sym (listed_none u (length judge.windows.items) (suc i) judge.directory read.directory_is (λ within. omega (arith, within.1, all, so_far.count)))
+    not_reached u most part lines (database_of r) i old now so_far own
+    (λ aside. elim (so_far.fresh (suc i) aside) [
+      | inl was ↦ let within = is.noted.aside.there (suc i) was in omega (arith, within.1, all, so_far.count)
+      | inr le ↦ omega (arith, le)
+    ])
+    (λ leaves.
+    none-some (suc i) (sym (listed_none u (length old.windows.items) (suc i) old.directory read.directory_is (λ within. omega (arith, within.1, all, so_far.count)))
     ∙ (sym (same_subscriber u (suc i) lines (database_of r) read.consistent read.accepted leaves) ∙ clean_there r (suc i) clean (omega arith) (omega (arith, lt)))))
 
 -- there are fewer
-pub fewer_at_end : (u : Database) (part : Part) (most : ℕ) (lines : List Line) (r : Rows) (i : ℕ) (judge : Judge) (now : List Window) → HasFollowed u most lines judge → IsClean r → LeavesSoFar u part lines (database_of r) i judge.windows.items now
-    → is_of_part part (Some (suc i)) ≡ true → length r.subscribers ≤ i → i < length now → IsFirstUnreached u part lines (database_of r) (i + 1)
-fewer_at_end u part most lines r i judge now is clean so_far own end lt =
+pub fewer_at_end : (u : Database) (most : ℕ) (part : Part) (lines : List Line) (r : Rows) (i : ℕ) (old now : Judge) → HasFollowed u most lines old → IsClean r → LeavesSoFar u most part lines (database_of r) i old now
+    → is_of_part part (Some (suc i)) ≡ true → (IsAside now.undecided.items (suc i) → ⊥) → length r.subscribers ≤ i → i < length now.windows.items → IsFirstUnreached u part now.undecided.items lines (database_of r) (i + 1)
+fewer_at_end u most part lines r i old now is clean so_far own other end lt =
     let read = is.noted.read in
-    not_reached u part lines (database_of r) i judge.windows.items now so_far own (λ leaves.
+    not_reached u most part lines (database_of r) i old now so_far own other (λ leaves.
     none-some (suc i) (sym (clean_none r (suc i) clean (λ _. omega (arith, end)))
     ∙ (same_subscriber u (suc i) lines (database_of r) read.consistent read.accepted leaves ∙ (sym (read.directory_is.keys (Id (suc i))) ∙ read.directory_is.each (suc i) (omega arith) (omega (arith, lt, so_far.count))))))
 
@@ -202,10 +279,19 @@ outside u most lines r judge s is clean out out_at_end =
     no_calls_leave u s lines (database_of r) (none_on u s (not_on u n judge.directory s read.directory_is nobody) (calls_of lines))
     (nothing_of u (database_of r) s read.consistent (IsConsistent-clean r clean) (listed_none u n s judge.directory read.directory_is nobody) (clean_none r s clean out_at_end))
 
-pub all_reached : (u : Database) (part : Part) (most : ℕ) (lines : List Line) (r : Rows) (i : ℕ) (judge : Judge) (now : List Window) → HasFollowed u most lines judge → IsClean r → LeavesSoFar u part lines (database_of r) i judge.windows.items now
-    → length r.subscribers ≤ i → length now ≤ i → LeaveInPart u part lines (database_of r)
-all_reached u part most lines r i judge now is clean so_far end all zero own = outside u most lines r judge 0 is clean (λ le. absurd (omega (arith, le))) (λ le. absurd (omega (arith, le)))
-all_reached u part most lines r i judge now is clean so_far end all (suc p) own = elim (cases_lt p i) [
-  | inl lt ↦ so_far.each p lt own
-  | inr le ↦ let count = so_far.count in outside u most lines r judge (suc p) is clean (λ _. omega (arith, le, all, count)) (λ _. omega (arith, le, end))
+pub all_reached : (u : Database) (most : ℕ) (part : Part) (lines : List Line) (r : Rows) (i : ℕ) (old now : Judge) → HasFollowed u most lines old → IsClean r → LeavesSoFar u most part lines (database_of r) i old now
+    → length r.subscribers ≤ i → length now.windows.items ≤ i → LeaveInPart u part now.undecided.items lines (database_of r)
+all_reached u most part lines r i old now is clean so_far end all zero own other = outside u most lines r old 0 is clean (λ le. absurd (omega (arith, le))) (λ le. absurd (omega (arith, le)))
+all_reached u most part lines r i old now is clean so_far end all (suc p) own other = elim (cases_lt p i) [
+  | inl lt ↦ so_far.each p lt own other
+  | inr le ↦ let count = so_far.count in outside u most lines r old (suc p) is clean (λ _. omega (arith, le, all, count)) (λ _. omega (arith, le, end))
 ]
+
+-- what is legal stays so, where more are set aside
+pub still_legal : (u : Database) (most : ℕ) (part : Part) (lines : List Line) (after : Database) (i : ℕ) (old now : Judge) → HasFollowed u most lines old → LeavesSoFar u most part lines after i old now → IsLegalBut u old.undecided.items lines → IsLegalBut u now.undecided.items lines
+still_legal u most part lines after i old now is so_far h =
+    let read = is.noted.read in
+    let all : take (length lines) lines ≡ lines = take_all (length lines) lines (omega arith) in
+    let legal = others_now u lines old old.undecided.items read h in
+    let fewer : AreOthersLegal u now.undecided.items lines = record { each = λ s other. legal.each s (λ own. other (so_far.still s own)); none = legal.none } in
+    subst (IsLegalBut u now.undecided.items) all (legal_but u lines old now.undecided.items (length lines) read (subst (AreOthersLegal u now.undecided.items) (sym all) fewer))

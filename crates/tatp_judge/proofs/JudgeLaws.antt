@@ -12,27 +12,28 @@ use Rattle.tatp_history.specs.HistoryLines.{client_of, end_at, calls_of, AreAcce
 use Rattle.tatp_history.specs.Events.{TimesRise}
 use Rattle.tatp_history.specs.Histories.{IsStrictlySerializable}
 use Rattle.tatp_history.specs.Locality.{calls_on, FailsWithout, FailWithout}
-use Rattle.tatp_history.specs.SubscriberEvents.{OpenCalls, no_calls, opened_by, opened_after, events_of}
+use Rattle.tatp_history.specs.SubscriberEvents.{OpenCalls, no_calls, opened_by, opened_after}
 use Rattle.tatp_history.proofs.SubscriberEventLaws.{same_or_not}
-use Rattle.tatp_linearization.specs.Possible.{NeedMore}
 use Rattle.tatp_judge.specs.declared.asked.Asked.{Asked}
+use Rattle.tatp_judge.specs.declared.aside.Undecided.{Undecided}
 use Rattle.tatp_judge.specs.declared.judge.Judge.{Judge}
 use Rattle.tatp_judge.specs.declared.judge.Verdict.{Verdict}
-use Rattle.tatp_judge.specs.declared.judge.Verdict.TheVariants.{Legal, Illegal, Undecided}
+use Rattle.tatp_judge.specs.declared.judge.Verdict.TheVariants.{Legal, Illegal}
 use Rattle.tatp_judge.specs.declared.window.Window.{Window}
 use Rattle.tatp_judge.specs.Accepted.{IsAcceptedLine}
 use Rattle.tatp_judge.specs.Asked.{AskedCalls, none_asked, with_asked, asked_call, asked_by, asked_after, asked_in_all, asked_on}
 use Rattle.tatp_judge.specs.Followed.{HasNoted, HasFollowed, EndsAs}
 use Rattle.tatp_judge.specs.NextLine.{asks_of}
 use Rattle.tatp_judge.specs.Population.{IsDirectoryOf}
-use Rattle.tatp_judge.specs.Steps.{AreEach, IsAskedIn, IsEndedIn, IsNoted, IsNotedBy, also_asked}
-use Rattle.tatp_judge.specs.Verdicts.{IsLegal, IsUnexplained, NeedMoreBy, IsVerdictOn}
+use Rattle.tatp_judge.specs.Steps.{AreEach, AsksCall, EndsCall, IsNotedBy, NotesLine, also_asked}
+use Rattle.tatp_judge.specs.Verdicts.{IsLegalBut, IsSaid, IsUnexplained}
+use Rattle.tatp_judge.proofs.AsideLaws.{kept_counted, kept_few, kept_open, still_aside, undecided_stay}
 use Rattle.tatp_judge.proofs.ClosingLaws.{rise_both}
 use Rattle.tatp_judge.proofs.NoneLaws.{MayEnd, asked_next, still_fail, fails_itself}
 use Rattle.tatp_judge.proofs.NumberLaws.{front}
 use Rattle.tatp_judge.proofs.SearchLaws.{named_within}
 use Rattle.tatp_judge.proofs.StepLaws.{both_noted}
-use Rattle.tatp_judge.proofs.WindowLaws.{window_next, some_waits}
+use Rattle.tatp_judge.proofs.WindowLaws.{counted_then, window_next, some_waits}
 use Rattle.tatp_judge.proofs.WritingLaws.{later_rise}
 
 -- ---- open calls
@@ -106,11 +107,12 @@ module _ (u : Database) where
   accepted_next (Lost client ∷ more) line h k = accepted_next more line h k
 
   -- a call ends, and then one may be asked
-  pub then_noted : (ended : Option Asked) (number : ℕ) (line : Line) (old mid new : Judge) → mid.directory ≡ old.directory → mid.asked ≡ old.asked → new.directory ≡ mid.directory
-      → ((other : ℕ) → get nat_eq new.asked other ≡ also_asked u number (get nat_eq mid.asked) line other) → AreEach (λ place. IsEndedIn (asked_on (suc place) ended) number line) old.windows.items mid.windows.items
-      → AreEach (λ place. IsAskedIn (asks_of u (suc place) number line)) mid.windows.items new.windows.items → IsNotedBy u ended number line old new
-  then_noted ended number line old mid new mid_directory mid_asked directory asked ends asks = record {
+  pub then_noted : (ended : Option Asked) (number : ℕ) (line : Line) (old mid new : Judge) → mid.directory ≡ old.directory → mid.asked ≡ old.asked → mid.undecided.items ≡ old.undecided.items → new.directory ≡ mid.directory → new.undecided.items ≡ mid.undecided.items
+      → ((other : ℕ) → get nat_eq new.asked other ≡ also_asked u number (get nat_eq mid.asked) line other) → AreEach (λ place. EndsCall (asked_on (suc place) ended) number line) old.windows.items mid.windows.items
+      → AreEach (λ place. AsksCall (asks_of u (suc place) number line)) mid.windows.items new.windows.items → IsNotedBy u ended number line old new
+  then_noted ended number line old mid new mid_directory mid_asked mid_undecided directory undecided asked ends asks = record {
     directory_is = directory ∙ mid_directory;
+    undecided_is = undecided ∙ mid_undecided;
     asked_are = λ client. asked client ∙ ap (λ m. also_asked u number (get nat_eq m) line client) mid_asked;
     windows_are = both_noted u ended number line old.windows.items mid.windows.items new.windows.items ends asks;
   }
@@ -119,9 +121,9 @@ module _ (u : Database) where
   one_longer lines line = length-append lines (line ∷ []) ∙ omega arith
 
   pub has_noted : (most : ℕ) (lines : List Line) (line : Line) (number : ℕ) (ended : Option Asked) (old mid new after : Judge) → HasFollowed u most lines old → IsAcceptedLine line → length lines + 2 < 2 ^ 64 → number ≡ old.number + 1
-      → ended ≡ get nat_eq old.asked (client_of line) → ((c : ℕ) → get nat_eq mid.asked c ≡ cond (eqb (client_of line) c) None (get nat_eq old.asked c)) → mid.directory ≡ old.directory → mid.windows.items ≡ old.windows.items
-      → IsNotedBy u ended number line mid new → after.directory ≡ new.directory → after.windows.items ≡ new.windows.items → ((c : ℕ) → get nat_eq after.asked c ≡ get nat_eq new.asked c) → after.number ≡ number → HasNoted u most (lines ++ line ∷ []) after
-  has_noted most lines line number ended old mid new after is accepted room next ended_is removed mid_directory mid_windows noted after_directory after_windows after_asked after_number =
+      → ended ≡ get nat_eq old.asked (client_of line) → ((c : ℕ) → get nat_eq mid.asked c ≡ cond (eqb (client_of line) c) None (get nat_eq old.asked c)) → mid.directory ≡ old.directory → mid.windows.items ≡ old.windows.items → mid.undecided.items ≡ old.undecided.items
+      → IsNotedBy u ended number line mid new → after.undecided.items ≡ new.undecided.items → after.directory ≡ new.directory → after.windows.items ≡ new.windows.items → ((c : ℕ) → get nat_eq after.asked c ≡ get nat_eq new.asked c) → after.number ≡ number → HasNoted u most (lines ++ line ∷ []) after
+  has_noted most lines line number ended old mid new after is accepted room next ended_is removed mid_directory mid_windows mid_undecided noted after_undecided after_directory after_windows after_asked after_number =
       let read = is.noted.read in
       let now : number ≡ suc (length lines) = omega (arith, next, read.number_is) in
       let client = client_of line in
@@ -143,19 +145,34 @@ module _ (u : Database) where
             ∙ (ap (λ k. asked_by u k (asked_in_all u lines) line c) now ∙ ap (λ (a : AskedCalls). a c) (sym (asked_next u lines line 1 (suc (length lines)) none_asked (omega arith)))))));
         windows_are = λ place w h.
             let found = noted.windows_are.each place w (ap (λ ws. slice_get ws place) (sym after_windows) ∙ h) in
-            let old_window = is.noted.windows_are place found.0 (ap (λ ws. slice_get ws place) (sym mid_windows) ∙ found.1) in
+            let at = ap (λ ws. slice_get ws place) (sym mid_windows) ∙ found.1 in
             let one : asked_on (suc place) ended ≡ opened_after u (suc place) 1 no_calls lines client = ap (asked_on (suc place)) was ∙ sym (opened_is (suc place) lines client) in
-            window_next u most (suc place) lines line found.0 w accepted
-            (subst (λ (o : Option ℕ). IsNoted o (asks_of u (suc place) (suc (length lines)) line) (suc (length lines)) line found.0 w) one
-            (subst (λ k. IsNoted (asked_on (suc place) ended) (asks_of u (suc place) k line) k line found.0 w) now found.2))
-            (λ none. (is.forgets place found.0 (ap (λ ws. slice_get ws place) (sym mid_windows) ∙ found.1) (λ e. none-some (suc place) e) none).numbers) old_window;
+            let notes : NotesLine (opened_after u (suc place) 1 no_calls lines client) (asks_of u (suc place) (suc (length lines)) line) (suc (length lines)) line found.0 w
+            = subst (λ (o : Option ℕ). NotesLine o (asks_of u (suc place) (suc (length lines)) line) (suc (length lines)) line found.0 w) one
+            (subst (λ k. NotesLine (asked_on (suc place) ended) (asks_of u (suc place) k line) k line found.0 w) now found.2) in
+            elim (is.noted.windows_are place found.0 at) [
+              | inl k ↦ inl (
+                notes.aside_is ∙ k.0,
+                window_next u most (suc place) lines line found.0 w accepted (notes.kept k.0) (λ none. (is.forgets place found.0 at (λ e. none-some (suc place) e) k.0 none).numbers) k.1,
+              )
+              | inr c ↦ inr (counted_then u (suc place) lines line found.0 w notes.aside_is notes.waits_are c)
+            ];
+        aside = still_aside u most lines (lines ++ line ∷ []) old after (λ place w next. NotesLine (asked_on (suc place) ended) (asks_of u (suc place) number line) number line w next)
+            is.noted.aside (after_undecided ∙ (noted.undecided_is ∙ mid_undecided))
+            (record {
+              count = count;
+              each = λ place w h.
+                  let found = noted.windows_are.each place w (ap (λ ws. slice_get ws place) (sym after_windows) ∙ h) in
+                  (found.0, ap (λ ws. slice_get ws place) (sym mid_windows) ∙ found.1, found.2);
+            })
+            (λ place w next notes. notes.aside_is) (undecided_stay u most lines (line ∷ []) old.undecided.items is.noted.aside.undecided);
       }
 
   -- the windows before the line: a call that ends is counted, and there is room for one more
   pub waits_there : (most : ℕ) (lines : List Line) (judge : Judge) (client : ℕ) (ended : Option Asked) → HasNoted u most lines judge → ended ≡ get nat_eq judge.asked client
       → (place : ℕ) (w : Window) (asked : ℕ) → asked_on (suc place) ended ≡ Some asked → slice_get judge.windows.items place ≡ Some w → 0 < w.waiting
   waits_there most lines judge client ended is ended_is place w asked h at =
-      some_waits (opened_after u (suc place) 1 no_calls lines) w.waiting client asked (is.windows_are place w at).counted
+      some_waits (opened_after u (suc place) 1 no_calls lines) w.waiting client asked (kept_counted u most (suc place) lines w (is.windows_are place w at))
       (opened_is (suc place) lines client ∙ (ap (asked_on (suc place)) (sym (ended_is ∙ is.asked_are client)) ∙ h))
 
   -- ---- how it ends
@@ -183,36 +200,28 @@ module _ (u : Database) where
   none_ended lines line none is = still_fail u lines line none (subst (λ (o : Option Asked). MayEnd u o (end_at (suc (length lines)) line)) (sym is) tt)
 
 -- ---- verdicts on longer histories
-longer : (lines more : List Line) → length lines ≤ length (lines ++ more)
-longer lines more = let sum = length-append lines more in omega (arith, sum)
-
-pub need_stays : (u : Database) (most : ℕ) (lines more : List Line) (line s : ℕ) → NeedMoreBy u most lines line s → NeedMoreBy u most (lines ++ more) line s
-need_stays u most lines more line s h =
-    let all = longer lines more in
-    record {
-      within = omega (arith, h.within, all);
-      first = h.first;
-      by = h.by;
-      many = subst (λ ls. NeedMore most (of_subscriber u s) (events_of u s ls)) (sym (front h.first lines more (omega (arith, h.by, h.within)))) h.many;
-    }
-
 unexplained_stays : (u : Database) (lines more : List Line) (n : ℕ) (s_id : Option ℕ) → n ≤ length lines → IsUnexplained u lines n s_id → IsUnexplained u (lines ++ more) n s_id
 unexplained_stays u lines more n None within h = λ fail. h (subst (λ ls. FailWithout u (calls_of ls)) (front n lines more within) fail)
 unexplained_stays u lines more n (Some s) within h = λ explained. h (subst (λ ls. IsStrictlySerializable (of_subscriber u s) (calls_on u s (calls_of ls))) (front n lines more within) explained)
 
-pub verdict_stays : (u : Database) (most : ℕ) (lines more : List Line) (verdict : Verdict) → (IsLegal u lines → ⊥) → IsVerdictOn u most lines verdict → IsVerdictOn u most (lines ++ more) verdict
-verdict_stays u most lines more Legal illegal h = absurd (illegal h)
-verdict_stays u most lines more (Illegal n s_id) illegal h =
-    let all = longer lines more in (
-      record {
-        first = h.0.first;
-        within = omega (arith, h.0.within, all);
-        illegal = λ legal. h.0.illegal (subst (IsLegal u) (front n lines more h.0.within) legal);
-        before = subst (IsLegal u) (sym (front (n - 1) lines more (omega (arith, h.0.within)))) h.0.before;
-      },
-      unexplained_stays u lines more n s_id h.0.within h.1,
-    )
-verdict_stays u most lines more (Undecided line s) illegal h = need_stays u most lines more line s h
+pub said_stays : (u : Database) (most : ℕ) (lines more : List Line) (aside : List Undecided) (verdict : Verdict) → (verdict ≡ Legal → ⊥) → IsSaid u most lines aside verdict → IsSaid u most (lines ++ more) aside verdict
+said_stays u most lines more aside Legal never h = absurd (never refl)
+said_stays u most lines more aside (Illegal n s_id) never h =
+    let all : length lines ≤ length (lines ++ more) = let sum = length-append lines more in omega (arith, sum) in
+    let is = h.verdict_is in
+    record {
+      aside_are = undecided_stay u most lines more aside h.aside_are;
+      verdict_is = (
+        record {
+          first = is.0.first;
+          within = omega (arith, is.0.within, all);
+          illegal = λ legal. is.0.illegal (subst (IsLegalBut u aside) (front n lines more is.0.within) legal);
+          before = subst (IsLegalBut u aside) (sym (front (n - 1) lines more (omega (arith, is.0.within)))) is.0.before;
+        },
+        unexplained_stays u lines more n s_id is.0.within is.1,
+        is.2,
+      );
+    }
 
 -- ---- all of a line
 module _ (u : Database) (most : ℕ) (lines : List Line) (line : Line) (ended : Option Asked) (old : Judge) (is : HasFollowed u most lines old) (ended_is : ended ≡ get nat_eq old.asked (client_of line)) where
@@ -230,8 +239,8 @@ module _ (u : Database) (most : ℕ) (lines : List Line) (line : Line) (ended : 
       cases None e = tt
       cases (Some asked) e = named asked asked.s_id refl (sym e)
 
-  pub rise_there : (place : ℕ) (w : Window) → slice_get old.windows.items place ≡ Some w → TimesRise w.events.items
-  rise_there place w at = let window = is.noted.windows_are place w at in later_rise window.before w.events.items (rise_both u most (suc place) lines w window)
+  pub rise_there : (place : ℕ) (w : Window) → slice_get old.windows.items place ≡ Some w → w.aside ≡ false → TimesRise w.events.items
+  rise_there place w at unmarked = let window = kept_open u most (suc place) lines w (is.noted.windows_are place w at) unmarked in later_rise window.before w.events.items (rise_both u most (suc place) lines w window)
 
   pub room_there : (place : ℕ) (w : Window) → slice_get old.windows.items place ≡ Some w → w.waiting + 1 < 2 ^ 64
-  room_there place w at = let few = (is.noted.windows_are place w at).few in let room = is.noted.read.room in omega (arith, few, room)
+  room_there place w at = let few = kept_few u most (suc place) lines w (is.noted.windows_are place w at) in let room = is.noted.read.room in omega (arith, few, room)

@@ -1,5 +1,5 @@
 -- The replies with which a call could have been answered.
-use Rattle.std.proofs.Common.{◌≡◌, ℕ, zero, suc, ◌-◌, ◌<◌, ◌≤◌, ◌⊎◌, ◌↔◌, ◌∙◌, sym, ap, subst, nat_le, Bool, ◌==◌, true, false, cond, List, [], ◌∷◌, ◌++◌, length, take, filter, map, slice_get, refl, arith, Some, le-leb, eq-eqb, ne_eqb, true≢false, inl, inr}
+use Rattle.std.proofs.Common.{◌≡◌, ℕ, zero, suc, ◌<◌, ◌≤◌, ◌⊎◌, ◌↔◌, ◌∙◌, sym, ap, subst, nat_le, Bool, ◌==◌, true, false, cond, List, [], ◌∷◌, ◌++◌, length, take, filter, map, slice_get, refl, arith, Some, le-leb, eq-eqb, ne_eqb, true≢false, inl, inr}
 use Rattle.std.specs.List.{AllByRecursion}
 use Rattle.std.proofs.lemmas.Bool.{cases_lt}
 use Rattle.std.proofs.lemmas.List.{take_all}
@@ -27,10 +27,8 @@ use Rattle.tatp_linearization.specs.Listed.{IsListed, AreEachOnce}
 use Rattle.tatp_linearization.specs.Single.{answered_with, events_alone}
 use Rattle.tatp_linearization.proofs.CutLaws.{asked_both}
 use Rattle.tatp_linearization.proofs.SingleLaws.{alone_answered}
-use Rattle.tatp_judge.specs.declared.judge.Judge.{Judge}
 use Rattle.tatp_judge.specs.declared.window.Window.{Window}
 use Rattle.tatp_judge.specs.Explained.{numbers_since}
-use Rattle.tatp_judge.specs.Followed.{HasKept}
 use Rattle.tatp_judge.specs.Legal.{AreLegalReplies}
 use Rattle.tatp_judge.specs.Verdicts.{IsUnexplained}
 use Rattle.tatp_judge.specs.Windows.{AreNumbersKept, IsSpent, IsWindowAfter}
@@ -191,12 +189,6 @@ empty_spent u most s lines line w within fails none kept = elim kept [
 -- a window with events isn't
 pub filled_window : (u : Database) (most s : ℕ) (lines : List Line) (w : Window) → (w.events.items ≡ [] → ⊥) → IsWindowAfter u most s lines w ⊎ IsSpent u s lines w → IsWindowAfter u most s lines w
 filled_window u most s lines w some kept = elim kept [ inl window ↦ window | inr spent ↦ absurd (some spent.none) ]
-
--- the window of the subscriber
-pub kept_window : (u : Database) (lines : List Line) (judge : Judge) (s : ℕ) (w : Window) (kept : HasKept u lines judge) → 1 ≤ s → slice_get judge.windows.items (s - 1) ≡ Some w → IsWindowAfter u kept.most s lines w ⊎ IsSpent u s lines w
-kept_window u lines judge s w kept some at =
-    let same : suc (s - 1) ≡ s = omega (arith, some) in
-    subst (λ k. IsWindowAfter u kept.most k lines w ⊎ IsSpent u k lines w) same (elim (kept.searchable.windows_are (s - 1) w at) [ inl window ↦ inl window | inr spent ↦ inr spent.1 ])
 
 -- a window that keeps the numbers of its lines
 pub kept_same : (u : Database) (s : ℕ) (lines : List Line) (w after : Window) → after.from ≡ w.from → after.numbers.items ≡ w.numbers.items → AreNumbersKept u s lines w → AreNumbersKept u s lines after

@@ -3,11 +3,14 @@ pub mod NumberLaws
 pub mod FirstLinesLaws
 pub mod NoneLaws
 pub mod WindowLaws
+pub mod AsideLaws
 pub mod ClosingLaws
 pub mod WritingLaws
 pub mod SearchLaws
 pub mod PlaceLaws
 pub mod StepLaws
+pub mod FollowedLaws
+pub mod SearchingLaws
 pub mod JudgeLaws
 pub mod ExplainingLaws
 pub mod LegalReplyLaws

@@ -1,5 +1,5 @@
 -- A history and its parts.
-use Rattle.std.proofs.Common.{◌≡◌, ℕ, suc, ◌+◌, ◌-◌, ◌%◌, ◌<◌, ◌≤◌, ◌∙◌, ◌==◌, sym, ap, subst, Bool, true, false, cond, List, [], ◌∷◌, filter, refl, arith, Option, Some, None, eqb-true, eq-eqb}
+use Rattle.std.proofs.Common.{◌≡◌, ℕ, suc, ◌+◌, ◌-◌, ◌%◌, ◌<◌, ◌≤◌, ◌∙◌, ◌==◌, sym, ap, subst, Bool, true, false, cond, List, [], ◌∷◌, filter, refl, arith, Option, Some, None, eqb-true, eq-eqb, ◌↔◌}
 use Rattle.std.proofs.lemmas.Bool.{false≢true}
 use Rattle.tatp_tables.specs.Database.{Database, of_subscriber}
 use Rattle.tatp_procs.specs.Consistent.{IsConsistent}
@@ -9,15 +9,16 @@ use Rattle.tatp_history.specs.declared.observed.Outcome.{Outcome}
 use Rattle.tatp_history.specs.declared.observed.Observed.{Observed}
 use Rattle.tatp_history.specs.Histories.{IsStrictlySerializable, IsStrictlySerializableTo}
 use Rattle.tatp_history.specs.HistoryLines.{client_of, end_at, end_of, call_at, calls_from, calls_of, AreAcceptedLines}
-use Rattle.tatp_history.specs.Locality.{subscriber_of, is_this, is_on, calls_on, FailsWithout, FailWithout, IsSerializableAtEach}
+use Rattle.tatp_history.specs.Locality.{subscriber_of, is_this, is_on, calls_on, FailsWithout, FailWithout}
 use Rattle.tatp_history.proofs.FinalLaws.{combined_to, parted_to}
 use Rattle.tatp_history.proofs.LineLaws.{are_calls}
 use Rattle.tatp_history.proofs.LocalityLaws.{combined, parted}
 use Rattle.tatp_history.proofs.OrderLaws.{all_filter}
+use Rattle.tatp_judge.specs.declared.aside.Undecided.{Undecided}
 use Rattle.tatp_judge.specs.declared.part.Part.{Part}
 use Rattle.tatp_judge.specs.Finishing.{LeadsInPart, LeadsTo, Leaves}
 use Rattle.tatp_judge.specs.Parts.{is_of_part, line_of_part, lines_of_part, part_of, whole}
-use Rattle.tatp_judge.specs.Verdicts.{IsLegal}
+use Rattle.tatp_judge.specs.Verdicts.{AreOthersLegal, IsLegal}
 
 module _ (u : Database) (part : Part) where
   -- whether a call is of the part
@@ -142,10 +143,10 @@ module _ (u : Database) (part : Part) (after : Database) where
   pub leaves_here : (s : ℕ) (lines : List Line) → is_of_part part (Some s) ≡ true → Leaves u s (lines_of_part u part lines) (of_subscriber after s) → Leaves u s lines (of_subscriber after s)
   leaves_here s lines own = subst (λ calls. IsStrictlySerializableTo (of_subscriber u s) calls (of_subscriber after s)) (same_leaves s lines own)
 
-  pub leads_here : (lines : List Line) → IsConsistent u → AreAcceptedLines lines → LeadsTo u lines after → LeadsInPart u part (lines_of_part u part lines) after
+  pub leads_here : (lines : List Line) → IsConsistent u → AreAcceptedLines lines → LeadsTo u lines after → LeadsInPart u part [] (lines_of_part u part lines) after
   leads_here lines consistent accepted h = record {
     legal = legal_here u part lines consistent accepted (h.0, h.1);
-    leave = λ s own. subst (λ calls. IsStrictlySerializableTo (of_subscriber u s) calls (of_subscriber after s)) (sym (same_leaves s lines own))
+    leave = λ s own _. subst (λ calls. IsStrictlySerializableTo (of_subscriber u s) calls (of_subscriber after s)) (sym (same_leaves s lines own))
         ((parted_to u (calls_of lines) after consistent (are_calls 1 lines accepted) h).each s);
   }
 
@@ -162,7 +163,7 @@ legal_in_parts u count lines consistent accepted some each =
     })
 
 pub leads_in_parts : (u after : Database) (count : ℕ) (lines : List Line) → IsConsistent u → IsConsistent after → AreAcceptedLines lines → 1 ≤ count
-    → ((number : ℕ) → 1 ≤ number → number ≤ count → LeadsInPart u (part_of count number) (lines_of_part u (part_of count number) lines) after) → LeadsTo u lines after
+    → ((number : ℕ) → 1 ≤ number → number ≤ count → LeadsInPart u (part_of count number) [] (lines_of_part u (part_of count number) lines) after) → LeadsTo u lines after
 leads_in_parts u after count lines consistent consistent_after accepted some each =
     combined_to u (calls_of lines) after consistent (are_calls 1 lines accepted) consistent_after (record {
       each = λ s.
@@ -170,9 +171,38 @@ leads_in_parts u after count lines consistent consistent_after accepted some eac
           let number = s % count + 1 in
           let own : s % count ≡ number - 1 = omega arith in
           let here = eq-eqb (s % count) (number - 1) own in
-          leaves_here u (part_of count number) after s lines here ((each number (omega arith) (omega (arith, rest))).leave s here);
+          leaves_here u (part_of count number) after s lines here ((each number (omega arith) (omega (arith, rest))).leave s here (λ none. none));
       none = none_here u (part_of count 1) lines consistent accepted refl (each 1 (omega arith) some).legal;
     })
+
+-- ---- subscribers that are set aside
+pub all_others : (u : Database) (lines : List Line) → IsConsistent u → AreAcceptedLines lines → IsLegal u lines ↔ AreOthersLegal u [] lines
+all_others u lines consistent accepted = (
+  λ h. let all = parted u (calls_of lines) consistent (are_calls 1 lines accepted) h in record { each = λ s _. all.each s; none = all.none },
+  λ h. combined u (calls_of lines) consistent (are_calls 1 lines accepted) (record { each = λ s. h.each s (λ none. none); none = h.none }),
+)
+
+pub others_in_parts : (u : Database) (aside : List Undecided) (count : ℕ) (lines : List Line) → 1 ≤ count → ((number : ℕ) → 1 ≤ number → number ≤ count → AreOthersLegal u aside (lines_of_part u (part_of count number) lines)) → AreOthersLegal u aside lines
+others_in_parts u aside count lines some each = record {
+  each = λ s other.
+      let rest : s % count < count = omega (arith, some) in
+      let number = s % count + 1 in
+      let own : s % count ≡ number - 1 = omega arith in
+      let here = eq-eqb (s % count) (number - 1) own in
+      subst (IsStrictlySerializable (of_subscriber u s)) (ap (calls_on u s) (calls_here u (part_of count number) 1 lines) ∙ on_here u (part_of count number) s (calls_of lines) here)
+      ((each number (omega arith) (omega (arith, rest))).each s other);
+  none = fail_all u (part_of count 1) (calls_of lines) refl (subst (FailWithout u) (calls_here u (part_of count 1) 1 lines) (each 1 (omega arith) some).none);
+}
+
+pub others_here : (u : Database) (aside : List Undecided) (part : Part) (lines : List Line) → AreOthersLegal u aside lines → AreOthersLegal u aside (lines_of_part u part lines)
+others_here u aside part lines h = record {
+  each = λ s other. subst (IsStrictlySerializable (of_subscriber u s)) (sym (ap (calls_on u s) (calls_here u part 1 lines))) (elim (is_of_part part (Some s))
+      as (λ b. is_of_part part (Some s) ≡ b → IsStrictlySerializable (of_subscriber u s) (calls_on u s (filter (λ x. is_of_part part (subscriber_of u x.call)) (calls_of lines)))) [
+        | true ↦ λ e. subst (IsStrictlySerializable (of_subscriber u s)) (sym (on_here u part s (calls_of lines) e)) (h.each s other)
+        | false ↦ λ e. subst (IsStrictlySerializable (of_subscriber u s)) (sym (on_other u part s (calls_of lines) e)) (nothing_called u part s)
+      ] refl);
+  none = subst (FailWithout u) (sym (calls_here u part 1 lines)) (all_filter (λ (x : Observed). FailsWithout (subscriber_of u x.call) x.outcome) (λ x. is_of_part part (subscriber_of u x.call)) (calls_of lines) h.none);
+}
 
 -- the one part
 mod_one : (s : ℕ) → s % 1 ≡ 0

@@ -1,5 +1,5 @@
 -- Windows by place.
-use Rattle.std.proofs.Common.{◌≡◌, ◌≢◌, ℕ, zero, suc, ◌+◌, ◌<◌, ◌⊎◌, ◌∙◌, sym, ap, subst, List, [], ◌∷◌, ◌++◌, length, set, get_or, slice_get, refl, arith, Some, inl, inr}
+use Rattle.std.proofs.Common.{◌≡◌, ◌≢◌, ℕ, zero, suc, ◌+◌, ◌<◌, ◌⊎◌, ◌∙◌, sym, ap, subst, false, List, [], ◌∷◌, ◌++◌, length, set, get_or, slice_get, refl, arith, Some, inl, inr}
 use Rattle.std.proofs.lemmas.List.{length-append, length-set}
 use Rattle.std.proofs.lemmas.Option.{none-some, same_Some}
 use Rattle.tatp_tables.specs.Database.{Database, of_subscriber}
@@ -21,6 +21,10 @@ pub found_at : {X : Type 0} (xs : List X) (k : ℕ) (x : X) → k < length xs �
 found_at [] k x lt at = absurd (omega (arith, lt))
 found_at (y ∷ ys) zero x lt at = ap Some (sym at)
 found_at (y ∷ ys) (suc k) x lt at = found_at ys k x (omega (arith, lt)) at
+
+-- the same is found again
+pub same_at : {X : Type 0} (xs : List X) (k : ℕ) (x y : X) → k < length xs → x ≡ get_or xs k x → y ≡ get_or xs k y → x ≡ y
+same_at xs k x y lt at there = same_Some x y (sym (found_at xs k x lt at) ∙ found_at xs k y lt there)
 
 pub got : {X : Type 0} (xs : List X) (k : ℕ) → k < length xs → (x : X) × (slice_get xs k ≡ Some x)
 got [] k lt = absurd (omega (arith, lt))
@@ -80,6 +84,7 @@ window_new u most s w rows is reached own most_is from_is events_are numbers_are
 pub record AreWindowsTo (most : ℕ) (homes : List SubscriberRows) (i : ℕ) (ws : List Window) : Type 0 where
   pub count : length ws ≡ i
   pub none : (place : ℕ) (w : Window) → slice_get ws place ≡ Some w → IsForgotten w
+  pub unmarked : (place : ℕ) (w : Window) → slice_get ws place ≡ Some w → w.aside ≡ false
   pub each : (u : Database) → AreHomesOf u homes → (place : ℕ) (w : Window) → slice_get ws place ≡ Some w → IsWindowAfter u most (suc place) [] w
 
 last_or_before : (ws : List Window) (new : Window) (place : ℕ) (w : Window) → slice_get (ws ++ new ∷ []) place ≡ Some w → (slice_get ws place ≡ Some w) ⊎ ((place ≡ length ws) × (w ≡ new))
@@ -92,16 +97,21 @@ pub none_yet : (most : ℕ) (homes : List SubscriberRows) (ws : List Window) →
 none_yet most homes ws none = record {
   count = ap length none;
   none = λ place w h. absurd (none-some w (ap (λ xs. slice_get xs place) (sym none) ∙ h));
+  unmarked = λ place w h. absurd (none-some w (ap (λ xs. slice_get xs place) (sym none) ∙ h));
   each = λ u are place w h. absurd (none-some w (ap (λ xs. slice_get xs place) (sym none) ∙ h));
 }
 
 pub one_window_more : (most : ℕ) (homes : List SubscriberRows) (i : ℕ) (ws longer : List Window) (home : SubscriberRows) (new : Window) → AreWindowsTo most homes i ws → i < length homes → home ≡ get_or homes i home → longer ≡ ws ++ new ∷ []
-    → AreReached home.tables [] new.explanations → AreOfSubscriber home.s_id new.explanations → new.explanations.most ≡ most → new.from ≡ 0 → new.events.items ≡ [] → new.numbers.items ≡ [] → new.waiting ≡ 0 → AreWindowsTo most homes (i + 1) longer
-one_window_more most homes i ws longer home new are lt at is reached own most_is from_is events_are numbers_are waiting_is = record {
+    → AreReached home.tables [] new.explanations → AreOfSubscriber home.s_id new.explanations → new.explanations.most ≡ most → new.from ≡ 0 → new.events.items ≡ [] → new.numbers.items ≡ [] → new.waiting ≡ 0 → new.aside ≡ false → AreWindowsTo most homes (i + 1) longer
+one_window_more most homes i ws longer home new are lt at is reached own most_is from_is events_are numbers_are waiting_is unmarked = record {
   count = ap length is ∙ (length-append ws (new ∷ []) ∙ omega (arith, are.count));
   none = λ place w h. elim (last_or_before ws new place w (ap (λ xs. slice_get xs place) (sym is) ∙ h)) [
     | inl k ↦ are.none place w k
     | inr k ↦ subst IsForgotten (sym k.1) (record { events = events_are; numbers = numbers_are })
+  ];
+  unmarked = λ place w h. elim (last_or_before ws new place w (ap (λ xs. slice_get xs place) (sym is) ∙ h)) [
+    | inl k ↦ are.unmarked place w k
+    | inr k ↦ ap (λ (v : Window). v.aside) k.1 ∙ unmarked
   ];
   each = λ u homes_are place w h. elim (last_or_before ws new place w (ap (λ xs. slice_get xs place) (sym is) ∙ h)) [
     | inl k ↦ are.each u homes_are place w k

@@ -1,7 +1,7 @@
 -- The first illegal line, by what is said of each window.
-use Rattle.std.proofs.Common.{◌≡◌, ℕ, zero, suc, ◌+◌, ◌-◌, ◌<◌, ◌≤◌, ◌⊎◌, ◌∙◌, sym, ap, subst, Bool, true, false, cond, List, [], ◌∷◌, length, map, slice_get, take, refl, arith, Option, Some, None, ne_eqb, IsTrue, inl, inr}
+use Rattle.std.proofs.Common.{◌≡◌, ℕ, zero, suc, ◌+◌, ◌-◌, ◌<◌, ◌≤◌, ◌⊎◌, ◌∙◌, sym, ap, subst, Bool, true, false, cond, List, [], ◌∷◌, ◌++◌, length, map, slice_get, take, refl, arith, Option, Some, None, ne_eqb, inl, inr}
 use Rattle.std.specs.List.{range_with_len}
-use Rattle.std.proofs.lemmas.Bool.{cases_lt, false≢true}
+use Rattle.std.proofs.lemmas.Bool.{cases_lt}
 use Rattle.std.proofs.lemmas.List.{take_all}
 use Rattle.std.proofs.lemmas.Option.{none-some, same_Some}
 use Rattle.tatp_tables.specs.Database.{Database, of_subscriber}
@@ -20,13 +20,14 @@ use Rattle.tatp_history.proofs.LocalityLaws.{combined, parted}
 use Rattle.tatp_history.proofs.SubscriberEventLaws.{same_or_not}
 use Rattle.tatp_linearization.specs.declared.first.First.TheVariants.{Never, At}
 use Rattle.tatp_judge.specs.declared.judge.Judge.{Judge}
-use Rattle.tatp_judge.specs.declared.window.Window.{Window}
 use Rattle.tatp_judge.specs.Followed.{HasRead, IsSearchable}
 use Rattle.tatp_judge.specs.Population.{IsDirectoryOf}
 use Rattle.tatp_judge.specs.Searched.{AreHomesOf}
+use Rattle.tatp_judge.specs.declared.aside.Undecided.{Undecided}
 use Rattle.tatp_judge.specs.declared.judge.Verdict.TheVariants.{Illegal}
-use Rattle.tatp_judge.specs.Verdicts.{IsLegal, IsUnexplained, IsVerdictOn}
-use Rattle.tatp_judge.specs.Windows.{IsWindowAfter, IsSpent, IsExplainedBy, IsExplainedBefore, IsFirstOf}
+use Rattle.tatp_judge.specs.Verdicts.{AreOthersLegal, IsAside, IsLegalBut, IsOther, IsUnexplained, IsVerdictOn}
+use Rattle.tatp_judge.specs.Windows.{IsExplainedBefore, IsFirstOf}
+use Rattle.tatp_judge.proofs.AsideLaws.{aside_last, aside_more, aside_one}
 
 -- ---- homes
 home_from : (u : Database) (n first p : ℕ) (home : SubscriberRows) → slice_get (map (home_in u) (range_with_len first n)) p ≡ Some home → home ≡ home_in u (first + p)
@@ -79,127 +80,147 @@ there_or_not zero n = inr (λ h. omega (arith, h.0))
 there_or_not (suc k) n = elim (cases_lt k n) [ inl lt ↦ inl (omega arith, omega (arith, lt)) | inr le ↦ inr (λ h. omega (arith, h.1, le)) ]
 
 -- ---- all together
-abbrev AreExplained : Database → ℕ → List Line → Type 0
-AreExplained u n lines = (place : ℕ) → place < n → IsStrictlySerializable (of_subscriber u (suc place)) (calls_on u (suc place) (calls_of lines))
+pub others_of : (u : Database) (lines : List Line) (judge : Judge) (aside : List Undecided) (k : ℕ) → HasRead u lines judge → IsLegalBut u aside (take k lines) → AreOthersLegal u aside (take k lines)
+others_of u lines judge [] k read h =
+    let all = parted u (calls_of (take k lines)) read.consistent (are_calls 1 (take k lines) (accepted_front k lines read.accepted)) h in
+    record { each = λ s _. all.each s; none = all.none }
+others_of u lines judge (one ∷ more) k read h = h
 
-on_every : (u : Database) (n : ℕ) (directory : Listing) (lines : List Line) → IsDirectoryOf u n directory → AreExplained u n lines → (s : ℕ) → IsStrictlySerializable (of_subscriber u s) (calls_on u s (calls_of lines))
-on_every u n directory lines d each zero =
-    subst (IsStrictlySerializable (of_subscriber u 0)) (sym (none_on u 0 (not_on u n directory 0 d (λ r. omega (arith, r.0))) (calls_of lines))) (no_calls_serializable (of_subscriber u 0))
-on_every u n directory lines d each (suc p) = elim (cases_lt p n) [
-  | inl lt ↦ each p lt
-  | inr le ↦ subst (IsStrictlySerializable (of_subscriber u (suc p))) (sym (none_on u (suc p) (not_on u n directory (suc p) d (λ r. omega (arith, r.1, le))) (calls_of lines))) (no_calls_serializable (of_subscriber u (suc p)))
-]
-
-legal : (u : Database) (lines : List Line) (judge : Judge) (k : ℕ) → HasRead u lines judge → FailWithout u (calls_of (take k lines)) → ((place : ℕ) → place < length judge.windows.items → IsExplainedBy u (suc place) lines k) → IsLegal u (take k lines)
-legal u lines judge k read none each =
+pub legal_but : (u : Database) (lines : List Line) (judge : Judge) (aside : List Undecided) (k : ℕ) → HasRead u lines judge → AreOthersLegal u aside (take k lines) → IsLegalBut u aside (take k lines)
+legal_but u lines judge [] k read h =
     combined u (calls_of (take k lines)) read.consistent (are_calls 1 (take k lines) (accepted_front k lines read.accepted))
-    (record { each = on_every u (length judge.windows.items) judge.directory (take k lines) read.directory_is each; none = none })
-
-pub legal_at : (u : Database) (lines : List Line) (judge : Judge) (k s : ℕ) → HasRead u lines judge → IsLegal u (take k lines) → IsExplainedBy u s lines k
-legal_at u lines judge k s read h = (parted u (calls_of (take k lines)) read.consistent (are_calls 1 (take k lines) (accepted_front k lines read.accepted)) h).each s
-
-pub legal_none : (u : Database) (lines : List Line) (judge : Judge) → HasRead u lines judge → IsLegal u lines → FailWithout u (calls_of lines)
-legal_none u lines judge read h = (parted u (calls_of lines) read.consistent (are_calls 1 lines read.accepted) h).none
+    (record { each = λ s. h.each s (λ none. none); none = h.none })
+legal_but u lines judge (one ∷ more) k read h = h
 
 -- ---- the loop over windows
-nothing_legal : (u : Database) → IsLegal u []
-nothing_legal u = ([], record { made = tt; once = tt; all = λ x h a. h; real_time = tt; replies = tt })
-
--- before the least line all is explained of the subscribers up to a place, and at it the lines are illegal
-pub record IsLeast (u : Database) (lines : List Line) (illegal : Bool) (i least : ℕ) (whose : Option ℕ) : Type 0 where
+-- before the least line all is explained of the subscribers up to a place, but for those set aside, and at it the calls on one aren't
+pub record IsLeast (u : Database) (lines : List Line) (aside : List Undecided) (i least : ℕ) (whose : Option ℕ) : Type 0 where
   pub first : 1 ≤ least
-  pub bound : IsTrue illegal → least ≤ length lines
-  pub each : (place : ℕ) → place < i → IsExplainedBefore u (suc place) lines least
+  pub each : (place : ℕ) → place < i → (IsAside aside (suc place) → ⊥) → IsExplainedBefore u (suc place) lines least
   pub none : (k : ℕ) → k < least → k ≤ length lines → FailWithout u (calls_of (take k lines))
-  pub illegal_at : least ≤ length lines → IsLegal u (take least lines) → ⊥
   pub unexplained : least ≤ length lines → IsUnexplained u lines least whose
+  pub other : IsOther aside whose
+  pub early : (t : ℕ) → whose ≡ Some t → t ≤ i
 
-pub least_known : (u : Database) (most : ℕ) (lines : List Line) (illegal : Bool) (s_id : Option ℕ) (judge : Judge) → IsSearchable u most lines illegal s_id judge → illegal ≡ true → IsLeast u lines illegal 0 judge.number s_id
-least_known u most lines illegal s_id judge is e = subst (λ k. IsLeast u lines illegal 0 k s_id) (sym is.read.number_is) (record {
-  first = some lines (is.known e);
-  bound = λ _. omega arith;
+pub least_known : (u : Database) (most : ℕ) (lines : List Line) (illegal : Bool) (s_id : Option ℕ) (judge : Judge) (aside : List Undecided) → IsSearchable u most lines illegal s_id judge → illegal ≡ true → s_id ≡ None → IsLeast u lines aside 0 judge.number None
+least_known u most lines illegal s_id judge aside is e none = subst (λ k. IsLeast u lines aside 0 k None) (sym is.read.number_is) (record {
+  first = is.some e;
   each = λ place lt. absurd (omega (arith, lt));
-  none = λ k lt le. is.none k le (λ _. lt);
-  illegal_at = λ le h. is.known e (subst (IsLegal u) (take_all (length lines) lines (omega arith)) h);
-  unexplained = λ le. is.whose e;
+  none = λ k lt le. is.none k le (λ _ _. lt);
+  unexplained = λ le. subst (IsUnexplained u lines (length lines)) none (is.whose e);
+  other = tt;
+  early = λ t n. absurd (none-some t n);
 })
-  where
-    some : (ls : List Line) → (IsLegal u ls → ⊥) → 1 ≤ length ls
-    some [] h = absurd (h (nothing_legal u))
-    some (line ∷ more) h = omega arith
 
-pub least_unknown : (u : Database) (most : ℕ) (lines : List Line) (illegal : Bool) (s_id : Option ℕ) (judge : Judge) → IsSearchable u most lines illegal s_id judge → illegal ≡ false → IsLeast u lines illegal 0 (judge.number + 1) s_id
-least_unknown u most lines illegal s_id judge is e = subst (λ k. IsLeast u lines illegal 0 (k + 1) s_id) (sym is.read.number_is) (record {
+pub least_unknown : (u : Database) (most : ℕ) (lines : List Line) (illegal : Bool) (s_id : Option ℕ) (judge : Judge) (aside : List Undecided) → IsSearchable u most lines illegal s_id judge → (illegal ≡ true → s_id ≡ None → ⊥) → IsLeast u lines aside 0 (judge.number + 1) None
+least_unknown u most lines illegal s_id judge aside is not = subst (λ k. IsLeast u lines aside 0 (k + 1) None) (sym is.read.number_is) (record {
   first = omega arith;
-  bound = λ t. absurd (false≢true (sym e ∙ t));
   each = λ place lt. absurd (omega (arith, lt));
-  none = λ k lt le. is.none k le (λ t. absurd (false≢true (sym e ∙ t)));
-  illegal_at = λ le. absurd (omega (arith, le));
+  none = λ k lt le. is.none k le (λ t n. absurd (not t n));
   unexplained = λ le. absurd (omega (arith, le));
+  other = tt;
+  early = λ t n. absurd (none-some t n);
 })
 
 -- another name of both
-pub least_moved : {u : Database} {lines : List Line} {illegal : Bool} {i least same : ℕ} {whose whoever : Option ℕ} → same ≡ least → whoever ≡ whose → IsLeast u lines illegal i least whose → IsLeast u lines illegal i same whoever
-least_moved {u} {lines} {illegal} {i} {least} {same} {whose} {whoever} e f h = subst (λ o. IsLeast u lines illegal i same o) (sym f) (subst (λ k. IsLeast u lines illegal i k whose) (sym e) h)
+pub least_moved : {u : Database} {lines : List Line} {aside : List Undecided} {i least same : ℕ} {whose whoever : Option ℕ} → same ≡ least → whoever ≡ whose → IsLeast u lines aside i least whose → IsLeast u lines aside i same whoever
+least_moved {u} {lines} {aside} {i} {least} {same} {whose} {whoever} e f h = subst (λ o. IsLeast u lines aside i same o) (sym f) (subst (λ k. IsLeast u lines aside i k whose) (sym e) h)
 
 -- one window more
-each_more : (u : Database) (lines : List Line) (i least : ℕ) → ((place : ℕ) → place < i → IsExplainedBefore u (suc place) lines least) → IsExplainedBefore u (suc i) lines least → (place : ℕ) → place < i + 1 → IsExplainedBefore u (suc place) lines least
-each_more u lines i least each one place lt = elim (cases_lt place i) [
-  | inl early ↦ each place early
-  | inr late ↦ let same : i ≡ place = omega (arith, lt, late) in subst (λ p. IsExplainedBefore u (suc p) lines least) same one
+each_more : (u : Database) (lines : List Line) (aside : List Undecided) (i least : ℕ) → ((place : ℕ) → place < i → (IsAside aside (suc place) → ⊥) → IsExplainedBefore u (suc place) lines least) → ((IsAside aside (suc i) → ⊥) → IsExplainedBefore u (suc i) lines least)
+    → (place : ℕ) → place < i + 1 → (IsAside aside (suc place) → ⊥) → IsExplainedBefore u (suc place) lines least
+each_more u lines aside i least each one place lt other = elim (cases_lt place i) [
+  | inl early ↦ each place early other
+  | inr late ↦ let same : i ≡ place = omega (arith, lt, late) in subst (λ p. (IsAside aside (suc p) → ⊥) → IsExplainedBefore u (suc p) lines least) same one other
 ]
 
-pub least_never : (u : Database) (most : ℕ) (lines : List Line) (illegal : Bool) (i least : ℕ) (whose : Option ℕ) (w : Window) → IsLeast u lines illegal i least whose → IsWindowAfter u most (suc i) lines w ⊎ (IsTrue illegal × IsSpent u (suc i) lines w)
-    → (IsWindowAfter u most (suc i) lines w → IsFirstOf u most (suc i) lines Never) → IsLeast u lines illegal (i + 1) least whose
-least_never u most lines illegal i least whose w is kept told = record {
+later_still : (whose : Option ℕ) (i : ℕ) → ((t : ℕ) → whose ≡ Some t → t ≤ i) → (t : ℕ) → whose ≡ Some t → t ≤ i + 1
+later_still whose i early t e = let le = early t e in omega (arith, le)
+
+-- which says nothing new
+pub least_passed : (u : Database) (lines : List Line) (aside : List Undecided) (i least : ℕ) (whose : Option ℕ) → IsLeast u lines aside i least whose → ((IsAside aside (suc i) → ⊥) → IsExplainedBefore u (suc i) lines least) → IsLeast u lines aside (i + 1) least whose
+least_passed u lines aside i least whose is one = record {
   first = is.first;
-  bound = is.bound;
-  each = each_more u lines i least is.each (elim kept [
-    | inl window ↦ λ k lt le. told window k (omega (arith, le)) le
-    | inr spent ↦ λ k lt le. let within = is.bound spent.0 in spent.1.before k (omega (arith, lt, within)) le
-  ]);
+  each = each_more u lines aside i least is.each one;
   none = is.none;
-  illegal_at = is.illegal_at;
   unexplained = is.unexplained;
+  other = is.other;
+  early = later_still whose i is.early;
 }
 
-pub least_later : (u : Database) (most : ℕ) (lines : List Line) (illegal : Bool) (i least line : ℕ) (whose : Option ℕ) → IsLeast u lines illegal i least whose → IsFirstOf u most (suc i) lines (At line) → least ≤ line → IsLeast u lines illegal (i + 1) least whose
-least_later u most lines illegal i least line whose is told later = record {
-  first = is.first;
-  bound = is.bound;
-  each = each_more u lines i least is.each (λ k lt le. told.2 k (omega (arith, lt, later)) le);
-  none = is.none;
-  illegal_at = is.illegal_at;
-  unexplained = is.unexplained;
-}
+pub least_never : (u : Database) (most : ℕ) (lines : List Line) (aside : List Undecided) (i least : ℕ) (whose : Option ℕ) → IsLeast u lines aside i least whose → IsFirstOf u most (suc i) lines Never → IsLeast u lines aside (i + 1) least whose
+least_never u most lines aside i least whose is told = least_passed u lines aside i least whose is (λ _ k lt le. told k (omega (arith, le)) le)
 
-pub least_sooner : (u : Database) (most : ℕ) (lines : List Line) (illegal : Bool) (judge : Judge) (i least line : ℕ) (whose : Option ℕ) → HasRead u lines judge → IsLeast u lines illegal i least whose → IsFirstOf u most (suc i) lines (At line) → line < least → IsLeast u lines illegal (i + 1) line (Some (i + 1))
-least_sooner u most lines illegal judge i least line whose read is told sooner = record {
-  first = told.0;
-  bound = λ t. told.1;
-  each = each_more u lines i line (λ place lt k early le. is.each place lt k (omega (arith, early, sooner)) le) told.2;
-  none = λ k lt le. is.none k (omega (arith, lt, sooner)) le;
-  illegal_at = λ le h. told.3 (legal_at u lines judge line (suc i) read h);
-  unexplained = λ le. let next : suc i ≡ i + 1 = omega arith in subst (λ s. IsUnexplained u lines line (Some s)) next told.3;
+pub least_later : (u : Database) (most : ℕ) (lines : List Line) (aside : List Undecided) (i least line : ℕ) (whose : Option ℕ) → IsLeast u lines aside i least whose → IsFirstOf u most (suc i) lines (At line) → least ≤ line → IsLeast u lines aside (i + 1) least whose
+least_later u most lines aside i least line whose is told later = least_passed u lines aside i least whose is (λ _ k lt le. told.2 k (omega (arith, lt, later)) le)
+
+pub least_sooner : (u : Database) (most : ℕ) (lines : List Line) (aside : List Undecided) (i least line : ℕ) (whose : Option ℕ) → IsLeast u lines aside i least whose → IsFirstOf u most (suc i) lines (At line) → line < least → (IsAside aside (suc i) → ⊥) → IsLeast u lines aside (i + 1) line (Some (i + 1))
+least_sooner u most lines aside i least line whose is told sooner other =
+    let next : suc i ≡ i + 1 = omega arith in
+    record {
+      first = told.0;
+      each = each_more u lines aside i line (λ place lt own k early le. is.each place lt own k (omega (arith, early, sooner)) le) (λ _. told.2);
+      none = λ k lt le. is.none k (omega (arith, lt, sooner)) le;
+      unexplained = λ le. subst (λ s. IsUnexplained u lines line (Some s)) next told.3;
+      other = λ own. other (subst (IsAside aside) (sym next) own);
+      early = λ t e. let same : i + 1 ≡ t = same_Some (i + 1) t e in omega (arith, same);
+    }
+
+-- the subscriber is set aside
+pub least_aside : (u : Database) (lines : List Line) (aside : List Undecided) (one : Undecided) (i least : ℕ) (whose : Option ℕ) → IsLeast u lines aside i least whose → one.s_id ≡ suc i → IsLeast u lines (aside ++ one ∷ []) (i + 1) least whose
+least_aside u lines aside one i least whose is own = record {
+  first = is.first;
+  each = each_more u lines (aside ++ one ∷ []) i least (λ place lt other. is.each place lt (λ k. other (aside_more aside (one ∷ []) (suc place) k)))
+      (λ other. absurd (other (subst (IsAside (aside ++ one ∷ [])) own (aside_last aside one))));
+  none = is.none;
+  unexplained = is.unexplained;
+  other = still whose is.other is.early;
+  early = later_still whose i is.early;
 }
+  where
+    still : (o : Option ℕ) → IsOther aside o → ((t : ℕ) → o ≡ Some t → t ≤ i) → IsOther (aside ++ one ∷ []) o
+    still None h early = tt
+    still (Some t) h early = λ k. elim (aside_one aside one t k) [
+      | inl was ↦ h was
+      | inr same ↦ let le = early t refl in omega (arith, le, own, same)
+    ]
 
 -- all windows
-before_least : (u : Database) (lines : List Line) (illegal : Bool) (judge : Judge) (i least k : ℕ) (whose : Option ℕ) → HasRead u lines judge → IsLeast u lines illegal i least whose → length judge.windows.items ≤ i → k < least → k ≤ length lines → IsLegal u (take k lines)
-before_least u lines illegal judge i least k whose read is all lt le = legal u lines judge k read (is.none k lt le) (λ place within. is.each place (omega (arith, within, all)) k lt le)
+others_before : (u : Database) (lines : List Line) (judge : Judge) (aside : List Undecided) (i least k : ℕ) (whose : Option ℕ) → HasRead u lines judge → IsLeast u lines aside i least whose → length judge.windows.items ≤ i → k < least → k ≤ length lines → AreOthersLegal u aside (take k lines)
+others_before u lines judge aside i least k whose read is all lt le = record {
+  each = λ s other. elim (there_or_not s (length judge.windows.items)) [
+    | inl there ↦
+        let same : suc (s - 1) ≡ s = omega (arith, there.0) in
+        subst (λ t. (IsAside aside t → ⊥) → IsStrictlySerializable (of_subscriber u t) (calls_on u t (calls_of (take k lines)))) same (λ own. is.each (s - 1) (omega (arith, there.0, there.1, all)) own k lt le) other
+    | inr out ↦ none_explained u (length judge.windows.items) judge.directory s (take k lines) read.directory_is out
+  ];
+  none = is.none k lt le;
+}
 
-pub least_illegal : (u : Database) (most : ℕ) (lines : List Line) (illegal : Bool) (judge : Judge) (i least : ℕ) (whose : Option ℕ) → HasRead u lines judge → IsLeast u lines illegal i least whose → length judge.windows.items ≤ i → least ≤ judge.number
-    → IsVerdictOn u most lines (Illegal least whose)
-least_illegal u most lines illegal judge i least whose read is all le =
+-- what is unexplained isn't legal
+pub not_legal : (u : Database) (lines : List Line) (aside : List Undecided) (n : ℕ) (whose : Option ℕ) → IsUnexplained u lines n whose → IsOther aside whose → AreOthersLegal u aside (take n lines) → ⊥
+not_legal u lines aside n None fails other legal = fails legal.none
+not_legal u lines aside n (Some s) fails other legal = fails (legal.each s other)
+
+pub least_illegal : (u : Database) (lines : List Line) (judge : Judge) (aside : List Undecided) (i least : ℕ) (whose : Option ℕ) → HasRead u lines judge → IsLeast u lines aside i least whose → length judge.windows.items ≤ i → least ≤ judge.number → IsVerdictOn u aside lines (Illegal least whose)
+least_illegal u lines judge aside i least whose read is all le =
     let within : least ≤ length lines = omega (arith, le, read.number_is) in (
       record {
         first = is.first;
         within = within;
-        illegal = is.illegal_at within;
-        before = before_least u lines illegal judge i least (least - 1) whose read is all (omega (arith, is.first)) (omega (arith, within));
+        illegal = λ h. not_legal u lines aside least whose (is.unexplained within) is.other (others_of u lines judge aside least read h);
+        before = legal_but u lines judge aside (least - 1) read (others_before u lines judge aside i least (least - 1) whose read is all (omega (arith, is.first)) (omega (arith, within)));
       },
       is.unexplained within,
+      is.other,
     )
 
-pub least_none : (u : Database) (lines : List Line) (illegal : Bool) (judge : Judge) (i least : ℕ) (whose : Option ℕ) → HasRead u lines judge → IsLeast u lines illegal i least whose → length judge.windows.items ≤ i → judge.number < least → IsLegal u lines
-least_none u lines illegal judge i least whose read is all lt =
-    subst (IsLegal u) (take_all (length lines) lines (omega arith)) (before_least u lines illegal judge i least (length lines) whose read is all (omega (arith, lt, read.number_is)) (omega arith))
+pub least_none : (u : Database) (lines : List Line) (judge : Judge) (aside : List Undecided) (i least : ℕ) (whose : Option ℕ) → HasRead u lines judge → IsLeast u lines aside i least whose → length judge.windows.items ≤ i → judge.number < least → IsLegalBut u aside lines
+least_none u lines judge aside i least whose read is all lt =
+    subst (IsLegalBut u aside) (take_all (length lines) lines (omega arith))
+    (legal_but u lines judge aside (length lines) read (others_before u lines judge aside i least (length lines) whose read is all (omega (arith, lt, read.number_is)) (omega arith)))
+
+pub others_now : (u : Database) (lines : List Line) (judge : Judge) (aside : List Undecided) → HasRead u lines judge → IsLegalBut u aside lines → AreOthersLegal u aside lines
+others_now u lines judge aside read h =
+    subst (AreOthersLegal u aside) (take_all (length lines) lines (omega arith))
+    (others_of u lines judge aside (length lines) read (subst (IsLegalBut u aside) (sym (take_all (length lines) lines (omega arith))) h))

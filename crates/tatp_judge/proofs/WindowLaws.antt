@@ -24,7 +24,7 @@ use Rattle.tatp_judge.specs.declared.window.Window.{Window}
 use Rattle.tatp_judge.specs.Accepted.{IsAcceptedLine}
 use Rattle.tatp_judge.specs.NextLine.{ended_call, with_outcome, ends_of, closed_by, asks_of}
 use Rattle.tatp_judge.specs.Steps.{fewer, IsNoted}
-use Rattle.tatp_judge.specs.Windows.{IsAmong, AreEachOnce, AreCounted, IsWindowAfter}
+use Rattle.tatp_judge.specs.Windows.{IsAmong, AreEachOnce, AreCounted, IsWindowAfter, IsCounted}
 use Rattle.tatp_judge.proofs.FirstLinesLaws.{times_within}
 use Rattle.tatp_judge.proofs.NumberLaws.{kept_next, number_noted}
 use Rattle.tatp_judge.proofs.NextLineLaws.{events_next, opened_next, opened_own, opened_other}
@@ -279,4 +279,21 @@ window_next u most s lines line w after accepted noted quiet is =
       few = omega (arith, noted.waiting_is, few, no_more, is.few, longer);
       numbers = kept_next u s lines line w after is.from_within noted.from_is (noted.numbers_are ∙ ap (λ ns. w.numbers.items ++ ns) (number_noted u s number opened line))
           (λ none. quiet (nothing_waits opened w.waiting is.counted none)) is.numbers;
+    }
+
+-- the window of a subscriber that is set aside
+pub counted_then : (u : Database) (s : ℕ) (lines : List Line) (line : Line) (w after : Window) → after.aside ≡ w.aside → after.waiting ≡ fewer (opened_after u s 1 no_calls lines (client_of line)) w.waiting + length (asks_of u s (suc (length lines)) line) → IsCounted u s lines w
+    → IsCounted u s (lines ++ line ∷ []) after
+counted_then u s lines line w after same waiting_is is =
+    let number = suc (length lines) in
+    let opened = opened_after u s 1 no_calls lines in
+    let one = opened (client_of line) in
+    let longer : length (lines ++ line ∷ []) ≡ suc (length lines) = length-append lines (line ∷ []) ∙ omega arith in
+    let open_then : opened_after u s 1 no_calls (lines ++ line ∷ []) ≡ opened_by u s number opened line = opened_next u s lines line 1 number no_calls (omega arith) in
+    let few : length (asks_of u s number line) ≤ 1 = asks_few u s number line in
+    let no_more : fewer one w.waiting ≤ w.waiting = fewer_at_most one w.waiting in
+    record {
+      aside = same ∙ is.aside;
+      counted = subst (λ (o : OpenCalls). AreCounted o after.waiting) (sym open_then) (subst (AreCounted (opened_by u s number opened line)) (sym waiting_is) (counted_next u s number w.waiting opened line is.counted));
+      few = omega (arith, waiting_is, few, no_more, is.few, longer);
     }

@@ -1,5 +1,5 @@
 -- What the judge keeps of the lines that it has followed.
-use Rattle.std.specs.Prelude.{◌≡◌, ◌↔◌, ℕ, suc, ◌+◌, ◌-◌, ◌^◌, ◌<◌, ◌≤◌, ◌⊎◌, nat_eq, Bool, IsTrue, List, length, take, slice_get, Option, Some, None}
+use Rattle.std.specs.Prelude.{◌≡◌, ◌↔◌, ℕ, suc, ◌+◌, ◌-◌, ◌^◌, ◌<◌, ◌≤◌, ◌⊎◌, nat_eq, Bool, IsTrue, false, List, length, take, slice_get, Option, Some, None}
 use Rattle.indexmap.specs.IndexMap.{get}
 use Rattle.tatp_tables.specs.Database.{Database}
 use Rattle.tatp_procs.specs.Consistent.{IsConsistent}
@@ -11,9 +11,10 @@ use Rattle.tatp_judge.specs.declared.asked.Asked.{Asked}
 use Rattle.tatp_judge.specs.declared.judge.Judge.{Judge}
 use Rattle.tatp_judge.specs.declared.window.Window.{Window}
 use Rattle.tatp_judge.specs.Asked.{asked_in_all}
+use Rattle.tatp_judge.specs.Aside.{AreSetAside}
 use Rattle.tatp_judge.specs.Population.{IsDirectoryOf}
-use Rattle.tatp_judge.specs.Verdicts.{IsLegal, IsUnexplained}
-use Rattle.tatp_judge.specs.Windows.{IsWindowAfter, IsForgotten, IsSpent}
+use Rattle.tatp_judge.specs.Verdicts.{IsUnexplained}
+use Rattle.tatp_judge.specs.Windows.{IsForgotten, IsKept, IsSpent}
 
 -- so many lines, from the database on
 pub record HasRead (u : Database) (lines : List Line) (judge : Judge) : Type 0 where
@@ -28,12 +29,14 @@ pub record HasNoted (u : Database) (most : ℕ) (lines : List Line) (judge : Jud
   pub read : HasRead u lines judge
   pub asked_are : (client : ℕ) → get nat_eq judge.asked client ≡ asked_in_all u lines client
   pub windows_are : (place : ℕ) (w : Window) → slice_get judge.windows.items place ≡ Some w
-      → IsWindowAfter u most (suc place) lines w
+      → IsKept u most (suc place) lines w
+  pub aside : AreSetAside u most lines judge
 
--- each window in which no call is open is forgotten, but for that of one subscriber
+-- each window in which no call is open is forgotten, but for that of one subscriber, and for those
+-- that are set aside
 abbrev pub Forgets : Judge → Option ℕ → Type 0
 Forgets judge but = (place : ℕ) (w : Window) → slice_get judge.windows.items place ≡ Some w
-    → (but ≡ Some (suc place) → ⊥) → w.waiting ≡ 0 → IsForgotten w
+    → (but ≡ Some (suc place) → ⊥) → w.aside ≡ false → w.waiting ≡ 0 → IsForgotten w
 
 -- it has followed the lines, which decided nothing: of the calls that name no subscriber each that
 -- was answered failed
@@ -51,17 +54,25 @@ pub record EndsAs (u : Database) (lines : List Line) (asked : Asked) (outcome : 
   pub before : FailWithout u (calls_of (take (length lines - 1) lines))
   pub now : FailsWithout asked.s_id outcome ↔ FailWithout u (calls_of lines)
 
+-- the last of the lines ends a call on a subscriber, and those that name none failed
+pub record EndsOn (u : Database) (lines : List Line) : Type 0 where
+  pub some : 1 ≤ length lines
+  pub none : FailWithout u (calls_of lines)
+
 -- what a search for the first illegal line begins with: where the lines are known to be illegal,
--- the last of them may be the first, by this subscriber's calls, and a window may be spent
+-- they are so by this subscriber's calls, whose window may be spent; or, where none is named, by a
+-- call that names none, and the last line is the first
 pub record IsSearchable (u : Database) (most : ℕ) (lines : List Line) (illegal : Bool)
     (s_id : Option ℕ) (judge : Judge) : Type 0 where
   pub read : HasRead u lines judge
   pub windows_are : (place : ℕ) (w : Window) → slice_get judge.windows.items place ≡ Some w
-      → IsWindowAfter u most (suc place) lines w
-      ⊎ (IsTrue illegal × IsSpent u (suc place) lines w)
-  pub none : (k : ℕ) → k ≤ length lines → (IsTrue illegal → k < length lines)
+      → IsKept u most (suc place) lines w
+      ⊎ (IsTrue illegal × (s_id ≡ Some (suc place)) × (w.aside ≡ false)
+      × IsSpent u (suc place) lines w)
+  pub aside : AreSetAside u most lines judge
+  pub none : (k : ℕ) → k ≤ length lines → (IsTrue illegal → s_id ≡ None → k < length lines)
       → FailWithout u (calls_of (take k lines))
-  pub known : IsTrue illegal → IsLegal u lines → ⊥
+  pub some : IsTrue illegal → 1 ≤ length lines
   pub whose : IsTrue illegal → IsUnexplained u lines (length lines) s_id
 
 -- what it keeps is that of these lines, as a search finds it

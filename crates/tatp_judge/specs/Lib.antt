@@ -7,8 +7,10 @@ pub mod Verdicts
 pub mod Legal
 pub mod Parts
 pub mod Windows
+pub mod Aside
 pub mod Followed
 pub mod Steps
+pub mod Searching
 pub mod Finishing
 pub mod Leaving
 pub mod Explained

@@ -1,5 +1,5 @@
 -- What a line, and its window's end, make of the windows.
-use Rattle.std.specs.Prelude.{◌≡◌, ℕ, suc, ◌+◌, ◌-◌, ◌⊎◌, if◌then◌else◌, nat_eq, List, [], ◌∷◌, ◌++◌, length, map, slice_get, Option, Some, None}
+use Rattle.std.specs.Prelude.{◌≡◌, ℕ, suc, ◌+◌, ◌-◌, ◌⊎◌, false, if◌then◌else◌, nat_eq, List, [], ◌∷◌, ◌++◌, length, map, slice_get, Option, Some, None}
 use Rattle.indexmap.specs.IndexMap.{get}
 use Rattle.tatp_tables.specs.Database.{Database}
 use Rattle.tatp_history.specs.declared.line.Line.{Line}
@@ -26,6 +26,13 @@ pub record AreEach (Stands : ℕ → Window → Window → Type 0) (old new : Li
   pub each : (place : ℕ) (after : Window) → slice_get new place ≡ Some after
       → (before : Window) × (slice_get old place ≡ Some before) × Stands place before after
 
+-- the window goes on so, if it isn't set aside; calls are counted anyway
+pub record Steps (Open : Window → Window → Type 0) (waits : ℕ → ℕ) (w after : Window)
+    : Type 0 where
+  pub aside_is : after.aside ≡ w.aside
+  pub waits_are : after.waiting ≡ waits w.waiting
+  pub kept : w.aside ≡ false → Open w after
+
 -- ---- a line
 -- one call fewer is open, if this one was
 abbrev pub fewer : Option ℕ → ℕ → ℕ
@@ -41,6 +48,9 @@ pub record IsEndedIn (one : Option ℕ) (number : ℕ) (line : Line) (w after : 
   pub from_is : after.from ≡ w.from
   pub explanations_are : after.explanations ≡ w.explanations
 
+abbrev pub EndsCall : Option ℕ → ℕ → Line → Window → Window → Type 0
+EndsCall one number line w after = Steps (IsEndedIn one number line) (fewer one) w after
+
 -- the call is asked, if it is on this subscriber
 abbrev pub asks_on : ℕ → Option ℕ → Observed → List Event
 asks_on s s_id x = if is_this s s_id then Asks x ∷ [] else []
@@ -52,6 +62,9 @@ pub record IsAskedIn (asks : List Event) (w after : Window) : Type 0 where
   pub from_is : after.from ≡ w.from
   pub explanations_are : after.explanations ≡ w.explanations
 
+abbrev pub AsksCall : List Event → Window → Window → Type 0
+AsksCall asks w after = Steps (IsAskedIn asks) (λ n. n + length asks) w after
+
 -- both: the open call ended, and another was asked
 pub record IsNoted (one : Option ℕ) (asks : List Event) (number : ℕ) (line : Line)
     (w after : Window) : Type 0 where
@@ -61,6 +74,10 @@ pub record IsNoted (one : Option ℕ) (asks : List Event) (number : ℕ) (line :
   pub waiting_is : after.waiting ≡ fewer one w.waiting + length asks
   pub from_is : after.from ≡ w.from
   pub explanations_are : after.explanations ≡ w.explanations
+
+abbrev pub NotesLine : Option ℕ → List Event → ℕ → Line → Window → Window → Type 0
+NotesLine one asks number line w after =
+    Steps (IsNoted one asks number line) (λ n. fewer one n + length asks) w after
 
 -- the open calls, where the line of this number asks one more
 abbrev pub also_asked : Database → ℕ → AskedCalls → Line → AskedCalls
@@ -76,8 +93,9 @@ pub record IsNotedBy (u : Database) (ended : Option Asked) (number : ℕ) (line 
   pub directory_is : new.directory ≡ old.directory
   pub asked_are : (client : ℕ) → get nat_eq new.asked client
       ≡ also_asked u number (λ other. get nat_eq old.asked other) line client
+  pub undecided_is : new.undecided.items ≡ old.undecided.items
   pub windows_are : AreEach (λ place w after.
-      IsNoted (asked_on (suc place) ended) (asks_of u (suc place) number line) number line w after)
+      NotesLine (asked_on (suc place) ended) (asks_of u (suc place) number line) number line w after)
       old.windows.items new.windows.items
 
 -- ---- the end of a window
@@ -96,7 +114,12 @@ Closes number standing w after =
     → number ≡ length lines → IsClosedTo u most s lines standing after
 
 -- of the subscriber with this s_id; the others are as they were
+pub record ClosesHere (number : ℕ) (standing : Standing) (w after : Window) : Type 0 where
+  pub closes : Closes number standing w after
+  pub aside_is : after.aside ≡ w.aside
+  pub waiting_is : after.waiting ≡ w.waiting
+
 abbrev pub ClosesAt : ℕ → ℕ → Standing → ℕ → Window → Window → Type 0
 ClosesAt s_id number standing place w after =
-    ((suc place ≡ s_id) × Closes number standing w after)
+    ((suc place ≡ s_id) × ClosesHere number standing w after)
     ⊎ ((suc place ≡ s_id → ⊥) × (after ≡ w))

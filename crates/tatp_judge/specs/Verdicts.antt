@@ -1,6 +1,7 @@
 -- trusted: read it
 -- What a verdict says of a history.
-use Rattle.std.specs.Prelude.{ℕ, ◌≤◌, ◌-◌, List, take, length, Option, Some, None}
+use Rattle.std.specs.Prelude.{◌≡◌, ◌⊎◌, ℕ, ◌≤◌, ◌-◌, List, [], ◌∷◌, take, length, Option, Some, None}
+use Rattle.std.specs.List.{AllByRecursion}
 use Rattle.tatp_tables.specs.Database.{Database, of_subscriber}
 use Rattle.tatp_history.specs.declared.line.Line.{Line}
 use Rattle.tatp_history.specs.Histories.{IsStrictlySerializable}
@@ -8,20 +9,15 @@ use Rattle.tatp_history.specs.HistoryLines.{calls_of}
 use Rattle.tatp_history.specs.Locality.{calls_on, FailWithout}
 use Rattle.tatp_history.specs.SubscriberEvents.{NothingIsOpen, events_of}
 use Rattle.tatp_linearization.specs.Possible.{NeedMore}
+use Rattle.tatp_judge.specs.declared.aside.Undecided.{Undecided}
 use Rattle.tatp_judge.specs.declared.judge.Verdict.{Verdict}
-use Rattle.tatp_judge.specs.declared.judge.Verdict.TheVariants.{Legal, Illegal, Undecided}
+use Rattle.tatp_judge.specs.declared.judge.Verdict.TheVariants.{Legal, Illegal}
 
 -- what clients saw is strictly serializable
 abbrev pub IsLegal : Database → List Line → Type 0
 IsLegal u lines = IsStrictlySerializable u (calls_of lines)
 
--- the lines up to this one are not, and those before it are
-pub record IsFirstIllegal (u : Database) (lines : List Line) (n : ℕ) : Type 0 where
-  pub first : 1 ≤ n
-  pub within : n ≤ length lines
-  pub illegal : IsLegal u (take n lines) → ⊥
-  pub before : IsLegal u (take (n - 1) lines)
-
+-- ---- subscribers that are set aside
 -- after some of the subscriber's events in the first lines, up to this one at most, more than so
 -- many configurations are possible
 pub record NeedMoreBy (u : Database) (most : ℕ) (lines : List Line) (line s : ℕ) : Type 0 where
@@ -30,9 +26,49 @@ pub record NeedMoreBy (u : Database) (most : ℕ) (lines : List Line) (line s : 
   pub by : first ≤ line
   pub many : NeedMore most (of_subscriber u s) (events_of u s (take first lines))
 
--- the calls on each subscriber of which none is open are strictly serializable on its rows
-abbrev pub AreExplainedWhereClosed : Database → List Line → Type 0
-AreExplainedWhereClosed u lines = (s : ℕ) → NothingIsOpen u s lines
+-- so it is of each of these by its line. Lines don't fall, and no subscriber is there twice
+abbrev pub AreInOrder : List Undecided → Type 0
+AreInOrder [] = Unit {0}
+AreInOrder (one ∷ more) =
+    AllByRecursion (λ other. (one.line ≤ other.line) × (one.s_id ≡ other.s_id → ⊥)) more
+    × AreInOrder more
+
+pub record AreUndecided (u : Database) (most : ℕ) (lines : List Line) (aside : List Undecided)
+    : Type 0 where
+  pub each : AllByRecursion (λ one. NeedMoreBy u most lines one.line one.s_id) aside
+  pub order : AreInOrder aside
+
+-- the subscriber is one of them
+abbrev pub IsAside : List Undecided → ℕ → Type 0
+IsAside [] s = ⊥
+IsAside (one ∷ more) s = (one.s_id ≡ s) ⊎ IsAside more s
+
+-- the calls on each other subscriber are strictly serializable on its rows, and those that name
+-- none failed, if they were answered
+pub record AreOthersLegal (u : Database) (aside : List Undecided) (lines : List Line)
+    : Type 0 where
+  pub each : (s : ℕ) → (IsAside aside s → ⊥)
+      → IsStrictlySerializable (of_subscriber u s) (calls_on u s (calls_of lines))
+  pub none : FailWithout u (calls_of lines)
+
+-- what clients saw is legal, but for these subscribers
+abbrev pub IsLegalBut : Database → List Undecided → List Line → Type 0
+IsLegalBut u [] lines = IsLegal u lines
+IsLegalBut u (one ∷ more) lines = AreOthersLegal u (one ∷ more) lines
+
+-- ---- verdicts on all others
+-- the lines up to this one are not, and those before it are
+pub record IsFirstIllegal (u : Database) (aside : List Undecided) (lines : List Line) (n : ℕ)
+    : Type 0 where
+  pub first : 1 ≤ n
+  pub within : n ≤ length lines
+  pub illegal : IsLegalBut u aside (take n lines) → ⊥
+  pub before : IsLegalBut u aside (take (n - 1) lines)
+
+-- the calls on each other subscriber of which none is open are strictly serializable on its rows
+abbrev pub AreExplainedWhereClosed : Database → List Undecided → List Line → Type 0
+AreExplainedWhereClosed u aside lines =
+    (s : ℕ) → (IsAside aside s → ⊥) → NothingIsOpen u s lines
     → IsStrictlySerializable (of_subscriber u s) (calls_on u s (calls_of lines))
 
 -- the calls on the subscriber in the first lines, up to this one, are not; or, where none is named,
@@ -42,8 +78,18 @@ IsUnexplained u lines n None = FailWithout u (calls_of (take n lines)) → ⊥
 IsUnexplained u lines n (Some s) =
     IsStrictlySerializable (of_subscriber u s) (calls_on u s (calls_of (take n lines))) → ⊥
 
-abbrev pub IsVerdictOn : Database → ℕ → List Line → Verdict → Type 0
-IsVerdictOn u most lines Legal = IsLegal u lines
-IsVerdictOn u most lines (Illegal n s_id) =
-    IsFirstIllegal u lines n × IsUnexplained u lines n s_id
-IsVerdictOn u most lines (Undecided line s) = NeedMoreBy u most lines line s
+-- the subscriber, if one is named, is none of those set aside
+abbrev pub IsOther : List Undecided → Option ℕ → Type 0
+IsOther aside None = Unit {0}
+IsOther aside (Some s) = IsAside aside s → ⊥
+
+abbrev pub IsVerdictOn : Database → List Undecided → List Line → Verdict → Type 0
+IsVerdictOn u aside lines Legal = IsLegalBut u aside lines
+IsVerdictOn u aside lines (Illegal n s_id) =
+    IsFirstIllegal u aside lines n × IsUnexplained u lines n s_id × IsOther aside s_id
+
+-- the verdict, and those that are set aside
+pub record IsSaid (u : Database) (most : ℕ) (lines : List Line) (aside : List Undecided)
+    (verdict : Verdict) : Type 0 where
+  pub aside_are : AreUndecided u most lines aside
+  pub verdict_is : IsVerdictOn u aside lines verdict

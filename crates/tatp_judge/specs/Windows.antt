@@ -1,5 +1,5 @@
 -- The window of a subscriber after lines of a history.
-use Rattle.std.specs.Prelude.{◌≡◌, ℕ, suc, ◌<◌, ◌≤◌, ◌⊎◌, List, [], ◌∷◌, ◌++◌, length, take, Some, None}
+use Rattle.std.specs.Prelude.{◌≡◌, ℕ, suc, ◌<◌, ◌≤◌, ◌⊎◌, true, false, List, [], ◌∷◌, ◌++◌, length, take, Some, None}
 use Rattle.std.specs.List.{AllByRecursion}
 use Rattle.tatp_tables.specs.Database.{Database, of_subscriber}
 use Rattle.tatp_history.specs.declared.line.Line.{Line}
@@ -69,6 +69,17 @@ pub record IsWindowAfter (u : Database) (most s : ℕ) (lines : List Line) (w : 
   pub few : w.waiting ≤ length lines
   pub numbers : AreNumbersKept u s lines w
 
+-- of a subscriber that is set aside, so many calls are open
+pub record IsCounted (u : Database) (s : ℕ) (lines : List Line) (w : Window) : Type 0 where
+  pub aside : w.aside ≡ true
+  pub counted : AreCounted (opened_after u s 1 no_calls lines) w.waiting
+  pub few : w.waiting ≤ length lines
+
+-- what is kept of a subscriber
+abbrev pub IsKept : Database → ℕ → ℕ → List Line → Window → Type 0
+IsKept u most s lines w =
+    ((w.aside ≡ false) × IsWindowAfter u most s lines w) ⊎ IsCounted u s lines w
+
 -- it has no events
 pub record IsForgotten (w : Window) : Type 0 where
   pub events : w.events.items ≡ []
@@ -98,6 +109,8 @@ pub record IsSpent (u : Database) (s : ℕ) (lines : List Line) (w : Window) : T
   pub legal : AreLegalReplies u s lines only.call (only.reply ∷ [])
   pub began : w.from < length lines
   pub numbers : AreNumbersKept u s lines w
+  pub counted : AreCounted (opened_after u s 1 no_calls lines) w.waiting
+  pub few : w.waiting ≤ length lines
   pub before : IsExplainedBefore u s lines (length lines)
 
 -- up to which of the lines the subscriber's calls are explained

@@ -37,6 +37,7 @@ impl Window {
         ensures from { self.new.from ≡ number }
         ensures waiting { self.new.waiting ≡ self.old.waiting }
         ensures explanations { self.new.explanations ≡ self.old.explanations }
+        ensures aside { self.new.aside ≡ self.old.aside }
     {
         self.events = Vec::new(alloc);
         self.numbers = Vec::new(alloc);
@@ -49,6 +50,8 @@ impl Window {
         ensures only { OnOk result (self.new.only.items ≡ only_reply x.now reply.now ∷ []) }
         ensures from { self.new.from ≡ self.old.from }
         ensures numbers { self.new.numbers.items ≡ self.old.numbers.items }
+        ensures aside { self.new.aside ≡ self.old.aside }
+        ensures waiting { self.new.waiting ≡ self.old.waiting }
     {
         self.events = Vec::new(alloc);
         let mut only = Vec::new(alloc);
@@ -72,7 +75,9 @@ impl Window {
         requires alone { self.old.events.items ≡ events_alone x.now number }
         requires accepted { arguments_accepted x.now.call ≡ Ok tt }
         requires none { self.old.waiting ≡ 0 }
-        ensures { IfOk result (λ standing. Closes number standing self.old self.new) }
+        ensures closes { IfOk result (λ standing. Closes number standing self.old self.new) }
+        ensures aside { self.new.aside ≡ self.old.aside }
+        ensures waiting { self.new.waiting ≡ self.old.waiting }
     {
         let mut reply = Reply::Refused;
         let fits = self.explanations.follow_alone(x, &mut reply);
@@ -91,7 +96,9 @@ impl Window {
             × IsWindowAfter u most s lines self.old }
         requires some { 0 < length self.old.events.items }
         requires none { self.old.waiting ≡ 0 }
-        ensures { IfOk result (λ standing. Closes number standing self.old self.new) }
+        ensures closes { IfOk result (λ standing. Closes number standing self.old self.new) }
+        ensures aside { self.new.aside ≡ self.old.aside }
+        ensures waiting { self.new.waiting ≡ self.old.waiting }
     {
         match self.explanations.follow(alloc, self.events.as_slice())? {
             Standing::Explained => {
@@ -107,7 +114,9 @@ impl Window {
     pub(crate) fn close(&mut self, alloc: Global, number: u64) -> Result<Standing, AllocError>
         requires { (u : Database) × (most : ℕ) × (s : ℕ) × (lines : List ALine)
             × IsWindowAfter u most s lines self.old }
-        ensures { IfOk result (λ standing. Closes number standing self.old self.new) }
+        ensures closes { IfOk result (λ standing. Closes number standing self.old self.new) }
+        ensures aside { self.new.aside ≡ self.old.aside }
+        ensures waiting { self.new.waiting ≡ self.old.waiting }
     {
         if self.waiting > 0 {
             return Ok(Standing::Explained);

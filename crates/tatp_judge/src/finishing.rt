@@ -1,12 +1,14 @@
 //! Whether some order of a history's calls leads to the rows at its end.
-ghost use Rattle.std.specs.Prelude.{ℕ, IfOk, List};
+ghost use Rattle.std.specs.Prelude.{ℕ, IfOk, OnOk, List};
 ghost use Rattle.tatp_tables.specs.Clean.{IsClean};
 ghost use Rattle.tatp_tables.specs.Database.{Database, database_of};
 ghost use Rattle.tatp_history.specs.declared.line.Line.{Line as ALine};
+ghost use Rattle.tatp_judge.specs.Aside.{AddsAside, undecided_in};
 ghost use Rattle.tatp_judge.specs.Finishing.{IsFinalVerdictOn};
 ghost use Rattle.tatp_judge.specs.Followed.{HasFollowed};
 ghost use Rattle.tatp_judge.specs.Leaving.{GoesToEnd, SaysLeft};
 ghost use Rattle.tatp_judge.specs.Parts.{IsPart};
+ghost use Rattle.tatp_judge.specs.Verdicts.{AreUndecided, IsLegalBut};
 ghost use Rattle.tatp_judge.specs.Windows.{IsWindowAfter};
 
 use crate::judge::Judge;
@@ -17,7 +19,7 @@ use tatp_homes::{Home, homes};
 use tatp_linearization::Standing;
 use tatp_tables::Rows;
 
-/// What is said of a history and the rows at its end.
+/// What is said of a history and the rows at its end, but for subscribers that are set aside.
 #[derive(Clone, Copy, Debug, PartialEq, Eq)]
 pub enum FinalVerdict {
     /// Some order of its calls leads to them.
@@ -25,8 +27,6 @@ pub enum FinalVerdict {
     /// None does. Of the part's subscribers this is the first of whose calls no order leaves its
     /// rows.
     Unreached(u64),
-    /// It isn't known, since more configurations of this subscriber are possible than may be kept.
-    Undecided(u64),
 }
 
 impl Window {
@@ -63,7 +63,8 @@ impl Window {
 
 impl Judge {
     /// Whether some order of the calls that were followed leads to these rows of the part's
-    /// subscribers. After this the judge follows no more lines.
+    /// subscribers that aren't set aside. More of them may be, for it. After this the judge follows
+    /// no more lines.
     pub fn finish_to(
         &mut self,
         alloc: Global,
@@ -74,9 +75,16 @@ impl Judge {
         requires followed { (u : Database) × (most : ℕ) × (lines : List ALine)
             × HasFollowed u most lines self.old }
         requires clean { IsClean rows.now }
-        ensures { IfOk result (λ verdict. (u : Database) (most : ℕ) (lines : List ALine)
+        ensures verdict { IfOk result (λ verdict. (u : Database) (most : ℕ) (lines : List ALine)
+            → HasFollowed u most lines self.old → IsFinalVerdictOn u part.now
+            (undecided_in self.new) lines (database_of rows.now) verdict) }
+        ensures aside { OnOk result ((u : Database) (most : ℕ) (lines : List ALine)
             → HasFollowed u most lines self.old
-            → IsFinalVerdictOn u part.now most lines (database_of rows.now) verdict) }
+            → AreUndecided u most lines (undecided_in self.new)) }
+        ensures more { OnOk result (AddsAside self.old self.new) }
+        ensures legal { OnOk result ((u : Database) (most : ℕ) (lines : List ALine)
+            → HasFollowed u most lines self.old → IsLegalBut u (undecided_in self.old) lines
+            → IsLegalBut u (undecided_in self.new) lines) }
     {
         let homes = homes(alloc, rows)?;
         let count = homes.len().max(self.windows.len());
@@ -86,13 +94,15 @@ impl Judge {
                 if i >= self.windows.len() {
                     return Ok(FinalVerdict::Unreached(s_id));
                 }
-                if i >= homes.len() {
-                    return Ok(FinalVerdict::Unreached(s_id));
-                }
-                match self.windows[i].leads_to(alloc, &homes[i])? {
-                    Standing::Explained => {}
-                    Standing::Unexplained => return Ok(FinalVerdict::Unreached(s_id)),
-                    Standing::Undecided => return Ok(FinalVerdict::Undecided(s_id)),
+                if !self.windows[i].aside {
+                    if i >= homes.len() {
+                        return Ok(FinalVerdict::Unreached(s_id));
+                    }
+                    match self.windows[i].leads_to(alloc, &homes[i])? {
+                        Standing::Explained => {}
+                        Standing::Unexplained => return Ok(FinalVerdict::Unreached(s_id)),
+                        Standing::Undecided => self.set_aside(alloc, s_id)?,
+                    }
                 }
             }
         }

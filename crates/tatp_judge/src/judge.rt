@@ -1,5 +1,5 @@
 //! The judge, line after line.
-ghost use Rattle.std.specs.Prelude.{◌≡◌, ℕ, suc, ◌+◌, ◌<◌, ◌≤◌, ◌^◌, [], ◌∷◌, ◌++◌, IfOk, IfSome, OnOk, Ok, None, Option, Some, List, length, nat_eq, slice_get};
+ghost use Rattle.std.specs.Prelude.{◌≡◌, ℕ, suc, ◌+◌, ◌<◌, ◌≤◌, ◌^◌, [], ◌∷◌, ◌++◌, false, IfOk, IfSome, OnOk, Ok, None, Option, Some, List, length, nat_eq, slice_get};
 ghost use Rattle.indexmap.specs.IndexMap.{get};
 ghost use Rattle.tatp_tables.specs.Clean.{IsClean};
 ghost use Rattle.tatp_tables.specs.Database.{Database, database_of};
@@ -9,27 +9,28 @@ ghost use Rattle.tatp_history.specs.HistoryLines.{end_at};
 ghost use Rattle.tatp_history.specs.Events.{TimesRise};
 ghost use Rattle.tatp_judge.specs.declared.window.Window.{Window as AWindow};
 ghost use Rattle.tatp_judge.specs.Accepted.{IsAcceptedLine};
+ghost use Rattle.tatp_judge.specs.Aside.{undecided_in};
 ghost use Rattle.tatp_judge.specs.Asked.{asked_on};
 ghost use Rattle.tatp_judge.specs.Followed.{EndsAs, Forgets, HasFollowed, HasKept, HasNoted};
 ghost use Rattle.tatp_judge.specs.NextLine.{asks_of};
 ghost use Rattle.tatp_judge.specs.Population.{IsDirectoryOf};
-ghost use Rattle.tatp_judge.specs.Steps.{AreEach, IsAskedIn, IsEndedIn, IsNotedBy, also_asked};
-ghost use Rattle.tatp_judge.specs.Verdicts.{AreExplainedWhereClosed, IsVerdictOn};
+ghost use Rattle.tatp_judge.specs.Steps.{AreEach, AsksCall, EndsCall, IsNotedBy, also_asked};
+ghost use Rattle.tatp_judge.specs.Verdicts.{AreExplainedWhereClosed, IsSaid};
 
+use crate::Undecided;
 use crate::asked::{Asked, none_asked, subscriber_of};
 use crate::outcome::{client_of, may_fail};
 use crate::window::Window;
-use crate::windows::{ask_in, close_in, end_in, windows_of};
+use crate::windows::{ask_in, end_in, windows_of};
 use indexmap::IndexMap;
 use std::alloc::{AllocError, Global};
 use tatp_history::{Line, Observed, Outcome, only_reads};
 use tatp_homes::homes;
-use tatp_linearization::Standing;
 use tatp_numbers::Directory;
 use tatp_procs::Call;
 use tatp_tables::Rows;
 
-/// What is said of a history.
+/// What is said of a history, but for the calls on subscribers that are set aside.
 #[derive(Clone, Copy, Debug, PartialEq, Eq)]
 pub enum Verdict {
     /// It is strictly serializable.
@@ -42,17 +43,12 @@ pub enum Verdict {
         /// was answered otherwise than by its failure.
         s_id: Option<u64>,
     },
-    /// It isn't known, since more configurations of a subscriber are possible than may be kept.
-    Undecided {
-        /// How many lines were followed.
-        line: u64,
-        /// The subscriber.
-        s_id: u64,
-    },
 }
 
 /// The judge of a history, which follows it line after line. Of each subscriber it keeps what
-/// explains its calls so far, and what happened to them since none of them was open.
+/// explains its calls so far, and what happened to them since none of them was open. A subscriber
+/// of which more configurations are possible than may be kept is set aside, and the history is
+/// judged on for all others.
 #[derive(Drop)]
 pub struct Judge {
     pub(crate) directory: Directory,
@@ -62,6 +58,8 @@ pub struct Judge {
     pub(crate) asked: IndexMap<u64, Asked>,
     /// How many lines it followed.
     pub(crate) number: u64,
+    /// The subscribers that were set aside.
+    pub(crate) undecided: Vec<Undecided>,
 }
 
 impl Judge {
@@ -69,7 +67,8 @@ impl Judge {
     /// of one subscriber.
     pub fn new(alloc: Global, rows: &Rows, most: usize) -> Result<Judge, AllocError>
         requires { IsClean rows.now }
-        ensures { IfOk result (HasFollowed (database_of rows.now) most []) }
+        ensures followed { IfOk result (HasFollowed (database_of rows.now) most []) }
+        ensures none { IfOk result (λ judge. undecided_in judge ≡ []) }
     {
         let homes = homes(alloc, rows)?;
         let directory = Directory::of_clean(alloc, rows)?;
@@ -79,10 +78,12 @@ impl Judge {
             windows,
             asked: none_asked(alloc),
             number: 0,
+            undecided: Vec::new(alloc),
         })
     }
 
-    /// Follows a line. A verdict decides the history, whatever follows.
+    /// Follows a line. A verdict decides the history of all subscribers that aren't set aside,
+    /// whatever follows.
     pub fn follow(&mut self, alloc: Global, line: &Line) -> Result<Option<Verdict>, AllocError>
         requires followed { (u : Database) × (most : ℕ) × (lines : List ALine)
             × HasFollowed u most lines self.old × (length lines + 2 < 2 ^ 64) }
@@ -93,7 +94,7 @@ impl Judge {
         ensures decided { IfOk result (λ found. IfSome found (λ verdict.
             (u : Database) (most : ℕ) (lines more : List ALine)
             → HasFollowed u most lines self.old
-            → IsVerdictOn u most ((lines ++ line.now ∷ []) ++ more) verdict)) }
+            → IsSaid u most ((lines ++ line.now ∷ []) ++ more) (undecided_in self.new) verdict)) }
         ensures kept { (first : ℕ) (s_id : Option ℕ)
             → result ≡ Ok (Some (Verdict.Illegal first s_id))
             → (u : Database) (most : ℕ) (lines : List ALine) → HasFollowed u most lines self.old
@@ -101,7 +102,7 @@ impl Judge {
         ensures never { result ≡ Ok (Some Verdict.Legal) → ⊥ }
         ensures explained { result ≡ Ok None → (u : Database) (most : ℕ) (lines : List ALine)
             → HasFollowed u most lines self.old
-            → AreExplainedWhereClosed u (lines ++ line.now ∷ []) }
+            → AreExplainedWhereClosed u (undecided_in self.new) (lines ++ line.now ∷ []) }
     {
         let number = self.number + 1;
         let ended = self.asked.swap_remove(&client_of(line));
@@ -113,14 +114,17 @@ impl Judge {
         }
     }
 
-    /// The verdict on the lines that were followed.
-    pub fn finish(&self, alloc: Global) -> Result<Verdict, AllocError>
+    /// The verdict on the lines that were followed. Subscribers may be set aside for it.
+    pub fn finish(&mut self, alloc: Global) -> Result<Verdict, AllocError>
         requires { (u : Database) × (most : ℕ) × (lines : List ALine)
-            × HasFollowed u most lines self.now }
+            × HasFollowed u most lines self.old }
         ensures verdict { IfOk result (λ verdict. (u : Database) (most : ℕ) (lines : List ALine)
-            → HasFollowed u most lines self.now → IsVerdictOn u most lines verdict) }
-        ensures kept { (u : Database) (most : ℕ) (lines : List ALine)
-            → HasFollowed u most lines self.now → HasKept u lines self.now }
+            → HasFollowed u most lines self.old
+            → IsSaid u most lines (undecided_in self.new) verdict) }
+        ensures kept { OnOk result ((u : Database) (most : ℕ) (lines : List ALine)
+            → HasFollowed u most lines self.old → HasKept u lines self.new) }
+        ensures followed { OnOk result ((u : Database) (most : ℕ) (lines : List ALine)
+            → HasFollowed u most lines self.old → HasFollowed u most lines self.new) }
     {
         self.search(alloc, false, None)
     }
@@ -135,7 +139,8 @@ impl Judge {
             → asked_on (suc place) ended.now ≡ Some asked
             → slice_get self.old.windows.items place ≡ Some w → 0 < w.waiting }
         requires rise { (place : ℕ) (w : AWindow)
-            → slice_get self.old.windows.items place ≡ Some w → TimesRise w.events.items }
+            → slice_get self.old.windows.items place ≡ Some w
+            → w.aside ≡ false → TimesRise w.events.items }
         requires few { (place : ℕ) (w : AWindow)
             → slice_get self.old.windows.items place ≡ Some w → w.waiting + 1 < 2 ^ 64 }
         ensures { OnOk result ((u : Database)
@@ -159,11 +164,13 @@ impl Judge {
             → asked_on (suc place) ended.now ≡ Some asked
             → slice_get self.old.windows.items place ≡ Some w → 0 < w.waiting }
         requires rise { (place : ℕ) (w : AWindow)
-            → slice_get self.old.windows.items place ≡ Some w → TimesRise w.events.items }
+            → slice_get self.old.windows.items place ≡ Some w
+            → w.aside ≡ false → TimesRise w.events.items }
         ensures directory { self.new.directory ≡ self.old.directory }
         ensures asked { self.new.asked ≡ self.old.asked }
+        ensures undecided { self.new.undecided.items ≡ self.old.undecided.items }
         ensures windows { OnOk result (AreEach (λ place.
-            IsEndedIn (asked_on (suc place) ended.now) number line.now)
+            EndsCall (asked_on (suc place) ended.now) number line.now)
             self.old.windows.items self.new.windows.items) }
     {
         match ended {
@@ -179,13 +186,14 @@ impl Judge {
         requires few { (place : ℕ) (w : AWindow)
             → slice_get self.old.windows.items place ≡ Some w → w.waiting + 1 < 2 ^ 64 }
         ensures directory { OnOk result (self.new.directory ≡ self.old.directory) }
+        ensures undecided { OnOk result (self.new.undecided.items ≡ self.old.undecided.items) }
         ensures asked { OnOk result ((u : Database)
             → IsDirectoryOf u (length self.old.windows.items) self.old.directory
             → (other : ℕ) → get nat_eq self.new.asked other
             ≡ also_asked u number (get nat_eq self.old.asked) (Ask client call.now) other) }
         ensures windows { OnOk result ((u : Database)
             → IsDirectoryOf u (length self.old.windows.items) self.old.directory
-            → AreEach (λ place. IsAskedIn (asks_of u (suc place) number (Ask client call.now)))
+            → AreEach (λ place. AsksCall (asks_of u (suc place) number (Ask client call.now)))
             self.old.windows.items self.new.windows.items) }
     {
         let s_id = subscriber_of(&self.directory, call);
@@ -227,7 +235,7 @@ impl Judge {
             (u : Database) (most : ℕ) (lines more : List ALine)
             → HasNoted u most lines self.old
             → EndsAs u lines asked.now (end_at self.old.number line.now)
-            → IsVerdictOn u most (lines ++ more) verdict)) }
+            → IsSaid u most (lines ++ more) (undecided_in self.new) verdict)) }
         ensures kept { (first : ℕ) (s_id : Option ℕ)
             → result ≡ Ok (Some (Verdict.Illegal first s_id))
             → (u : Database) (most : ℕ) (lines : List ALine) → HasNoted u most lines self.old
@@ -235,15 +243,10 @@ impl Judge {
             → HasKept u lines self.new }
         ensures never { result ≡ Ok (Some Verdict.Legal) → ⊥ }
     {
-        let number = self.number;
         match asked.s_id {
-            Some(s_id) => match close_in(alloc, &mut self.windows, s_id, number)? {
-                Standing::Explained => Ok(None),
-                Standing::Unexplained => Ok(Some(self.search(alloc, true, Some(s_id))?)),
-                Standing::Undecided => Ok(Some(Verdict::Undecided { line: number, s_id })),
-            },
+            Some(s_id) => self.close_on(alloc, s_id),
             None => {
-                if may_fail(number, line) {
+                if may_fail(self.number, line) {
                     Ok(None)
                 } else {
                     Ok(Some(self.search(alloc, true, None)?))

@@ -4,9 +4,10 @@ ghost use Rattle.tatp_tables.specs.Database.{Database};
 ghost use Rattle.tatp_history.specs.declared.line.Line.{Line as ALine};
 ghost use Rattle.tatp_history.specs.Events.{IsAnsweredAt, asked_in};
 ghost use Rattle.tatp_history.specs.Histories.{IsIn};
+ghost use Rattle.tatp_judge.specs.Aside.{undecided_in};
 ghost use Rattle.tatp_judge.specs.Followed.{HasKept};
 ghost use Rattle.tatp_judge.specs.Legal.{AreLegalReplies};
-ghost use Rattle.tatp_judge.specs.Verdicts.{IsUnexplained};
+ghost use Rattle.tatp_judge.specs.Verdicts.{IsOther, IsUnexplained};
 ghost use Rattle.tatp_judge.specs.Windows.{IsSpent, IsWindowAfter};
 
 use crate::judge::Judge;
@@ -139,11 +140,13 @@ impl Judge {
         line: u64,
     ) -> Result<Option<LegalReplies>, AllocError>
         requires { (u : Database) × (lines : List ALine) × HasKept u lines self.now
-            × (line ≤ length lines) × IsUnexplained u lines line (Some s_id) }
+            × (line ≤ length lines) × IsUnexplained u lines line (Some s_id)
+            × IsOther (undecided_in self.now) (Some s_id) }
         ensures { IfOk result (λ found. IfSome found (λ legal.
             (u : Database) (lines : List ALine)
             → HasKept u lines self.now → line ≤ length lines
             → IsUnexplained u lines line (Some s_id)
+            → IsOther (undecided_in self.now) (Some s_id)
             → AreLegalReplies u s_id (take line lines) legal.call legal.replies.items)) }
     {
         self.windows[s_id as usize - 1].legal_replies(alloc, line)

@@ -1,5 +1,5 @@
 //! Parts of a history, each of which is judged alone.
-ghost use Rattle.std.specs.Prelude.{◌≡◌, ◌≤◌, ℕ, None, Some, List};
+ghost use Rattle.std.specs.Prelude.{◌≡◌, ◌≤◌, ℕ, [], List};
 ghost use Rattle.tatp_tables.specs.Database.{Database};
 ghost use Rattle.tatp_procs.specs.Consistent.{IsConsistent};
 ghost use Rattle.tatp_history.specs.declared.line.Line.{Line as ALine};
@@ -81,10 +81,10 @@ pub fn a_history_leads_to_rows_where_each_part_does()
         → IsConsistent u → IsConsistent after → AreAcceptedLines lines → 1 ≤ count
         → ((number : ℕ) → 1 ≤ number → number ≤ count
         → let part = part_of count number in
-        LeadsInPart u part (lines_of_part u part lines) after)
+        LeadsInPart u part [] (lines_of_part u part lines) after)
         → LeadsTo u lines after }
     ensures part { (u after : Database) (count number : ℕ) (lines : List ALine)
         → IsConsistent u → AreAcceptedLines lines → LeadsTo u lines after
         → let part = part_of count number in
-        LeadsInPart u part (lines_of_part u part lines) after }
+        LeadsInPart u part [] (lines_of_part u part lines) after }
 {}

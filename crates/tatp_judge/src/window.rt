@@ -1,5 +1,5 @@
 //! The calls on one subscriber, from the last line on after which none of them was open.
-ghost use Rattle.std.specs.Prelude.{◌≡◌, ◌<◌, ◌+◌, ◌-◌, ◌^◌, [], ◌∷◌, ◌++◌, IfOk, OnOk};
+ghost use Rattle.std.specs.Prelude.{◌≡◌, ◌<◌, ◌+◌, ◌-◌, ◌^◌, [], ◌∷◌, ◌++◌, IfOk, OnOk, false};
 ghost use Rattle.tatp_history.specs.declared.event.Event.TheVariants.{Asks};
 ghost use Rattle.tatp_history.specs.Events.{TimesRise, time_of};
 ghost use Rattle.tatp_linearization.specs.Reached.{AreOfSubscriber, AreReached};
@@ -27,6 +27,8 @@ pub(crate) struct Window {
     pub(crate) waiting: u64,
     /// Where no order explains its last call, and no events are kept: that call, and its reply.
     pub(crate) only: Vec<OnlyReply>,
+    /// Whether the subscriber is set aside. Then nothing is kept but how many calls are open.
+    pub(crate) aside: bool,
 }
 
 /// The event, where the call that was asked then ends by the line of this number.
@@ -90,6 +92,7 @@ impl Window {
         ensures events { IfOk result (λ w. w.events.items ≡ []) }
         ensures numbers { IfOk result (λ w. w.numbers.items ≡ []) }
         ensures waiting { IfOk result (λ w. w.waiting ≡ 0) }
+        ensures aside { IfOk result (λ w. w.aside ≡ false) }
     {
         Ok(Window {
             explanations: Explanations::new(alloc, home, most)?,
@@ -98,39 +101,50 @@ impl Window {
             numbers: Vec::new(alloc),
             waiting: 0,
             only: Vec::new(alloc),
+            aside: false,
         })
     }
 
-    /// A call is asked.
+    /// A call is asked. Of a subscriber that is set aside it is only counted.
     pub(crate) fn ask(&mut self, x: &Observed) -> Result<(), AllocError>
         requires { self.old.waiting + 1 < 2 ^ 64 }
-        ensures events { OnOk result
-            (self.new.events.items ≡ self.old.events.items ++ Asks x.now ∷ []) }
-        ensures numbers { OnOk result
-            (self.new.numbers.items ≡ self.old.numbers.items ++ x.now.asked ∷ []) }
+        ensures events { OnOk result (self.old.aside ≡ false
+            → self.new.events.items ≡ self.old.events.items ++ Asks x.now ∷ []) }
+        ensures numbers { OnOk result (self.old.aside ≡ false
+            → self.new.numbers.items ≡ self.old.numbers.items ++ x.now.asked ∷ []) }
         ensures waiting { OnOk result (self.new.waiting ≡ self.old.waiting + 1) }
         ensures from { OnOk result (self.new.from ≡ self.old.from) }
         ensures explanations { OnOk result (self.new.explanations ≡ self.old.explanations) }
+        ensures aside { OnOk result (self.new.aside ≡ self.old.aside) }
     {
+        self.waiting += 1;
+        if self.aside {
+            return Ok(());
+        }
         push(&mut self.events, &Event::Asks(*x))?;
         self.numbers.push(x.asked)?;
-        self.waiting += 1;
         Ok(())
     }
 
-    /// The open call that was asked then ends by the line of this number.
+    /// The open call that was asked then ends by the line of this number. Of a subscriber that is
+    /// set aside it is only counted.
     pub(crate) fn end(&mut self, asked: u64, number: u64, line: &Line) -> Result<(), AllocError>
         requires some { 0 < self.old.waiting }
-        requires rise { TimesRise self.old.events.items }
-        ensures events { OnOk result (self.new.events.items
+        requires rise { self.old.aside ≡ false → TimesRise self.old.events.items }
+        ensures events { OnOk result (self.old.aside ≡ false → self.new.events.items
             ≡ with_outcome asked (end_at number line.now) self.old.events.items
             ++ ends_of asked number line.now) }
-        ensures numbers { OnOk result (self.new.numbers.items
+        ensures numbers { OnOk result (self.old.aside ≡ false → self.new.numbers.items
             ≡ self.old.numbers.items ++ number_of_last number line.now) }
         ensures waiting { OnOk result (self.new.waiting ≡ self.old.waiting - 1) }
         ensures from { OnOk result (self.new.from ≡ self.old.from) }
         ensures explanations { OnOk result (self.new.explanations ≡ self.old.explanations) }
+        ensures aside { OnOk result (self.new.aside ≡ self.old.aside) }
     {
+        self.waiting -= 1;
+        if self.aside {
+            return Ok(());
+        }
         write_outcome(&mut self.events, asked, number, line);
         if is_answer(line) {
             let event = Event::Ends { asked, at: number };
@@ -139,7 +153,6 @@ impl Window {
         if !is_ask(line) {
             self.numbers.push(number)?;
         }
-        self.waiting -= 1;
         Ok(())
     }
 }

@@ -1,12 +1,12 @@
 //! The windows of all subscribers, by s_id from 1 on.
-ghost use Rattle.std.specs.Prelude.{◌≡◌, ◌+◌, ◌<◌, ◌≤◌, ◌^◌, ℕ, suc, [], Some, IfOk, IfSome, OnOk, List, length, slice_get};
+ghost use Rattle.std.specs.Prelude.{◌≡◌, ◌+◌, ◌-◌, ◌<◌, ◌≤◌, ◌^◌, ℕ, suc, [], Some, IfOk, IfSome, OnOk, List, length, slice_get, false};
 ghost use Rattle.tatp_tables.specs.Database.{Database};
 ghost use Rattle.tatp_history.specs.declared.line.Line.{Line as ALine};
 ghost use Rattle.tatp_history.specs.Events.{TimesRise};
 ghost use Rattle.tatp_judge.specs.declared.window.Window.{Window as AWindow};
 ghost use Rattle.tatp_judge.specs.Asked.{asked_on};
 ghost use Rattle.tatp_judge.specs.Searched.{AreHomesOf};
-ghost use Rattle.tatp_judge.specs.Steps.{AreEach, ClosesAt, IsAskedIn, IsEndedIn, asks_on};
+ghost use Rattle.tatp_judge.specs.Steps.{AreEach, ClosesAt, AsksCall, EndsCall, asks_on};
 ghost use Rattle.tatp_judge.specs.Windows.{IsForgotten, IsWindowAfter};
 
 use crate::asked::Asked;
@@ -25,6 +25,8 @@ pub(crate) fn windows_of(
     ensures count { IfOk result (λ windows. length windows.items ≡ length homes.now) }
     ensures none { IfOk result (λ windows. (place : ℕ) (w : AWindow)
         → slice_get windows.items place ≡ Some w → IsForgotten w) }
+    ensures kept { IfOk result (λ windows. (place : ℕ) (w : AWindow)
+        → slice_get windows.items place ≡ Some w → w.aside ≡ false) }
     ensures windows { IfOk result (λ windows. (u : Database) → AreHomesOf u homes.now
         → (place : ℕ) (w : AWindow) → slice_get windows.items place ≡ Some w
         → IsWindowAfter u most (suc place) [] w) }
@@ -47,9 +49,9 @@ pub(crate) fn end_in(
     requires some { (place : ℕ) (w : AWindow) → asked.now.s_id ≡ Some (suc place)
         → slice_get windows.old.items place ≡ Some w → 0 < w.waiting }
     requires rise { (place : ℕ) (w : AWindow) → slice_get windows.old.items place ≡ Some w
-        → TimesRise w.events.items }
+        → w.aside ≡ false → TimesRise w.events.items }
     ensures { OnOk result (AreEach (λ place.
-        IsEndedIn (asked_on (suc place) (Some asked.now)) number line.now)
+        EndsCall (asked_on (suc place) (Some asked.now)) number line.now)
         windows.old.items windows.new.items) }
 {
     match asked.s_id {
@@ -67,7 +69,7 @@ pub(crate) fn ask_in(
     requires within { IfSome s_id (λ s. (1 ≤ s) × (s ≤ length windows.old.items)) }
     requires few { (place : ℕ) (w : AWindow) → slice_get windows.old.items place ≡ Some w
         → w.waiting + 1 < 2 ^ 64 }
-    ensures { OnOk result (AreEach (λ place. IsAskedIn (asks_on (suc place) s_id x.now))
+    ensures { OnOk result (AreEach (λ place. AsksCall (asks_on (suc place) s_id x.now))
         windows.old.items windows.new.items) }
 {
     match s_id {
@@ -84,9 +86,8 @@ pub(crate) fn close_in(
     number: u64,
 ) -> Result<Standing, AllocError>
     requires within { (1 ≤ s_id) × (s_id ≤ length windows.old.items) }
-    requires windows { (u : Database) × (most : ℕ) × (lines : List ALine)
-        × ((place : ℕ) (w : AWindow) → slice_get windows.old.items place ≡ Some w
-        → IsWindowAfter u most (suc place) lines w) }
+    requires window { (w : AWindow) → slice_get windows.old.items (s_id - 1) ≡ Some w
+        → (u : Database) × (most : ℕ) × (lines : List ALine) × IsWindowAfter u most s_id lines w }
     ensures { IfOk result (λ standing.
         AreEach (ClosesAt s_id number standing) windows.old.items windows.new.items) }
 {

@@ -18,12 +18,11 @@ use Rattle.tatp_streams.proofs.LineReadingLaws.{of_input, relates_known}
 use Rattle.tatp_tasks.specs.declared.judging.JudgePlan.{JudgePlan}
 use Rattle.tatp_tasks.specs.declared.population.Population.{Population}
 use Rattle.tatp_inputs.specs.Work.{Work, lines_before, BringsWork}
-use Rattle.tatp_judged_inputs.specs.declared.judging.Window.{Window}
 use Rattle.tatp_judged_inputs.specs.Judging.{OfWork, part_asked, view_asked, IsJudgedWith, JudgesWork, JudgesInput, RefusesTexts, RefusesAfterRows, RefusesInput}
 use Rattle.tatp_judged_inputs.specs.RowsAtEnd.{AreAdmitted}
 use Rattle.tatp_judged_inputs.specs.declared.fault.JudgeFault.{JudgeFault}
 use Rattle.tatp_judged_inputs.specs.declared.fault.JudgeFault.TheVariants.{BadLine, BadArgument, Unopened, Stream}
-use Rattle.tatp_judged_inputs.specs.declared.judging.Judged.{Judged}
+use Rattle.tatp_judged_inputs.specs.declared.judging.Judgement.{Judgement}
 
 -- ---- the lines after the rows
 -- so many lines of the input come before them
@@ -40,11 +39,11 @@ of_work population start limit known left rows n P e b h =
     (λ all. OfWork population all.lines (λ work. P work (lines_before population all.lines))) (rw e at b) h
     (λ all l brings holds. (record { rows = rows; lines = l.lines }, brings.work, subst (P (record { rows = rows; lines = l.lines })) (come_before population rows n all l brings) holds)))
 
-pub input_judged : (plan : JudgePlan) (start : LineReaderState) (limit : ℕ) (known : Option (List ℕ)) (left : Option LinesLeft) (rows : Rows) (n : ℕ) (judge : Judge) (part : Part) (judged : Judged) (window : Window)
+pub input_judged : (plan : JudgePlan) (start : LineReaderState) (limit : ℕ) (known : Option (List ℕ)) (left : Option LinesLeft) (rows : Rows) (n : ℕ) (judge : Judge) (part : Part) (judgement : Judgement)
     → start ≡ nothing_taken limit → Relates (lines_left start known) left (BringsWork plan.population rows start.number n) → AreAdmitted rows → HasFollowed (database_of rows) plan.most [] judge → part ≡ part_asked plan → IsPart (part_asked plan)
-    → IfSome left (λ l. (u : View) (most : ℕ) → IsBegun u most part judge → IsJudgedWith plan.final_rows u most n l.lines judged window) → IfSome known (λ input. JudgesInput plan (lines_of input) judged window)
-input_judged plan start limit known left rows n judge part judged window e b admitted from asked possible h =
-    of_work plan.population start limit known left rows n (λ work taken. JudgesWork plan work taken judged window) e b
+    → IfSome left (λ l. (u : View) (most : ℕ) → IsBegun u most part judge → IsJudgedWith plan.final_rows u most n l.lines judgement) → IfSome known (λ input. JudgesInput plan (lines_of input) judgement)
+input_judged plan start limit known left rows n judge part judgement e b admitted from asked possible h =
+    of_work plan.population start limit known left rows n (λ work taken. JudgesWork plan work taken judgement) e b
     (IfSome_then left h (λ l says. record { admitted = admitted; is = says (view_asked plan rows) plan.most (record { followed = from; part_is = sym asked; possible = subst IsPart (sym asked) possible }) }))
 
 -- ---- what is refused

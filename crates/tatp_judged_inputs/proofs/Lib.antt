@@ -1,3 +1,4 @@
+pub mod AsideLaws
 pub mod ViewLaws
 pub mod NumbersLaws
 pub mod HistoryLaws

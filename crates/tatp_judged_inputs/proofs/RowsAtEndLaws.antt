@@ -1,5 +1,5 @@
 -- A history up to a line `.`, and the rows after it.
-use Rattle.std.specs.Prelude.{◌≡◌, ℕ, ◌+◌, ◌-◌, List, [], ◌∷◌, ◌++◌, length, Option, Some, None, Ok, Err, IfSome}
+use Rattle.std.specs.Prelude.{◌≡◌, ℕ, ◌+◌, ◌-◌, ◌≤◌, List, [], ◌∷◌, ◌++◌, length, Option, Some, None, Ok, Err, IfSome}
 use Rattle.std.specs.List.{AllByRecursion}
 use Rattle.std.specs.Option.{option_map}
 use Rattle.std.proofs.Common.{refl, sym, ap, subst, ◌∙◌, append_assoc, cond, true, false, arith, inl, inr}
@@ -24,24 +24,28 @@ use Rattle.tatp_judge.specs.declared.judge.Judge.{Judge}
 use Rattle.tatp_judge.specs.declared.judge.Verdict.{Verdict}
 use Rattle.tatp_judge.specs.declared.judge.Verdict.TheVariants as verdicts
 use Rattle.tatp_judge.specs.declared.stakes.Stakes.{Stakes}
-use Rattle.tatp_judged_inputs.specs.Views.{HasCounted, IsBegun, IsFinalVerdictOn, IsFirstUnreached, IsLegal, IsVerdictOn, LeadsTo, NeedMoreBy, View, seen}
-use Rattle.tatp_judge.specs.Verdicts.{NeedMoreBy as NeedMoreByAll}
+use Rattle.tatp_judged_inputs.specs.Views.{HasCounted, IsBegun, IsFinalVerdictOn, IsFirstUnreached, AreUndecided, IsLegalBut, IsSaid, LeadsTo, NeedMoreBy, View}
+use Rattle.tatp_judge.specs.declared.aside.Undecided.{Undecided}
+use Rattle.tatp_judge.specs.Aside.{undecided_in}
+use Rattle.tatp_judge.specs.Verdicts.{AreInOrder}
+use Rattle.tatp_history.proofs.OrderLaws.{all_map}
+use Rattle.tatp_judged_inputs.proofs.AsideLaws.{first_same, ids_at, ids_both, rest_same, same_aside, same_but, some_none}
 use Rattle.tatp_judged_inputs.proofs.ViewLaws.{seen_length}
 use Rattle.tatp_judged_inputs.proofs.VerdictLaws.{same_told}
 use Rattle.tatp_judged_inputs.specs.declared.judging.Window.{Window}
 use Rattle.tatp_judged_inputs.specs.HistoryTexts.{Told, history_from, none_open}
-use Rattle.tatp_judged_inputs.specs.Judged.{Tell, IsUntold, IsJudged, IsJudgement, IsTold, IsUndecidedAt, IsWindowBy, IsWindowOf}
+use Rattle.tatp_judged_inputs.specs.Judged.{Tell, IsUntold, IsJudged, IsJudgement, IsTold, AreUndecidedAt, IsUndecidedAt, IsWindowBy, IsWindowOf, aside_told}
 use Rattle.tatp_judged_inputs.specs.Judging.{RefusesTexts, history_fault, input_fault}
 use Rattle.tatp_judged_inputs.specs.Reading.{Decides, GoesOn, ReadsToDot, RefusesHistory, told_by, told_of}
-use Rattle.tatp_judged_inputs.specs.RowsAtEnd.{AreAdmitted, Bring, IsJudgedTo, IsJudgementTo, dot_number, rows_after, rows_at_end, told_by_rows}
+use Rattle.tatp_judged_inputs.specs.RowsAtEnd.{AreAdmitted, Bring, IsJudgedTo, IsJudgementTo, dot_number, ids, rows_after, rows_at_end, told_at, told_by_rows}
 use Rattle.tatp_judged_inputs.specs.declared.fault.JudgeFault.TheVariants.{BadLine, Unopened}
 use Rattle.tatp_judged_inputs.specs.declared.history_fault.HistoryFault.{HistoryFault}
 use Rattle.tatp_judged_inputs.specs.declared.history_fault.HistoryFault.TheVariants as history
 use Rattle.tatp_judged_inputs.specs.declared.judging.Judged.{Judged}
-use Rattle.tatp_judged_inputs.specs.declared.judging.Judged.TheVariants.{Legal, Illegal, Undecided, Unreached}
+use Rattle.tatp_judged_inputs.specs.declared.judging.Judged.TheVariants.{Legal, Illegal, Unreached}
 use Rattle.tatp_judged_inputs.specs.declared.reading.Reading.{Reading}
 use Rattle.tatp_judged_inputs.proofs.FrontLaws.{is_judgement}
-use Rattle.tatp_judged_inputs.proofs.HistoryLaws.{ReadSoFar, by_all, read_all, read_decided, read_one, read_to_end, reading_goes_on, reading_starts, none_read, one_more_read, split_next}
+use Rattle.tatp_judged_inputs.proofs.HistoryLaws.{ReadSoFar, by_all, one_numbered, read_all, read_decided, read_one, read_to_end, reading_goes_on, reading_starts, none_read, one_more_read, split_next}
 
 -- ---- the line `.`
 -- none of these is one
@@ -99,14 +103,14 @@ to_dot_goes_on u most judge judge' r r' taken now number text all left left' s i
 }
 
 -- ---- at the line `.`
-pub judged_at_dot : (u : View) (most : ℕ) (judge : Judge) (r : Reading) (taken now number : ℕ) (text : List ℕ) (all left left' : Option LinesLeft) (a : LinesLeft) (verdict : Verdict) (judged : Judged) (window : Window) (s : ToDotSoFar u most judge r taken now all left) → all ≡ Some a
-    → is_dot text ≡ true → Stays left (option_map (with_line text) left') → number ≡ now → IsVerdictOn u most s.so_far.past verdict → IsTold u (told_of r s.so_far.past) number verdict judged → IsWindowBy u (told_of r s.so_far.past) verdict window
-    → IsJudgement u most taken (before_dot a.lines) judged window
-judged_at_dot u most judge r taken now number text all left left' a verdict judged window s e is stays same on told by =
+pub judged_at_dot : (u : View) (most : ℕ) (judge : Judge) (r : Reading) (taken now : ℕ) (text : List ℕ) (all left left' : Option LinesLeft) (a : LinesLeft) (verdict : Verdict) (judged : Judged) (aside told : List Undecided) (window : Window) (s : ToDotSoFar u most judge r taken now all left) → all ≡ Some a
+    → is_dot text ≡ true → Stays left (option_map (with_line text) left') → IsSaid u most s.so_far.past aside verdict → IsTold u (told_of r s.so_far.past) verdict judged → told ≡ aside_told taken r.numbers.items aside → IsWindowBy u (told_of r s.so_far.past) verdict window
+    → IsJudgement u most taken (before_dot a.lines) judged told window
+judged_at_dot u most judge r taken now text all left left' a verdict judged aside told window s e is stays on by same shown =
     let read = s.so_far.read in
     let one = read_one u most judge r taken now text all left left' a s.so_far e stays in
-    subst (λ texts. IsJudgement u most taken texts judged window) (append-nil read ∙ sym (before_it a.lines read text one.0 one.1 s.no_dots is))
-    (is_judgement u most taken now read [] (told_of r s.so_far.past) verdict judged window (read_all r s.so_far.past taken now read s.so_far.to) (λ _. refl) on (subst (λ n. IsTold u (told_of r s.so_far.past) n verdict judged) same told) by)
+    subst (λ texts. IsJudgement u most taken texts judged told window) (append-nil read ∙ sym (before_it a.lines read text one.0 one.1 s.no_dots is))
+    (is_judgement u most taken now read [] (told_of r s.so_far.past) verdict judged aside told window (read_all r s.so_far.past taken now read s.so_far.to) s.so_far.numbered.count (λ _. refl) on by same shown)
 
 pub reads_to_dot : (u : View) (most : ℕ) (judge : Judge) (r : Reading) (taken now number : ℕ) (text : List ℕ) (all left left' : Option LinesLeft) (s : ToDotSoFar u most judge r taken now all left) → is_dot text ≡ true → number ≡ now + 1
     → Stays left (option_map (with_line text) left') → Relates all left' (ReadsToDot s.so_far.past taken number)
@@ -160,33 +164,33 @@ refused_without_dot u most judge r taken now n all left left' s next stays none 
     inr (refl, missing taken now n a.lines s.so_far.read (read_to_end u most judge r taken now all left left' a s.so_far e stays none within) s.no_dots s.so_far.to.count next))
 
 -- ---- what is decided before the rows
-pub told_legal : (u : View) (t : Told) (read : ℕ) (verdict : Verdict) (judged : Judged) (stakes : Stakes) → IsTold u t read verdict judged → (verdict ≡ verdicts.Legal → ⊥) → judged ≡ Legal stakes → ⊥
-told_legal u t read verdicts.Legal judged stakes told never e = never refl
-told_legal u t read (verdicts.Illegal first s_id) judged stakes told never e = let is = told.2 in cc
-told_legal u t read (verdicts.Undecided line s) judged stakes told never e = cc
+pub told_legal : (u : View) (t : Told) (verdict : Verdict) (judged : Judged) (stakes : Stakes) → IsTold u t verdict judged → (verdict ≡ verdicts.Legal → ⊥) → judged ≡ Legal stakes → ⊥
+told_legal u t verdicts.Legal judged stakes told never e = never refl
+told_legal u t (verdicts.Illegal first s_id) judged stakes told never e = let is = told.2 in cc
 
-decided_before : (u : View) (most taken : ℕ) (texts : List (List ℕ)) (judged : Judged) → ((stakes : Stakes) → judged ≡ Legal stakes → ⊥) → IsJudged u most taken (before_dot texts) judged → IsJudgedTo u most taken texts judged
-decided_before u most taken texts (Legal stakes) never h = absurd (never stakes refl)
-decided_before u most taken texts (Illegal number s_id) never h = h
-decided_before u most taken texts (Undecided number s) never h = h
-decided_before u most taken texts (Unreached number s) never h = absurd h
+decided_before : (u : View) (aside : List Undecided) (taken : ℕ) (texts : List (List ℕ)) (judged : Judged) → ((stakes : Stakes) → judged ≡ Legal stakes → ⊥) → IsJudged u aside taken (before_dot texts) judged → IsJudgedTo u aside taken texts judged
+decided_before u aside taken texts (Legal stakes) never h = absurd (never stakes refl)
+decided_before u aside taken texts (Illegal number s_id) never h = h
+decided_before u aside taken texts (Unreached number s) never h = absurd h
 
-pub judgement_before : (u : View) (most taken : ℕ) (texts : List (List ℕ)) (judged : Judged) (window : Window) → ((stakes : Stakes) → judged ≡ Legal stakes → ⊥) → IsJudgement u most taken (before_dot texts) judged window → IsJudgementTo u most taken texts judged window
-judgement_before u most taken texts judged window never h = record {
-  judged_is = decided_before u most taken texts judged never h.judged_is;
+pub judgement_before : (u : View) (most taken : ℕ) (texts : List (List ℕ)) (judged : Judged) (aside : List Undecided) (window : Window) → ((stakes : Stakes) → judged ≡ Legal stakes → ⊥) → IsJudgement u most taken (before_dot texts) judged aside window → IsJudgementTo u most taken texts judged aside window
+judgement_before u most taken texts judged aside window never h = record {
+  judged_is = decided_before u aside taken texts judged never h.judged_is;
+  aside_are = h.aside_are;
   window_is = h.window_is;
 }
 
 -- a text decides, and the judge isn't asked again
-pub judged_before_dot : (u : View) (most : ℕ) (judge judge' : Judge) (r r' : Reading) (taken now number : ℕ) (text : List ℕ) (all left left' : Option LinesLeft) (a : LinesLeft) (verdict : Verdict) (judged : Judged) (window : Window) (s : ToDotSoFar u most judge r taken now all left)
-    → all ≡ Some a → is_dot text ≡ false → number ≡ now + 1 → Stays left (option_map (with_line text) left') → (verdict ≡ verdicts.Legal → ⊥) → (d : Decides u most s.so_far.past number text verdict judge' r r') → IsTold u (told_of r' (s.so_far.past ++ d.line ∷ [])) number verdict judged
-    → IsWindowBy u (told_of r' (s.so_far.past ++ d.line ∷ [])) verdict window → IsJudgement u most taken (before_dot a.lines) judged window
-judged_before_dot u most judge judge' r r' taken now number text all left left' a verdict judged window s e is next stays never d told by =
+pub judged_before_dot : (u : View) (most : ℕ) (judge judge' : Judge) (r r' : Reading) (taken now number : ℕ) (text : List ℕ) (all left left' : Option LinesLeft) (a : LinesLeft) (verdict : Verdict) (judged : Judged) (told : List Undecided) (window : Window) (s : ToDotSoFar u most judge r taken now all left)
+    → all ≡ Some a → is_dot text ≡ false → number ≡ now + 1 → Stays left (option_map (with_line text) left') → (verdict ≡ verdicts.Legal → ⊥) → (d : Decides u most s.so_far.past number text verdict judge' r r') → IsTold u (told_of r' (s.so_far.past ++ d.line ∷ [])) verdict judged
+    → told ≡ aside_told taken r'.numbers.items (undecided_in judge') → IsWindowBy u (told_of r' (s.so_far.past ++ d.line ∷ [])) verdict window → IsJudgement u most taken (before_dot a.lines) judged told window
+judged_before_dot u most judge judge' r r' taken now number text all left left' a verdict judged told window s e is next stays never d by same shown =
     let read = s.so_far.read in
     let one = read_one u most judge r taken now text all left left' a s.so_far e stays in
-    subst (λ texts. IsJudgement u most taken texts judged window) (sym (before_later a.lines read text one.0 one.1 s.no_dots is))
-    (is_judgement u most taken number (read ++ text ∷ []) (before_dot one.0) (told_of r' (s.so_far.past ++ d.line ∷ [])) verdict judged window (read_decided u most verdict judge' r r' s.so_far.past taken now number read text s.so_far.to next d)
-    (λ legal. absurd (never legal)) d.decided told by)
+    subst (λ texts. IsJudgement u most taken texts judged told window) (sym (before_later a.lines read text one.0 one.1 s.no_dots is))
+    (is_judgement u most taken number (read ++ text ∷ []) (before_dot one.0) (told_of r' (s.so_far.past ++ d.line ∷ [])) verdict judged (undecided_in judge') told window
+    (read_decided u most verdict judge' r r' s.so_far.past taken now number read text s.so_far.to next d)
+    (one_numbered r r' s.so_far.past number d.line d.numbers_are d.part_same s.so_far.numbered).count (λ legal. absurd (never legal)) d.decided by same shown)
 
 -- ---- the rows
 brings : (taken dot : ℕ) (past : List Line) (a l : LinesLeft) (rows : Rows) (Holds : List Line → Database → Type 0) → ReadsToDot past taken dot a l → rows_of_lines (dot + 1) l.lines ≡ Ok rows → AreAdmitted rows → Holds past (database_of rows) → Bring taken a.lines Holds
@@ -197,41 +201,114 @@ brings taken dot past a l rows Holds reads read admitted holds = record {
   holds = (reads.told, reads.tell, subst (λ lines. Holds lines (database_of rows)) (sym reads.lines_are) holds);
 }
 
-undecided_by_rows : (u : View) (most taken dot s : ℕ) (past : List Line) (a l : LinesLeft) → ReadsToDot past taken dot a l → NeedMoreBy u most past (length past) s → IsUndecidedAt u most taken (before_dot a.lines) (dot - 1) s
-undecided_by_rows u most taken dot s past a l reads many = record {
+-- a subscriber that is set aside for them
+undecided_by_rows : (u : View) (most taken dot line s : ℕ) (past : List Line) (a l : LinesLeft) → ReadsToDot past taken dot a l → NeedMoreBy u most past line s → IsUndecidedAt u most taken (before_dot a.lines) (dot - 1) s
+undecided_by_rows u most taken dot line s past a l reads many = record {
   later = omega (arith, reads.counted);
   within = omega (arith, reads.counted);
   many = subst (λ texts. Tell taken texts (λ told. NeedMoreBy u most told.lines (length told.lines) s)) (sym (take_all (dot - 1 - taken) (before_dot a.lines) (omega (arith, reads.counted))))
-      (reads.told, reads.tell, subst (λ lines. NeedMoreBy u most lines (length lines) s) (sym reads.lines_are) many);
+      (reads.told, reads.tell, subst (λ lines. NeedMoreBy u most lines (length lines) s) (sym reads.lines_are) (need_all u most line s past many));
 }
+  where
+    need_all : (u : View) (most line s : ℕ) (lines : List Line) → NeedMoreBy u most lines line s → NeedMoreBy u most lines (length lines) s
+    need_all u most line s lines h = let long = seen_length u lines in record { within = omega (arith, long); first = h.first; by = omega (arith, h.by, h.within, long); many = h.many }
 
-said_by_rows : (u : View) (most taken dot : ℕ) (past : List Line) (a l : LinesLeft) (rows : Rows) (stakes : Stakes) (verdict : FinalVerdict) → ReadsToDot past taken dot a l → rows_of_lines (dot + 1) l.lines ≡ Ok rows → AreAdmitted rows → IsJudged u most taken (before_dot a.lines) (Legal stakes)
-    → IsFinalVerdictOn u most past (database_of rows) verdict → IsJudgedTo u most taken a.lines (told_by_rows stakes verdict dot)
-said_by_rows u most taken dot past a l rows stakes final.Reached reads read admitted legal is =
-    let told = same_told (history_from none_open (taken + 1) (before_dot a.lines)) legal.0.0 reads.told legal.0.1 reads.tell in
-    let explained = subst (λ lines. IsLegal u lines) (ap (λ (t : Told). t.lines) told ∙ reads.lines_are) legal.0.2 in
-    (brings taken dot past a l rows (LeadsTo u) reads read admitted (record { legal = explained; leave = is }), legal.1)
-said_by_rows u most taken dot past a l rows stakes (final.Unreached s) reads read admitted legal is =
-    record { number_is = reads.counted; legal = legal.0; unreached = brings taken dot past a l rows (λ lines after. IsFirstUnreached u lines after s) reads read admitted is }
-said_by_rows u most taken dot past a l rows stakes (final.Undecided s) reads read admitted legal is = undecided_by_rows u most taken dot s past a l reads (subst (λ k. NeedMoreByAll u.rows most (seen u past) k s) (seen_length u past) is)
+-- what the judge says of them
+pub record EndsWith (u : View) (most : ℕ) (past : List Line) (rows : Rows) (verdict : FinalVerdict) (old more : List Undecided) : Type 0 where
+  pub verdict_is : IsFinalVerdictOn u (old ++ more) past (database_of rows) verdict
+  pub aside_are : AreUndecided u most past (old ++ more)
+  pub legal : IsLegalBut u old past → IsLegalBut u (old ++ more) past
+
+said_by_rows : (u : View) (most taken dot : ℕ) (past : List Line) (a l : LinesLeft) (rows : Rows) (stakes : Stakes) (verdict : FinalVerdict) (told old more : List Undecided) → ReadsToDot past taken dot a l → rows_of_lines (dot + 1) l.lines ≡ Ok rows → AreAdmitted rows → ids told ≡ ids old
+    → IsJudged u told taken (before_dot a.lines) (Legal stakes) → EndsWith u most past rows verdict old more → IsJudgedTo u (told ++ told_at (dot - 1) more) taken a.lines (told_by_rows stakes verdict dot)
+said_by_rows u most taken dot past a l rows stakes verdict told old more reads read admitted same legal is =
+    let both : ids (old ++ more) ≡ ids (told ++ told_at (dot - 1) more) = ids_both old more ∙ ((λ i. sym same i ++ sym (ids_at (dot - 1) more) i) ∙ sym (ids_both told (told_at (dot - 1) more))) in
+    let here = same_told (history_from none_open (taken + 1) (before_dot a.lines)) legal.0.0 reads.told legal.0.1 reads.tell in
+    let before = same_but u told old past same (subst (λ lines. IsLegalBut u told lines) (ap (λ (t : Told). t.lines) here ∙ reads.lines_are) legal.0.2) in
+    let explained = same_but u (old ++ more) (told ++ told_at (dot - 1) more) past both (is.legal before) in
+    by verdict both explained is.verdict_is
+  where
+    by : (v : FinalVerdict) → ids (old ++ more) ≡ ids (told ++ told_at (dot - 1) more) → IsLegalBut u (told ++ told_at (dot - 1) more) past → IsFinalVerdictOn u (old ++ more) past (database_of rows) v → IsJudgedTo u (told ++ told_at (dot - 1) more) taken a.lines (told_by_rows stakes v dot)
+    by final.Reached both explained h = (
+      brings taken dot past a l rows (LeadsTo u (told ++ told_at (dot - 1) more)) reads read admitted
+          (record { legal = explained; leave = λ s own apart. h s own (λ k. apart (same_aside (old ++ more) (told ++ told_at (dot - 1) more) s both k)) }),
+      legal.1,
+    )
+    by (final.Unreached s) both explained h = record {
+      number_is = reads.counted;
+      legal = (reads.told, reads.tell, subst (λ lines. IsLegalBut u (told ++ told_at (dot - 1) more) lines) (sym reads.lines_are) explained);
+      unreached = brings taken dot past a l rows (λ lines after. IsFirstUnreached u (told ++ told_at (dot - 1) more) lines after s) reads read admitted (record {
+        first = h.first;
+        own = h.own;
+        other = λ k. h.other (same_aside (told ++ told_at (dot - 1) more) (old ++ more) s (sym both) k);
+        here = h.here;
+        before = λ t least lt there apart. h.before t least lt there (λ k. apart (same_aside (old ++ more) (told ++ told_at (dot - 1) more) t both k));
+      });
+    }
+
+-- those that are told, in order
+all_parts : (P : Undecided → Type 0) (xs ys : List Undecided) → AllByRecursion P (xs ++ ys) → AllByRecursion P ys
+all_parts P [] ys h = h
+all_parts P (x ∷ xs) ys h = all_parts P xs ys h.1
+
+all_joined : (P : Undecided → Type 0) (xs ys : List Undecided) → AllByRecursion P xs → AllByRecursion P ys → AllByRecursion P (xs ++ ys)
+all_joined P [] ys h k = k
+all_joined P (x ∷ xs) ys h k = (h.0, all_joined P xs ys h.1 k)
+
+all_at : (P Q : Undecided → Type 0) (line : ℕ) (xs : List Undecided) → ((x : Undecided) → P x → Q (record { line = line; s_id = x.s_id })) → AllByRecursion P xs → AllByRecursion Q (told_at line xs)
+all_at P Q line [] f h = tt
+all_at P Q line (x ∷ xs) f h = (f x h.0, all_at P Q line xs f h.1)
+
+order_at : (line : ℕ) (more : List Undecided) → AreInOrder more → AreInOrder (told_at line more)
+order_at line [] h = tt
+order_at line (one ∷ more) h = (
+  all_at (λ other. (one.line ≤ other.line) × (one.s_id ≡ other.s_id → ⊥)) (λ other. (line ≤ other.line) × (one.s_id ≡ other.s_id → ⊥)) line more (λ other k. (omega arith, k.1)) h.0,
+  order_at line more h.1,
+)
+
+all_first : (P : Undecided → Type 0) (xs ys : List Undecided) → AllByRecursion P (xs ++ ys) → AllByRecursion P xs
+all_first P [] ys h = tt
+all_first P (x ∷ xs) ys h = (h.0, all_first P xs ys h.1)
+
+order_joined : (line : ℕ) (told old more : List Undecided) → ids told ≡ ids old → AllByRecursion (λ one. one.line ≤ line) told → AreInOrder told → AreInOrder (old ++ more) → AreInOrder (told ++ told_at line more)
+order_joined line [] [] more same within order both = order_at line more both
+order_joined line [] (one ∷ old) more same within order both = absurd (some_none one.s_id (ids old) (sym same))
+order_joined line (first ∷ told) [] more same within order both = absurd (some_none first.s_id (ids told) same)
+order_joined line (first ∷ told) (one ∷ old) more same within order both = (
+  all_joined (λ other. (first.line ≤ other.line) × (first.s_id ≡ other.s_id → ⊥)) told (told_at line more) order.0
+      (all_at (λ other. (one.line ≤ other.line) × (one.s_id ≡ other.s_id → ⊥)) (λ other. (first.line ≤ other.line) × (first.s_id ≡ other.s_id → ⊥)) line more
+      (λ other k. (within.0, λ e. k.1 (sym (first_same first.s_id one.s_id (ids told) (ids old) same) ∙ e))) (all_parts (λ other. (one.line ≤ other.line) × (one.s_id ≡ other.s_id → ⊥)) old more both.0)),
+  order_joined line told old more (rest_same first.s_id one.s_id (ids told) (ids old) same) within.1 order.1 both.1,
+)
+
+aside_by_rows : (u : View) (most taken dot : ℕ) (past : List Line) (a l : LinesLeft) (told old more : List Undecided) → ReadsToDot past taken dot a l → ids told ≡ ids old → AreUndecidedAt u most taken (before_dot a.lines) told → AreUndecided u most past (old ++ more)
+    → AreUndecidedAt u most taken (before_dot a.lines) (told ++ told_at (dot - 1) more)
+aside_by_rows u most taken dot past a l told old more reads same are both = record {
+  each = all_joined (λ one. IsUndecidedAt u most taken (before_dot a.lines) one.line one.s_id) told (told_at (dot - 1) more) are.each
+      (all_at (λ one. NeedMoreBy u most past one.line one.s_id) (λ one. IsUndecidedAt u most taken (before_dot a.lines) one.line one.s_id) (dot - 1) more (λ one h. undecided_by_rows u most taken dot one.line one.s_id past a l reads h)
+      (all_parts (λ one. NeedMoreBy u most past one.line one.s_id) old more both.each));
+  order = order_joined (dot - 1) told old more same
+      (all_map (λ (one : Undecided). IsUndecidedAt u most taken (before_dot a.lines) one.line one.s_id) (λ (one : Undecided). one.line ≤ dot - 1) (λ one h. let within = h.within in omega (arith, within, reads.counted)) told are.each) are.order both.order;
+}
 
 -- no lines are told with it
 window_by_rows : (u : View) (taken dot : ℕ) (texts : List (List ℕ)) (stakes : Stakes) (verdict : FinalVerdict) (window : Window) → IsUntold window → IsWindowOf u taken texts (told_by_rows stakes verdict dot) window
 window_by_rows u taken dot texts stakes final.Reached window none = none
 window_by_rows u taken dot texts stakes (final.Unreached s) window none = none
-window_by_rows u taken dot texts stakes (final.Undecided s) window none = none
 
 both_known : (all left : Option LinesLeft) (P : LinesLeft → LinesLeft → Type 0) (Q R S : LinesLeft → Type 0) → Relates all left P → IfSome left Q → IfSome all R → ((a l : LinesLeft) → P a l → Q l → R a → S a) → IfSome all S
 both_known None left P Q R S h q r f = tt
 both_known (Some a) None P Q R S h q r f = absurd h
 both_known (Some a) (Some l) P Q R S h q r f = f a l h q r
 
-pub judged_by_rows : (u : View) (most taken dot : ℕ) (past : List Line) (all left : Option LinesLeft) (rows : Rows) (stakes : Stakes) (verdict : FinalVerdict) (window : Window) → Relates all left (ReadsToDot past taken dot) → IfSome left (λ l. rows_of_lines (dot + 1) l.lines ≡ Ok rows)
-    → AreAdmitted rows → IfSome all (λ a. IsJudgement u most taken (before_dot a.lines) (Legal stakes) window) → IsFinalVerdictOn u most past (database_of rows) verdict → IfSome all (λ a. IsJudgementTo u most taken a.lines (told_by_rows stakes verdict dot) window)
-judged_by_rows u most taken dot past all left rows stakes verdict window reads read admitted legal is =
-    both_known all left (ReadsToDot past taken dot) (λ l. rows_of_lines (dot + 1) l.lines ≡ Ok rows) (λ a. IsJudgement u most taken (before_dot a.lines) (Legal stakes) window) (λ a. IsJudgementTo u most taken a.lines (told_by_rows stakes verdict dot) window) reads read legal
+pub judged_by_rows : (u : View) (most taken dot : ℕ) (past : List Line) (all left : Option LinesLeft) (rows : Rows) (stakes : Stakes) (verdict : FinalVerdict) (told old more : List Undecided) (window : Window) → Relates all left (ReadsToDot past taken dot) → IfSome left (λ l. rows_of_lines (dot + 1) l.lines ≡ Ok rows)
+    → AreAdmitted rows → ids told ≡ ids old → IfSome all (λ a. IsJudgement u most taken (before_dot a.lines) (Legal stakes) told window) → EndsWith u most past rows verdict old more
+    → IfSome all (λ a. IsJudgementTo u most taken a.lines (told_by_rows stakes verdict dot) (told ++ told_at (dot - 1) more) window)
+judged_by_rows u most taken dot past all left rows stakes verdict told old more window reads read admitted same legal is =
+    both_known all left (ReadsToDot past taken dot) (λ l. rows_of_lines (dot + 1) l.lines ≡ Ok rows) (λ a. IsJudgement u most taken (before_dot a.lines) (Legal stakes) told window) (λ a. IsJudgementTo u most taken a.lines (told_by_rows stakes verdict dot) (told ++ told_at (dot - 1) more) window) reads read legal
     (λ a l to r known. record {
-      judged_is = said_by_rows u most taken dot past a l rows stakes verdict to r admitted known.judged_is is;
+      judged_is = said_by_rows u most taken dot past a l rows stakes verdict told old more to r admitted same known.judged_is is;
+      aside_are = aside_by_rows u most taken dot past a l told old more to same known.aside_are is.aside_are;
       window_is = window_by_rows u taken dot (before_dot a.lines) stakes verdict window known.window_is;
     })
 

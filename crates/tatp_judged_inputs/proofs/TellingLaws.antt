@@ -8,16 +8,19 @@ use Rattle.tatp_procs.specs.declared.ask.Ask.{Ask}
 use Rattle.tatp_procs.specs.declared.ask.Ask.TheVariants.{Txn}
 use Rattle.tatp_procs.specs.declared.reply.Reply.{Reply}
 use Rattle.tatp_judge.specs.declared.legal.LegalReplies.{LegalReplies}
+use Rattle.tatp_judge.specs.declared.aside.Undecided.{Undecided}
 use Rattle.tatp_judge.specs.declared.judge.Judge.{Judge}
 use Rattle.tatp_judge.specs.declared.judge.Verdict.{Verdict}
 use Rattle.tatp_judge.specs.declared.judge.Verdict.TheVariants.{Illegal}
+use Rattle.tatp_judge.specs.Aside.{undecided_in}
+use Rattle.tatp_judge.specs.Verdicts.{IsOther}
 use Rattle.tatp_judged_inputs.proofs.ViewLaws.{seen_length}
-use Rattle.tatp_judged_inputs.specs.Views.{AreNumbersTold, AreRepliesTold, HasKept, IsUnexplained, IsVerdictOn, View}
+use Rattle.tatp_judged_inputs.specs.Views.{AreNumbersTold, AreRepliesTold, HasKept, IsSaid, IsUnexplained, IsVerdictOn, View}
 use Rattle.tatp_judged_inputs.specs.declared.judging.Window.{Window}
 use Rattle.tatp_judged_inputs.specs.declared.reading.Reading.{Reading}
 use Rattle.tatp_judged_inputs.specs.Reading.{IsKeptFor, told_of}
 use Rattle.tatp_judged_inputs.specs.Judged.{first_told, in_input, IsWindowTold}
-use Rattle.tatp_judged_inputs.specs.Judging.{could_line, could_lines, legal_lines, more_line, number_line, window_lines}
+use Rattle.tatp_judged_inputs.specs.Judging.{could_line, could_lines, legal_lines, more_line, number_line, subscriber_line, undecided_lines, window_lines}
 
 -- ---- numbers
 input_both : (numbers xs ys : List ℕ) → in_input numbers (xs ++ ys) ≡ in_input numbers xs ++ in_input numbers ys
@@ -44,13 +47,13 @@ pub all_wider : (n m : ℕ) (lines : List ℕ) → n ≤ m → All (λ k. (1 ≤
 all_wider n m lines le h k d lt = let bounds = h k d lt in (bounds.0, omega (arith, bounds.1, le))
 
 -- ---- a verdict that names a subscriber
-pub kept_there : (u : View) (most : ℕ) (past : List Line) (verdict : Verdict) (judge : Judge) (line : ℕ) (named : Option ℕ) (s : ℕ) → verdict ≡ Illegal line named → named ≡ Some s → IsVerdictOn u most past verdict → IsKeptFor u past verdict judge
-    → HasKept u past judge × (line ≤ length past) × IsUnexplained u past line (Some s)
+pub kept_there : (u : View) (most : ℕ) (past : List Line) (verdict : Verdict) (judge : Judge) (line : ℕ) (named : Option ℕ) (s : ℕ) → verdict ≡ Illegal line named → named ≡ Some s → IsSaid u most past (undecided_in judge) verdict → IsKeptFor u past verdict judge
+    → HasKept u past judge × (line ≤ length past) × IsUnexplained u past line (Some s) × IsOther (undecided_in judge) (Some s)
 kept_there u most past verdict judge line named s e f on kept =
     let is : verdict ≡ Illegal line (Some s) = e ∙ ap (λ o. Illegal line o) f in
-    let here = subst (IsVerdictOn u most past) is on in
+    let here = subst (IsVerdictOn u (undecided_in judge) past) is on.verdict_is in
     let counted = seen_length u past in
-    (kept line (Some s) is, omega (arith, here.0.within, counted), here.1)
+    (kept line (Some s) is, omega (arith, here.0.within, counted), here.1, here.2)
 
 pub told_window : (u : View) (past : List Line) (r : Reading) (s line : ℕ) (lines : List ℕ) (window : Window) → AreNumbersTold u s (take line past) lines
     → IfSome window.legal (λ legal. AreRepliesTold u s (take line past) legal.call legal.replies.items)
@@ -98,3 +101,25 @@ few_told legal few =
     ap (could_lines (Txn legal.call)) (sym (take_all 8 legal.replies.items few))
     ∙ (sym (append-nil (could_lines (Txn legal.call) (take 8 legal.replies.items)))
     ∙ ap (λ n. could_lines (Txn legal.call) (take 8 legal.replies.items) ++ more_line n) (sym none))
+
+-- ---- subscribers that are set aside
+abbrev pub one_aside : Undecided → List ℕ
+one_aside one = number_line (codes "UNDECIDED ") one.line ++ subscriber_line (Some one.s_id)
+
+aside_both : (xs ys : List Undecided) → undecided_lines (xs ++ ys) ≡ undecided_lines xs ++ undecided_lines ys
+aside_both [] ys = refl
+aside_both (x ∷ xs) ys =
+    let number = number_line (codes "UNDECIDED ") x.line in
+    let named = subscriber_line (Some x.s_id) in
+    ap (λ text. number ++ (named ++ text)) (aside_both xs ys)
+    ∙ (ap (λ text. number ++ text) (sym (append_assoc named (undecided_lines xs) (undecided_lines ys))) ∙ sym (append_assoc number (named ++ undecided_lines xs) (undecided_lines ys)))
+
+pub one_undecided : (aside : List Undecided) (i : ℕ) (other : Undecided) (old now longer : List ℕ) → now ≡ old ++ undecided_lines (take i aside) → i < length aside → longer ≡ now ++ one_aside (get_or aside i other) → longer ≡ old ++ undecided_lines (take (i + 1) aside)
+one_undecided aside i other old now longer so lt is =
+    let one = get_or aside i other in
+    let number = number_line (codes "UNDECIDED ") one.line in
+    let named = subscriber_line (Some one.s_id) in
+    is ∙ (ap (λ text. text ++ one_aside one) so ∙ (append_assoc old (undecided_lines (take i aside)) (one_aside one)
+    ∙ ap (λ text. old ++ text) (ap (λ text. undecided_lines (take i aside) ++ (number ++ text)) (sym (append-nil named))
+    ∙ (sym (aside_both (take i aside) (one ∷ []))
+    ∙ ap undecided_lines (sym (take_more aside i other lt))))))

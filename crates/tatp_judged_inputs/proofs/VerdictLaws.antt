@@ -13,8 +13,12 @@ use Rattle.tatp_history_lines.specs.declared.fault.LineFault.{LineFault}
 use Rattle.tatp_history_lines.specs.Open.{CallsOpen, opened_by}
 use Rattle.tatp_judged_inputs.specs.HistoryTexts.{Told, BadText, said_in, onto, tell_on, history_from, none_open}
 use Rattle.tatp_inputs.specs.Parts.{before_dot}
+use Rattle.tatp_judge.specs.declared.aside.Undecided.{Undecided}
+use Rattle.tatp_judge.specs.Verdicts.{AreOthersLegal}
+use Rattle.tatp_judge.proofs.AsideLaws.{first_on}
+use Rattle.tatp_judge.proofs.NoneLaws.{first_fail}
 use Rattle.tatp_judge.specs.declared.stakes.Stakes.{Stakes}
-use Rattle.tatp_judged_inputs.specs.Views.{IsFirstUnreached, IsLegal, LeadsTo, View, seen}
+use Rattle.tatp_judged_inputs.specs.Views.{IsFirstUnreached, IsLegalBut, LeadsTo, View, seen}
 use Rattle.tatp_judged_inputs.proofs.ViewLaws.{seen_both}
 use Rattle.tatp_judged_inputs.specs.declared.judging.Judged.TheVariants.{Legal}
 use Rattle.tatp_judged_inputs.specs.Judged.{TellLegal, TellIllegal, IsIllegalAt}
@@ -49,31 +53,39 @@ begins (suc n) opened number (text ∷ more) s t e h =
     begins_on number opened (said_in opened text) (λ after. history_from after (number + 1) (take n more)) (λ after. history_from after (number + 1) more) (λ after. begins n after (number + 1) more) s t e h
 
 -- ---- so they are legal where all are
-legal_first : (u : View) (first second : List Line) → IsLegal u (first ++ second) → IsLegal u first
-legal_first u first second h =
+legal_first : (u : View) (aside : List Undecided) (first second : List Line) → IsLegalBut u aside (first ++ second) → IsLegalBut u aside first
+legal_first u [] first second h =
     let ours = seen u first in
     let others = seen u second in
     subst (IsStrictlySerializable u.rows) (calls_of_first ours others 1 (length ours) (omega arith))
     (prefixes (length ours) u.rows (calls_of (ours ++ others)) (calls_in_time 1 (ours ++ others)) (subst (λ ls. IsStrictlySerializable u.rows (calls_of ls)) (seen_both u first second) h))
+legal_first u (one ∷ more) first second h =
+    let ours = seen u first in
+    let others = seen u second in
+    let all = subst (AreOthersLegal u.rows (one ∷ more)) (seen_both u first second) h in
+    record {
+      each = λ s apart. first_on u.rows s ours others (all.each s apart);
+      none = first_fail u.rows ours others all.none;
+    }
 
-pub first_legal : (u : View) (taken n : ℕ) (texts : List (List ℕ)) → TellLegal u taken texts → TellIllegal u taken (take n texts) → ⊥
-first_legal u taken n texts legal illegal =
+pub first_legal : (u : View) (aside : List Undecided) (taken n : ℕ) (texts : List (List ℕ)) → TellLegal u aside taken texts → TellIllegal u aside taken (take n texts) → ⊥
+first_legal u aside taken n texts legal illegal =
     let b = begins n none_open (taken + 1) texts illegal.0 legal.0 illegal.1 legal.1 in
-    illegal.2 (legal_first u illegal.0.lines b.0 (subst (IsLegal u) b.1 legal.2))
+    illegal.2 (legal_first u aside illegal.0.lines b.0 (subst (IsLegalBut u aside) b.1 legal.2))
 
 -- ---- one verdict
-pub legal_nowhere_illegal : (u : View) (taken : ℕ) (texts : List (List ℕ)) (number : ℕ) → TellLegal u taken texts → IsIllegalAt u taken texts number → ⊥
-legal_nowhere_illegal u taken texts number legal is = first_legal u taken (number - taken) texts legal is.illegal
+pub legal_nowhere_illegal : (u : View) (aside : List Undecided) (taken : ℕ) (texts : List (List ℕ)) (number : ℕ) → TellLegal u aside taken texts → IsIllegalAt u aside taken texts number → ⊥
+legal_nowhere_illegal u aside taken texts number legal is = first_legal u aside taken (number - taken) texts legal is.illegal
 
-not_before : (u : View) (taken : ℕ) (texts : List (List ℕ)) (n m : ℕ) → IsIllegalAt u taken texts n → IsIllegalAt u taken texts m → n < m → ⊥
-not_before u taken texts n m a b lt =
+not_before : (u : View) (aside : List Undecided) (taken : ℕ) (texts : List (List ℕ)) (n m : ℕ) → IsIllegalAt u aside taken texts n → IsIllegalAt u aside taken texts m → n < m → ⊥
+not_before u aside taken texts n m a b lt =
     let within : n - taken ≤ m - taken - 1 = omega (arith, lt, a.later, b.later) in
-    first_legal u taken (n - taken) (take (m - taken - 1) texts) b.before (subst (TellIllegal u taken) (sym (take-take (n - taken) (m - taken - 1) texts within)) a.illegal)
+    first_legal u aside taken (n - taken) (take (m - taken - 1) texts) b.before (subst (TellIllegal u aside taken) (sym (take-take (n - taken) (m - taken - 1) texts within)) a.illegal)
 
-pub illegal_at_one : (u : View) (taken : ℕ) (texts : List (List ℕ)) (n m : ℕ) → IsIllegalAt u taken texts n → IsIllegalAt u taken texts m → n ≡ m
-illegal_at_one u taken texts n m a b = elim (cases_lt n m) [
-  | inl lt ↦ absurd (not_before u taken texts n m a b lt)
-  | inr le ↦ elim (cases_lt m n) [ inl lt ↦ absurd (not_before u taken texts m n b a lt) | inr ge ↦ omega (arith, le, ge) ]
+pub illegal_at_one : (u : View) (aside : List Undecided) (taken : ℕ) (texts : List (List ℕ)) (n m : ℕ) → IsIllegalAt u aside taken texts n → IsIllegalAt u aside taken texts m → n ≡ m
+illegal_at_one u aside taken texts n m a b = elim (cases_lt n m) [
+  | inl lt ↦ absurd (not_before u aside taken texts n m a b lt)
+  | inr le ↦ elim (cases_lt m n) [ inl lt ↦ absurd (not_before u aside taken texts m n b a lt) | inr ge ↦ omega (arith, le, ge) ]
 ]
 
 -- ---- with the rows at the end
@@ -89,19 +101,19 @@ brought_once taken texts P Q a b =
     subst (λ r. P b.holds.0.lines (database_of r)) (same_rows (rows_at_end taken texts) a.rows b.rows a.read b.read)
     (subst (λ (t : Told). P t.lines (database_of a.rows)) (same_told (history_from none_open (taken + 1) (before_dot texts)) a.holds.0 b.holds.0 a.holds.1 b.holds.1) a.holds.2)
 
-pub legal_nowhere_unreached : (u : View) (most taken : ℕ) (texts : List (List ℕ)) (stakes : Stakes) (number s : ℕ) → IsJudgedTo u most taken texts (Legal stakes) → IsUnreachedAt u taken texts number s → ⊥
-legal_nowhere_unreached u most taken texts stakes number s legal is =
-    let leads = brought_once taken texts (LeadsTo u) (λ lines after. IsFirstUnreached u lines after s) legal.0 is.unreached in
+pub legal_nowhere_unreached : (u : View) (aside : List Undecided) (taken : ℕ) (texts : List (List ℕ)) (stakes : Stakes) (number s : ℕ) → IsJudgedTo u aside taken texts (Legal stakes) → IsUnreachedAt u aside taken texts number s → ⊥
+legal_nowhere_unreached u aside taken texts stakes number s legal is =
+    let leads = brought_once taken texts (LeadsTo u aside) (λ lines after. IsFirstUnreached u aside lines after s) legal.0 is.unreached in
     let unreached = is.unreached.holds.2 in
-    unreached.here (leads.leave s unreached.own)
+    unreached.here (leads.leave s unreached.own unreached.other)
 
-not_earlier : (u : View) (taken : ℕ) (texts : List (List ℕ)) (n m s t : ℕ) → IsUnreachedAt u taken texts n s → IsUnreachedAt u taken texts m t → s < t → ⊥
-not_earlier u taken texts n m s t a b lt =
-    let here = brought_once taken texts (λ lines after. IsFirstUnreached u lines after s) (λ lines after. IsFirstUnreached u lines after t) a.unreached b.unreached in
-    here.here (b.unreached.holds.2.before s here.first lt here.own)
+not_earlier : (u : View) (aside : List Undecided) (taken : ℕ) (texts : List (List ℕ)) (n m s t : ℕ) → IsUnreachedAt u aside taken texts n s → IsUnreachedAt u aside taken texts m t → s < t → ⊥
+not_earlier u aside taken texts n m s t a b lt =
+    let here = brought_once taken texts (λ lines after. IsFirstUnreached u aside lines after s) (λ lines after. IsFirstUnreached u aside lines after t) a.unreached b.unreached in
+    here.here (b.unreached.holds.2.before s here.first lt here.own here.other)
 
-pub unreached_at_one : (u : View) (taken : ℕ) (texts : List (List ℕ)) (n m s t : ℕ) → IsUnreachedAt u taken texts n s → IsUnreachedAt u taken texts m t → s ≡ t
-unreached_at_one u taken texts n m s t a b = elim (cases_lt s t) [
-  | inl lt ↦ absurd (not_earlier u taken texts n m s t a b lt)
-  | inr le ↦ elim (cases_lt t s) [ inl lt ↦ absurd (not_earlier u taken texts m n t s b a lt) | inr ge ↦ omega (arith, le, ge) ]
+pub unreached_at_one : (u : View) (aside : List Undecided) (taken : ℕ) (texts : List (List ℕ)) (n m s t : ℕ) → IsUnreachedAt u aside taken texts n s → IsUnreachedAt u aside taken texts m t → s ≡ t
+unreached_at_one u aside taken texts n m s t a b = elim (cases_lt s t) [
+  | inl lt ↦ absurd (not_earlier u aside taken texts n m s t a b lt)
+  | inr le ↦ elim (cases_lt t s) [ inl lt ↦ absurd (not_earlier u aside taken texts m n t s b a lt) | inr ge ↦ omega (arith, le, ge) ]
 ]

@@ -3,7 +3,7 @@
 use Rattle.std.specs.Prelude.{◌≡◌, ◌⊎◌, ℕ, zero, suc, ◌+◌, ◌-◌, length, take, Bool, true, false, if◌then◌else◌, List, [], ◌∷◌, ◌++◌, Option, Some, None, Ok, Err, codes, decimal}
 use Rattle.std.specs.Io.KnownBytes.{Appends}
 use Rattle.tatp_lines.specs.Lines.{lines_of}
-use Rattle.tatp_tables.specs.Database.{Database, database_of}
+use Rattle.tatp_tables.specs.Database.{database_of}
 use Rattle.tatp_tables.specs.declared.row.Rows.{Rows}
 use Rattle.tatp_extents.specs.Opening.{RefusesRows}
 use Rattle.tatp_streams.specs.Writing.{LeavesText}
@@ -12,6 +12,7 @@ use Rattle.tatp_procs.specs.declared.ask.Ask.{Ask}
 use Rattle.tatp_procs.specs.declared.ask.Ask.TheVariants.{Txn}
 use Rattle.tatp_procs.specs.declared.reply.Reply.{Reply}
 use Rattle.tatp_procs.specs.ReplyText.{reply_text}
+use Rattle.tatp_judge.specs.declared.aside.Undecided.{Undecided}
 use Rattle.tatp_judge.specs.declared.legal.LegalReplies.{LegalReplies}
 use Rattle.tatp_tasks.specs.declared.judging.JudgePlan.{JudgePlan}
 use Rattle.tatp_tasks.specs.declared.population.Population.{Population}
@@ -31,8 +32,9 @@ use Rattle.tatp_judged_inputs.specs.RowsAtEnd.{AreAdmitted, IsJudgementTo, rows_
 use Rattle.tatp_judged_inputs.specs.declared.fault.JudgeFault.{JudgeFault}
 use Rattle.tatp_judged_inputs.specs.declared.fault.JudgeFault.TheVariants.{BadLine, BadArgument, Unopened, Stream}
 use Rattle.tatp_judged_inputs.specs.declared.judging.Judged.{Judged}
+use Rattle.tatp_judged_inputs.specs.declared.judging.Judgement.{Judgement}
 use Rattle.tatp_judged_inputs.specs.declared.judging.Window.{Window}
-use Rattle.tatp_judged_inputs.specs.declared.judging.Judged.TheVariants.{Legal, Illegal, Undecided, Unreached}
+use Rattle.tatp_judged_inputs.specs.declared.judging.Judged.TheVariants.{Legal, Illegal, Unreached}
 
 -- ---- an input
 -- of the rows and the lines that the lines of an input bring
@@ -41,11 +43,11 @@ OfWork population lines P = (work : Work) × (work_of population 1 lines ≡ Ok 
 
 -- this is said of the history that the lines are, with the rows at its end where these follow it
 abbrev pub IsJudgedWith
-    : Bool → View → ℕ → ℕ → List (List ℕ) → Judged → Window → Type 0
-IsJudgedWith false u most taken texts judged window =
-    IsJudgement u most taken texts judged window
-IsJudgedWith true u most taken texts judged window =
-    IsJudgementTo u most taken texts judged window
+    : Bool → View → ℕ → ℕ → List (List ℕ) → Judgement → Type 0
+IsJudgedWith false u most taken texts j =
+    IsJudgement u most taken texts j.judged j.undecided.items j.window
+IsJudgedWith true u most taken texts j =
+    IsJudgementTo u most taken texts j.judged j.undecided.items j.window
 
 -- the part of a history that is asked for
 abbrev pub part_asked : JudgePlan → Part
@@ -57,15 +59,15 @@ view_asked plan rows = record { rows = database_of rows; part = part_asked plan 
 
 -- the history begins with the rows; so many lines of the input come before it, and at most so many
 -- configurations of a subscriber are kept
-pub record JudgesWork (plan : JudgePlan) (work : Work) (taken : ℕ) (judged : Judged)
-    (window : Window) : Type 0 where
+pub record JudgesWork (plan : JudgePlan) (work : Work) (taken : ℕ) (judgement : Judgement)
+    : Type 0 where
   pub admitted : AreAdmitted work.rows
   pub is : IsJudgedWith plan.final_rows (view_asked plan work.rows) plan.most taken work.lines
-      judged window
+      judgement
 
-abbrev pub JudgesInput : JudgePlan → List (List ℕ) → Judged → Window → Type 0
-JudgesInput plan lines judged window = OfWork plan.population lines
-    (λ work. JudgesWork plan work (lines_before plan.population lines) judged window)
+abbrev pub JudgesInput : JudgePlan → List (List ℕ) → Judgement → Type 0
+JudgesInput plan lines judgement = OfWork plan.population lines
+    (λ work. JudgesWork plan work (lines_before plan.population lines) judgement)
 
 -- ---- why nothing is said
 -- the lines of a history: where the rows at its end follow it, those before a line `.`
@@ -152,29 +154,47 @@ stakes_lines stakes =
     ++ (number_line (codes "CONFLICTED ") stakes.conflicted
     ++ number_line (codes "WIDEST ") stakes.widest)))))
 
--- the lines that say it, each with its line feed
-abbrev pub judged_lines : Judged → Window → List ℕ
-judged_lines (Legal stakes) window = codes "LEGAL" ++ (10 ∷ stakes_lines stakes)
-judged_lines (Illegal number s_id) window =
+-- two lines for each subscriber that is set aside
+abbrev pub undecided_lines : List Undecided → List ℕ
+undecided_lines [] = []
+undecided_lines (one ∷ more) = number_line (codes "UNDECIDED ") one.line
+    ++ (subscriber_line (Some one.s_id) ++ undecided_lines more)
+
+-- the word before what is said of all others
+abbrev pub others_word : List Undecided → List ℕ
+others_word [] = []
+others_word (one ∷ more) = codes "OTHERS "
+
+-- what was at stake is told where none is set aside
+abbrev pub stakes_told : List Undecided → Stakes → List ℕ
+stakes_told [] stakes = stakes_lines stakes
+stakes_told (one ∷ more) stakes = []
+
+-- what is said of these others
+abbrev pub judged_lines : List Undecided → Judged → Window → List ℕ
+judged_lines aside (Legal stakes) window = codes "LEGAL" ++ (10 ∷ stakes_told aside stakes)
+judged_lines aside (Illegal number s_id) window =
     number_line (codes "ILLEGAL ") number ++ (subscriber_line s_id ++ told_lines window)
-judged_lines (Unreached number s) window =
+judged_lines aside (Unreached number s) window =
     number_line (codes "ILLEGAL ") number ++ subscriber_line (Some s)
-judged_lines (Undecided number s) window =
-    number_line (codes "UNDECIDED ") number ++ subscriber_line (Some s)
+
+-- the lines that say all of it, each with its line feed
+abbrev pub judgement_lines : Judgement → List ℕ
+judgement_lines j = undecided_lines j.undecided.items
+    ++ (others_word j.undecided.items
+    ++ judged_lines j.undecided.items j.judged j.window)
 
 -- the text tells what is said of the input
 pub record TellsJudged (plan : JudgePlan) (input text : List ℕ) : Type 0 where
-  pub judged : Judged
-  pub window : Window
-  pub is : JudgesInput plan (lines_of input) judged window
-  pub told : text ≡ judged_lines judged window
+  pub judgement : Judgement
+  pub is : JudgesInput plan (lines_of input) judgement
+  pub told : text ≡ judgement_lines judgement
 
 -- this is said of the input, and new has it besides
-pub record WritesJudged (plan : JudgePlan) (input : List ℕ) (judged : Judged)
+pub record WritesJudged (plan : JudgePlan) (input : List ℕ) (judgement : Judgement)
     (old new : Option (List ℕ)) : Type 0 where
-  pub window : Window
-  pub is : JudgesInput plan (lines_of input) judged window
-  pub written : Appends old new (judged_lines judged window)
+  pub is : JudgesInput plan (lines_of input) judgement
+  pub written : Appends old new (judgement_lines judgement)
 
 -- what each fault tells of the input, and leaves
 abbrev pub LeavesJudged : JudgePlan → List ℕ → Option (List ℕ) → Option (List ℕ)

@@ -1,6 +1,5 @@
 -- What was read of a history, and why it is none.
 use Rattle.std.specs.Prelude.{◌≡◌, ℕ, ◌+◌, List, [], ◌∷◌, ◌++◌, length, Option, Some, Result, Ok, Err}
-use Rattle.tatp_tables.specs.Database.{Database}
 use Rattle.tatp_streams.specs.LineReading.{LinesLeft}
 use Rattle.tatp_streams.specs.declared.fault.StreamFault.TheVariants.{WriteFault}
 use Rattle.tatp_history.specs.declared.line.Line.{Line}
@@ -13,8 +12,9 @@ use Rattle.tatp_inputs.specs.Parts.{before_dot, after_dot}
 use Rattle.tatp_judge.specs.declared.judge.Judge.{Judge}
 use Rattle.tatp_judge.specs.declared.judge.Verdict.{Verdict}
 use Rattle.tatp_judge.specs.declared.judge.Verdict.TheVariants.{Illegal}
+use Rattle.tatp_judge.specs.Aside.{undecided_in}
 use Rattle.tatp_judge.specs.Parts.{IsPart}
-use Rattle.tatp_judged_inputs.specs.Views.{HasCounted, HasFollowed, HasKept, IsVerdictOn, View}
+use Rattle.tatp_judged_inputs.specs.Views.{HasCounted, HasFollowed, HasKept, IsSaid, View}
 use Rattle.tatp_judged_inputs.specs.declared.reading.Reading.{Reading}
 use Rattle.tatp_judged_inputs.specs.HistoryTexts.{Told, BadText, said_in, history_from, none_open}
 
@@ -71,7 +71,7 @@ pub record Decides (u : View) (most : ℕ) (past : List Line) (number : ℕ) (te
   pub part_same : new.part ≡ old.part
   pub numbers_are : new.numbers.items ≡ old.numbers.items ++ number ∷ []
   pub counted : HasCounted u (past ++ line ∷ []) new.counts
-  pub decided : IsVerdictOn u most (past ++ line ∷ []) verdict
+  pub decided : IsSaid u most (past ++ line ∷ []) (undecided_in judge) verdict
   pub kept : IsKeptFor u (past ++ line ∷ []) verdict judge
 
 -- the fault is that of the first text that is no line. A reader can fail, and memory run out, at

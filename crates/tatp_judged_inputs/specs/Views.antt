@@ -1,10 +1,11 @@
 -- What a judge says of the part of a history that it is asked for: where lines stand here, it is
 -- said of what these say of the part's calls.
-use Rattle.std.specs.Prelude.{◌≡◌, ℕ, List, [], length, Option}
+use Rattle.std.specs.Prelude.{◌≡◌, ℕ, List, [], Option}
 use Rattle.tatp_tables.specs.Database.{Database}
 use Rattle.tatp_procs.specs.declared.call.Call.{Call}
 use Rattle.tatp_procs.specs.declared.reply.Reply.{Reply}
 use Rattle.tatp_history.specs.declared.line.Line.{Line}
+use Rattle.tatp_judge.specs.declared.aside.Undecided.{Undecided}
 use Rattle.tatp_judge.specs.declared.finishing.FinalVerdict.{FinalVerdict}
 use Rattle.tatp_judge.specs.declared.judge.Judge.{Judge}
 use Rattle.tatp_judge.specs.declared.judge.Verdict.{Verdict}
@@ -18,7 +19,7 @@ use Rattle.tatp_judge.specs.Followed.{HasFollowed as HasFollowedAll, HasKept as 
 use Rattle.tatp_judge.specs.Legal.{AreLegalReplies}
 use Rattle.tatp_judge.specs.Parts.{IsPart, lines_of_part}
 use Rattle.tatp_judge.specs.Stakes.{AreStakes as AreStakesOfAll}
-use Rattle.tatp_judge.specs.Verdicts.{IsLegal as AreLegal, IsUnexplained as AreUnexplained, IsVerdictOn as IsVerdictOnAll, NeedMoreBy as NeedMoreByAll}
+use Rattle.tatp_judge.specs.Verdicts.{AreUndecided as AreUndecidedOfAll, IsLegalBut as AreLegalBut, IsSaid as IsSaidOfAll, IsUnexplained as AreUnexplained, IsVerdictOn as IsVerdictOnAll, NeedMoreBy as NeedMoreByAll}
 
 -- the rows with which a history begins, and the part of it that is judged
 pub record View : Type 0 where
@@ -30,8 +31,8 @@ abbrev pub seen : View → List Line → List Line
 seen v lines = lines_of_part v.rows v.part lines
 
 -- ---- verdicts
-abbrev pub IsLegal : View → List Line → Type 0
-IsLegal v lines = AreLegal v.rows (seen v lines)
+abbrev pub IsLegalBut : View → List Undecided → List Line → Type 0
+IsLegalBut v aside lines = AreLegalBut v.rows aside (seen v lines)
 
 abbrev pub IsUnexplained : View → List Line → ℕ → Option ℕ → Type 0
 IsUnexplained v lines n s_id = AreUnexplained v.rows (seen v lines) n s_id
@@ -39,23 +40,30 @@ IsUnexplained v lines n s_id = AreUnexplained v.rows (seen v lines) n s_id
 abbrev pub NeedMoreBy : View → ℕ → List Line → ℕ → ℕ → Type 0
 NeedMoreBy v most lines n s = NeedMoreByAll v.rows most (seen v lines) n s
 
-abbrev pub IsVerdictOn : View → ℕ → List Line → Verdict → Type 0
-IsVerdictOn v most lines verdict = IsVerdictOnAll v.rows most (seen v lines) verdict
+abbrev pub AreUndecided : View → ℕ → List Line → List Undecided → Type 0
+AreUndecided v most lines aside = AreUndecidedOfAll v.rows most (seen v lines) aside
+
+abbrev pub IsVerdictOn : View → List Undecided → List Line → Verdict → Type 0
+IsVerdictOn v aside lines verdict = IsVerdictOnAll v.rows aside (seen v lines) verdict
+
+abbrev pub IsSaid : View → ℕ → List Line → List Undecided → Verdict → Type 0
+IsSaid v most lines aside verdict = IsSaidOfAll v.rows most (seen v lines) aside verdict
 
 abbrev pub AreStakes : View → List Line → Stakes → Type 0
 AreStakes v lines stakes = AreStakesOfAll v.rows (seen v lines) stakes
 
 -- ---- the rows at the end
-abbrev pub LeadsTo : View → List Line → Database → Type 0
-LeadsTo v lines after = LeadsInPart v.rows v.part (seen v lines) after
+abbrev pub LeadsTo : View → List Undecided → List Line → Database → Type 0
+LeadsTo v aside lines after = LeadsInPart v.rows v.part aside (seen v lines) after
 
-abbrev pub IsFirstUnreached : View → List Line → Database → ℕ → Type 0
-IsFirstUnreached v lines after s =
-    IsFirstUnreachedOfAll v.rows v.part (seen v lines) after s
+abbrev pub IsFirstUnreached : View → List Undecided → List Line → Database → ℕ → Type 0
+IsFirstUnreached v aside lines after s =
+    IsFirstUnreachedOfAll v.rows v.part aside (seen v lines) after s
 
-abbrev pub IsFinalVerdictOn : View → ℕ → List Line → Database → FinalVerdict → Type 0
-IsFinalVerdictOn v most lines after verdict =
-    IsFinalVerdictOnAll v.rows v.part most (seen v lines) after verdict
+abbrev pub IsFinalVerdictOn
+    : View → List Undecided → List Line → Database → FinalVerdict → Type 0
+IsFinalVerdictOn v aside lines after verdict =
+    IsFinalVerdictOnAll v.rows v.part aside (seen v lines) after verdict
 
 -- ---- what is told of the last of the lines
 abbrev pub AreNumbersTold : View → ℕ → List Line → List ℕ → Type 0

@@ -1,5 +1,5 @@
 //! The command `judge`: the verdict on a history.
-ghost use Rattle.std.specs.Prelude.{◌≡◌, [], ◌++◌, Some, IfOk, IfErr, IfSome, OnOk};
+ghost use Rattle.std.specs.Prelude.{◌≡◌, [], ◌++◌, codes, Some, IfOk, IfErr, IfSome, OnOk};
 ghost use Rattle.std.specs.String.{string_bytes};
 ghost use Rattle.tatp_lines.specs.Lines.{lines_of};
 ghost use Rattle.tatp_tables.specs.Database.{database_of};
@@ -9,7 +9,7 @@ ghost use Rattle.tatp_tasks.specs.Judging.{IsJudgePlan};
 ghost use Rattle.tatp_inputs.specs.Work.{AreCleanWhereDrawn};
 ghost use Rattle.tatp_judged_inputs.specs.declared.fault.JudgeFault.TheVariants.{Stream, Unopened};
 ghost use Rattle.tatp_judged_inputs.specs.RowsAtEnd.{AreAdmitted};
-ghost use Rattle.tatp_judged_inputs.specs.Judging.{JudgesInput, RefusesInput, number_line, part_asked, stakes_lines, subscriber_line, told_lines, window_lines, judged_lines, WritesJudged, LeavesJudged};
+ghost use Rattle.tatp_judged_inputs.specs.Judging.{JudgesInput, RefusesInput, number_line, part_asked, stakes_lines, subscriber_line, told_lines, window_lines, judged_lines, judgement_lines, others_word, stakes_told, undecided_lines, WritesJudged, LeavesJudged};
 
 use crate::judging::Window;
 use crate::legal_replies::push_legal;
@@ -19,7 +19,7 @@ use std::alloc::{AllocError, Global};
 use std::io::{Read, Write};
 use tatp_extents::{OpenError, admit};
 use tatp_inputs::work_of;
-use tatp_judge::{Judge, Part, Stakes};
+use tatp_judge::{Judge, Part, Stakes, Undecided};
 use tatp_limits::MAX_INPUT_LIMIT;
 use tatp_lines::push_decimal;
 use tatp_streams::{LineReader, write_last};
@@ -60,7 +60,7 @@ fn judged<R: Read, P: Progress>(
 ) -> Result<Judgement, JudgeFault>
     requires { IsJudgePlan plan.now }
     ensures judged { IfOk result (λ judgement. IfSome (R.remaining reader.old) (λ input.
-        JudgesInput plan.now (lines_of input) judgement.judged judgement.window)) }
+        JudgesInput plan.now (lines_of input) judgement)) }
     ensures faults { IfErr result (λ fault. IfSome (R.remaining reader.old) (λ input.
         RefusesInput plan.now (lines_of input) fault)) }
 {
@@ -102,6 +102,53 @@ fn push_with_subscriber(
 {
     push_number_line(text, word, number)?;
     push_number_line(text, "SUBSCRIBER ", s_id)
+}
+
+/// Appends the lines that tell a subscriber that is set aside.
+fn push_one_undecided(text: &mut String, one: &Undecided) -> Result<(), AllocError>
+    ensures { OnOk result (string_bytes text.new ≡ string_bytes text.old
+        ++ (number_line (codes "UNDECIDED ") one.now.line ++ subscriber_line (Some one.now.s_id))) }
+{
+    push_with_subscriber(text, "UNDECIDED ", one.line, one.s_id)
+}
+
+/// Appends the lines that tell the subscribers that are set aside.
+fn push_undecided(text: &mut String, aside: &[Undecided]) -> Result<(), AllocError>
+    ensures { OnOk result
+        (string_bytes text.new ≡ string_bytes text.old ++ undecided_lines aside.now) }
+{
+    'aside: for i in 0..aside.len() {
+        push_one_undecided(text, &aside[i])?;
+    }
+    Ok(())
+}
+
+/// Appends the word before what is said of all others.
+fn push_others(text: &mut String, aside: &[Undecided]) -> Result<(), AllocError>
+    ensures { OnOk result
+        (string_bytes text.new ≡ string_bytes text.old ++ others_word aside.now) }
+{
+    if aside.is_empty() {
+        Ok(())
+    } else {
+        text.push_str("OTHERS ")
+    }
+}
+
+/// Appends the lines that tell what was at stake, where none is set aside.
+fn push_stakes_told(
+    text: &mut String,
+    aside: &[Undecided],
+    stakes: &Stakes,
+) -> Result<(), AllocError>
+    ensures { OnOk result
+        (string_bytes text.new ≡ string_bytes text.old ++ stakes_told aside.now stakes.now) }
+{
+    if aside.is_empty() {
+        push_stakes(text, stakes)
+    } else {
+        Ok(())
+    }
 }
 
 /// Appends the lines that tell what was at stake.
@@ -152,28 +199,32 @@ fn push_explanation(text: &mut String, s_id: Option<u64>, window: &Window) -> Re
     push_told(text, window)
 }
 
-/// The lines that tell it.
-fn lines_that_tell(alloc: Global, judgement: &Judgement) -> Result<String, AllocError>
-    ensures { IfOk result (λ lines. string_bytes lines
-        ≡ judged_lines judgement.now.judged judgement.now.window) }
+/// Appends the lines that tell what is said of all subscribers that aren't set aside.
+fn push_judged(text: &mut String, judgement: &Judgement) -> Result<(), AllocError>
+    ensures { OnOk result (string_bytes text.new ≡ string_bytes text.old
+        ++ judged_lines judgement.now.undecided.items judgement.now.judged judgement.now.window) }
 {
-    let mut text = String::new(alloc);
     match judgement.judged {
         Judged::Legal(stakes) => {
             text.push_str("LEGAL\n")?;
-            push_stakes(&mut text, &stakes)?;
+            push_stakes_told(text, judgement.undecided.as_slice(), &stakes)
         }
         Judged::Illegal { line, s_id } => {
-            push_number_line(&mut text, "ILLEGAL ", line)?;
-            push_explanation(&mut text, s_id, &judgement.window)?;
+            push_number_line(text, "ILLEGAL ", line)?;
+            push_explanation(text, s_id, &judgement.window)
         }
-        Judged::Unreached { line, s_id } => {
-            push_with_subscriber(&mut text, "ILLEGAL ", line, s_id)?;
-        }
-        Judged::Undecided { line, s_id } => {
-            push_with_subscriber(&mut text, "UNDECIDED ", line, s_id)?;
-        }
+        Judged::Unreached { line, s_id } => push_with_subscriber(text, "ILLEGAL ", line, s_id),
     }
+}
+
+/// The lines that tell it.
+fn lines_that_tell(alloc: Global, judgement: &Judgement) -> Result<String, AllocError>
+    ensures { IfOk result (λ lines. string_bytes lines ≡ judgement_lines judgement.now) }
+{
+    let mut text = String::new(alloc);
+    push_undecided(&mut text, judgement.undecided.as_slice())?;
+    push_others(&mut text, judgement.undecided.as_slice())?;
+    push_judged(&mut text, judgement)?;
     Ok(text)
 }
 
@@ -186,10 +237,10 @@ pub fn run_judge<R: Read, W: Write, P: Progress>(
     writer: &mut W,
     plan: &JudgePlan,
     progress: &mut P,
-) -> Result<Judged, JudgeFault>
+) -> Result<Judgement, JudgeFault>
     requires { IsJudgePlan plan.now }
-    ensures written { IfOk result (λ judged. IfSome (R.remaining reader.old) (λ input.
-        WritesJudged plan.now input judged
+    ensures written { IfOk result (λ judgement. IfSome (R.remaining reader.old) (λ input.
+        WritesJudged plan.now input judgement
         (W.contents writer.old) (W.contents writer.new))) }
     ensures faults { IfErr result (λ fault. IfSome (R.remaining reader.old) (λ input.
         LeavesJudged plan.now input
@@ -198,5 +249,5 @@ pub fn run_judge<R: Read, W: Write, P: Progress>(
     let judgement = judged(alloc, reader, plan, progress)?;
     let lines = lines_that_tell(alloc, &judgement)?;
     write_last(writer, lines.as_bytes())?;
-    Ok(judgement.judged)
+    Ok(judgement)
 }

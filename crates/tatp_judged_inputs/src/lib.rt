@@ -13,6 +13,7 @@ mod reading;
 mod telling;
 mod theorems;
 mod to_rows;
+mod undecided;
 
 pub use command::run_judge;
 pub use fault::JudgeFault;

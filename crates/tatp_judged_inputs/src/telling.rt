@@ -1,7 +1,9 @@
 //! What is told with a verdict: lines of the history, and legal replies.
 ghost use Rattle.std.specs.Prelude.{◌≡◌, ◌≤◌, ℕ, All, Some, IfOk, List, length};
 ghost use Rattle.tatp_history.specs.declared.line.Line.{Line as ALine};
-ghost use Rattle.tatp_judged_inputs.specs.Views.{HasKept, IsUnexplained, IsVerdictOn, View};
+ghost use Rattle.tatp_judge.specs.Aside.{undecided_in};
+ghost use Rattle.tatp_judge.specs.Verdicts.{IsOther};
+ghost use Rattle.tatp_judged_inputs.specs.Views.{HasKept, IsSaid, IsUnexplained, View};
 ghost use Rattle.tatp_judged_inputs.specs.Judged.{IsUntold, IsWindowBy, IsWindowTold, first_told, in_input};
 ghost use Rattle.tatp_judged_inputs.specs.Reading.{IsKeptFor, IsNumbered, told_of};
 
@@ -45,10 +47,12 @@ impl Reading {
     ) -> Result<Window, AllocError>
         requires { (u : View) × (past : List ALine) × IsNumbered u self.now past
             × HasKept u past judge.now × (line ≤ length past)
-            × IsUnexplained u past line (Some s_id) }
+            × IsUnexplained u past line (Some s_id)
+            × IsOther (undecided_in judge.now) (Some s_id) }
         ensures { IfOk result (λ window. (u : View) (past : List ALine)
             → IsNumbered u self.now past → HasKept u past judge.now → line ≤ length past
             → IsUnexplained u past line (Some s_id)
+            → IsOther (undecided_in judge.now) (Some s_id)
             → IsWindowTold u s_id (first_told line (told_of self.now past)) window) }
     {
         let numbers = judge.window_numbers(alloc, s_id, line)?;
@@ -65,9 +69,11 @@ impl Reading {
         verdict: &Verdict,
     ) -> Result<Window, AllocError>
         requires { (u : View) × (most : ℕ) × (past : List ALine) × IsNumbered u self.now past
-            × IsVerdictOn u most past verdict.now × IsKeptFor u past verdict.now judge.now }
+            × IsSaid u most past (undecided_in judge.now) verdict.now
+            × IsKeptFor u past verdict.now judge.now }
         ensures { IfOk result (λ window. (u : View) (most : ℕ) (past : List ALine)
-            → IsNumbered u self.now past → IsVerdictOn u most past verdict.now
+            → IsNumbered u self.now past
+            → IsSaid u most past (undecided_in judge.now) verdict.now
             → IsKeptFor u past verdict.now judge.now
             → IsWindowBy u (told_of self.now past) verdict.now window) }
     {
@@ -77,7 +83,6 @@ impl Reading {
                 Some(s_id) => self.explained(alloc, judge, s_id, line),
                 None => Ok(nothing(alloc)),
             },
-            Verdict::Undecided { .. } => Ok(nothing(alloc)),
         }
     }
 }

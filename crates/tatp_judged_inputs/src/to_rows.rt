@@ -4,14 +4,16 @@ ghost use Rattle.tatp_history.specs.declared.line.Line.{Line as ALine};
 ghost use Rattle.tatp_streams.specs.LineReading.{lines_left, Relates};
 ghost use Rattle.tatp_inputs.specs.Parts.{before_dot};
 ghost use Rattle.tatp_judge.specs.declared.stakes.Stakes.{Stakes as AStakes};
+ghost use Rattle.tatp_judge.specs.Aside.{undecided_in};
 ghost use Rattle.tatp_judged_inputs.specs.Views.{HasFollowed, IsBegun, View};
 ghost use Rattle.tatp_judged_inputs.specs.Judged.{IsJudgement};
 ghost use Rattle.tatp_judged_inputs.specs.Judging.{IsJudgedWith, RefusesTexts, history_fault};
 ghost use Rattle.tatp_judged_inputs.specs.Reading.{ReadsToDot};
-ghost use Rattle.tatp_judged_inputs.specs.RowsAtEnd.{IsJudgementTo, told_by_rows};
+ghost use Rattle.tatp_judged_inputs.specs.RowsAtEnd.{IsJudgementTo, ids, told_by_rows};
 
 use crate::line_numbers::LineNumbers;
 use crate::reading::Reading;
+use crate::undecided::add_at;
 use crate::{HistoryFault, JudgeFault, Judged, Judgement, Progress, judge_history};
 use std::alloc::Global;
 use std::io::Read;
@@ -35,7 +37,8 @@ fn judge_to_dot<R: Read, P: Progress>(
     ensures judged { IfOk result (λ judgement.
         IfSome (lines_left lines.old (R.remaining reader.old)) (λ all.
         (u : View) (most : ℕ) → IsBegun u most part.now judge.old → IsJudgement u most
-        lines.old.number (before_dot all.lines) judgement.judged judgement.window)) }
+        lines.old.number (before_dot all.lines) judgement.judged judgement.undecided.items
+        judgement.window)) }
     ensures followed { IfOk result (λ judgement. (stakes : AStakes)
         → judgement.judged ≡ Judged.Legal stakes
         → (u : View) (most : ℕ) → IsBegun u most part.now judge.old
@@ -43,12 +46,15 @@ fn judge_to_dot<R: Read, P: Progress>(
         × Relates (lines_left lines.old (R.remaining reader.old))
         (lines_left lines.new (R.remaining reader.new))
         (ReadsToDot past lines.old.number lines.new.number)) }
+    ensures named { IfOk result (λ judgement.
+        ids judgement.undecided.items ≡ ids (undecided_in judge.new)) }
     ensures some { IfOk result (λ judgement. (stakes : AStakes)
         → judgement.judged ≡ Judged.Legal stakes → 1 ≤ lines.new.number) }
     ensures faults { IfErr result (λ fault.
         IfSome (lines_left lines.old (R.remaining reader.old)) (λ all.
         RefusesTexts true lines.old.number all.lines (history_fault fault))) }
 {
+    let taken = lines.number();
     let counts = Counts::new(alloc, judge)?;
     let mut reading = Reading {
         opened: OpenCalls::new(alloc),
@@ -62,10 +68,10 @@ fn judge_to_dot<R: Read, P: Progress>(
         }
         if is_dot(lines.line()) {
             let verdict = judge.finish(alloc)?;
-            return Ok(reading.judgement(alloc, judge, &verdict, lines.number() - 1)?);
+            return Ok(reading.judgement(alloc, judge, &verdict, taken)?);
         }
         if let Some(verdict) = reading.take(alloc, judge, lines.number(), lines.line())? {
-            return Ok(reading.judgement(alloc, judge, &verdict, lines.number())?);
+            return Ok(reading.judgement(alloc, judge, &verdict, taken)?);
         }
         progress.after_line();
     }
@@ -73,16 +79,11 @@ fn judge_to_dot<R: Read, P: Progress>(
 
 /// What is said of a legal history by the rows at its end, where the line `.` has this number.
 fn judged_to(stakes: Stakes, verdict: FinalVerdict, dot: u64) -> Judged
-    requires { 1 ≤ dot }
     ensures { result ≡ told_by_rows stakes verdict dot }
 {
     match verdict {
         FinalVerdict::Reached => Judged::Legal(stakes),
         FinalVerdict::Unreached(s_id) => Judged::Unreached { line: dot, s_id },
-        FinalVerdict::Undecided(s_id) => Judged::Undecided {
-            line: dot - 1,
-            s_id,
-        },
     }
 }
 
@@ -100,7 +101,8 @@ fn judge_to_rows<R: Read, P: Progress>(
     ensures judged { IfOk result (λ judgement.
         IfSome (lines_left lines.old (R.remaining reader.old)) (λ all.
         (u : View) (most : ℕ) → IsBegun u most part.now judge.old → IsJudgementTo u most
-        lines.old.number all.lines judgement.judged judgement.window)) }
+        lines.old.number all.lines judgement.judged judgement.undecided.items
+        judgement.window)) }
     ensures faults { IfErr result (λ fault.
         IfSome (lines_left lines.old (R.remaining reader.old)) (λ all.
         RefusesTexts true lines.old.number all.lines fault)) }
@@ -111,9 +113,13 @@ fn judge_to_rows<R: Read, P: Progress>(
             let dot = lines.number();
             let rows = read_rows_to_end(alloc, lines, reader)?;
             admit(alloc, &rows)?;
+            let known = judge.undecided().len();
             let judged = judged_to(stakes, judge.finish_to(alloc, part, &rows)?, dot);
+            let mut undecided = judgement.undecided;
+            add_at(&mut undecided, &judge.undecided()[known..], dot - 1)?;
             Ok(Judgement {
                 judged,
+                undecided,
                 window: judgement.window,
             })
         }
@@ -136,7 +142,7 @@ pub(crate) fn judge_lines<R: Read, P: Progress>(
     ensures judged { IfOk result (λ judgement.
         IfSome (lines_left lines.old (R.remaining reader.old)) (λ all.
         (u : View) (most : ℕ) → IsBegun u most part.now judge.old → IsJudgedWith final_rows u
-        most lines.old.number all.lines judgement.judged judgement.window)) }
+        most lines.old.number all.lines judgement)) }
     ensures faults { IfErr result (λ fault.
         IfSome (lines_left lines.old (R.remaining reader.old)) (λ all.
         RefusesTexts final_rows lines.old.number all.lines fault)) }

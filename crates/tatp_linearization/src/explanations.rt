@@ -87,6 +87,13 @@ impl Explanations {
         })
     }
 
+    /// No configuration is kept any more.
+    pub fn release(&mut self, alloc: Global)
+        ensures { self.new.configurations.items ≡ [] }
+    {
+        self.configurations = Vec::new(alloc);
+    }
+
     /// Whether an order explains all calls up to the end of a window of events.
     pub fn explain(&self, alloc: Global, events: &[Event]) -> Result<Standing, AllocError>
         requires reached { (u : Database) × (past : List Event) × AreReached u past self.now }

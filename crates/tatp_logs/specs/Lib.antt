@@ -1,3 +1,4 @@
+pub mod Lists
 pub mod KeptReplies
 pub mod KeptAsks
 pub mod Logs

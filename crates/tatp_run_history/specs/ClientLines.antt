@@ -1,17 +1,12 @@
 -- trusted: read it
 -- The lines of what clients asked and were answered: docs/FORMATS.md, "Lines of a history".
-use Rattle.std.specs.Prelude.{ℕ, suc, List, [], ◌∷◌, ◌++◌, codes, decimal, map, Vec}
-use Rattle.std.specs.declared.alloc.Global.{Global}
+use Rattle.std.specs.Prelude.{ℕ, suc, List, [], ◌∷◌, ◌++◌, codes, decimal}
 use Rattle.tatp_procs.specs.declared.ask.Ask.{Ask}
 use Rattle.tatp_procs.specs.declared.ask.Ask.TheVariants.{Txn, Raw}
 use Rattle.tatp_procs.specs.CallText.{call_text}
 use Rattle.tatp_procs.specs.ReplyText.{reply_text}
 use Rattle.tatp_logs.specs.declared.receipt.Receipt.{Receipt}
 use Rattle.tatp_logs.specs.declared.receipt.Receipt.TheVariants.{Done, Refused}
-
--- lists as contracts see them
-abbrev pub lists_of : List (Vec Ask Global) → List (List Ask)
-lists_of lists = map (λ (list : Vec Ask Global). list.items) lists
 
 -- the line of a transaction; no history has calls that are none
 abbrev pub asked_text : Ask → List ℕ

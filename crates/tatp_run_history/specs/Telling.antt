@@ -5,7 +5,8 @@ use Rattle.std.specs.List.{flat_map}
 use Rattle.std.specs.declared.alloc.Global.{Global}
 use Rattle.tatp_procs.specs.declared.ask.Ask.{Ask}
 use Rattle.tatp_logs.specs.Receipts.{ReceiptsState, receipts_of}
-use Rattle.tatp_run_history.specs.ClientLines.{all_lines, lists_of}
+use Rattle.tatp_logs.specs.Lists.{lists_of}
+use Rattle.tatp_run_history.specs.ClientLines.{all_lines}
 use Rattle.tatp_run_history.specs.Interleaving.{Interleaves}
 
 -- a head is followed by lines, merged of these lists so that each list's keep their order

@@ -6,7 +6,8 @@ use Rattle.std.proofs.lemmas.Bool.{cases_eq}
 use Rattle.std.proofs.lemmas.List.{map_push, map-append, length-map, length-set}
 use Rattle.std.proofs.lemmas.Option.{slice_get_past, slice_get_read}
 use Rattle.tatp_settle.specs.Placing.{IsFresh, IsFreshCell, Puts}
-use Rattle.tatp_settle.specs.Runs.{at_call, lists_of}
+use Rattle.tatp_logs.specs.Lists.{lists_of}
+use Rattle.tatp_settle.specs.Runs.{at_call}
 
 -- as many empty cells as there are elements in the list, and so in each row
 abbrev pub fresh_row : {A : Type 0} → (P : Type 0) → List A → List (Option P)

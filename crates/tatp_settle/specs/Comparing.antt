@@ -5,7 +5,7 @@ use Rattle.tatp_settle.specs.declared.differences.Differing.{Differing}
 use Rattle.tatp_settle.specs.CallPlaces.{HoldsNowhere}
 use Rattle.tatp_settle.specs.Causes.{Differs, IsUnmatched}
 use Rattle.tatp_settle.specs.Placing.{AllPlaced, cells_of}
-use Rattle.tatp_settle.specs.Runs.{lists_of}
+use Rattle.tatp_logs.specs.Lists.{lists_of}
 
 -- the receipt or the ask of the call isn't what its entry says
 abbrev pub DiffersIn : Differing → ℕ → ℕ → Type 0

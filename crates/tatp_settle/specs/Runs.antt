@@ -12,6 +12,7 @@ use Rattle.tatp_procs.specs.declared.entry.Entry.{Entry}
 use Rattle.tatp_extents.specs.Opening.{extent_count, homes_of_extent}
 use Rattle.tatp_extents.specs.HomeRows.{rows_of_homes}
 use Rattle.tatp_logs.specs.declared.receipt.Receipt.{Receipt}
+use Rattle.tatp_logs.specs.Lists.{lists_of}
 use Rattle.tatp_logs.specs.Receipts.{ReceiptsState, receipts_of}
 use Rattle.tatp_settle.specs.declared.run.Run.{Run as HeldRun}
 use Rattle.tatp_settle.specs.Closings.{ClosedState, entries_numbered, homes_numbered, moves_numbered}
@@ -23,10 +24,6 @@ pub record Run : Type 0 where
   pub closed : ClosedState
   pub receipts : List (List Receipt)
   pub calls : List (List Ask)
-
--- lists as contracts see them
-abbrev pub lists_of : {A : Type 0} → List (Vec A Global) → List (List A)
-lists_of lists = map (λ list. list.items) lists
 
 -- the run of these calls on this population that left this
 abbrev pub run_of : Rows → ClosedState → List ReceiptsState → List (Vec Ask Global) → Run

@@ -2,7 +2,8 @@
 ghost use Rattle.std.specs.Prelude.{◌≡◌, ◌<◌, ◌^◌, not, length, map, count_by};
 ghost use Rattle.std.specs.List.{range_with_len};
 ghost use Rattle.tatp_logs.specs.Receipts.{receipt_seen, receipts_of};
-ghost use Rattle.tatp_settle.specs.Runs.{joined, lists_of, shown};
+ghost use Rattle.tatp_logs.specs.Lists.{lists_of};
+ghost use Rattle.tatp_settle.specs.Runs.{joined, shown};
 ghost use Rattle.tatp_settle.specs.Receipts.{is_done};
 ghost use Rattle.tatp_settle.specs.Answering.{is_of_kind};
 ghost use Rattle.tatp_settle.specs.Settlements.{completed, refused, calls_by_kind};

@@ -5,7 +5,8 @@ ghost use denote.Param.Send.{IsSync};
 ghost use Rattle.tatp_tables.specs.Clean.{IsClean};
 ghost use Rattle.tatp_settle.specs.Causes.{IsMixed, IsChapterTwice, HasNoCause};
 ghost use Rattle.tatp_settle.specs.ChapterTables.{IsFirstChapter};
-ghost use Rattle.tatp_settle.specs.Runs.{joined, lists_of, rows_left, shown};
+ghost use Rattle.tatp_logs.specs.Lists.{lists_of};
+ghost use Rattle.tatp_settle.specs.Runs.{joined, rows_left, shown};
 ghost use Rattle.tatp_settle.specs.CauseOrder.{IsFirstAfter, IsFirstInCalls};
 ghost use Rattle.tatp_settle.specs.Settlements.{AreCountsOf, IsAuditOf, IsSettled, RefusesToSettle};
 

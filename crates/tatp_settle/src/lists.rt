@@ -2,7 +2,8 @@
 ghost use Rattle.std.specs.Prelude.{◌≡◌, ◌≤◌, ℕ, None, length, slice_get};
 ghost use Rattle.std.specs.Option.{option_copied, option_map, option_map_or};
 ghost use Rattle.tatp_logs.specs.Receipts.{receipt_seen, receipts_of};
-ghost use Rattle.tatp_settle.specs.Runs.{at_call, lists_of};
+ghost use Rattle.tatp_logs.specs.Lists.{lists_of};
+ghost use Rattle.tatp_settle.specs.Runs.{at_call};
 
 use tatp_logs::{ReceiptRef, Receipts};
 

@@ -2,7 +2,8 @@
 ghost use Rattle.std.specs.Prelude.{◌≡◌, ◌<◌, ◌^◌, IfOk, IfErr, OnOk, length};
 ghost use Rattle.tatp_tables.specs.Clean.{IsClean};
 ghost use Rattle.tatp_settle.specs.Causes.{HasNoCause};
-ghost use Rattle.tatp_settle.specs.Runs.{joined, lists_of, run_of};
+ghost use Rattle.tatp_logs.specs.Lists.{lists_of};
+ghost use Rattle.tatp_settle.specs.Runs.{joined, run_of};
 ghost use Rattle.tatp_settle.specs.Interleaving.{IsOneHistoryInAnyOrder};
 ghost use Rattle.tatp_settle.specs.Settlements.{IsSettled, RefusesToSettle};
 

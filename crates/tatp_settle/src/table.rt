@@ -17,7 +17,7 @@ pub(crate) struct Table<P> {
 
 impl<P> Model for Table<P> {
     ghost use Rattle.std.specs.Prelude.{List, Option};
-    ghost use Rattle.tatp_settle.specs.Runs.{lists_of};
+    ghost use Rattle.tatp_logs.specs.Lists.{lists_of};
 
     ghost Value = { List (List (Option P)) };
 

@@ -2,7 +2,7 @@
 ghost use Rattle.std.specs.Prelude.{◌≡◌, ◌↔◌, IsTrue};
 ghost use Rattle.std.specs.Option.{option_copied, option_map};
 ghost use Rattle.tatp_logs.specs.Receipts.{receipt_seen, receipts_of};
-ghost use Rattle.tatp_settle.specs.Runs.{lists_of};
+ghost use Rattle.tatp_logs.specs.Lists.{lists_of};
 ghost use Rattle.tatp_settle.specs.Answering.{AreMatched};
 ghost use Rattle.tatp_settle.specs.CallPlaces.{IsFirstCall, IsFirstNumber};
 ghost use Rattle.tatp_settle.specs.Causes.{IsUnmatched};

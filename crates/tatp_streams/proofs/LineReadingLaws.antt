@@ -9,6 +9,7 @@ use Rattle.std.proofs.lemmas.List.{append-nil, take-append-drop, take-append-le,
 use Rattle.std.proofs.lemmas.List.Folds.{prefix_len-append}
 use Rattle.std.proofs.lemmas.List.Sums.{prefix_len-le-length}
 use Rattle.std.proofs.lemmas.Option.{same_Some, none-some}
+use Rattle.tatp_limits.specs.declared.limits.TheConstants.{MAX_INPUT_LIMIT}
 use Rattle.tatp_lines.specs.Lines.{lines_of}
 use Rattle.tatp_lines.proofs.LineLaws.{is_line_feed, lines_of-nil, lines_of_first, lines_of_last}
 use Rattle.tatp_streams.specs.LineReading.{LineReaderState, nothing_taken, LinesLeft, IsWithinLimit, left_with, lines_left, Stays, Relates, steps_left, with_line, TakesLine, MeetsEnd, ReadsMore, HasNoLineFeed, HoldsNoLine, IsFirstLine}
@@ -124,13 +125,14 @@ left_of_known old new None h = tt
 left_of_known old new (Some more) h = ap Some (h more)
 
 pub takes_line : (old new : LineReaderState) (known : Option (List ℕ)) (long taken : ℕ) → IsFirstLine old.ahead old.ended long taken
-    → new.line ≡ take long old.ahead → new.ahead ≡ drop taken old.ahead → new.count ≡ old.count → new.limit ≡ old.limit → new.ended ≡ old.ended → new.number ≡ old.number + 1 → TakesLine old known new known
-takes_line old new known long taken h line ahead count limit ended number = record {
+    → new.line ≡ take long old.ahead → new.ahead ≡ drop taken old.ahead → new.count ≡ old.count → new.limit ≡ old.limit → new.ended ≡ old.ended → new.number ≡ old.number + 1 → new.number ≤ MAX_INPUT_LIMIT → TakesLine old known new known
+takes_line old new known long taken h line ahead count limit ended number few = record {
   left = left_of_known old new known
       (λ more. same_left (with_line new.line (left_with new (cond new.ended [] more))) (left_with old (cond old.ended [] more))
       (rw ended (taken_of old.ahead new.line new.ahead more old.ended long taken h line ahead))
       (rw (count, ended) refl) limit);
   number = number;
+  few = few;
   fewer = fewer_by old.ahead new.ahead (2 * (old.limit - old.count)) (2 * (new.limit - new.count)) (cond old.ended 0 1) (cond new.ended 0 1) taken
       h.some h.taken_within ahead (rw (count, limit) refl) (ap (λ b. cond b 0 1) ended);
 }
@@ -193,6 +195,7 @@ pub takes_later : (old now new : LineReaderState) (had have has : Option (List �
 takes_later old now new had have has same number fewer t = record {
   left = stays_both (lines_left old had) (lines_left now have) (option_map (with_line new.line) (lines_left new has)) same t.left;
   number = t.number ∙ ap (λ n. n + 1) number;
+  few = t.few;
   fewer = omega (arith, fewer, t.fewer);
 }
 

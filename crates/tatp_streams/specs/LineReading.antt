@@ -64,11 +64,13 @@ steps_left s = 2 * (s.limit - s.count) + length s.ahead + (if s.ended then 0 els
 abbrev pub with_line : List ℕ → LinesLeft → LinesLeft
 with_line line left = record left { lines = line ∷ left.lines }
 
--- the first of the lines that were left is taken, by the bytes that the reader had and has
+-- the first of the lines that were left is taken, by the bytes that the reader had and has; no more
+-- lines can be taken than bytes can be read
 pub record TakesLine (old : LineReaderState) (had : Option (List ℕ))
     (new : LineReaderState) (has : Option (List ℕ)) : Type 0 where
   pub left : Stays (lines_left old had) (option_map (with_line new.line) (lines_left new has))
   pub number : new.number ≡ old.number + 1
+  pub few : new.number ≤ MAX_INPUT_LIMIT
   pub fewer : steps_left new < steps_left old
 
 -- no line was left, and the input is no longer than may be read

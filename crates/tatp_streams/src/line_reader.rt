@@ -1,5 +1,5 @@
 //! The lines of a reader, taken one after another.
-ghost use Rattle.std.specs.Prelude.{◌≡◌, ℕ, ◌≤◌, ◌⊎◌, ◌==◌, true, false, List, [], drop, take, length, position, Option, IfSome, IfNone, IfOk, IfErr, OnOk, vec_len};
+ghost use Rattle.std.specs.Prelude.{◌≡◌, ℕ, ◌+◌, ◌≤◌, ◌⊎◌, ◌==◌, true, false, List, [], drop, take, length, position, Option, IfSome, IfNone, IfOk, IfErr, OnOk, vec_len};
 ghost use Rattle.tatp_streams.specs.declared.fault.StreamFault.TheVariants.{ReadFault, NoMemory};
 ghost use Rattle.tatp_streams.specs.LineReading.{nothing_taken, HasNoLineFeed, IsFirstLine, HoldsNoLine, TakesLine, MeetsEnd, ReadsMore};
 
@@ -164,9 +164,12 @@ impl LineReader {
         &self.buffer[self.start..self.end]
     }
 
-    /// How many lines were taken, which is the number of the last one, counted from 1.
+    /// How many lines were taken, which is the number of the last one, counted from 1. Each took a
+    /// byte that was read.
     pub fn number(&self) -> u64
         ensures number { result ≡ self.now.number }
+        ensures taken { result + length self.now.ahead ≤ self.now.count }
+        ensures read { self.now.count ≤ self.now.limit }
         ensures few { result ≤ MAX_INPUT_LIMIT }
     {
         self.number

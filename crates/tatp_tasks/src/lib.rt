@@ -1,6 +1,7 @@
 //! What the program can be asked to do, with the numbers and choices of each task.
 #![tactic(auto)]
 
+mod distribution;
 mod judging;
 mod load;
 mod plan;
@@ -9,6 +10,7 @@ mod procedures;
 mod setup;
 mod task;
 
+pub use distribution::Distribution;
 pub use judging::JudgePlan;
 pub use load::{CallsPlan, RowsPlan};
 pub use plan::BenchPlan;

@@ -1,5 +1,5 @@
 //! Rows, or the calls of one client, that are to be drawn for another database.
-use tatp_driver::Distribution;
+use crate::Distribution;
 
 /// A population to be drawn and written.
 #[derive(Clone, Copy, Debug, PartialEq, Eq)]

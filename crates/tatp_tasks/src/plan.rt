@@ -1,5 +1,5 @@
 //! What a run of the benchmark is asked to be.
-use tatp_driver::Distribution;
+use crate::Distribution;
 
 /// A run of the benchmark: over which database, by how many clients, with how many calls, moves and
 /// stops, and how long logs may grow.

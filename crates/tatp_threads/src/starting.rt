@@ -1,7 +1,8 @@
 //! Starts the threads of a run, and waits for their ends.
 ghost use denote.Param.Send.{IsSend};
-ghost use Rattle.std.specs.Prelude.{◌≡◌, ◌<◌, length, vec_len};
+ghost use Rattle.std.specs.Prelude.{◌≡◌, ◌≤◌, length, vec_len};
 ghost use Rattle.tatp_threads.specs.Seats.{AreExecutors, AreClients};
+ghost use Rattle.tatp_threads.specs.declared.starting.TheConstants.{MOST_CLIENTS_A_THREAD};
 
 use crate::admission::{Arities, Port};
 use crate::client::ask_calls;
@@ -22,7 +23,7 @@ use tatp_workers::{Gate, Message};
 /// processor, if there are enough, and leaves it there as long as the executor doesn't sleep.
 const ALONE: u64 = 20;
 
-/// How many clients a thread sees to at most.
+/// The most clients that share a thread.
 const MOST_CLIENTS_A_THREAD: usize = 4;
 
 /// Runs all threads to their ends: the executors until all clients, the mover and the debugger have
@@ -71,10 +72,11 @@ pub(crate) fn run_threads<R: Threads + Wait + Sync, G: Gate + Sync, A: Arities +
     )
 }
 
-/// To how many clients a thread sees: a few clients have a thread each. More share the threads, of
-/// which the processors are then not taken up by those that only look for what hasn't come.
+/// How many clients share a thread. Up to seven clients have a thread each. More share threads, so
+/// that not all processors are busy with clients that wait for an answer.
 fn clients_a_thread(clients: usize) -> usize
-    ensures { 0 < result }
+    ensures some { 1 ≤ result }
+    ensures few { result ≤ MOST_CLIENTS_A_THREAD }
 {
     (clients / MOST_CLIENTS_A_THREAD).clamp(1, MOST_CLIENTS_A_THREAD)
 }

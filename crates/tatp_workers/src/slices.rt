@@ -57,7 +57,8 @@ fn observed_step<O: Observer>(
     if let Some(step) = step_ahead(site) {
         observer.before_step(step);
     }
-    site.step_into(StepKind::Step, buffer)
+    // Stops and breakpoints were looked at, so they aren't again.
+    site.step_into(StepKind::One, buffer)
 }
 
 /// Makes up to 16 steps of the running call: it stops at the first after which the call doesn't go

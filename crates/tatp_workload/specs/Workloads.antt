@@ -1,7 +1,7 @@
 -- All that is drawn for a run.
 use Rattle.std.specs.Prelude.{◌≡◌}
 use Rattle.tatp_tables.specs.Clean.{IsClean}
-use Rattle.tatp_settle.specs.Runs.{lists_of}
+use Rattle.tatp_logs.specs.Lists.{lists_of}
 use Rattle.tatp_tasks.specs.declared.plan.BenchPlan.{BenchPlan}
 use Rattle.tatp_workload.specs.declared.workload.Workload.{Workload}
 use Rattle.tatp_workload.specs.Drawn.{rows_drawn, calls_drawn, moves_drawn, stops_drawn}

@@ -3,7 +3,7 @@ ghost use Rattle.std.specs.Prelude.{◌≡◌, ◌≤◌, ◌<◌, IfOk, map};
 ghost use denote.Param.Send.{IsSync};
 ghost use Rattle.tatp_driver.specs.DrawnCalls.{next_calls};
 ghost use Rattle.tatp_driver.specs.DrawnWords.{words_of};
-ghost use Rattle.tatp_settle.specs.Runs.{lists_of};
+ghost use Rattle.tatp_logs.specs.Lists.{lists_of};
 ghost use Rattle.tatp_tasks.specs.Plans.{IsPlan};
 ghost use Rattle.tatp_workload.specs.Drawn.{calls_drawn, calls_of_clients};
 

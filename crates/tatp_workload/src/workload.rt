@@ -3,7 +3,7 @@ ghost use Rattle.std.specs.Prelude.{◌≡◌, IfOk};
 ghost use denote.Param.Send.{IsSync};
 ghost use Rattle.tatp_tables.specs.Clean.{IsClean};
 ghost use Rattle.tatp_tasks.specs.Plans.{IsPlan};
-ghost use Rattle.tatp_settle.specs.Runs.{lists_of};
+ghost use Rattle.tatp_logs.specs.Lists.{lists_of};
 ghost use Rattle.tatp_workload.specs.Drawn.{rows_drawn, calls_drawn, moves_drawn, stops_drawn};
 ghost use Rattle.tatp_workload.specs.Workloads.{IsWorkload};
 

@@ -6,8 +6,8 @@ use std::thread;
 use std::time::{Clock, Duration};
 use tatp_bench::{BenchPlan, Progress, run_bench};
 use tatp_debug::Snapshot;
-use tatp_driver::Distribution;
 use tatp_partition::SiteRefusal;
+use tatp_tasks::Distribution;
 use tatp_threads::{Gate, RunOutcomeParts};
 
 /// Holds the first step of the run, in whichever partition it comes, until a call ends in the other

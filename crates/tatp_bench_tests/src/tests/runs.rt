@@ -5,8 +5,8 @@ use std::sync::atomic::{AtomicU64, Ordering};
 use std::test::*;
 use tatp_bench::{BenchPlan, Progress, run_bench};
 use tatp_debug::Snapshot;
-use tatp_driver::Distribution;
 use tatp_partition::SiteRefusal;
+use tatp_tasks::Distribution;
 use tatp_threads::{Gate, NoGate, RunOutcomeParts};
 
 /// Counts first steps and ends, and adds up whose they are.

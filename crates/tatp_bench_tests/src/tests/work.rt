@@ -6,11 +6,11 @@ use std::sync::Wait;
 use std::test::*;
 use std::thread::Threads;
 use tatp_bench::{BenchPlan, Work, Workload, generate_workload, run_work, settle_run};
-use tatp_driver::Distribution;
 use tatp_logs::{ReceiptRef, Receipts};
 use tatp_partition::Site;
 use tatp_procs::standard;
 use tatp_settle_tests::events::are_few;
+use tatp_tasks::Distribution;
 use tatp_threads::{NoGate, RunOutcomeParts, RunPlan};
 
 /// One call on 100 extents, beside which extents are moved and partitions stopped.

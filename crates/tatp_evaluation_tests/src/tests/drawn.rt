@@ -6,13 +6,14 @@ ghost use Rattle.tatp_procs.specs.Standard.{standard_module};
 use super::machine::run;
 use rand_pcg::Pcg64;
 use std::test::Fail;
-use tatp_driver::{Distribution, Driver};
+use tatp_driver::Driver;
 use tatp_evaluation::evaluate;
 use tatp_homes::{Home, homes};
 use tatp_loader::Loaded;
 use tatp_numbers::Key;
 use tatp_population::generate;
 use tatp_procs::{Call, Reply, standard};
+use tatp_tasks::Distribution;
 
 const CALLS: u64 = 1_000_000;
 

@@ -6,7 +6,7 @@ use rand_pcg::Pcg64;
 use std::alloc::{AllocError, Global};
 use std::test::Fail;
 use tatp_history::{Line, Recorded};
-use tatp_judge::{Judge, Verdict, is_accepted};
+use tatp_judge::{Judge, Undecided, Verdict, is_accepted};
 use tatp_population::generate;
 use tatp_procs::{Call, Outputs, Reply};
 use tatp_tables::Rows;
@@ -255,18 +255,54 @@ fn a_call_that_names_none_fails(rt: HostRuntime) -> Result<(), Fail> {
     Ok(())
 }
 
-/// After the first of two inserts that overlap is answered, two configurations are possible.
+/// The first subscriber that is set aside for a short history.
+fn first_undecided(
+    alloc: Global,
+    rows: &Rows,
+    most: usize,
+    lines: &[Line],
+) -> Result<Option<Undecided>, AllocError>
+    requires clean { IsClean rows.now }
+    requires short { length lines.now < 100 }
+{
+    let mut judge = Judge::new(alloc, rows, most)?;
+    'lines: for i in 0..lines.len() {
+        let line = &lines[i];
+        if !is_accepted(line) {
+            return Ok(None);
+        }
+        if let Some(_) = judge.follow(alloc, line)? {
+            return Ok(None);
+        }
+    }
+    let _verdict = judge.finish(alloc)?;
+    Ok(judge.undecided().first().copied())
+}
+
+/// After the first of two inserts that overlap is answered, two configurations are possible. The
+/// others are judged on.
 #[test]
 fn one_configuration_is_too_few(rt: HostRuntime) -> Result<(), Fail> {
     let rows = generate(rt.alloc(), 3, &mut Pcg64::new(1, 0))?;
-    let lines = [ask(1, insert(8)), ask(2, insert(16)), end(1, SUCCESS)];
+    let lines = [
+        ask(1, insert(8)),
+        ask(2, insert(16)),
+        end(1, SUCCESS),
+        ask(3, location(1, 7)),
+        end(3, FAILURE),
+    ];
     assert_eq!(rt;
-        verdict(rt.alloc(), &rows, 1, &lines)?,
-        Some(Verdict::Undecided { line: 3, s_id: 3 })
+        first_undecided(rt.alloc(), &rows, 1, &lines[..3])?,
+        Some(Undecided { line: 3, s_id: 3 })
     );
     assert_eq!(rt;
-        verdict(rt.alloc(), &rows, 2, &lines)?,
+        verdict(rt.alloc(), &rows, 1, &lines[..3])?,
         Some(Verdict::Legal)
     );
+    assert_eq!(rt;
+        verdict(rt.alloc(), &rows, 1, &lines)?,
+        Some(illegal_at(5, 1))
+    );
+    assert_eq!(rt; first_undecided(rt.alloc(), &rows, 2, &lines[..3])?, None);
     Ok(())
 }

@@ -4,8 +4,8 @@ ghost use Rattle.tatp_tables.specs.Clean.{IsClean};
 use rand_pcg::Pcg64;
 use std::alloc::Global;
 use std::test::Fail;
-use tatp_judge::{Judge, Part, Stakes};
-use tatp_judged_inputs::{HistoryFault, Judged, NoProgress, judge_history};
+use tatp_judge::{Judge, Part, Stakes, Undecided};
+use tatp_judged_inputs::{HistoryFault, Judged, Judgement, NoProgress, judge_history};
 use tatp_limits::MAX_INPUT_LIMIT;
 use tatp_population::generate;
 use tatp_procs::BadArgument;
@@ -13,7 +13,12 @@ use tatp_streams::LineReader;
 use tatp_tables::Rows;
 
 /// The verdict on an input, where so many configurations are kept of a subscriber.
-fn judged(alloc: Global, rows: &Rows, most: usize, mut input: &[u8]) -> Result<Judged, HistoryFault>
+fn judgement(
+    alloc: Global,
+    rows: &Rows,
+    most: usize,
+    mut input: &[u8],
+) -> Result<Judgement, HistoryFault>
     requires { IsClean rows.now }
 {
     let mut judge = Judge::new(alloc, rows, most)?;
@@ -22,15 +27,38 @@ fn judged(alloc: Global, rows: &Rows, most: usize, mut input: &[u8]) -> Result<J
         number: 1,
         count: 1,
     };
-    let judgement = judge_history(
+    judge_history(
         alloc,
         &whole,
         &mut judge,
         &mut lines,
         &mut input,
         &mut NoProgress,
-    )?;
-    Ok(judgement.judged)
+    )
+}
+
+/// What it says of all subscribers that aren't set aside.
+fn judged(alloc: Global, rows: &Rows, most: usize, input: &[u8]) -> Result<Judged, HistoryFault>
+    requires { IsClean rows.now }
+{
+    Ok(judgement(alloc, rows, most, input)?.judged)
+}
+
+/// The first subscriber that is set aside, if one is.
+fn set_aside(
+    alloc: Global,
+    rows: &Rows,
+    most: usize,
+    input: &[u8],
+) -> Result<Option<Undecided>, HistoryFault>
+    requires { IsClean rows.now }
+{
+    Ok(
+        judgement(alloc, rows, most, input)?
+            .undecided
+            .first()
+            .copied(),
+    )
 }
 
 /// What was at stake where all calls were answered.
@@ -96,8 +124,8 @@ fn too_many_configurations_are_told(rt: HostRuntime) -> Result<(), Fail> {
     let input = "# two updates\nask 0 UPDATE_LOCATION 000000000000002 7\n\
         ask 1 UPDATE_LOCATION 000000000000002 8\nend 0 OK\nend 1 OK\n# the end\n";
     assert_eq!(rt;
-        judged(alloc, &rows, 1, input.as_bytes()),
-        Ok(Judged::Undecided { line: 5, s_id: 2 })
+        set_aside(alloc, &rows, 1, input.as_bytes()),
+        Ok(Some(Undecided { line: 5, s_id: 2 }))
     );
     assert_eq!(rt;
         judged(alloc, &rows, 2, input.as_bytes()),

@@ -2,9 +2,10 @@
 use rand_core::Rng;
 use rand_pcg::Pcg64;
 use std::test::Fail;
-use tatp_driver::{Distribution, Driver, call_of};
+use tatp_driver::{Driver, call_of};
 use tatp_numbers::Key;
 use tatp_procs::{Call, call_text};
+use tatp_tasks::Distribution;
 
 #[test]
 fn a_call_for_each_place_in_the_mix(rt: HostRuntime) {

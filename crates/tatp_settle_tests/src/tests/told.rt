@@ -1,7 +1,8 @@
 //! The verdict on a run: what it counts where it is settled, or the text of its first cause.
 ghost use Rattle.std.specs.Prelude.{◌<◌, ◌^◌, length};
 ghost use Rattle.tatp_tables.specs.Clean.{IsClean};
-ghost use Rattle.tatp_settle.specs.Runs.{joined, lists_of};
+ghost use Rattle.tatp_logs.specs.Lists.{lists_of};
+ghost use Rattle.tatp_settle.specs.Runs.{joined};
 
 use crate::events::{Event, Got, Left, are_few, left_at, left_of, readings, receipts};
 use crate::rows::clean_rows;

@@ -1,6 +1,7 @@
 use Rattle.std.proofs.Common.{◌≡◌, ◌+◌, ◌*◌, ◌<◌, ◌^◌, None, length, vec_len, refl, sym, ap, ◌∙◌, subst, arith, inl, inr}
 use Rattle.std.proofs.lemmas.Result.{IfOk-weaker, IfErr-weaker}
-use Rattle.tatp_settle.specs.Runs.{Run, joined, lists_of}
+use Rattle.tatp_logs.specs.Lists.{lists_of}
+use Rattle.tatp_settle.specs.Runs.{Run, joined}
 use Rattle.tatp_threads.specs.declared.outcome.RunOutcomeParts.{RunOutcomeParts}
 use Rattle.tatp_bench.specs.declared.closing.SettledRun.{SettledRun}
 use Rattle.tatp_bench.specs.Benching.{IsRunOf, RefusesBench, kinds_drawn}

@@ -1,6 +1,7 @@
 use Rattle.std.proofs.Common.{◌++◌, List, sym, ap, ◌∙◌, Vec, Global}
 use Rattle.tatp_extents.specs.Chapters.{ChapterState}
-use Rattle.tatp_settle.specs.Runs.{joined, lists_of}
+use Rattle.tatp_logs.specs.Lists.{lists_of}
+use Rattle.tatp_settle.specs.Runs.{joined}
 use Rattle.tatp_bench.proofs.ChapterLaws.{last_joined}
 use Rattle.tatp_bench.proofs.chapters.join_chapters.Goals as goal
 

@@ -1,5 +1,6 @@
 use Rattle.std.proofs.Common.{◌≡◌, ◌++◌, vec_len}
-use Rattle.tatp_settle.specs.Runs.{joined, lists_of}
+use Rattle.tatp_logs.specs.Lists.{lists_of}
+use Rattle.tatp_settle.specs.Runs.{joined}
 use Rattle.tatp_bench.proofs.chapters.join_chapters.Given as goal
 
 abbrev pub invariant-loop-last : goal.invariant-loop-last

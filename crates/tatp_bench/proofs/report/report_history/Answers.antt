@@ -2,7 +2,7 @@ use Rattle.std.proofs.Common.{inl, sym, ap, subst, ◌∙◌}
 use Rattle.std.proofs.lemmas.Result.{err_from_is_err_and}
 use Rattle.std.specs.String.{string_bytes}
 use Rattle.tatp_streams.proofs.StreamLaws.{appends_none}
-use Rattle.tatp_settle.specs.Runs.{lists_of}
+use Rattle.tatp_logs.specs.Lists.{lists_of}
 use Rattle.tatp_bench.specs.Benching.{ReceivesPlan}
 use Rattle.tatp_bench.proofs.ReportLaws.{IsTold, history_written, history_left}
 use Rattle.tatp_bench.proofs.report.report_history.Goals as goal

@@ -1,5 +1,5 @@
 use Rattle.std.proofs.Common.{◌≡◌, None, length, sym, ◌∙◌, subst, arith, inl, inr}
-use Rattle.tatp_settle.specs.Runs.{lists_of}
+use Rattle.tatp_logs.specs.Lists.{lists_of}
 use Rattle.tatp_threads.specs.Calls.{obstacle_among}
 use Rattle.tatp_workload.specs.Drawn.{calls_drawn}
 use Rattle.tatp_bench.proofs.PlanLaws.{calls_are_run, rows_are_opened, clients_listed}

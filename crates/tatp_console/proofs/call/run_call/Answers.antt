@@ -4,8 +4,15 @@ use Rattle.tatp_console.specs.Answers.{AnswersWork, AnswersFront}
 use Rattle.tatp_console.specs.Replying.{answers_call, rows_after}
 use Rattle.tatp_console.specs.Served.{Served, ServedFront}
 use Rattle.tatp_console.proofs.CallLaws.{all_served, front_served}
+use Rattle.tatp_console.proofs.RenewalLaws.{opened_first}
 use Rattle.tatp_console.proofs.WorkLaws.{writes_as, leaves_as}
 use Rattle.tatp_console.proofs.call.run_call.Goals as goal
+
+pub answer_all-requires-clause-ready : goal.answer_all-requires-clause-ready
+answer_all-requires-clause-ready g c = λ m rows lines w standard opened is. opened_first w rows m c.args.partitions lines opened is standard
+
+pub answer_all-requires-else-rows-clause-ready : goal.answer_all-requires-else-rows-clause-ready
+answer_all-requires-else-rows-clause-ready g c = λ m rows lines w standard opened is. opened_first w rows m c.args.partitions lines opened is standard
 
 pub returns-then-rows-clause-served : goal.returns-then-rows-clause-served
 returns-then-rows-clause-served g c =

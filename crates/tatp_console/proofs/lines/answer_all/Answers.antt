@@ -5,7 +5,7 @@ use Rattle.tatp_console.proofs.lines.answer_all.Goals as goal
 
 pub answer_to_the_end-answered-requires : goal.answer_to_the_end-answered-requires
 answer_to_the_end-answered-requires g c =
-    record { ready = c.requires.ready c.in_ok-world.world (rw c.in_ok-world.ensures.opened.runs c.in_ok-loaded.ensures.rules) }
+    record { ready = c.requires.ready _ _ _ c.in_ok-world.world c.in_ok-loaded.ensures.rules c.in_ok-world.ensures.opened c.in_ok-world.ensures.world }
 
 pub returns-in_err-world-clause-faults : goal.returns-in_err-world-clause-faults
 returns-in_err-world-clause-faults g c =

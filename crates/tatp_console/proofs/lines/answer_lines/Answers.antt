@@ -1,5 +1,6 @@
-use Rattle.std.proofs.Common.{rules}
+use Rattle.std.proofs.Common.{◌<◌, ℕ, arith, rules, subst, sym}
 use Rattle.std.proofs.lemmas.Result.{err_from_is_err_and}
+use Rattle.tatp_limits.specs.declared.limits.TheConstants.{MAX_INPUT_LIMIT}
 use Rattle.tatp_streams.specs.LineReading.{lines_left, IsWithinLimit}
 use Rattle.tatp_console.specs.Answers.{AnswersAll}
 use Rattle.tatp_console.proofs.AnswerLaws.{starts, answers_next, writes_next, answers_all, lines_answered, answers_up_to, answers_so_far}
@@ -10,6 +11,11 @@ lines-init g c = record {
   ready = c.requires.ready;
   goes = starts g.C.LineCommand.answers c.args.world.now (lines_left c.args.lines.now (g.R.Read.remaining c.args.reader.now)) (g.W.Write.contents c.args.writer.now) _ c.new-pending.ensures.bytes;
 }
+
+pub answer-requires : goal.answer-requires
+answer-requires g c =
+    let taken = c.in_ok-next_line.ensures.line (search rules) in
+    record { ready = (c.lines.lines.number, omega (arith, taken.number, taken.few), c.lines.invariant.ready) }
 
 pub returns-in_err-next_line-clause-front : goal.returns-in_err-next_line-clause-front
 returns-in_err-next_line-clause-front g c =
@@ -45,8 +51,9 @@ lines-preserved g c =
     let left = lines_left c.lines.lines (g.R.Read.remaining c.lines.reader) in
     let later = lines_left c.next_line.new.lines (g.R.Read.remaining c.next_line.new.reader) in
     let taken = c.in_ok-next_line.ensures.line (search rules) in
+    let few : c.lines.lines.number < MAX_INPUT_LIMIT = omega (arith, taken.number, taken.few) in
     record {
-      ready = c.answer.ensures.ready;
+      ready = subst (λ (n : ℕ). g.C.LineCommand.ready n c.answer.new.world) (sym taken.number) (c.answer.ensures.ready c.lines.lines.number few c.lines.invariant.ready);
       goes = writes_next answers w c.answer.new.world all later _ _ _ _ _
           (answers_next answers w c.lines.world c.answer.new.world all left later _ _ _ _ _ _ c.next_line.new.lines.line c.lines.invariant.goes taken.left (c.in_ok-next_line.ensures.written (search rules))
           (rw c.line.ensures at c.in_ok-answer.ensures.answered))

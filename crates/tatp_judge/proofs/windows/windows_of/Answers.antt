@@ -5,4 +5,7 @@ pub homes-preserved : goal.homes-preserved
 homes-preserved c =
     let new = c.in_ok-new.ensures in
     one_window_more c.args.most c.args.homes.now c.homes.i c.homes.windows.items c.push.new.self.items c.index-homes-i.result c.in_ok-new.field-0 c.homes.invariant c.homes-test.true c.index-homes-i.is c.in_ok-push.ensures.items
-    new.reached new.own new.most new.from new.events new.numbers new.waiting
+    new.reached new.own new.most new.from new.events new.numbers new.waiting new.aside
+
+pub returns-clause-kept : goal.returns-clause-kept
+returns-clause-kept c = c.homes.invariant.unmarked

@@ -23,7 +23,7 @@ judge_lines-requires g c = (
 
 pub returns-clause-judged : goal.returns-clause-judged
 returns-clause-judged g c = IfOk-weaker c.judge_lines.result _ _
-    (λ judgement h. input_judged c.args.plan.now _ _ (g.R.Read.remaining c.args.reader.now) _ c.in_ok-rows.rows _ c.in_ok-judge.judge c.part_of-part.result judgement.judged judgement.window c.new-lines.ensures c.in_ok-rows.ensures.work c.in_ok-judge.ensures.admitted c.in_ok-judge.ensures.judge c.part_of-part.ensures (record { first = c.requires.part_first; last = c.requires.part_last }) h) c.judge_lines.ensures.judged
+    (λ judgement h. input_judged c.args.plan.now _ _ (g.R.Read.remaining c.args.reader.now) _ c.in_ok-rows.rows _ c.in_ok-judge.judge c.part_of-part.result judgement c.new-lines.ensures c.in_ok-rows.ensures.work c.in_ok-judge.ensures.admitted c.in_ok-judge.ensures.judge c.part_of-part.ensures (record { first = c.requires.part_first; last = c.requires.part_last }) h) c.judge_lines.ensures.judged
 
 pub returns-clause-faults : goal.returns-clause-faults
 returns-clause-faults g c = IfErr-weaker c.judge_lines.result _ _

@@ -12,7 +12,7 @@ returns-in_err-write_last-clause-faults g c =
     let known = g.R.Read.remaining c.args.reader.now in
     let left =
     cut_of_known (TellsJudged c.args.plan.now) known c.as_bytes.result.now (g.W.Write.contents c.args.writer.now) (g.W.Write.contents c.write_last.new.writer) c.in_err-write_last.field-0.0
-    (IfSome_then known c.in_ok-judgement.ensures.judged (λ input is. record { judged = c.in_ok-judgement.judgement.judged; window = c.in_ok-judgement.judgement.window; is = is; told = c.as_bytes.ensures.value ∙ c.in_ok-lines.ensures }))
+    (IfSome_then known c.in_ok-judgement.ensures.judged (λ input is. record { judgement = c.in_ok-judgement.judgement; is = is; told = c.as_bytes.ensures.value ∙ c.in_ok-lines.ensures }))
     c.in_err-write_last.ensures.faults c.in_err-write_last.ensures.front
     in
     rw (p.1, p.2) left
@@ -22,7 +22,6 @@ returns-clause-written g c =
     let known = g.R.Read.remaining c.args.reader.now in
     let told = c.as_bytes.ensures.value ∙ c.in_ok-lines.ensures in
     IfSome_then known c.in_ok-judgement.ensures.judged (λ input is. record {
-      window = c.in_ok-judgement.judgement.window;
       is = is;
       written = subst (Appends (g.W.Write.contents c.args.writer.now) (g.W.Write.contents c.write_last.new.writer)) told c.in_ok-write_last.ensures.ok;
     })

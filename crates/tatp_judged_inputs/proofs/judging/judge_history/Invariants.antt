@@ -1,4 +1,4 @@
-use Rattle.std.specs.Prelude.{ℕ, []}
+use Rattle.std.specs.Prelude.{ℕ}
 use Rattle.tatp_streams.specs.LineReading.{lines_left, steps_left}
 use Rattle.tatp_judged_inputs.specs.Views.{IsBegun, View}
 use Rattle.tatp_judged_inputs.proofs.HistoryLaws.{ReadSoFar}

@@ -6,7 +6,7 @@ pub returns-clause-legal : goal.returns-clause-legal
 returns-clause-legal c = legal_nowhere_unreached
 
 pub returns-clause-illegal : goal.returns-clause-illegal
-returns-clause-illegal c = λ u taken texts number other s illegal is. legal_nowhere_illegal u taken (before_dot texts) number is.legal illegal
+returns-clause-illegal c = λ u aside taken texts number other s illegal is. legal_nowhere_illegal u aside taken (before_dot texts) number is.legal illegal
 
 pub returns-clause-subscriber : goal.returns-clause-subscriber
 returns-clause-subscriber c = unreached_at_one

@@ -1,14 +1,17 @@
 use Rattle.std.specs.Prelude.{ℕ, List, [], IfSome}
 use Rattle.std.specs.Option.{option_map}
-use Rattle.std.proofs.Common.{◌≡◌, ◌∷◌, ◌++◌, ◌+◌, ◌-◌, Option, Ok, Some, None, refl, sym, ap, ◌∙◌, subst, arith}
+use Rattle.std.proofs.Common.{◌≡◌, ◌∷◌, ◌++◌, ◌+◌, Option, Ok, Some, None, refl, sym, ap, ◌∙◌, subst}
 use Rattle.std.proofs.lemmas.Result.{err_from_is_err_and}
 use Rattle.tatp_history.specs.declared.line.Line.{Line}
 use Rattle.tatp_streams.specs.LineReading.{lines_left, Stays, with_line}
 use Rattle.tatp_inputs.specs.Parts.{is_dot, before_dot}
 use Rattle.tatp_judge.specs.declared.judge.Verdict.{Verdict}
+use Rattle.tatp_judge.specs.Aside.{undecided_in}
 use Rattle.tatp_judged_inputs.specs.Views.{HasCounted, HasFollowed, IsBegun, View, seen}
-use Rattle.tatp_judged_inputs.specs.Judged.{IsJudgement, IsTold}
+use Rattle.tatp_judged_inputs.specs.Judged.{IsJudgement, aside_told}
 use Rattle.tatp_judged_inputs.specs.Reading.{Decides, IsNumbered, told_by, told_of, RefusesHistory}
+use Rattle.tatp_judged_inputs.specs.RowsAtEnd.{ids}
+use Rattle.tatp_judged_inputs.proofs.AsideLaws.{ids_told}
 use Rattle.tatp_judged_inputs.proofs.HistoryLaws.{by_all, one_numbered}
 use Rattle.tatp_judged_inputs.proofs.RowsAtEndLaws.{ToDotSoFar, judged_at_dot, judged_before_dot, reads_to_dot, refused_to_dot, refused_without_dot, to_dot_goes_on, to_dot_starts, told_legal}
 use Rattle.tatp_judged_inputs.proofs.to_rows.judge_to_dot.Goals as goal
@@ -25,7 +28,7 @@ pub judgement-requires : goal.judgement-requires
 judgement-requires g c =
     let q = c.requires in
     let s = (c.lines.invariant q.0 q.1 q.2).so_far in
-    (q.0, q.1, s.past, s.numbered, c.in_ok-verdict.ensures.verdict q.0.rows q.1 (seen q.0 s.past) s.followed, λ line s_id e. c.finish.ensures.kept q.0.rows q.1 (seen q.0 s.past) s.followed, s.counted)
+    (q.0, q.1, s.past, s.numbered, c.in_ok-verdict.ensures.verdict q.0.rows q.1 (seen q.0 s.past) s.followed, λ line s_id e. c.in_ok-verdict.ensures.kept q.0.rows q.1 (seen q.0 s.past) s.followed, s.counted)
 
 pub take-requires : goal.take-requires
 take-requires g c = let q = c.requires in let s = (c.lines.invariant q.0 q.1 q.2).so_far in (q.0, q.1, s.past, s.followed, s.numbered, s.counted)
@@ -47,14 +50,14 @@ returns-then-is_dot-clause-judged g c =
     let left' = lines_left c.advance.new.self (g.R.Read.remaining c.advance.new.reader) in
     let advanced = c.in_ok-advance.ensures.line c.if-not-branch.false in
     let judgement = c.in_ok-judgement.field-0 in
-    by_all all (λ a. (u : View) (most : ℕ) → IsBegun u most c.args.part.now c.args.judge.now → IsJudgement u most taken (before_dot a.lines) judgement.judged judgement.window) (λ a e. λ u most is.
+    by_all all (λ a. (u : View) (most : ℕ) → IsBegun u most c.args.part.now c.args.judge.now → IsJudgement u most taken (before_dot a.lines) judgement.judged judgement.undecided.items judgement.window) (λ a e. λ u most is.
     let s = c.lines.invariant u most is in
     let text = c.line.result.now in
     let stays = subst (λ t. Stays left (option_map (with_line t) left')) (sym c.line.ensures) advanced.left in
     let on = c.in_ok-verdict.ensures.verdict u.rows most (seen u s.so_far.past) s.so_far.followed in
-    judged_at_dot u most c.lines.judge c.lines.reading taken c.lines.lines.number (c.number-then-is_dot.result - 1) text all left left' a c.in_ok-verdict.verdict judgement.judged judgement.window s e (sym c.is_dot.ensures ∙ c.if-is_dot.true) stays
-    (omega (arith, c.number-then-is_dot.ensures.number, advanced.number)) on (c.in_ok-judgement.ensures.judged u s.so_far.past s.so_far.counted)
-    (c.in_ok-judgement.ensures.window u most s.so_far.past s.so_far.numbered on (λ line s_id e. c.finish.ensures.kept u.rows most (seen u s.so_far.past) s.so_far.followed)))
+    judged_at_dot u most c.lines.judge c.lines.reading taken c.lines.lines.number text all left left' a c.in_ok-verdict.verdict judgement.judged (undecided_in c.finish.new.self) judgement.undecided.items judgement.window s e (sym c.is_dot.ensures ∙ c.if-is_dot.true) stays
+    on (c.in_ok-judgement.ensures.judged u s.so_far.past s.so_far.counted) (c.in_ok-judgement.ensures.undecided ∙ ap (λ n. aside_told n c.lines.reading.numbers.items (undecided_in c.finish.new.self)) c.number-taken.ensures.number)
+    (c.in_ok-judgement.ensures.window u most s.so_far.past s.so_far.numbered on (λ line s_id e. c.in_ok-verdict.ensures.kept u.rows most (seen u s.so_far.past) s.so_far.followed)))
 
 pub returns-then-is_dot-clause-followed : goal.returns-then-is_dot-clause-followed
 returns-then-is_dot-clause-followed g c = λ _ _ u most is.
@@ -65,7 +68,7 @@ returns-then-is_dot-clause-followed g c = λ _ _ u most is.
     let s = c.lines.invariant u most is in
     let stays = subst (λ t. Stays left (option_map (with_line t) left')) (sym c.line.ensures) advanced.left in (
       s.so_far.past,
-      s.so_far.followed,
+      c.in_ok-verdict.ensures.followed u.rows most (seen u s.so_far.past) s.so_far.followed,
       reads_to_dot u most c.lines.judge c.lines.reading c.args.lines.now.number c.lines.lines.number c.advance.new.self.number c.line.result.now all left left' s (sym c.is_dot.ensures ∙ c.if-is_dot.true) advanced.number stays,
     )
 
@@ -106,13 +109,14 @@ returns-in-Some-clause-judged g c =
     let decides = subst (λ found. IfSome found (λ v. (u : View) (most : ℕ) (past : List Line) → HasFollowed u most past c.lines.judge → IsNumbered u c.lines.reading past → HasCounted u past c.lines.reading.counts → Decides u most past number text v c.take.new.judge c.lines.reading c.take.new.self))
     c.in-Some.is c.in_ok-verdict-2.ensures.decided in
     let judgement = c.in_ok-judgement-2.field-0 in
-    by_all all (λ a. (u : View) (most : ℕ) → IsBegun u most c.args.part.now c.args.judge.now → IsJudgement u most taken (before_dot a.lines) judgement.judged judgement.window) (λ a e. λ u most is.
+    by_all all (λ a. (u : View) (most : ℕ) → IsBegun u most c.args.part.now c.args.judge.now → IsJudgement u most taken (before_dot a.lines) judgement.judged judgement.undecided.items judgement.window) (λ a e. λ u most is.
     let s = c.lines.invariant u most is in
     let stays = subst (λ t. Stays left (option_map (with_line t) left')) (sym c.line-in-lines.ensures) advanced.left in
     let d = decides u most s.so_far.past s.so_far.followed s.so_far.numbered s.so_far.counted in
-    judged_before_dot u most c.lines.judge c.take.new.judge c.lines.reading c.take.new.self taken c.lines.lines.number number text all left left' a verdict judgement.judged judgement.window s e other (c.number-in-lines.ensures.number ∙ advanced.number) stays
+    judged_before_dot u most c.lines.judge c.take.new.judge c.lines.reading c.take.new.self taken c.lines.lines.number number text all left left' a verdict judgement.judged judgement.undecided.items judgement.window s e other (c.number-in-lines.ensures.number ∙ advanced.number) stays
     (λ legal. c.in_ok-verdict-2.ensures.never (ap Ok (c.in-Some.is ∙ ap Some legal))) d
-    (subst (λ n. IsTold u (told_of c.take.new.self (s.so_far.past ++ d.line ∷ [])) n verdict judgement.judged) (c.number-in-Some.ensures.number ∙ sym c.number-in-lines.ensures.number) (c.in_ok-judgement-2.ensures.judged u (s.so_far.past ++ d.line ∷ []) d.counted))
+    (c.in_ok-judgement-2.ensures.judged u (s.so_far.past ++ d.line ∷ []) d.counted)
+    (c.in_ok-judgement-2.ensures.undecided ∙ ap (λ n. aside_told n c.take.new.self.numbers.items (undecided_in c.take.new.judge)) c.number-taken.ensures.number)
     (c.in_ok-judgement-2.ensures.window u most (s.so_far.past ++ d.line ∷ []) (one_numbered c.lines.reading c.take.new.self s.so_far.past number d.line d.numbers_are d.part_same s.so_far.numbered) d.decided d.kept))
 
 pub returns-in-Some-clause-followed : goal.returns-in-Some-clause-followed
@@ -123,7 +127,7 @@ returns-in-Some-clause-followed g c = λ stakes e u most is.
     c.in-Some.is c.in_ok-verdict-2.ensures.decided in
     let d = decides u most s.past s.followed s.numbered s.counted in
     let past = s.past ++ d.line ∷ [] in
-    absurd (told_legal u (told_of c.take.new.self past) c.number-in-Some.result verdict c.in_ok-judgement-2.field-0.judged stakes (c.in_ok-judgement-2.ensures.judged u past d.counted)
+    absurd (told_legal u (told_of c.take.new.self past) verdict c.in_ok-judgement-2.field-0.judged stakes (c.in_ok-judgement-2.ensures.judged u past d.counted)
     (λ legal. c.in_ok-verdict-2.ensures.never (ap Ok (c.in-Some.is ∙ ap Some legal))) e)
 
 none_is : (found : Option Verdict) → ((verdict : Verdict) → found ≡ Some verdict → ⊥) → found ≡ None
@@ -144,3 +148,9 @@ lines-preserved g c = λ u most is.
     let stays = subst (λ t. Stays left (option_map (with_line t) left')) (sym c.line-in-lines.ensures) advanced.left in
     subst (λ n. ToDotSoFar u most c.take.new.judge c.take.new.self taken n all left') c.number-in-lines.ensures.number
     (to_dot_goes_on u most c.lines.judge c.take.new.judge c.lines.reading c.take.new.self taken c.lines.lines.number c.number-in-lines.result text all left left' s other (c.number-in-lines.ensures.number ∙ advanced.number) stays on)
+
+pub returns-then-is_dot-clause-named : goal.returns-then-is_dot-clause-named
+returns-then-is_dot-clause-named g c = ap ids c.in_ok-judgement.ensures.undecided ∙ ids_told c.number-taken.result c.lines.reading.numbers.items (undecided_in c.finish.new.self)
+
+pub returns-in-Some-clause-named : goal.returns-in-Some-clause-named
+returns-in-Some-clause-named g c = ap ids c.in_ok-judgement-2.ensures.undecided ∙ ids_told c.number-taken.result c.take.new.self.numbers.items (undecided_in c.take.new.judge)

@@ -1,6 +1,7 @@
 use Rattle.std.proofs.Common.{◌≡◌, ◌++◌, drop}
 use Rattle.tatp_logs.specs.Receipts.{receipts_of}
-use Rattle.tatp_run_history.specs.ClientLines.{all_lines, lists_of}
+use Rattle.tatp_logs.specs.Lists.{lists_of}
+use Rattle.tatp_run_history.specs.ClientLines.{all_lines}
 use Rattle.tatp_run_history.specs.Parts.{rests_of}
 use Rattle.tatp_run_history.proofs.history.parts_of.Given as goal
 

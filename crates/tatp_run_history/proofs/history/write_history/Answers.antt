@@ -4,7 +4,8 @@ use Rattle.std.proofs.lemmas.List.{map-set}
 use Rattle.std.proofs.lemmas.Option.{slice_get_read}
 use Rattle.std.proofs.lemmas.Result.{err_from_is_err_and}
 use Rattle.tatp_logs.specs.Receipts.{receipts_of}
-use Rattle.tatp_run_history.specs.ClientLines.{all_lines, lists_of}
+use Rattle.tatp_logs.specs.Lists.{lists_of}
+use Rattle.tatp_run_history.specs.ClientLines.{all_lines}
 use Rattle.tatp_run_history.specs.Interleaving.{HasFirst, AllAreEmpty}
 use Rattle.tatp_run_history.specs.Parts.{rest_of, rests_of}
 use Rattle.tatp_run_history.proofs.PartLaws.{rest_at, place_within, not_done}

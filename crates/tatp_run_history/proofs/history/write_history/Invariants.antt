@@ -1,7 +1,8 @@
 use Rattle.std.proofs.Common.{sum_by, length}
 use Rattle.std.specs.String.{string_bytes}
 use Rattle.tatp_logs.specs.Receipts.{receipts_of}
-use Rattle.tatp_run_history.specs.ClientLines.{all_lines, lists_of}
+use Rattle.tatp_logs.specs.Lists.{lists_of}
+use Rattle.tatp_run_history.specs.ClientLines.{all_lines}
 use Rattle.tatp_run_history.specs.Parts.{rests_of}
 use Rattle.tatp_run_history.proofs.WritingLaws.{IsMerged}
 use Rattle.tatp_run_history.proofs.history.write_history.Given as goal

@@ -1,5 +1,6 @@
 use Rattle.std.proofs.Common.{◌≡◌, take, slice_get, Some}
-use Rattle.tatp_settle.specs.Runs.{joined, lists_of}
+use Rattle.tatp_logs.specs.Lists.{lists_of}
+use Rattle.tatp_settle.specs.Runs.{joined}
 use Rattle.tatp_settle.proofs.CountLaws.{seen}
 use Rattle.tatp_settle.proofs.KindLaws.{kinds_of}
 use Rattle.tatp_settle.proofs.counts.count_kinds.Given as goal

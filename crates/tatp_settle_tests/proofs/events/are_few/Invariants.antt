@@ -1,5 +1,6 @@
 use Rattle.std.proofs.Common.{◌≡◌, ◌+◌, ◌≤◌, drop, length}
-use Rattle.tatp_settle.specs.Runs.{joined, lists_of}
+use Rattle.tatp_logs.specs.Lists.{lists_of}
+use Rattle.tatp_settle.specs.Runs.{joined}
 use Rattle.tatp_settle_tests.proofs.events.are_few.Given as goal
 
 abbrev pub invariant-lists : goal.invariant-lists

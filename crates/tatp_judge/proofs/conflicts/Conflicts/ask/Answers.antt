@@ -1,4 +1,4 @@
-use Rattle.std.proofs.Common.{◌≡◌, ◌∙◌, ◌^◌, ◌<◌, ◌+◌, arith, sym, refl, length}
+use Rattle.std.proofs.Common.{◌∙◌, arith, sym, length}
 use Rattle.tatp_judge.proofs.ConflictLaws.{place_within, read_asked, unnamed_asked, write_asked_on, writing_few}
 use Rattle.tatp_judge.proofs.conflicts.Conflicts.ask.Goals as goal
 

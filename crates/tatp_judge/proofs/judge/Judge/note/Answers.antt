@@ -4,9 +4,9 @@ use Rattle.tatp_history.specs.declared.line.Line.{Line}
 use Rattle.tatp_history.specs.declared.line.Line.TheVariants.{Ask, End, Abort, Lost}
 use Rattle.tatp_judge.specs.Population.{IsDirectoryOf}
 use Rattle.tatp_judge.specs.Asked.{asked_on}
-use Rattle.tatp_judge.specs.Steps.{AreEach, IsEndedIn, IsNotedBy}
+use Rattle.tatp_judge.specs.Steps.{AreEach, EndsCall, IsNotedBy}
 use Rattle.tatp_judge.proofs.JudgeLaws.{then_noted}
-use Rattle.tatp_judge.proofs.StepLaws.{asks_nothing, on_ok_three}
+use Rattle.tatp_judge.proofs.StepLaws.{asks_nothing, on_ok_four}
 use Rattle.tatp_judge.proofs.judge.Judge.note.Goals as goal
 
 pub ask-requires-clause-directory : goal.ask-requires-clause-directory
@@ -20,12 +20,12 @@ returns-in-Ask c =
     let old = c.args.self.now in
     let ended = c.in_ok-end.ensures in
     let line = c.in-Ask.is in
-    on_ok_three c.ask.result (λ directory asked windows. λ u d.
+    on_ok_four c.ask.result (λ directory undecided asked windows. λ u d.
     let mid = subst (λ n. IsDirectoryOf u n c.end.new.self.directory) (sym ended.windows.count) (subst (λ (l : Listing). IsDirectoryOf u (length old.windows.items) l) (sym ended.directory) d) in
     subst (λ (l : Line). IsNotedBy u c.args.ended.now c.args.number l old c.ask.new.self) (sym line)
-    (then_noted u c.args.ended.now c.args.number (Ask c.in-Ask.client c.in-Ask.call) old c.end.new.self c.ask.new.self ended.directory ended.asked directory (asked u mid)
-    (subst (λ (l : Line). AreEach (λ place. IsEndedIn (asked_on (suc place) c.args.ended.now) c.args.number l) old.windows.items c.end.new.self.windows.items) line ended.windows) (windows u mid)))
-    c.ask.ensures.directory c.ask.ensures.asked c.ask.ensures.windows
+    (then_noted u c.args.ended.now c.args.number (Ask c.in-Ask.client c.in-Ask.call) old c.end.new.self c.ask.new.self ended.directory ended.asked ended.undecided directory undecided (asked u mid)
+    (subst (λ (l : Line). AreEach (λ place. EndsCall (asked_on (suc place) c.args.ended.now) c.args.number l) old.windows.items c.end.new.self.windows.items) line ended.windows) (windows u mid)))
+    c.ask.ensures.directory c.ask.ensures.undecided c.ask.ensures.asked c.ask.ensures.windows
 
 pub returns-in-End : goal.returns-in-End
 returns-in-End c = λ u d.
@@ -34,8 +34,8 @@ returns-in-End c = λ u d.
     let line = c.in-End.is in
     let here : Line = End c.in-End.client c.in-End.recorded in
     subst (λ (l : Line). IsNotedBy u c.args.ended.now c.args.number l old c.end.new.self) (sym line)
-    (then_noted u c.args.ended.now c.args.number here old c.end.new.self c.end.new.self ended.directory ended.asked refl (λ other. refl)
-    (subst (λ (l : Line). AreEach (λ place. IsEndedIn (asked_on (suc place) c.args.ended.now) c.args.number l) old.windows.items c.end.new.self.windows.items) line ended.windows)
+    (then_noted u c.args.ended.now c.args.number here old c.end.new.self c.end.new.self ended.directory ended.asked ended.undecided refl refl (λ other. refl)
+    (subst (λ (l : Line). AreEach (λ place. EndsCall (asked_on (suc place) c.args.ended.now) c.args.number l) old.windows.items c.end.new.self.windows.items) line ended.windows)
     (asks_nothing u c.args.number here c.end.new.self.windows.items (λ s. refl)))
 
 pub returns-in-Abort : goal.returns-in-Abort
@@ -45,8 +45,8 @@ returns-in-Abort c = λ u d.
     let line = c.in-Abort.is in
     let here : Line = Abort c.in-Abort.client in
     subst (λ (l : Line). IsNotedBy u c.args.ended.now c.args.number l old c.end.new.self) (sym line)
-    (then_noted u c.args.ended.now c.args.number here old c.end.new.self c.end.new.self ended.directory ended.asked refl (λ other. refl)
-    (subst (λ (l : Line). AreEach (λ place. IsEndedIn (asked_on (suc place) c.args.ended.now) c.args.number l) old.windows.items c.end.new.self.windows.items) line ended.windows)
+    (then_noted u c.args.ended.now c.args.number here old c.end.new.self c.end.new.self ended.directory ended.asked ended.undecided refl refl (λ other. refl)
+    (subst (λ (l : Line). AreEach (λ place. EndsCall (asked_on (suc place) c.args.ended.now) c.args.number l) old.windows.items c.end.new.self.windows.items) line ended.windows)
     (asks_nothing u c.args.number here c.end.new.self.windows.items (λ s. refl)))
 
 pub returns-in-Lost : goal.returns-in-Lost
@@ -56,6 +56,6 @@ returns-in-Lost c = λ u d.
     let line = c.in-Lost.is in
     let here : Line = Lost c.in-Lost.client in
     subst (λ (l : Line). IsNotedBy u c.args.ended.now c.args.number l old c.end.new.self) (sym line)
-    (then_noted u c.args.ended.now c.args.number here old c.end.new.self c.end.new.self ended.directory ended.asked refl (λ other. refl)
-    (subst (λ (l : Line). AreEach (λ place. IsEndedIn (asked_on (suc place) c.args.ended.now) c.args.number l) old.windows.items c.end.new.self.windows.items) line ended.windows)
+    (then_noted u c.args.ended.now c.args.number here old c.end.new.self c.end.new.self ended.directory ended.asked ended.undecided refl refl (λ other. refl)
+    (subst (λ (l : Line). AreEach (λ place. EndsCall (asked_on (suc place) c.args.ended.now) c.args.number l) old.windows.items c.end.new.self.windows.items) line ended.windows)
     (asks_nothing u c.args.number here c.end.new.self.windows.items (λ s. refl)))

@@ -1,4 +1,4 @@
-use Rattle.std.proofs.Common.{◌++◌, ◌∷◌, [], sym, subst}
+use Rattle.std.proofs.Common.{sym, subst}
 use Rattle.tatp_judge.specs.declared.conflicts.Conflicts.{Conflicts}
 use Rattle.tatp_judge.specs.Conflicts.{HasConflicts}
 use Rattle.tatp_judge.proofs.stakes.Counts.count.Goals as goal

@@ -8,8 +8,8 @@ use Rattle.tatp_linearization.specs.Possible.{NeedMore}
 use Rattle.tatp_judge.proofs.ClosingLaws.{closed, many_now, rise_both, end_both, unsaid, same_window}
 use Rattle.tatp_judge.proofs.window.Window.go_on.Goals as goal
 
-pub returns-in-Explained : goal.returns-in-Explained
-returns-in-Explained c = λ u most s lines is now.
+pub returns-in-Explained-clause-closes : goal.returns-in-Explained-clause-closes
+returns-in-Explained-clause-closes c = λ u most s lines is now.
     let w = c.args.self.now in
     let reached = c.in_ok-follow.ensures.reached (ap Ok c.in-Explained.is) (of_subscriber u s) is.before is.reached in (
       closed u most s lines w is c.forget.new.self c.requires.none
@@ -20,20 +20,20 @@ returns-in-Explained c = λ u most s lines is now.
       λ _. c.forget.ensures.forgotten,
     )
 
-pub returns-in-Unexplained : goal.returns-in-Unexplained
-returns-in-Unexplained c = λ u most s lines is now.
+pub returns-in-Unexplained-clause-closes : goal.returns-in-Unexplained-clause-closes
+returns-in-Unexplained-clause-closes c = λ u most s lines is now.
     let w = c.args.self.now in
     let same = sym c.as_slice.ensures.value in (
       λ explained. c.in_ok-follow.ensures.unexplained (ap Ok c.in-Unexplained.is) (of_subscriber u s) is.before is.reached
           (subst (λ es. TimesRise (is.before ++ es)) same (rise_both u most s lines w is))
           (subst (λ es. HaveEnds (is.before ++ es)) same (end_both u most s lines w is))
           (subst (λ es. IsStrictlySerializable (of_subscriber u s) (asked_in (is.before ++ es))) same (unsaid u most s lines w is explained)),
-      inl (same_window u most s lines w (record { explanations = c.follow.new.self; from = w.from; events = w.events; numbers = w.numbers; waiting = w.waiting; only = w.only }) is
-          (c.in_ok-follow.ensures.same (λ e. let other = sym c.in-Unexplained.is in cc)) refl refl refl refl refl),
+      inl (same_window u most s lines w (record { explanations = c.follow.new.self; from = w.from; events = w.events; numbers = w.numbers; waiting = w.waiting; only = w.only; aside = w.aside }) is
+          (c.in_ok-follow.ensures.same (λ e. let other = sym c.in-Unexplained.is in cc)) refl refl refl refl refl refl),
     )
 
-pub returns-in-Undecided : goal.returns-in-Undecided
-returns-in-Undecided c = λ u most s lines is now.
+pub returns-in-Undecided-clause-closes : goal.returns-in-Undecided-clause-closes
+returns-in-Undecided-clause-closes c = λ u most s lines is now.
     let w = c.args.self.now in
     many_now u most s lines w is
     (subst (λ es. NeedMore most (of_subscriber u s) (is.before ++ es)) c.as_slice.ensures.value

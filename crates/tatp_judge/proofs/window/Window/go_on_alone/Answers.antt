@@ -1,18 +1,19 @@
-use Rattle.std.proofs.Common.{◌≡◌, ◌<◌, ◌↔◌, ap, subst, sym, inr, length, ◌++◌, ◌∙◌}
+use Rattle.std.proofs.Common.{◌≡◌, ◌<◌, ◌≤◌, ◌↔◌, ap, subst, sym, inr, length, ◌++◌, ◌∙◌}
 use Rattle.std.proofs.lemmas.Bool.{false≢true}
 use Rattle.tatp_tables.specs.Database.{of_subscriber}
 use Rattle.tatp_history.specs.Histories.{IsStrictlySerializable}
 use Rattle.tatp_history.specs.Events.{asked_in, TimesRise, HaveEnds}
+use Rattle.tatp_history.specs.SubscriberEvents.{no_calls, opened_after}
 use Rattle.tatp_linearization.specs.declared.explanations.Explanations.{Explanations}
 use Rattle.tatp_linearization.specs.Reached.{AreOfSubscriber, AreReached}
 use Rattle.tatp_linearization.specs.Single.{answered_with, events_alone}
-use Rattle.tatp_judge.specs.Windows.{only_reply}
+use Rattle.tatp_judge.specs.Windows.{AreCounted, only_reply}
 use Rattle.tatp_judge.proofs.LegalReplyLaws.{alone_legal, kept_same}
 use Rattle.tatp_judge.proofs.ClosingLaws.{alone_began, closed, rise_both, end_both, unsaid, spent}
 use Rattle.tatp_judge.proofs.window.Window.go_on_alone.Goals as goal
 
-pub returns-then-fits : goal.returns-then-fits
-returns-then-fits c = λ u most s lines is now.
+pub returns-then-fits-clause-closes : goal.returns-then-fits-clause-closes
+returns-then-fits-clause-closes c = λ u most s lines is now.
     let w = c.args.self.now in (
       closed u most s lines w is c.forget.new.self c.requires.none
           (subst (AreReached (of_subscriber u s) (is.before ++ w.events.items)) (sym c.forget.ensures.explanations)
@@ -22,8 +23,8 @@ returns-then-fits c = λ u most s lines is now.
       λ _. c.forget.ensures.forgotten,
     )
 
-pub returns-in_ok-keep_only : goal.returns-in_ok-keep_only
-returns-in_ok-keep_only c = λ u most s lines is now.
+pub returns-in_ok-keep_only-clause-closes : goal.returns-in_ok-keep_only-clause-closes
+returns-in_ok-keep_only-clause-closes c = λ u most s lines is now.
     let w = c.args.self.now in
     let x = c.args.x.now in
     let alone = c.requires.alone in
@@ -41,6 +42,8 @@ returns-in_ok-keep_only c = λ u most s lines is now.
             (c.follow_alone-fits.ensures.only c.args.number other (of_subscriber u s) is.before is.reached rise have));
         began = subst (λ k. k < length lines) (sym c.keep_only.ensures.from) (alone_began u most s lines w x is here);
         numbers = kept_same u s lines w c.keep_only.new.self c.keep_only.ensures.from c.keep_only.ensures.numbers is.numbers;
+        counted = subst (AreCounted (opened_after u s 1 no_calls lines)) (sym c.keep_only.ensures.waiting) is.counted;
+        few = subst (λ n. n ≤ length lines) (sym c.keep_only.ensures.waiting) is.few;
         before = spent u most s lines w x is here;
       }),
     )

@@ -15,5 +15,5 @@ returns-then-is_empty c = λ u most s lines is.
 pub returns : goal.returns
 returns c =
     let w = c.args.self.now in
-    goes_to_end c.follow.result w (record { explanations = c.follow.new.self; from = w.from; events = w.events; numbers = w.numbers; waiting = w.waiting; only = w.only }) c.as_slice.result.now c.as_slice.ensures.value
+    goes_to_end c.follow.result w (record { explanations = c.follow.new.self; from = w.from; events = w.events; numbers = w.numbers; waiting = w.waiting; only = w.only; aside = w.aside }) c.as_slice.result.now c.as_slice.ensures.value
     c.follow.ensures.reached c.follow.ensures.unexplained c.follow.ensures.undecided c.follow.ensures.own c.follow.ensures.most

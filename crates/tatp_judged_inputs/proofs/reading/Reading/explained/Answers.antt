@@ -10,10 +10,10 @@ use Rattle.tatp_judged_inputs.proofs.ViewLaws.{seen_length, seen_take}
 use Rattle.tatp_judged_inputs.proofs.reading.Reading.explained.Goals as goal
 
 pub window_numbers-requires : goal.window_numbers-requires
-window_numbers-requires c = let q = c.requires in let long = seen_length q.0 q.1 in (q.0.rows, seen q.0 q.1, q.3, omega (arith, q.4, long), q.5)
+window_numbers-requires c = let q = c.requires in let long = seen_length q.0 q.1 in (q.0.rows, seen q.0 q.1, q.3, omega (arith, q.4, long), q.5, q.6)
 
 pub legal_replies-requires : goal.legal_replies-requires
-legal_replies-requires c = let q = c.requires in let long = seen_length q.0 q.1 in (q.0.rows, seen q.0 q.1, q.3, omega (arith, q.4, long), q.5)
+legal_replies-requires c = let q = c.requires in let long = seen_length q.0 q.1 in (q.0.rows, seen q.0 q.1, q.3, omega (arith, q.4, long), q.5, q.6)
 
 pub in_input-requires : goal.in_input-requires
 in_input-requires c =
@@ -22,12 +22,12 @@ in_input-requires c =
     (subst (λ xs. All (λ n. (1 ≤ n) × (n ≤ c.args.line)) xs) (sym c.as_slice.ensures.value) c.in_ok-numbers.ensures.within)
 
 pub returns : goal.returns
-returns c = λ u past numbered kept within fails.
+returns c = λ u past numbered kept within fails other.
     let line = c.args.line in
     let s = c.args.s_id in
     let long = seen_length u past in
     let there : line ≤ length (seen u past) = omega (arith, within, long) in
     told_window u past c.args.self.now s line c.in_ok-numbers.numbers.items (record { lines = c.in_ok-lines.lines; legal = c.in_ok-legal.legal })
-    (subst (λ ls. AreWindowNumbers u.rows s ls c.in_ok-numbers.numbers.items) (seen_take u line past) (c.in_ok-numbers.ensures.numbers u.rows (seen u past) kept there fails))
-    (IfSome_then c.in_ok-legal.legal c.in_ok-legal.ensures (λ l told. subst (λ ls. AreLegalReplies u.rows s ls l.call l.replies.items) (seen_take u line past) (told u.rows (seen u past) kept there fails)))
+    (subst (λ ls. AreWindowNumbers u.rows s ls c.in_ok-numbers.numbers.items) (seen_take u line past) (c.in_ok-numbers.ensures.numbers u.rows (seen u past) kept there fails other))
+    (IfSome_then c.in_ok-legal.legal c.in_ok-legal.ensures (λ l told. subst (λ ls. AreLegalReplies u.rows s ls l.call l.replies.items) (seen_take u line past) (told u.rows (seen u past) kept there fails other)))
     c.in_ok-numbers.ensures.within (c.in_ok-lines.ensures ∙ ap (in_input c.args.self.now.numbers.items) c.as_slice.ensures.value)

@@ -7,8 +7,9 @@ use Rattle.tatp_judge.specs.declared.part.Part.{Part}
 use Rattle.tatp_judge.specs.Accepted.{IsAcceptedLine}
 use Rattle.tatp_judge.specs.Counted.{HasCounted as HasCountedAll}
 use Rattle.tatp_judge.specs.Followed.{HasFollowed as HasFollowedAll, HasKept as HasKeptAll}
+use Rattle.tatp_judge.specs.Aside.{undecided_in}
 use Rattle.tatp_judge.specs.Parts.{line_of_part}
-use Rattle.tatp_judge.specs.Verdicts.{IsVerdictOn as IsVerdictOnAll}
+use Rattle.tatp_judge.specs.Verdicts.{IsSaid as IsSaidOfAll}
 use Rattle.tatp_judged_inputs.specs.Views.{View, seen}
 use Rattle.tatp_judged_inputs.proofs.HistoryLaws.{if_some_is, line_taken, said_accepted}
 use Rattle.tatp_judged_inputs.proofs.ViewLaws.{seen_accepted, seen_both, seen_length}
@@ -62,7 +63,7 @@ returns-in_ok-follow-in-Ok-Some-clause-decided c =
       part_same = refl;
       numbers_are = c.in_ok-push-in-Ok-Some.ensures.items;
       counted = subst (λ ls. HasCountedAll u.rows ls c.count.new.self) (sym same) (c.count.ensures u.rows most (seen u past) followed counted);
-      decided = subst (λ ls. IsVerdictOnAll u.rows most ls verdict) (append-nil (seen u past ++ c.line_of_part-of_part.result ∷ []) ∙ sym same) (h u.rows most (seen u past) [] followed);
+      decided = subst (λ ls. IsSaidOfAll u.rows most ls (undecided_in c.follow.new.self) verdict) (append-nil (seen u past ++ c.line_of_part-of_part.result ∷ []) ∙ sym same) (h u.rows most (seen u past) [] followed);
       kept = λ first s_id e. subst (λ ls. HasKeptAll u.rows ls c.follow.new.self) (sym same) (c.in_ok-found-in-Ok-Some.ensures.kept first s_id (ap Ok (is ∙ ap Some e)) u.rows most (seen u past) followed);
     }) c.in_ok-found-in-Ok-Some.ensures.decided
 

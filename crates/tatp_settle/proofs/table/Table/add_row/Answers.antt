@@ -1,5 +1,5 @@
 use Rattle.std.proofs.Common.{None, replicate, ◌∙◌, ap}
-use Rattle.tatp_settle.specs.Runs.{lists_of}
+use Rattle.tatp_logs.specs.Lists.{lists_of}
 use Rattle.tatp_settle.proofs.TableLaws.{row_pushed}
 use Rattle.tatp_settle.proofs.table.Table.add_row.Goals as goal
 

@@ -5,7 +5,7 @@ use Rattle.tatp_logs.specs.declared.receipt.Receipt.{Receipt}
 use Rattle.tatp_logs.specs.Receipts.{receipts_of}
 use Rattle.tatp_settle.specs.Answering.{AreMatched}
 use Rattle.tatp_settle.specs.Causes.{IsUnmatched}
-use Rattle.tatp_settle.specs.Runs.{lists_of}
+use Rattle.tatp_logs.specs.Lists.{lists_of}
 use Rattle.tatp_settle.proofs.SearchLaws.{first_number}
 use Rattle.tatp_settle.proofs.unmatched_calls.Unmatched.unmatched_of.Goals as goal
 

@@ -10,9 +10,9 @@ use Rattle.tatp_history.specs.JustInTime.{NoneAskedAt}
 use Rattle.tatp_history.specs.Configurations.{Configuration, starting}
 use Rattle.tatp_history.proofs.RemainingLaws.{open_ended, ends_order}
 use Rattle.tatp_history.proofs.JustInTimeLaws.{serial_is, none_open}
-use Rattle.tatp_linearization.specs.AtOnce.{FollowsAtOnce, LeadAtOnce}
+use Rattle.tatp_linearization.specs.AtOnce.{FollowsAtOnce}
 use Rattle.tatp_linearization.specs.Going.{LeadsOn}
-use Rattle.tatp_linearization.proofs.AtOnceLaws.{have_more, event_settled, event_open, event_complete}
+use Rattle.tatp_linearization.proofs.AtOnceLaws.{LeadAtOnce, have_more, event_settled, event_open, event_complete}
 
 -- ---- from the rows on
 -- a serial order leads on over all events

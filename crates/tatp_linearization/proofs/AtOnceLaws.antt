@@ -21,7 +21,7 @@ use Rattle.tatp_history.proofs.EventLaws.{answered_at}
 use Rattle.tatp_history.proofs.ChangeLaws.{unchanged}
 use Rattle.tatp_history.proofs.UnchangingLaws.{without_unchanging}
 use Rattle.tatp_history.proofs.RemainingLaws.{open_asked, open_chosen, open_ended, taken_off, first_opens, asks_order, ends_order}
-use Rattle.tatp_linearization.specs.AtOnce.{FitsAtOnce, IsSettled, NeedsNoPlace, TakesOne, TakeUntil, FollowsAtOnce, LeadAtOnce}
+use Rattle.tatp_linearization.specs.AtOnce.{FitsAtOnce, IsSettled, NeedsNoPlace, TakesOne, TakeUntil, FollowsAtOnce}
 use Rattle.tatp_linearization.proofs.DecisionLaws.{fits_or_not}
 use Rattle.tatp_linearization.proofs.SettlingLaws.{left_exists, left_settled, left_shorter, left_open, left_order}
 
@@ -210,6 +210,11 @@ module _ (Q : Database → Type 0) where
   ]
 
 -- ---- events
+-- the events lead from the first configuration to the second
+abbrev pub LeadAtOnce : List Event → Configuration → Configuration → Type 0
+LeadAtOnce [] c d = d ≡ c
+LeadAtOnce (event ∷ more) c d = (e : Configuration) × FollowsAtOnce event c e × LeadAtOnce more e d
+
 pub lead_settled : (events : List Event) (c d : Configuration) → IsSettled c → LeadAtOnce events c d → IsSettled d
 lead_settled [] c d settled h = subst IsSettled (sym h) settled
 lead_settled (event ∷ more) c d settled h = lead_settled more h.0 d (event_settled event c h.0 settled h.1) h.2

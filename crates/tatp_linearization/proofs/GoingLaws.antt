@@ -13,9 +13,9 @@ use Rattle.tatp_history.specs.Configurations.{Configuration, starting}
 use Rattle.tatp_history.proofs.EventLaws.{answered_at}
 use Rattle.tatp_history.proofs.RemainingLaws.{open_ended, ends_order, first_opens}
 use Rattle.tatp_history.proofs.JustInTimeLaws.{serial_is, none_open}
-use Rattle.tatp_linearization.specs.AtOnce.{TakesOne, FollowsAtOnce, LeadAtOnce}
+use Rattle.tatp_linearization.specs.AtOnce.{TakesOne, FollowsAtOnce}
 use Rattle.tatp_linearization.specs.Going.{LeadsOn}
-use Rattle.tatp_linearization.proofs.AtOnceLaws.{have_more, one_open, one_settled, first_takes, event_settled, event_open, event_complete}
+use Rattle.tatp_linearization.proofs.AtOnceLaws.{LeadAtOnce, have_more, one_open, one_settled, first_takes, event_settled, event_open, event_complete}
 
 -- ---- from the rows on
 -- a serial order leads on over all events

@@ -15,12 +15,12 @@ use Rattle.tatp_history.specs.Configurations.{Configuration, starting}
 use Rattle.tatp_history.proofs.ChangeLaws.{unchanged}
 use Rattle.tatp_history.proofs.OrderLaws.{all_map}
 use Rattle.tatp_linearization.specs.declared.configuration.Configuration.{Configuration as Held}
-use Rattle.tatp_linearization.specs.AtOnce.{FitsAtOnce, AreLeft, IsSettled, TakesOne, TakeUntil, FollowsAtOnce, LeadAtOnce}
+use Rattle.tatp_linearization.specs.AtOnce.{FitsAtOnce, AreLeft, IsSettled, TakesOne, TakeUntil, FollowsAtOnce}
 use Rattle.tatp_linearization.specs.Possible.{CallTakesEffect, CallsTakeEffect, Passes, MayBecome, AreMoreThan, IsPossible, NeedMore}
 use Rattle.tatp_linearization.specs.Held.{TakeMany}
 use Rattle.tatp_linearization.specs.Covering.{OneStandsFor, FromOne, MayCome, MayFollow, MayBeTried}
 use Rattle.tatp_linearization.proofs.SettlingLaws.{chooses_mid, shift}
-use Rattle.tatp_linearization.proofs.AtOnceLaws.{one_settled, event_settled}
+use Rattle.tatp_linearization.proofs.AtOnceLaws.{LeadAtOnce, one_settled, event_settled}
 
 pub more_than : (most : ℕ) (P R : Configuration → Type 0) → ((d : Configuration) → P d → R d) → AreMoreThan most P → AreMoreThan most R
 more_than most P R f p = record { some = p.some; many = p.many; distinct = p.distinct; hold = all_map P R f p.some p.hold }

@@ -17,14 +17,14 @@ use Rattle.tatp_history.specs.Changes.{changes_nothing}
 use Rattle.tatp_history.specs.Configurations.{Configuration, starting}
 use Rattle.tatp_history.proofs.ChangeLaws.{unchanged}
 use Rattle.tatp_linearization.specs.declared.configuration.Configuration.{Configuration as Held}
-use Rattle.tatp_linearization.specs.AtOnce.{AreLeft, TakeUntil, FollowsAtOnce, LeadAtOnce}
+use Rattle.tatp_linearization.specs.AtOnce.{AreLeft, TakeUntil, FollowsAtOnce}
 use Rattle.tatp_linearization.specs.Possible.{IsPossible}
 use Rattle.tatp_linearization.specs.Held.{seen, AreReady, AreApart}
 use Rattle.tatp_linearization.specs.Covering.{OneStandsFor}
 use Rattle.tatp_linearization.specs.Going.{LeadsOn}
 use Rattle.tatp_linearization.specs.Reached.{AreKept}
 use Rattle.tatp_linearization.specs.Single.{events_alone, answered_with}
-use Rattle.tatp_linearization.proofs.AtOnceLaws.{lead_settled}
+use Rattle.tatp_linearization.proofs.AtOnceLaws.{LeadAtOnce, lead_settled}
 use Rattle.tatp_linearization.proofs.GoingLaws.{serial_leads, serial_to, events_on}
 use Rattle.tatp_linearization.proofs.PossibleLaws.{lead_becomes}
 use Rattle.tatp_linearization.proofs.SerialLaws.{possible_serial}

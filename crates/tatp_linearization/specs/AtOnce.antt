@@ -65,8 +65,3 @@ FollowsAtOnce (Asks x) c d =
 FollowsAtOnce (Ends asked at) c d =
     (NoneAskedAt asked c.opened × (d ≡ c))
     ⊎ ((NoneAskedAt asked c.opened → ⊥) × TakeUntil (length c.opened) asked c d)
-
--- the events lead from the first configuration to the second
-abbrev pub LeadAtOnce : List Event → Configuration → Configuration → Type 0
-LeadAtOnce [] c d = d ≡ c
-LeadAtOnce (event ∷ more) c d = (e : Configuration) × FollowsAtOnce event c e × LeadAtOnce more e d

@@ -1,5 +1,5 @@
 -- Calls that only read, and calls that failed, change no database.
-use Rattle.std.proofs.Common.{◌≡◌, ℕ, Bool, true, false, cond, Option, Some, None, List, [], ◌∷◌, drop, refl, sym, ◌∙◌, subst, true≢false}
+use Rattle.std.proofs.Common.{◌≡◌, ℕ, true, false, cond, Option, Some, None, List, [], ◌∷◌, drop, refl, sym, subst, true≢false}
 use Rattle.tatp_tables.specs.Tuples.{Tuple}
 use Rattle.tatp_tables.specs.Keys.{row_at, row_with_number}
 use Rattle.tatp_tables.specs.Database.{Database}

@@ -1,13 +1,12 @@
 -- Serial orders of the calls that remain: of those open, and of those asked later.
 use Rattle.std.proofs.Common.{◌≡◌, ℕ, zero, suc, ◌<◌, ◌≤◌, ◌⊎◌, ◌==◌, true, false, List, [], ◌∷◌, length, refl, sym, ◌∙◌, ap, subst, arith, eqb-true, eq-eqb, true≢false, inl, inr}
-use Rattle.std.specs.List.{AllByRecursion}
 use Rattle.tatp_tables.specs.Database.{Database}
 use Rattle.tatp_procs.specs.Transactions.{transaction}
 use Rattle.tatp_history.specs.declared.event.Event.{Event}
 use Rattle.tatp_history.specs.declared.event.Event.TheVariants.{Asks, Ends}
 use Rattle.tatp_history.specs.declared.observed.Observed.{Observed}
-use Rattle.tatp_history.specs.Histories.{IsIn, IsAnswered, Precedes, AreAskedApart, KeepsRealTime, MayHaveReply, AreAnsweredInOrder, rows_after}
-use Rattle.tatp_history.specs.Events.{asked_in, AreAfter, TimesRise, IsAnsweredAt, EndsIn, EndsFit, HaveEnds}
+use Rattle.tatp_history.specs.Histories.{IsIn, IsAnswered, Precedes, MayHaveReply, rows_after}
+use Rattle.tatp_history.specs.Events.{AreAfter, TimesRise, IsAnsweredAt, EndsIn, EndsFit, HaveEnds}
 use Rattle.tatp_history.specs.JustInTime.{Chooses, NoneAskedAt, TakeEffect, AreOpen}
 use Rattle.tatp_history.specs.Remaining.{IsLeft, IsOrderFrom, HasOrder}
 use Rattle.tatp_history.proofs.OrderLaws.{all_map, all_in, in_all}

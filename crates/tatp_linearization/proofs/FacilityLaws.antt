@@ -1,5 +1,5 @@
 -- Facilities that are there, and active, once data of one is set.
-use Rattle.std.proofs.Common.{◌≡◌, ℕ, Bool, true, false, nat_eq, is_some, List, [], ◌∷◌, Option, Some, None, find, length, take, slice_set, refl, sym, ◌∙◌, ap, subst, arith, true≢false}
+use Rattle.std.proofs.Common.{◌≡◌, ℕ, Bool, true, false, nat_eq, is_some, List, [], ◌∷◌, Option, Some, None, find, slice_set, refl, sym, ◌∙◌, ap, arith}
 use Rattle.std.proofs.lemmas.Bool.{both_ways}
 use Rattle.std.proofs.lemmas.List.{get_or-set_other, take-set-le}
 use Rattle.tatp_tables.specs.Tuples.{Tuple, Tuples, rows_of, same, has, remove_row, replace_row}

@@ -1,21 +1,18 @@
 -- Orders lead on over events from one configuration to another that follows just in time.
-use Rattle.std.proofs.Common.{◌≡◌, ℕ, List, [], ◌∷◌, ◌++◌, refl, sym, subst, inl}
+use Rattle.std.proofs.Common.{◌≡◌, ℕ, List, [], ◌∷◌, ◌++◌, refl, sym, subst}
 use Rattle.std.proofs.lemmas.List.{append-nil}
 use Rattle.tatp_tables.specs.Database.{Database}
 use Rattle.tatp_history.specs.declared.event.Event.{Event}
 use Rattle.tatp_history.specs.declared.event.Event.TheVariants.{Ends}
-use Rattle.tatp_history.specs.declared.observed.Observed.{Observed}
-use Rattle.tatp_history.specs.Histories.{IsIn, IsStrictlySerializable, IsStrictlySerializableTo, rows_after}
+use Rattle.tatp_history.specs.Histories.{IsStrictlySerializable, IsStrictlySerializableTo, rows_after}
 use Rattle.tatp_history.specs.Events.{asked_in, TimesRise, HaveEnds}
 use Rattle.tatp_history.specs.JustInTime.{NoneAskedAt}
-use Rattle.tatp_history.specs.Remaining.{IsOrderFrom}
 use Rattle.tatp_history.specs.Configurations.{Configuration, starting}
-use Rattle.tatp_history.proofs.EventLaws.{answered_at}
-use Rattle.tatp_history.proofs.RemainingLaws.{open_ended, ends_order, first_opens}
+use Rattle.tatp_history.proofs.RemainingLaws.{open_ended, ends_order}
 use Rattle.tatp_history.proofs.JustInTimeLaws.{serial_is, none_open}
-use Rattle.tatp_linearization.specs.AtOnce.{TakesOne, FollowsAtOnce}
+use Rattle.tatp_linearization.specs.AtOnce.{FollowsAtOnce}
 use Rattle.tatp_linearization.specs.Going.{LeadsOn}
-use Rattle.tatp_linearization.proofs.AtOnceLaws.{LeadAtOnce, have_more, one_open, one_settled, first_takes, event_settled, event_open, event_complete}
+use Rattle.tatp_linearization.proofs.AtOnceLaws.{LeadAtOnce, have_more, event_settled, event_open, event_complete}
 
 -- ---- from the rows on
 -- a serial order leads on over all events

@@ -1,6 +1,5 @@
 -- Where a call is answered next, each order may begin with a call of its kind.
-use Rattle.std.proofs.Common.{◌≡◌, ℕ, ◌⊎◌, List, [], ◌∷◌, Ok, refl, sym, ◌∙◌, ap, subst, inl, inr}
-use Rattle.std.specs.List.{AllByRecursion}
+use Rattle.std.proofs.Common.{◌≡◌, ℕ, List, [], ◌∷◌, Ok, refl, sym, ◌∙◌, ap, subst, inl, inr}
 use Rattle.tatp_tables.specs.Database.{Database}
 use Rattle.tatp_procs.specs.Arguments.{arguments_accepted}
 use Rattle.tatp_procs.specs.Consistent.{IsConsistent}
@@ -9,8 +8,8 @@ use Rattle.tatp_procs.proofs.ConsistentAfterLaws.{consistent_after}
 use Rattle.tatp_history.specs.declared.event.Event.{Event}
 use Rattle.tatp_history.specs.declared.event.Event.TheVariants.{Ends}
 use Rattle.tatp_history.specs.declared.observed.Observed.{Observed}
-use Rattle.tatp_history.specs.Histories.{IsIn, Precedes, MayHaveReply, AreAnsweredInOrder, rows_after}
-use Rattle.tatp_history.specs.Events.{TimesRise, HaveEnds, AreAfter}
+use Rattle.tatp_history.specs.Histories.{IsIn, MayHaveReply, AreAnsweredInOrder, rows_after}
+use Rattle.tatp_history.specs.Events.{TimesRise, HaveEnds}
 use Rattle.tatp_history.specs.Locality.{AreAccepted}
 use Rattle.tatp_history.specs.JustInTime.{AreOpen}
 use Rattle.tatp_history.specs.Remaining.{IsOrderFrom}

@@ -1,5 +1,5 @@
 use Rattle.std.specs.Prelude.{IfOk}
-use Rattle.std.proofs.Common.{◌≡◌, Some, Ok, Err, slice_get, sym, ◌∙◌, ap, subst, true≢false}
+use Rattle.std.proofs.Common.{◌≡◌, Some, Ok, Err, slice_get, sym, ◌∙◌, subst, true≢false}
 use Rattle.tatp_history.specs.declared.observed.Observed.{Observed}
 use Rattle.tatp_linearization.specs.Kinds.{IsTried}
 use Rattle.tatp_linearization.specs.Ahead.{LooksAhead}

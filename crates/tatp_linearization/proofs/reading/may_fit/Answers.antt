@@ -1,4 +1,4 @@
-use Rattle.std.proofs.Common.{◌≡◌, Some, sym, ◌∙◌, ap}
+use Rattle.std.proofs.Common.{◌≡◌, Some, sym, ◌∙◌}
 use Rattle.tatp_linearization.specs.Unseen.{location_in}
 use Rattle.tatp_linearization.proofs.AheadLaws.{saw_location}
 use Rattle.tatp_linearization.proofs.DoomedLaws.{misfits}

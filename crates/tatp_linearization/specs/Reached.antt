@@ -10,8 +10,8 @@ use Rattle.tatp_linearization.specs.Held.{AreReady, AreApart}
 use Rattle.tatp_linearization.specs.Covering.{OneStandsFor}
 use Rattle.tatp_linearization.specs.Going.{LeadsOn, OneLeadsOn}
 
--- each order of the calls of these events and of more leads on from a configuration for which one of
--- these stands, whatever the further events; and they stand for none that isn't possible
+-- each order of the calls of these events and of any more leads on from a configuration for which
+-- one of these stands; and they stand for none that isn't possible
 pub record AreKept (u : Database) (past : List Event) (cs : List Held) : Type 0 where
   pub complete : (after : Database) (more : List Event) → LeadsOn after (past ++ more) (starting u)
       → OneLeadsOn after more cs

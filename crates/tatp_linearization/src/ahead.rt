@@ -155,7 +155,8 @@ fn with_call(times: Times, x: &Observed, last: u64) -> Times
 /// Notes the times of the location that a call saw, or sets.
 fn add_times(ahead: &mut Ahead, x: &Observed) -> Result<(), AllocError>
     ensures own { OnOk result ((location : ℕ) → location_then x.now ≡ Some location
-        → RaisesTimes ahead.old.last x.now (times_in ahead.old location) (times_in ahead.new location)) }
+        → RaisesTimes ahead.old.last x.now (times_in ahead.old location)
+        (times_in ahead.new location)) }
     ensures others { OnOk result ((location : ℕ) → (location_then x.now ≡ Some location → ⊥)
         → times_in ahead.new location ≡ times_in ahead.old location) }
     ensures same { OnOk result (ahead.new ≡ record ahead.old { locations = ahead.new.locations }) }
@@ -170,7 +171,7 @@ fn add_times(ahead: &mut Ahead, x: &Observed) -> Result<(), AllocError>
     }
 }
 
-/// Notes a read of the subscriber as the last one. The one before stays, if it saw another location.
+/// Notes a read of the subscriber as the last. The one before stays, if it saw another location.
 fn add_read(ahead: &mut Ahead, x: &Observed)
     requires ended { IsAnsweredBy ahead.old.last x.now.outcome }
     ensures read { NotesRead x.now ahead.old ahead.new }

@@ -97,7 +97,7 @@ fn location_of(home: &Home) -> Option<u64>
 }
 
 /// Whether the first configuration may stand for what the second does, by how many calls are open
-/// and the location alone. That tells most configurations apart at a glance, without a look at a call.
+/// and the location alone. That tells most configurations apart, without a look at any call.
 fn is_near(c: &Configuration, d: &Configuration) -> bool
     ensures { c.now.home.s_id ≡ d.now.home.s_id → seen c.now ≡ seen d.now → IsTrue result }
 {

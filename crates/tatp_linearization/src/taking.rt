@@ -46,8 +46,8 @@ fn with_clusters_gone(
     })
 }
 
-/// The configuration after its open call at the place `i` took effect, at the time of the event that
-/// is followed. `None` means that the call can't take effect there, or that no order leads on.
+/// The configuration after its open call at the place `i` took effect, at the time of the event
+/// that is followed. `None` means that the call can't take effect there, or that no order leads on.
 pub(crate) fn take_ahead(
     alloc: Global,
     c: &Configuration,

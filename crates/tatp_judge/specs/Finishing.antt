@@ -22,8 +22,8 @@ abbrev pub Leaves : Database → ℕ → List Line → Database → Type 0
 Leaves u s lines rows =
     IsStrictlySerializableTo (of_subscriber u s) (calls_on u s (calls_of lines)) rows
 
--- of each of the part's subscribers that aren't set aside some order of its calls leaves its rows at
--- the end
+-- of each of the part's subscribers that isn't set aside some order of its calls leaves its rows
+-- at the end
 abbrev pub LeaveInPart : Database → Part → List Undecided → List Line → Database → Type 0
 LeaveInPart u part aside lines after =
     (s : ℕ) → is_of_part part (Some s) ≡ true → (IsAside aside s → ⊥)

@@ -94,8 +94,8 @@ pub record IsNotedBy (u : Database) (ended : Option Asked) (number : ℕ) (line 
   pub asked_are : (client : ℕ) → get nat_eq new.asked client
       ≡ also_asked u number (λ other. get nat_eq old.asked other) line client
   pub undecided_is : new.undecided.items ≡ old.undecided.items
-  pub windows_are : AreEach (λ place w after.
-      NotesLine (asked_on (suc place) ended) (asks_of u (suc place) number line) number line w after)
+  pub windows_are : AreEach (λ place w after. NotesLine (asked_on (suc place) ended)
+      (asks_of u (suc place) number line) number line w after)
       old.windows.items new.windows.items
 
 -- ---- the end of a window

@@ -13,7 +13,7 @@ use crate::judge::{Judge, Verdict};
 use std::alloc::{AllocError, Global};
 use tatp_linearization::First;
 
-/// The last line, where it is known to be illegal by a call that names no subscriber; else the next.
+/// The last line, where it is known to be illegal by a call that names nobody; else the next.
 fn bound(number: u64, illegal: bool, s_id: Option<u64>) -> u64
     requires { number + 1 < 2 ^ 64 }
     ensures last { illegal ≡ true → s_id ≡ None → result ≡ number }

@@ -80,7 +80,7 @@ impl Reading {
         }
     }
 
-    /// A verdict by the numbers of the lines in the input, `taken` of which come before the history,
+    /// A verdict by the numbers of the lines in the input, `taken` of which precede the history,
     /// and what is told with it.
     pub(crate) fn judgement(
         &self,

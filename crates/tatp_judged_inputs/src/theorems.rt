@@ -8,8 +8,8 @@ ghost use Rattle.tatp_judged_inputs.specs.Judged.{TellLegal, IsIllegalAt};
 ghost use Rattle.tatp_judged_inputs.specs.RowsAtEnd.{IsJudgedTo, IsUnreachedAt};
 ghost use Rattle.tatp_judged_inputs.specs.Views.{View};
 
-/// A history has one verdict, whoever is set aside: a legal one is illegal up to no line, and an illegal one up to one
-/// whose lines before are legal.
+/// A history has one verdict, whoever is set aside: a legal one is illegal up to no line, and an
+/// illegal one up to one whose lines before are legal.
 pub fn histories_have_one_verdict()
     ensures legal { (u : View) (aside : List Undecided) (taken : ℕ) (texts : List (List ℕ))
         (number : ℕ) → TellLegal u aside taken texts

@@ -23,7 +23,7 @@ use tatp_encoding::{Module, Proc, encode};
 use tatp_instr::{Instr, Version};
 use tatp_limits::MAX_ARGUMENTS;
 use tatp_loader::{Loaded, check};
-pub use text::{STANDARD, STANDARD_1};
+pub use text::STANDARD;
 use writes::{
     delete_call_forwarding, insert_call_forwarding, update_location, update_subscriber_data,
 };

@@ -7,9 +7,7 @@ use tatp_dispatch::{Answer, Event, Refusal, World};
 use tatp_loader::{LoadFault, LoadFaultKind, Loaded, save};
 use tatp_numbers::Key;
 use tatp_partition::SiteRefusal;
-use tatp_procs::{
-    Ask, Raw, Reply, ReplyRef, STANDARD, STANDARD_1, is_standard, read_call, reply_text,
-};
+use tatp_procs::{Ask, Raw, Reply, ReplyRef, STANDARD, is_standard, read_call, reply_text};
 use tatp_settle_tests::rows::clean_rows;
 use tatp_settle_tests::sites::module;
 use tatp_tables::{Row, Rows};

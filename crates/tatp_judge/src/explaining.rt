@@ -1,4 +1,4 @@
-//! Which lines are told of a subscriber whose calls no order explains.
+//! Which lines are reported for a subscriber whose calls no order explains.
 ghost use Rattle.std.specs.Prelude.{◌≤◌, ℕ, All, Some, IfOk, List, length, take};
 ghost use Rattle.tatp_tables.specs.Database.{Database};
 ghost use Rattle.tatp_history.specs.declared.line.Line.{Line as ALine};
@@ -11,8 +11,8 @@ use crate::judge::Judge;
 use std::alloc::{AllocError, Global};
 
 impl Judge {
-    /// The numbers of the lines in which the subscriber's calls were asked and ended, up to this
-    /// line, by which no order explains them, and since none of them was open.
+    /// The numbers of the lines in which the subscriber's calls were asked and ended, since none
+    /// of them was last open, up to this line, by which no order explains them.
     pub fn window_numbers(
         &self,
         alloc: Global,

@@ -20,7 +20,7 @@ pub fn histories_have_one_verdict()
 {}
 
 /// So have a history and the rows at its end: an order leads to them, or none does, and then one
-/// subscriber is the first of whose calls none leaves its rows.
+/// subscriber is the first for which no order of its calls results in its rows.
 pub fn histories_and_rows_have_one_verdict()
     ensures legal { (u : View) (aside : List Undecided) (taken : ℕ) (texts : List (List ℕ))
         (stakes : Stakes) (number s : ℕ) → IsJudgedTo u aside taken texts (Legal stakes)

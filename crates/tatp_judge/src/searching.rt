@@ -58,8 +58,8 @@ impl Judge {
         window.first_unexplained(alloc, self.number)
     }
 
-    /// The verdict on the lines so far, by all windows as they are. `illegal` says whether these are
-    /// known to be illegal, `s_id` by whose calls. Subscribers may be set aside for it.
+    /// The verdict on the lines so far, by all windows as they are. `illegal` says if the lines are
+    /// known to be illegal, and `s_id` by whose calls. Subscribers may be set aside for it.
     pub(crate) fn search(
         &mut self,
         alloc: Global,

@@ -49,7 +49,7 @@ fn lines_of(alloc: Global, settled: &Settled) -> Result<String, AllocError>
 
 /// Runs the calls of a plan's clients, settles what they leave, and writes what the settled run
 /// counts: how many calls were completed and how many were refused memory, how many there were of
-/// each kind, and the verdict on the rows. It reports to `progress` how the run goes on.
+/// each kind, and the verdict on the rows. It reports to `progress` how far the run is.
 ///
 /// A run that isn't settled is a fault, and nothing of it is written.
 pub fn report_bench<R: Threads + Wait + Sync, P: Progress + Sync, W: Write>(

@@ -1,4 +1,4 @@
-//! What is kept of completed calls, let go in a run of many calls.
+//! What is kept of completed calls is dropped in a run of many calls.
 ghost use Rattle.std.specs.Prelude.{◌≡◌, ℕ, ◌≤◌, IfSome};
 ghost use Rattle.tatp_procs.specs.Standard.{standard_module};
 ghost use Rattle.tatp_dispatch.specs.Gathered.{gathered};
@@ -11,8 +11,8 @@ use std::mem;
 use tatp_dispatch::World;
 use tatp_limits::MAX_PARTITIONS;
 
-/// After this many completed calls, what is kept of them is let go. A call takes some 460 bytes, in
-/// the log of its extent and among the completions; to open the rows anew takes a copy of them.
+/// After this many completed calls, what is kept of them is dropped. A call takes some 460 bytes,
+/// in the log of its extent and among the completions; opening the rows anew takes a copy of them.
 const KEPT_CALLS: usize = 1_000_000;
 
 /// How many partitions there are, one at least.

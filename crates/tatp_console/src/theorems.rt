@@ -33,7 +33,7 @@ pub fn served_calls_are_in_order()
         ++ rows_if_asked rows (length work.rows.subscribers) all.database }
 {}
 
-/// What is written for lines of events, which are echoed or not, goes on by what is written for
+/// What is written for lines of events, which are echoed or not, continues with what is written for
 /// each line after them, and the answers that are written are those of a run of the lines' events.
 pub fn told_lines_are_a_run()
     ensures none { (echoed : Bool) (w : WorldState) → TellsLines echoed w [] [] [] w }

@@ -80,7 +80,7 @@ after_checkpoint x = record x {
   log = [];
 }
 
--- what a checkpoint answers and leaves
+-- what a checkpoint answers and changes
 abbrev pub CheckpointsExtent
     : ExtentState → Result ChapterState CheckpointError → ExtentState → Type 0
 CheckpointsExtent x (Ok chapter) x' =

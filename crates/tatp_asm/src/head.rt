@@ -6,7 +6,7 @@ ghost use Rattle.tatp_asm.specs.Views.{head_view};
 use tatp_instr::Version;
 use tatp_lines::next_line;
 
-/// A version, and what comes after the lines that tell it.
+/// A version, and what comes after the lines that say it.
 #[derive(Clone, Copy, Debug)]
 pub(crate) struct Head<'a> {
     pub version: Version,

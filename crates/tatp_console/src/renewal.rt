@@ -28,7 +28,7 @@ fn partitions_of(world: &World<'_>) -> u8
     MAX_PARTITIONS as u8
 }
 
-/// The system with the same rows, opened anew, where no call runs; none where memory is refused.
+/// The system with the same rows, opened anew, where no call runs; `None` where memory is refused.
 #[tactic(auto, using(crate::proofs::RenewalLaws::rows_clean, crate::proofs::RenewalLaws::rows_few, crate::proofs::RenewalLaws::opened_rest, crate::proofs::RenewalLaws::opened_back))]
 fn opened_anew<'m>(alloc: Global, world: &World<'m>) -> Option<World<'m>>
     requires standard { world.now.modul ≡ standard_module }
@@ -46,7 +46,7 @@ fn opened_anew<'m>(alloc: Global, world: &World<'m>) -> Option<World<'m>>
     }
 }
 
-/// The same, but none where a call runs.
+/// The same, but `None` where a call runs.
 fn opened_anew_at_rest<'m>(alloc: Global, world: &World<'m>) -> Option<World<'m>>
     requires standard { world.now.modul ≡ standard_module }
     ensures rest { IfSome result (λ fresh. (lines : ℕ) → IsAtRestAfter lines fresh) }
@@ -59,9 +59,9 @@ fn opened_anew_at_rest<'m>(alloc: Global, world: &World<'m>) -> Option<World<'m>
     }
 }
 
-/// Lets go what is kept of the completed calls, by opening the rows anew, each time that as many as
-/// [`KEPT_CALLS`] are completed; `before` of them were so before the last line. Neither replies nor
-/// rows depend on it.
+/// Drops what is kept of the completed calls, by opening the rows anew, each time that as many as
+/// [`KEPT_CALLS`] are completed. `before` of them were completed before the last line. Neither
+/// replies nor rows depend on it.
 pub(crate) fn let_calls_go<'m>(alloc: Global, world: &mut World<'m>, before: usize)
     requires standard { world.old.modul ≡ standard_module }
     ensures rest { (lines : ℕ) → IsAtRestAfter lines world.old → IsAtRestAfter lines world.new }

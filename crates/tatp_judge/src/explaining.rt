@@ -11,8 +11,8 @@ use crate::judge::Judge;
 use std::alloc::{AllocError, Global};
 
 impl Judge {
-    /// The numbers of the lines in which the subscriber's calls were asked and ended, since none
-    /// of them was last open, up to this line, by which no order explains them.
+    /// The numbers of the lines in which the subscriber's calls were asked and ended, up to this
+    /// line, by which no order explains them. They begin after the last time that none was open.
     pub fn window_numbers(
         &self,
         alloc: Global,

@@ -149,8 +149,8 @@ IsSeenAhead ahead (Asks x ∷ rest) = Unit {0}
 IsSeenAhead ahead (Ends asked at ∷ rest) = LooksAhead ahead at (Ends asked at ∷ rest)
 
 -- ---- a location that is lost
--- the configuration doesn't have the location, nobody sets it any more in the window, and a read of
--- the window that is open, or is asked later, saw it
+-- the configuration doesn't have the location, no later call of the window sets it, and a read that
+-- is open, or is asked later in the window, saw it
 pub record IsLost (ahead : Ahead) (now : ℕ) (c : Held) (location : ℕ) : Type 0 where
   pub rows : NoneHasLocation location c.home.tables
   pub opened : NoneSets location c.opened.items

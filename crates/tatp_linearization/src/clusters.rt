@@ -68,8 +68,8 @@ fn let_go_with(home: &mut Home, opened: &mut Vec<Observed>, place: usize, locati
     *home = after;
 }
 
-/// Drops the open call at a place, and the reads that saw what it set, if it is an update that
-/// something overwrites and no read sees later, and if all of them may take effect now.
+/// Drops the open call at a place, and the reads that saw what it set, if all may take effect now.
+/// The call has to be an update that something overwrites and no read sees later.
 fn let_go_at(home: &mut Home, opened: &mut Vec<Observed>, place: usize, ahead: &Ahead, now: u64)
     requires inside { place < length opened.old.items }
     requires accepted { AreAccepted opened.old.items }

@@ -79,8 +79,8 @@ fn take_tried(
     take_ahead(alloc, c, i, ahead, now)
 }
 
-/// Lets each open call of a configuration take effect that writes, and is of the kind of the one
-/// that is answered: calls of other kinds may as well do so later. The configuration after that is
+/// Each open call of a configuration that writes takes effect, if it is of the kind of the one that
+/// is answered: calls of other kinds may as well do so later. The configuration after that is
 /// added to `answered` where the call asked at the time `asked` isn't open, else to the next turn.
 fn try_each(
     alloc: Global,

@@ -65,8 +65,8 @@ abbrev pub logged_at : SiteState → Option Completion → ℕ
 logged_at s None = 0
 logged_at s (Some completion) = log_length s completion.extent
 
--- steps of the running call are made, which leave its completion where it ends, and the answer is
--- how many entries the log of its extent has then
+-- steps of the running call are made; `ended` is its completion, if it ends, and the answer is how
+-- many entries the log of its extent has then
 abbrev pub MakesSlice : SiteState → Result ℕ SiteRefusal → Option Completion → SiteState → Type 0
 MakesSlice s answer ended s' =
     (steps : List StepAhead)

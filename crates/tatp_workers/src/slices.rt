@@ -98,7 +98,7 @@ fn logged_at(site: &Site<'_>, buffer: &CompletionBuffer) -> u64
     }
 }
 
-/// Makes up to 16 steps of the running call at a site whose lock is held: it stops at the first
+/// Makes up to 16 steps of the running call at a site whose lock is held. It stops at the first
 /// after which the call doesn't continue, and after any step if another thread wants the lock.
 /// Where the call ends, its completion is written to the buffer, and the answer is how many entries
 /// the log of its extent has then.

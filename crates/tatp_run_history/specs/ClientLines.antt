@@ -13,7 +13,7 @@ abbrev pub asked_text : Ask → List ℕ
 asked_text (Txn call) = call_text call
 asked_text (Raw raw) = []
 
--- that a client asks, with the line feed
+-- the line that says that a client asks, with the line feed
 abbrev pub asked_line : ℕ → Ask → List ℕ
 asked_line client ask =
     codes "ask " ++ (decimal client ++ (32 ∷ (asked_text ask ++ 10 ∷ [])))

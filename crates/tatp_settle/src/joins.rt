@@ -1,5 +1,5 @@
-//! Whether chapters join end to end, from the population's homes to those from which the log goes
-//! on.
+//! Whether chapters join end to end, from the population's homes to those from which the log
+//! continues.
 ghost use Rattle.std.specs.Prelude.{◌≡◌, ◌↔◌, IsTrue, true, ℕ};
 ghost use Rattle.std.specs.Option.{option_copied, option_map};
 ghost use Rattle.tatp_tables.specs.declared.row.Rows.{Rows};

@@ -26,7 +26,7 @@ pub record NeedMoreBy (u : Database) (most : ℕ) (lines : List Line) (line s : 
   pub by : first ≤ line
   pub many : NeedMore most (of_subscriber u s) (events_of u s (take first lines))
 
--- each of these needs more by its line. Lines don't fall, and no subscriber is there twice
+-- each needs more than `most` by its line. Lines don't fall, and no subscriber is there twice
 abbrev pub AreInOrder : List Undecided → Type 0
 AreInOrder [] = Unit {0}
 AreInOrder (one ∷ more) =

@@ -115,8 +115,8 @@ abbrev pub IsAheadOf : List Event → Ahead → Type 0
 IsAheadOf events ahead = TellsNothing ahead ⊎ (IsLastTime ahead.last events × Tells events ahead)
 
 -- ---- what it says of the events that are left, at a time
--- the call is asked after `time` in the events, and the location has been replaced by the time it
--- takes effect. If no read of the window sees the location later, reads that do are asked after it
+-- the call is asked after `time`, and the location is replaced by the time it takes effect. Where
+-- the window has no later read that saw the location, each read that did is asked after its end
 pub record IsReplaced (ahead : Ahead) (now : ℕ) (rest : List Event) (location time : ℕ)
     (x : Observed) : Type 0 where
   pub there : IsIn x (asked_in rest)
@@ -149,8 +149,8 @@ IsSeenAhead ahead (Asks x ∷ rest) = Unit {0}
 IsSeenAhead ahead (Ends asked at ∷ rest) = LooksAhead ahead at (Ends asked at ∷ rest)
 
 -- ---- a location that is lost
--- the configuration doesn't have the location, no later call of the window sets it, and a read that
--- is open, or is asked later in the window, saw it
+-- the configuration doesn't have the location, no open or later call of the window sets it, and a
+-- read that is open, or is asked later in the window, saw it
 pub record IsLost (ahead : Ahead) (now : ℕ) (c : Held) (location : ℕ) : Type 0 where
   pub rows : NoneHasLocation location c.home.tables
   pub opened : NoneSets location c.opened.items

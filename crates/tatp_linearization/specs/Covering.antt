@@ -69,7 +69,7 @@ IsLetGo asked c None =
     Opens asked (seen c) → (e : Configuration) → StandsFor c e → Opens asked e
 
 -- ---- what becomes of one
--- `Holds` is true of a configuration for which `c` stands, and of this one
+-- `Holds` relates some configuration for which `c` stands to this one
 abbrev pub From : (Configuration → Configuration → Type 0) → Held → Configuration → Type 0
 From Holds c d = (e : Configuration) × StandsFor c e × Holds e d
 

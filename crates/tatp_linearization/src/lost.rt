@@ -1,5 +1,5 @@
-//! Locations that are lost: no later call of the window sets them, and a read that still has to
-//! take effect saw them.
+//! Locations that are lost: no open or later call of the window sets them, and a read that still
+//! has to take effect saw them.
 ghost use Rattle.std.specs.Prelude.{ℕ, ◌<◌, ◌⊎◌, IsTrue};
 ghost use Rattle.tatp_history.specs.declared.observed.Observed.{Observed as Asked};
 ghost use Rattle.tatp_history.specs.Histories.{IsIn};

@@ -14,7 +14,7 @@ use Rattle.tatp_partition.specs.Sites.{SiteState, HomelessCalls, slot, last_stam
 use Rattle.tatp_partition.specs.Obstacles.{first_of}
 use Rattle.tatp_partition.specs.Moving.{with_extent}
 
--- of a log here: whether it is mixed, how many chapters were handed out, and its entries
+-- what is seen of a log here: whether it is mixed, how many chapters it handed out, its entries
 pub record LogHere : Type 0 where
   pub mixed : Bool
   pub chapters : ℕ

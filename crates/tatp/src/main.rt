@@ -74,7 +74,7 @@ fn show(rt: &(impl Print + Eprint), text: &String) -> ExitCode {
 fn refuse(rt: &impl Eprint, text: Result<String, AllocError>) -> ExitCode {
     match text {
         Ok(text) => {
-            // Where this can't be written, the status alone has to tell.
+            // Where this can't be written, only the status reports it.
             let _printed = eprint!(rt; "{text}");
             ExitCode::from(REFUSED)
         }
@@ -84,7 +84,7 @@ fn refuse(rt: &impl Eprint, text: Result<String, AllocError>) -> ExitCode {
 
 /// Prints why the command stops.
 fn tell<F: fmt::Display>(rt: &impl Eprint, fault: &F) -> ExitCode {
-    // Where this can't be written either, the status alone has to tell.
+    // Where this can't be written either, only the status reports it.
     let _printed = eprintln!(rt; "tatp: {fault}");
     ExitCode::from(STOPPED)
 }

@@ -54,7 +54,7 @@ lines_text (line ∷ lines) = line_text line ++ (10 ∷ lines_text lines)
 abbrev pub procedure_lines : Procedure → List Line
 procedure_lines p = Opens p.name p.arity ∷ (body_lines p.code 0 p.code ++ (Closes ∷ []))
 
--- the line that tells version 2, before all others
+-- the line that says version 2, before all others
 abbrev pub version_text : Version → List ℕ
 version_text One = []
 version_text Two = codes "version 2\n"

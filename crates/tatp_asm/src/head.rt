@@ -1,4 +1,4 @@
-//! The front of a text, which tells its version.
+//! The front of a text, which says its version.
 ghost use Rattle.std.specs.Prelude.{◌≡◌, ◌+◌, ◌≤◌, length};
 ghost use Rattle.tatp_asm.specs.Heads.{head_of};
 ghost use Rattle.tatp_asm.specs.Views.{head_view};
@@ -6,7 +6,7 @@ ghost use Rattle.tatp_asm.specs.Views.{head_view};
 use tatp_instr::Version;
 use tatp_lines::next_line;
 
-/// A version, and what comes after the lines that tell it.
+/// A version, and what comes after the lines that say it.
 #[derive(Clone, Copy, Debug)]
 pub(crate) struct Head<'a> {
     pub version: Version,
@@ -16,7 +16,7 @@ pub(crate) struct Head<'a> {
     pub left: &'a [u8],
 }
 
-/// What the first line that isn't empty tells: it is `version 2`, or one of version 1.
+/// What the first line that isn't empty says: it is `version 2`, or one of version 1.
 #[tactic(auto, unfolding(crate::specs::Heads::head_of))]
 pub(crate) fn read_head(text: &[u8]) -> Head<'_>
     ensures value { head_view result ≡ head_of text.now }

@@ -12,7 +12,7 @@ use crate::name::{Name, name_of};
 use tatp_instr::{Instr, OpRow, Parts, Register, Word, row_named};
 use tatp_limits::REGISTERS;
 
-/// An operand: its first character tells which.
+/// An operand: its first character says which.
 #[derive(Clone, Copy, Debug)]
 pub(crate) enum Operand {
     Register(Register),

@@ -98,7 +98,7 @@ fn push_procedure(out: &mut String, procedure: &Proc) -> Result<(), AllocError>
     Ok(())
 }
 
-/// Appends the line that tells the version.
+/// Appends the line that says the version.
 fn push_version(out: &mut String, version: Version) -> Result<(), AllocError>
     ensures { OnOk result (string_bytes out.new ≡ string_bytes out.old ++ version_text version) }
 {

@@ -75,7 +75,7 @@ RefusesBytes bytes (Module fault) = lawful_module_at bytes ≡ Err fault
 RefusesBytes bytes (Stream NoMemory) = Unit {0}
 RefusesBytes bytes fault = ⊥
 
--- what each fault tells and leaves, by why the input is refused and what would be written
+-- what each fault says and leaves, by why the input is refused and what would be written
 abbrev pub Leaves : (AssemblyFault → Type 0) → (List ℕ → Type 0)
     → Option (List ℕ) → Option (List ℕ) → AssemblyFault → Type 0
 Leaves Refuses IsText old new (Stream fault) = LeavesText IsText old new fault

@@ -10,7 +10,7 @@ use tatp_loader::{LoadError, LoadFault};
 use tatp_streams::StreamFault;
 use thiserror::Error;
 
-/// Why a text or bytes aren't taken as a module, or what comes of them isn't written. Its text is a
+/// Why a text or bytes aren't taken as a module, or the result isn't written. Its text is a
 /// number, a name and details.
 #[derive(Clone, Copy, Debug, PartialEq, Eq, Error)]
 pub enum AssemblyFault {

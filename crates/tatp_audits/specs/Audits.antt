@@ -141,7 +141,7 @@ FirstFails (t ∷ more) v =
     ((k : Tuple) × IsLeast t.fails k × (v ≡ t.verdict k))
     ⊎ (NoneFails t.fails × FirstFails more v)
 
--- what some of the tests tell, if anything
+-- the verdict of some of the tests, if one fails
 abbrev pub Told : List Test → Option Verdict → Type 0
 Told tests told = MatchOption told (AllPass tests) (FirstFails tests)
 

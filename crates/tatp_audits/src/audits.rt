@@ -135,7 +135,7 @@ fn audit_counts(alloc: Global, rows: &Rows) -> Result<Option<Verdict>, AllocErro
     Ok(Some(Verdict::Counts(key[0])))
 }
 
-/// What the audits tell together.
+/// What the audits say together.
 fn audit_all(alloc: Global, rows: &Rows) -> Result<Option<Verdict>, AllocError>
     ensures { IfOk result (Told (tests rows.now)) }
 {

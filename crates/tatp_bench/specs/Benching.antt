@@ -26,7 +26,7 @@ pub record SettlesPlan (plan : BenchPlan) (settled : Settled) : Type 0 where
   pub of_plan : IsRunOf plan run
   pub settles : SettlesRun run settled
 
--- so it is, with these receipts of its clients
+-- a run of the plan is settled, with these receipts of its clients
 pub record ReceivesPlan (plan : BenchPlan) (receipts : List ReceiptsState) (settled : Settled)
     : Type 0 where
   pub run : Run

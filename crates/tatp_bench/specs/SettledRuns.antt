@@ -33,7 +33,7 @@ run_left population parts calls = record {
 }
 
 -- all of it was gathered, it is settled, and it is one history in every order that keeps each log's
--- own, as the order in time of their entries does: so it is linearizable
+-- own. The order in time of their entries is such an order: so the run is linearizable
 pub record SettlesRun (run : Run) (settled : Settled) : Type 0 where
   pub gathered : IsClosed run.closed
   pub settles : IsSettled run settled

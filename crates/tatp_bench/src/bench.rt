@@ -76,7 +76,7 @@ impl BenchRun {
 }
 
 /// Runs what was drawn for a plan under the standard module, by threads that `progress` watches,
-/// and settles what the run left. Which run of the plan it was no clause says, since threads may
+/// and settles what the run left. No clause says which run of the plan it was, since threads may
 /// meet in any order: [`settle_run`] says of the run at hand that it is settled, or why it isn't.
 pub fn run_drawn<R: Threads + Wait + Sync, P: Progress + Sync>(
     rt: &R,

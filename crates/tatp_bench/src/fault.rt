@@ -11,7 +11,7 @@ use thiserror::Error;
 /// the cause where there is one.
 #[derive(Clone, Copy, Debug, PartialEq, Eq, Error)]
 pub enum BenchFault {
-    /// The run left an extent in no partition and on no way.
+    /// After the run an extent is in no site and in no parcel.
     #[error("44 ExtentMissing {0}")]
     ExtentMissing(u64),
     /// What the run left isn't one history of its calls.

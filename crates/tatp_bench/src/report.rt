@@ -47,9 +47,9 @@ fn lines_of(alloc: Global, settled: &Settled) -> Result<String, AllocError>
     format!(in alloc; "SETTLED {completed} {refused}\nMIX{kinds}\n{verdict}\n")
 }
 
-/// Runs the calls of a plan's clients, settles what they leave, and writes what the settled run
-/// counts: how many calls were completed and how many were refused memory, how many there were of
-/// each kind, and the verdict on the rows. It reports to `progress` how the run goes on.
+/// Runs the calls of a plan's clients, settles the result, and writes what the settled run counts.
+/// That is how many calls were completed, how many were refused memory, how many there were of each
+/// kind, and the verdict on the rows. It reports to `progress` how far the run is.
 ///
 /// A run that isn't settled is a fault, and nothing of it is written.
 pub fn report_bench<R: Threads + Wait + Sync, P: Progress + Sync, W: Write>(
@@ -75,7 +75,7 @@ pub fn report_bench<R: Threads + Wait + Sync, P: Progress + Sync, W: Write>(
     Ok(())
 }
 
-/// As [`report_bench`], and writes behind these lines the history of the run: what each client
+/// As [`report_bench`], and writes after these lines the history of the run: what each client
 /// asked and received, line by line in the order of time. What clients do is numbered, for which
 /// memory is taken before the threads start. A run that isn't settled is a fault, and nothing of it
 /// is written.

@@ -1,4 +1,4 @@
-//! The gates that report how a run of the benchmark goes on.
+//! The gates that report how far a run of the benchmark is.
 ghost use Rattle.tatp_tasks.specs.Plans.{IsPlan};
 
 use std::sync::atomic::{AtomicU64, Ordering};
@@ -26,7 +26,7 @@ impl Progress for NoGate {
 /// In how many parts the ends of calls are reported.
 const PARTS: u64 = 20;
 
-/// Reports on standard error how a run goes on, a line each: that the rows were drawn and opened,
+/// Reports on standard error how far a run is, a line each: that the rows were drawn and opened,
 /// each twentieth of the calls as it ends, how much was done beside them, and that the run is
 /// settled.
 #[derive(Drop)]
@@ -54,7 +54,7 @@ impl<'a, R> Reporter<'a, R> {
     }
 }
 
-/// Writes a line to standard error. Where it can't be written, the run goes on without it.
+/// Writes a line to standard error. Where it can't be written, the run continues without it.
 fn say<R: Eprint>(rt: &R, line: &str) {
     let _printed = eprintln!(rt; "{line}");
 }

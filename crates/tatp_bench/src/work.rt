@@ -36,7 +36,7 @@ fn fault_of(refusal: RunRefusal) -> BenchFault
     }
 }
 
-/// Runs the work of a plan by threads that the gate watches, and gives back what they leave, which
+/// Runs the work of a plan by threads that the gate watches, and returns the result, which
 /// [`settle_run`](crate::settle_run) settles. The plan is what the clauses name; all that the
 /// threads get is in the work. No clause says what they did with it: that they move, stop and hand
 /// out as it asks is tested.

@@ -87,7 +87,7 @@ most = optional_from 1 MAX_CONFIGURATIONS (Some (codes "65536")) (codes "most")
 abbrev pub parts : Ranged
 parts = optional_from 1 MAX_PARTS (Some (codes "1")) (codes "parts")
 
--- one of so many parts, which has to be named where there are several
+-- one of `count` parts, which has to be named where there are several
 abbrev pub part : ℕ → Ranged
 part count =
     optional_from 1 count (if count == 1 then Some (codes "1") else None) (codes "part")

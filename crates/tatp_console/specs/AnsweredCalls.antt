@@ -31,7 +31,7 @@ calls_of marks (line ∷ more) =
 -- ---- what is written
 -- a call takes the first of the replies that are left, and later lines the others; refused, or with
 -- bad arguments, it takes none. There are as many replies as calls, so that none is left over and
--- none lacks
+-- none is missing
 abbrev pub call_told : Bool → Call → Result (Unit {0}) BadArgument
     → List Reply → (List Reply → List ℕ) → List ℕ
 call_told refused call (Err bad) replies later = bad_argument_text bad ++ 10 ∷ later replies

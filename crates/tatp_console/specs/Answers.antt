@@ -109,7 +109,7 @@ pub record AnswersLinesOf (answers : Answering) (setup : Setup) (m : ModuleState
   pub world : IsWorld opened
   pub answered : AnswersLines answers opened work.lines text after
 
--- and after it the ending
+-- the text is what is answered to all lines of the work, and after it the ending
 pub record AnswersWork (answers : Answering) (ending : Ending) (setup : Setup) (m : ModuleState)
     (work : Work) (text : List ℕ) : Type 0 where
   pub after : WorldState
@@ -133,7 +133,7 @@ abbrev pub AnswersMost : Answering → Ending → Setup → ModuleState → Work
 AnswersMost answers ending setup m work front =
     (rest : List ℕ) × AnswersWork answers ending setup m work (front ++ rest)
 
--- either
+-- either of these two
 abbrev pub AnswersFront : Answering → Ending → Setup → ModuleState → Work → List ℕ → Type 0
 AnswersFront answers ending setup m work front =
     AnswersSome answers setup m work front ⊎ AnswersMost answers ending setup m work front

@@ -52,7 +52,7 @@ work_asked Read population lines =
     work_after population (1 + length (before_dot lines)) (after_dot lines)
 
 -- ---- an input
--- of the module and the work that its lines bring
+-- `P` holds of the module and the work that its lines bring
 abbrev pub OfInput : Procedures → Population → List (List ℕ)
     → (ModuleState → Work → Type 0) → Type 0
 OfInput procedures population lines P =

@@ -115,7 +115,7 @@ abbrev pub events_in : Bool → List (List ℕ) → List AnEvent
 events_in echoed lines = flat_map (events_told echoed) lines
 
 -- ---- texts that were appended to
--- old and new are such a text: new has besides what is answered to the event
+-- new is old and after it what is answered to the event
 pub record AppendsEvent (w : WorldState) (event : AnEvent) (old new : List ℕ) (w' : WorldState)
     : Type 0 where
   pub answered : Answered
@@ -123,7 +123,7 @@ pub record AppendsEvent (w : WorldState) (event : AnEvent) (old new : List ℕ) 
   pub tells : TellsEvent w event answered told w'
   pub appended : new ≡ old ++ told
 
--- to this many steps of the site of partition p
+-- new is old and after it what is answered to `count` steps of the site of partition p
 pub record AppendsSteps (w : WorldState) (p count : ℕ) (old new : List ℕ) (w' : WorldState)
     : Type 0 where
   pub answers : List Answered
@@ -131,7 +131,7 @@ pub record AppendsSteps (w : WorldState) (p count : ℕ) (old new : List ℕ) (w
   pub tells : TellsEvents w (replicate count (Step p)) answers told w'
   pub appended : new ≡ old ++ told
 
--- to a line
+-- new is old and after it what is answered to a line
 pub record AppendsLine (w : WorldState) (line : Option TraceLine) (old new : List ℕ)
     (w' : WorldState) : Type 0 where
   pub answers : List Answered

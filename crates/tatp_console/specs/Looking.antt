@@ -32,7 +32,7 @@ pub record TellsSeen (s : SiteState) (told : List ℕ) : Type 0 where
   pub looks : Looks s seen
   pub told_so : told ≡ seen_text seen
 
--- of the site of partition p
+-- what looking at the site of partition p answers
 abbrev pub TellsLook : WorldState → ℕ → List ℕ → Type 0
 TellsLook w p told =
     MatchOption (slice_get w.sites p) (told ≡ no_partition_line) (λ s. TellsSeen s told)
@@ -42,7 +42,7 @@ abbrev pub found_text : Option SubscriberRows → List ℕ
 found_text None = told_line (refused_text (Site NotHere))
 found_text (Some home) = home_text home.tables
 
--- at the site of partition p
+-- what is answered of a subscriber's home at the site of partition p
 abbrev pub home_told : WorldState → ℕ → ℕ → List ℕ
 home_told w p s_id =
     option_map_or (λ (s : SiteState). found_text (home_here s s_id)) (slice_get w.sites p)

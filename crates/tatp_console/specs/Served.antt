@@ -21,15 +21,15 @@ use Rattle.tatp_console.specs.RowsWritten.{rows_if_asked}
 unfoldable pub call_in : List ℕ → Option Call
 call_in line = if is_utf8 line then call_of_line line else None
 
--- of a line that is no call
+-- the reply to a line that is no call
 abbrev pub no_call_text : List ℕ
 no_call_text = codes "REFUSED 5 BadLine"
 
--- of a call with an argument outside its domain
+-- the reply to a call with an argument outside its domain
 abbrev pub bad_argument_text : BadArgument → List ℕ
 bad_argument_text bad = codes "REFUSED 26 BadArgument " ++ decimal bad.0
 
--- of a call for which there was no memory
+-- the reply to a call for which there was no memory
 abbrev pub no_memory_text : List ℕ
 no_memory_text = codes "REFUSED 46 NoMemory"
 
@@ -38,7 +38,7 @@ pub record LineAnswer : Type 0 where
   pub text : List ℕ
   pub database : Database
 
--- of a call, where it was refused memory or not
+-- the answer to a call, where it was refused memory or not
 abbrev pub call_answer : Bool → Call → Result (Unit {0}) BadArgument → Database → LineAnswer
 call_answer refused call (Err bad) u = record { text = bad_argument_text bad; database = u }
 call_answer true call (Ok fits) u = record { text = no_memory_text; database = u }
@@ -47,7 +47,7 @@ call_answer false call (Ok fits) u = record {
   database = (transaction call u).database;
 }
 
--- of a line, where it is a call or not
+-- the answer to a line, where it is a call or not
 abbrev pub line_answer : Bool → Option Call → Database → LineAnswer
 line_answer refused None u = record { text = no_call_text; database = u }
 line_answer refused (Some call) u = call_answer refused call (arguments_accepted call) u

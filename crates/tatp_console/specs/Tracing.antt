@@ -25,7 +25,7 @@ answers_events echoed w line text w' =
 abbrev pub no_ending : Ending
 no_ending n w = []
 
--- told is what is written for the lines, from a system just opened with the rows under the
+-- `told` is what is written for the lines, from a system just opened with the rows under the
 -- module m; the answers are those of the lines' events, one after another, and are the benchmark's
 pub record TellsFrom (m : ModuleState) (rows : Rows) (setup : Setup) (echoed : Bool)
     (lines : List (List ℕ)) (told : List ℕ) : Type 0 where
@@ -37,7 +37,7 @@ pub record TellsFrom (m : ModuleState) (rows : Rows) (setup : Setup) (echoed : B
   pub runs : Runs opened (events_in echoed lines) answers after
   pub benchmark : IsTheBenchmark m rows answers after
 
--- told is what is written for all lines of the work, whose rows may be opened
+-- `told` is what is written for all lines of the work, whose rows may be opened
 pub record TellsWork (setup : Setup) (echoed : Bool) (m : ModuleState) (work : Work)
     (told : List ℕ) : Type 0 where
   pub few : length work.rows.subscribers ≤ MAX_SUBSCRIBERS

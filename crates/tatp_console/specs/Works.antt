@@ -13,7 +13,7 @@ use Rattle.tatp_console.specs.declared.fault.ConsoleFault.{ConsoleFault}
 use Rattle.tatp_console.specs.declared.fault.ConsoleFault.TheVariants.{Input, Unopened}
 use Rattle.tatp_console.specs.Brought.{OfInput, RefusesInput}
 
--- new has besides a text of which this holds, of the module and the work that the input brings
+-- new is old and after it a text that has this relation to the module and the work of the input
 abbrev pub WritesOfWork : (ModuleState → Work → List ℕ → Type 0)
     → Procedures → Population → List ℕ → Option (List ℕ) → Option (List ℕ) → Type 0
 WritesOfWork IsText procedures population input old new =

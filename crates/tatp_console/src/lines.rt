@@ -24,7 +24,7 @@ pub(crate) trait LineCommand {
     /// answered, and the system after.
     ghost answers: { WorldState → List ℕ → List ℕ → WorldState → Type 0 };
 
-    /// What has to hold of the system after so many lines, if one more is to be answered.
+    /// What has to hold of the system after this many lines, if one more is to be answered.
     ghost ready: { ℕ → WorldState → Type 0 } = { λ _ _. ⊤ };
 
     /// What is written after the answers to all lines, by the number of subscribers and the system

@@ -1,4 +1,4 @@
-//! What is kept of completed calls, let go in a run of many calls.
+//! What is kept of completed calls is dropped in a run of many calls.
 ghost use Rattle.std.specs.Prelude.{◌≡◌, ℕ, ◌≤◌, IfSome};
 ghost use Rattle.tatp_procs.specs.Standard.{standard_module};
 ghost use Rattle.tatp_dispatch.specs.Gathered.{gathered};
@@ -11,8 +11,8 @@ use std::mem;
 use tatp_dispatch::World;
 use tatp_limits::MAX_PARTITIONS;
 
-/// After this many completed calls, what is kept of them is let go. A call takes some 460 bytes, in
-/// the log of its extent and among the completions; to open the rows anew takes a copy of them.
+/// After this many completed calls, what is kept of them is dropped. A call takes some 460 bytes,
+/// in the log of its extent and among the completions; opening the rows anew takes a copy of them.
 const KEPT_CALLS: usize = 1_000_000;
 
 /// How many partitions there are, one at least.
@@ -28,7 +28,7 @@ fn partitions_of(world: &World<'_>) -> u8
     MAX_PARTITIONS as u8
 }
 
-/// The system with the same rows, opened anew, where no call runs; none where memory is refused.
+/// The system with the same rows, opened anew, where no call runs; `None` where memory is refused.
 #[tactic(auto, using(crate::proofs::RenewalLaws::rows_clean, crate::proofs::RenewalLaws::rows_few, crate::proofs::RenewalLaws::opened_rest, crate::proofs::RenewalLaws::opened_back))]
 fn opened_anew<'m>(alloc: Global, world: &World<'m>) -> Option<World<'m>>
     requires standard { world.now.modul ≡ standard_module }
@@ -46,7 +46,7 @@ fn opened_anew<'m>(alloc: Global, world: &World<'m>) -> Option<World<'m>>
     }
 }
 
-/// The same, but none where a call runs.
+/// The same, but `None` where a call runs.
 fn opened_anew_at_rest<'m>(alloc: Global, world: &World<'m>) -> Option<World<'m>>
     requires standard { world.now.modul ≡ standard_module }
     ensures rest { IfSome result (λ fresh. (lines : ℕ) → IsAtRestAfter lines fresh) }
@@ -59,9 +59,9 @@ fn opened_anew_at_rest<'m>(alloc: Global, world: &World<'m>) -> Option<World<'m>
     }
 }
 
-/// Lets go what is kept of the completed calls, by opening the rows anew, each time that as many as
-/// [`KEPT_CALLS`] are completed; `before` of them were so before the last line. Neither replies nor
-/// rows depend on it.
+/// Drops what is kept of the completed calls, by opening the rows anew, each time that as many as
+/// [`KEPT_CALLS`] are completed. `before` of them were completed before the last line. Neither
+/// replies nor rows depend on it.
 pub(crate) fn let_calls_go<'m>(alloc: Global, world: &mut World<'m>, before: usize)
     requires standard { world.old.modul ≡ standard_module }
     ensures rest { (lines : ℕ) → IsAtRestAfter lines world.old → IsAtRestAfter lines world.new }

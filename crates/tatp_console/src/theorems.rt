@@ -13,9 +13,9 @@ ghost use Rattle.tatp_console.specs.RowsWritten.{rows_if_asked};
 ghost use Rattle.tatp_console.specs.Served.{replies, database_after, ServesWork};
 
 /// The calls with arguments in their domains that aren't refused are answered in the order of their
-/// lines, each on the database that the calls before it leave; all other lines are refused and
-/// change nothing. This holds of lines, of lines after others, of the database after all of them,
-/// and of all that is written for an input.
+/// lines, each on the database after the calls before it; all other lines are refused and change
+/// nothing. This holds of lines, of lines after others, of the database after all of them, and of
+/// all that is written for an input.
 pub fn served_calls_are_in_order()
     ensures told { (marks : List Bool) (lines : List (List ℕ)) (u : Database)
         → replies marks lines u
@@ -33,7 +33,7 @@ pub fn served_calls_are_in_order()
         ++ rows_if_asked rows (length work.rows.subscribers) all.database }
 {}
 
-/// What is written for lines of events, which are echoed or not, goes on by what is written for
+/// What is written for lines of events, which are echoed or not, continues with what is written for
 /// each line after them, and the answers that are written are those of a run of the lines' events.
 pub fn told_lines_are_a_run()
     ensures none { (echoed : Bool) (w : WorldState) → TellsLines echoed w [] [] [] w }

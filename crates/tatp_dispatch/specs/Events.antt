@@ -1,5 +1,5 @@
 -- trusted: read it
--- What each event answers and leaves. At a site it is the site's own relation.
+-- What each event answers and changes. At a site it is the site's own relation.
 use Rattle.std.specs.Prelude.{◌≡◌, ℕ, ◌<◌, length, Bool, List, [], ◌∷◌, ◌++◌, Option, Some, None, Ok, Err, slice_get, slice_set, remove}
 use Rattle.tatp_numbers.specs.Listing.{answer}
 use Rattle.tatp_procs.specs.declared.ask.Ask.{Ask}

@@ -21,8 +21,8 @@ pub record IsUndisturbed (most_stamp : ℕ) (s : SiteState) : Type 0 where
   pub stamps : (e : ℕ) → last_stamp_in s.slots e ≤ most_stamp
   pub homeless_stamp : last_stamp_here s None ≤ most_stamp
 
--- there is one client, with at most so many calls accepted, and neither a parcel nor a landing is
--- in hand
+-- there is one client, with at most `most_accepted` calls accepted, and neither a parcel nor a
+-- landing is in hand
 pub record HasOneClient (most_accepted most_stamp : ℕ) (w : WorldState) : Type 0 where
   pub client : Client
   pub alone : w.clients ≡ client ∷ []
@@ -32,7 +32,7 @@ pub record HasOneClient (most_accepted most_stamp : ℕ) (w : WorldState) : Type
   pub parcels : (e : ℕ) → slot w.parcels e ≡ None
   pub landings : w.landings ≡ []
 
--- the same after at most so many calls, of which none is under way
+-- the same after at most `calls` calls, of which none is under way
 pub record IsAtRest (calls : ℕ) (w : WorldState) : Type 0 where
   pub one : HasOneClient calls calls w
   pub idle : one.client.busy ≡ false

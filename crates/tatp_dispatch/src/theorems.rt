@@ -41,7 +41,7 @@ pub fn every_run_is_the_benchmark()
         → Runs opened events answers after → IsTheBenchmark modul population answers after }
 {}
 
-/// A run may have no event, and goes on by each event that is applied after it.
+/// A run may have no event, and each event that is applied after it continues it.
 pub fn runs_go_on()
     ensures none { (w : WorldState) → IsWorld w → Runs w [] [] w }
     ensures more { (opened before after : WorldState) (events : List Event)
@@ -53,8 +53,8 @@ pub fn runs_go_on()
 
 // ---- what the transactions did
 
-/// Under the standard module the transactions that ended are answered, and leave the database, as
-/// the benchmark's are, one after another.
+/// Under the standard module the transactions that ended are answered as the benchmark's are, one
+/// after another, and result in the same database.
 pub fn transactions_are_served_in_order()
     ensures { (w after : WorldState) → IsWorld w → ServesTransactions w after }
 {}

@@ -40,7 +40,7 @@ pub struct World<'m> {
     clients: Vec<Client>,
     completions: Completions,
     chapters: Vec<Chapter>,
-    /// To which a site writes the completion of a call that ends: empty between events.
+    /// A site writes the completion of a call that ends to it. It is empty between events.
     /// [`CompletionBuffer`] says why.
     buffer: CompletionBuffer,
 }

@@ -44,7 +44,7 @@ pub enum Answer {
     Away(u8),
     /// The client's call was not begun: memory was refused.
     Denied(u64),
-    /// The running call goes on.
+    /// The running call continues.
     Moved,
     /// The client's call has ended: what it asked, and the reply.
     Ended(u64, Ask, Reply),

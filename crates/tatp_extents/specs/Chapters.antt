@@ -80,7 +80,7 @@ after_checkpoint x = record x {
   log = [];
 }
 
--- what a checkpoint answers and leaves
+-- what a checkpoint answers and changes
 abbrev pub CheckpointsExtent
     : ExtentState → Result ChapterState CheckpointError → ExtentState → Type 0
 CheckpointsExtent x (Ok chapter) x' =
@@ -147,7 +147,7 @@ EachRises least (c ∷ more) log =
 abbrev pub chapters_listed : (ℕ → Option ChapterState) → ℕ → ℕ → List ChapterState
 chapters_listed at first count = flat_map (λ i. option_to_list (at i)) (range_with_len first count)
 
--- the homes from which the part of this number has to go on: the first part from these, any other
+-- the homes from which the part of this number has to start: the first part from these, any other
 -- from those after the one before it
 abbrev pub homes_due_from
     : (ℕ → Option ChapterState) → ℕ → List SubscriberRows → ℕ → Option (List SubscriberRows)

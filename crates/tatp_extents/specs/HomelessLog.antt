@@ -12,7 +12,7 @@ use Rattle.tatp_extents.specs.Histories.{StampsRise}
 use Rattle.tatp_logs.specs.Logs.{last_stamp_from}
 
 -- what contracts see of it: whether it is mixed, how many chapters it handed out, the last stamp at
--- the last checkpoint, its entries since then, and for how many more there is room
+-- the last checkpoint, its entries since then, and for how many more there is capacity
 pub record HomelessState : Type 0 where
   pub mixed : Bool
   pub chapters : ℕ

@@ -33,7 +33,7 @@ impl From<AllocError> for CheckpointError {
     }
 }
 
-/// What a chapter is made of. They tell nothing of each other: a [`Chapter`] does.
+/// What a chapter is made of. Only of a [`Chapter`] is it known that these parts fit together.
 #[derive(Debug, Drop)]
 pub(crate) struct ChapterParts {
     pub(crate) extent: u32,

@@ -187,8 +187,8 @@ impl Extent {
         }
     }
 
-    /// Hands out what was logged since the last checkpoint, and goes on from the homes as they are
-    /// now. Refused, nothing changes.
+    /// Hands out what was logged since the last checkpoint, and continues from the homes as they
+    /// are now. Where that is refused, nothing changes.
     pub fn checkpoint(&mut self, alloc: Global) -> Result<Chapter, CheckpointError>
         ensures checks { CheckpointsExtent self.old result self.new }
         ensures stamp { last_stamp_of self.new ≡ last_stamp_of self.old }

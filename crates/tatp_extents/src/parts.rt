@@ -4,7 +4,7 @@ use crate::SharedHomes;
 use tatp_homes::Home;
 use tatp_logs::Log;
 
-/// What an extent is made of. They tell nothing of each other: an [`crate::Extent`] does.
+/// What an extent is made of. Only of an [`crate::Extent`] is it known that these fit together.
 #[derive(Debug, Drop)]
 pub struct ExtentParts {
     /// Which extent it is, counted from 1.

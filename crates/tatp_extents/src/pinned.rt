@@ -17,9 +17,9 @@ use tatp_procs::Entry;
 use tatp_tables::Rows;
 
 /// An extent while a call runs on the home of one of its subscribers. All its other homes are what
-/// its log makes of those at the last checkpoint, and there is room for the call's entry. It can be
-/// neither copied nor dropped: [`Pinned::end`], [`Pinned::end_mixed`] and [`Pinned::set_free`] lead
-/// back.
+/// its log makes of those at the last checkpoint, and the log has capacity for the call's entry. It
+/// can be neither copied nor dropped: [`Pinned::end`], [`Pinned::end_mixed`] and
+/// [`Pinned::set_free`] lead back.
 pub struct Pinned {
     parts: ExtentParts,
     place: usize,

@@ -8,7 +8,7 @@ use std::sync::Arc;
 use tatp_homes::Home;
 
 /// The homes of an extent as they were at a checkpoint. The chapters on its two sides and the
-/// extent that goes on from it keep them together: they are copied once.
+/// extent that continues from it keep them together: they are copied once.
 #[derive(Debug, Drop)]
 pub struct SharedHomes {
     /// Nothing where there are no homes, which takes no memory.

@@ -74,7 +74,7 @@ pub fn homes_are_parts_of_their_database()
         ≡ with_subscriber (database_of_homes homes) home.s_id new.tables }
 {}
 
-/// Chapters that are joined end to end, and a log that goes on from where the last ended, are one
+/// Chapters that are joined end to end, and a log that continues from where the last ended, are one
 /// history: their entries lead from the first homes to the last, and their stamps rise.
 pub fn joined_chapters_are_one_history()
     ensures leads { (before : List SubscriberRows) (chapters : List ChapterState)

@@ -96,11 +96,11 @@ abbrev pub IsStrictlySerializable : Database → List Observed → Type 0
 IsStrictlySerializable before calls = (order : List Observed) × IsSerialOrder before calls order
 
 -- ---- with the rows at the end
--- the rows that calls leave, one after another
+-- the rows after these calls, run one after another
 abbrev pub rows_after : Database → List Observed → Database
 rows_after before order = (in_order before (map (λ (x : Observed). x.call) order)).database
 
--- what clients saw has a serial order that leaves these rows
+-- what clients saw has a serial order that results in these rows
 abbrev pub IsStrictlySerializableTo : Database → List Observed → Database → Type 0
 IsStrictlySerializableTo before calls after =
     (order : List Observed) × IsSerialOrder before calls order × (rows_after before order ≡ after)

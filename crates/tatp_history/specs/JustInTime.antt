@@ -1,4 +1,4 @@
--- Lowe's search, just in time: it goes along the events of one subscriber's calls, and calls take
+-- Lowe's search, just in time: it follows the events of one subscriber's calls, and calls take
 -- effect only where one is answered.
 use Rattle.std.specs.Prelude.{◌≡◌, ℕ, zero, suc, ◌⊎◌, List, [], ◌∷◌, length}
 use Rattle.std.specs.List.{AllByRecursion}
@@ -21,7 +21,7 @@ abbrev pub NoneAskedAt : ℕ → List Observed → Type 0
 NoneAskedAt time opened = AllByRecursion (λ (x : Observed). x.asked ≡ time → ⊥) opened
 
 -- open calls take effect one after another, at most this many, the last of them the one that was
--- asked at this time; and of the database and the open calls that they leave, `goes_on` holds
+-- asked at this time; and `goes_on` holds of the database and the open calls after that
 abbrev pub TakeEffect
     : ℕ → (Database → List Observed → Type 0) → ℕ → Database → List Observed → Type 0
 TakeEffect zero goes_on asked u opened = ⊥
@@ -39,8 +39,8 @@ Explains (Ends asked at ∷ more) u opened =
     (NoneAskedAt asked opened × Explains more u opened)
     ⊎ TakeEffect (length opened) (Explains more) asked u opened
 
--- each open call that was answered has its end in the events, each end there of an open call is the
--- one it had, and the open calls were asked before the events, no two at one time
+-- each open call that was answered has its end in the events, and each end there of an open call is
+-- the one it had. The open calls were asked before the events, no two at one time
 pub record AreOpen (events : List Event) (opened : List Observed) : Type 0 where
   pub ends : (z : Observed) → IsIn z opened → IsAnswered z.outcome → EndsIn z events
   pub fit : (z : Observed) → IsIn z opened → EndsFit z events

@@ -58,7 +58,7 @@ pub record IsSerializableAtEach (u : Database) (calls : List Observed) : Type 0 
   pub each : (s : ℕ) → IsStrictlySerializable (of_subscriber u s) (calls_on u s calls)
   pub none : FailWithout u calls
 
--- a serial order of each subscriber's calls leaves its rows, and calls that name none fail
+-- a serial order of each subscriber's calls results in its rows, and calls that name none fail
 pub record IsSerializableToEach (u : Database) (calls : List Observed) (after : Database)
     : Type 0 where
   pub each : (s : ℕ)

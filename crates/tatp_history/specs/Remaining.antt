@@ -20,12 +20,12 @@ pub record IsOrderFrom (u : Database) (events : List Event) (opened order : List
   pub real_time : KeepsRealTime order
   pub replies : AreAnsweredInOrder u order
 
--- there is one that leaves rows of which this holds
+-- there is one that results in rows of which this holds
 abbrev pub HasOrder
     : (Database → Type 0) → Database → List Event → List Observed → Type 0
 HasOrder Holds u events opened =
     (order : List Observed) × IsOrderFrom u events opened order × Holds (rows_after u order)
 
--- there is one that leaves these rows
+-- there is one that results in these rows
 abbrev pub HasOrderTo : Database → Database → List Event → List Observed → Type 0
 HasOrderTo after u events opened = HasOrder (λ v. v ≡ after) u events opened

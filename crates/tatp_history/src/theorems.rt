@@ -33,7 +33,7 @@ pub fn strict_serializability_is_local()
         → IsStrictlySerializable u calls → IsSerializableAtEach u calls }
 {}
 
-/// Strict serializability that leaves given rows is local too.
+/// Strict serializability with given rows at the end is local too.
 pub fn strict_serializability_to_rows_is_local()
     ensures combined { (u : Database) (calls : List Observed) (after : Database)
         → IsConsistent u → IsConsistent after → AreCalls calls
@@ -43,7 +43,7 @@ pub fn strict_serializability_to_rows_is_local()
         → IsStrictlySerializableTo u calls after → IsSerializableToEach u calls after }
 {}
 
-/// The rows of a subscriber that calls leave are those that its own calls leave.
+/// The rows of a subscriber after calls are those after its own calls.
 pub fn rows_are_left_by_each_subscribers_calls()
     ensures { (u : Database) (order : List Observed) (s : ℕ)
         → IsConsistent u → AreAccepted order
@@ -128,7 +128,7 @@ pub fn events_of_a_subscriber_are_those_of_its_calls()
 {}
 
 /// A history is strictly serializable exactly where the search goes through the events of each
-/// subscriber's calls on its rows, and those answered that name none fail.
+/// subscriber's calls on its rows, and the answered calls that name none fail.
 pub fn histories_are_judged_subscriber_by_subscriber()
     ensures { (u : Database) (lines : List Line)
         → IsConsistent u → AreAcceptedLines lines

@@ -35,7 +35,7 @@ abbrev pub ended_of : CallsOpen → List ℕ → Option ℕ
 ended_of opened text =
     option_and_then (λ client. option_map (λ call. client) (opened client)) (short_number_of text)
 
--- by the first word
+-- the line, by the first word
 abbrev pub line_after : CallsOpen → List ℕ → List ℕ → Option Line
 line_after opened word rest =
     if bytes_eq word (codes "ask") then ask_of rest else
@@ -51,7 +51,7 @@ line_of opened text =
     (split_word text)
 
 -- ---- what a text says
--- it is a comment, or empty
+-- the text is a comment, or empty
 abbrev pub is_passed_over : List ℕ → Bool
 is_passed_over [] = true
 is_passed_over (b ∷ bs) = b == 35

@@ -6,19 +6,19 @@ use Rattle.tatp_history.specs.declared.line.Line.{Line}
 use Rattle.tatp_history.specs.declared.line.Line.TheVariants.{Ask, End, Abort, Lost}
 use Rattle.tatp_history_lines.specs.declared.open_calls.OpenCalls.{OpenCalls}
 
--- of each client, if it has one
+-- the open call of each client, if it has one
 abbrev pub CallsOpen : Type 0
 CallsOpen = ℕ → Option Call
 
--- those that are kept
+-- the open calls that are kept
 abbrev pub open_call : OpenCalls → CallsOpen
 open_call opened client = get nat_eq opened.calls client
 
--- the same but for one client
+-- the same, except for one client
 abbrev pub with_open : CallsOpen → ℕ → Option Call → CallsOpen
 with_open opened client call = λ other. if client == other then call else opened other
 
--- those after a line
+-- the open calls after a line
 abbrev pub opened_by : CallsOpen → Line → CallsOpen
 opened_by opened (Ask client call) = with_open opened client (Some call)
 opened_by opened (End client recorded) = with_open opened client None

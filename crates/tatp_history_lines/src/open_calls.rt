@@ -19,7 +19,7 @@ pub struct OpenCalls {
 }
 
 impl OpenCalls {
-    /// No client has one.
+    /// No client has an open call.
     pub fn new(alloc: Global) -> OpenCalls
         ensures { (client : ℕ) → open_call result client ≡ None }
     {

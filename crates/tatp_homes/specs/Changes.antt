@@ -1,6 +1,6 @@
 -- Reading one column, and the three changes of a database: a column set, a Call_Forwarding row
 -- inserted, one deleted. Each change has an answer, which refuses by the first test that fails, and
--- a database after it; a refusal leaves the database.
+-- a database after it; a refusal leaves the database as it is.
 use Rattle.std.specs.Prelude.{ℕ, Bool, true, false, List, [], ◌∷◌, Option, Some, None, Result, Ok, Err, slice_index, slice_set, if◌then◌else◌}
 use Rattle.std.specs.Option.{option_map}
 use Rattle.tatp_tables.specs.Tuples.{Tuple, Tuples, insert_row, remove_row, replace_row}

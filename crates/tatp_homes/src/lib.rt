@@ -1,6 +1,6 @@
 //! Homes: the rows of one subscriber, found, read and changed.
 //!
-//! A contract sees a [`Home`] as its s_id and the four sets of its rows. `docs/MODEL.md` tells the
+//! A contract sees a [`Home`] as its s_id and the four sets of its rows. `docs/MODEL.md` gives the
 //! definitions in words.
 #![tactic(auto)]
 

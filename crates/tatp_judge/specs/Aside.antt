@@ -8,12 +8,12 @@ use Rattle.tatp_judge.specs.declared.judge.Judge.{Judge}
 use Rattle.tatp_judge.specs.declared.window.Window.{Window}
 use Rattle.tatp_judge.specs.Verdicts.{AreUndecided, IsAside}
 
--- those of them that it tells
+-- the subscribers that it has set aside, as it reports them
 abbrev pub undecided_in : Judge → List Undecided
 undecided_in judge = judge.undecided.items
 
--- they are there, and their windows are marked, and no others; and of each more configurations are
--- possible than may be kept
+-- these subscribers exist; their windows, and no others, are marked; and each of them has more
+-- possible configurations than may be kept
 pub record AreSetAside (u : Database) (most : ℕ) (lines : List Line) (judge : Judge) : Type 0 where
   pub undecided : AreUndecided u most lines judge.undecided.items
   pub there : (s : ℕ) → IsAside judge.undecided.items s
@@ -23,17 +23,17 @@ pub record AreSetAside (u : Database) (most : ℕ) (lines : List Line) (judge : 
   pub listed : (place : ℕ) (w : Window) → slice_get judge.windows.items place ≡ Some w
       → w.aside ≡ true → IsAside judge.undecided.items (suc place)
 
--- of the window nothing is left but how many calls are open
+-- all that is left of the window is how many calls are open
 pub record IsReleased (w after : Window) : Type 0 where
   pub aside_is : after.aside ≡ true
   pub waiting_is : after.waiting ≡ w.waiting
 
--- so it is with that of the subscriber with this s_id; the others are as they were
+-- the window of the subscriber with this s_id was released; the others are as they were
 abbrev pub SetsAside : ℕ → ℕ → Window → Window → Type 0
 SetsAside s_id place w after =
     ((suc place ≡ s_id) × IsReleased w after) ⊎ ((suc place ≡ s_id → ⊥) × (after ≡ w))
 
--- only subscribers that it sets aside are told anew, behind those that were, by the lines followed
+-- subscribers set aside anew follow those of before, each with the number of the lines followed
 pub record AddsAside (old new : Judge) : Type 0 where
   pub more : List Undecided
   pub undecided_are : new.undecided.items ≡ old.undecided.items ++ more

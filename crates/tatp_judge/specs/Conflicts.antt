@@ -13,19 +13,19 @@ use Rattle.tatp_judge.specs.Stakes.{IsNumberOf, MeetsConflict}
 use Rattle.tatp_judge.specs.Windows.{AreCounted}
 
 -- ---- calls that write
--- what a line says of them. Where its client asks one that only reads, the one that it had open is
--- open no more
+-- what a line says of calls that write. Where its client asks a call that only reads, the one that
+-- it had open is no longer open
 abbrev pub write_line : Line → Line
 write_line (Ask client call) = if only_reads call then Lost client else Ask client call
 write_line (End client recorded) = End client recorded
 write_line (Abort client) = Abort client
 write_line (Lost client) = Lost client
 
--- those that are open on the subscriber after the lines
+-- the calls that write and are open on the subscriber after the lines
 abbrev pub open_writes : Database → ℕ → List Line → OpenCalls
 open_writes u s lines = opened_after u s 1 no_calls (map write_line lines)
 
--- ... but for this client's
+-- ... without this client's
 abbrev pub other_writes : Database → ℕ → List Line → ℕ → OpenCalls
 other_writes u s lines client = with_call (open_writes u s lines) client None
 
@@ -35,8 +35,8 @@ written None = None
 written (Some asked) = if asked.reads then None else asked.s_id
 
 -- ---- how many
--- so many calls as these are open on each subscriber, which has a place, and so many of the lines
--- ask a call that meets a conflict
+-- each subscriber has a place, with the number of the calls that are open on it by `opened`; and
+-- `conflicted` of the lines ask a call that meets a conflict
 pub record AreConflicts (u : Database) (lines : List Line) (opened : ℕ → OpenCalls)
     (conflicts : Conflicts) : Type 0 where
   pub directory : Listing

@@ -18,7 +18,7 @@ abbrev pub has_call : Option Asked → Bool
 has_call None = false
 has_call (Some asked) = true
 
--- so many of the calls open on the subscriber aren't this client's
+-- `n` of the calls open on the subscriber aren't this client's
 pub record AreOthersOn (u : Database) (s client : ℕ) (lines : List Line) (n : ℕ)
     : Type 0 where
   pub all : ℕ
@@ -34,7 +34,7 @@ pub record AreMarked (u : Database) (lines : List Line) (called : List Bool) : T
   pub all : (place : ℕ) → place < length called → IsCalled u lines (suc place)
       → slice_get called place ≡ Some true
 
--- so many of the lines' calls, whether or not they conflict
+-- the counts are those of the lines' calls, whether or not they conflict
 pub record HasCountedCalls (u : Database) (lines : List Line) (counts : Counts) : Type 0 where
   pub asked_is : counts.asked ≡ length (calls_of lines)
   pub answered_is : counts.answered ≡ how_many was_answered (calls_of lines)
@@ -47,7 +47,7 @@ pub record HasCountedCalls (u : Database) (lines : List Line) (counts : Counts) 
   pub widest_is : IsWidest u lines counts.widest
   pub widest_few : counts.widest ≤ length lines
 
--- and so many that met a conflict
+-- ... and of the calls that met a conflict
 pub record HasCounted (u : Database) (lines : List Line) (counts : Counts) : Type 0 where
   pub calls : HasCountedCalls u lines counts
   pub conflicts : HasConflicts u lines counts.conflicts

@@ -1,5 +1,5 @@
 -- trusted: read it
--- The lines of a history that are told of a subscriber whose calls no order explains.
+-- The lines of a history that are reported for a subscriber whose calls no order explains.
 use Rattle.std.specs.Prelude.{◌≡◌, ℕ, suc, ◌<◌, nat_lt, if◌then◌else◌, List, [], ◌∷◌, ◌++◌, length, take, filter, Option, Some, None}
 use Rattle.tatp_tables.specs.Database.{Database}
 use Rattle.tatp_history.specs.declared.line.Line.{Line}
@@ -20,22 +20,22 @@ number_on u s number opened (End client recorded) = number_of_end (opened client
 number_on u s number opened (Abort client) = number_of_end (opened client) number
 number_on u s number opened (Lost client) = number_of_end (opened client) number
 
--- the numbers of all such lines, the first of which has this number
+-- the numbers of all such lines among lines of which the first has this number
 abbrev pub numbers_on : Database → ℕ → ℕ → OpenCalls → List Line → List ℕ
 numbers_on u s number opened [] = []
 numbers_on u s number opened (line ∷ more) =
     number_on u s number opened line
     ++ numbers_on u s (suc number) (opened_by u s number opened line) more
 
--- those in a history that come after a line
+-- those in a history that come after the line `from`
 abbrev pub numbers_since : Database → ℕ → ℕ → List Line → List ℕ
 numbers_since u s from lines =
     filter (λ number. nat_lt from number) (numbers_on u s 1 no_calls lines)
 
 -- ---- a window
--- the numbers of the subscriber's lines since the last moment, before the last line, at which none
--- of its calls was open: none was after the line `from`, and after each later line after which none
--- was, no line had come since
+-- the numbers of the subscriber's lines since none of its calls was open, for the last time before
+-- the last line: none was open after the line `from`; and wherever none was open after a later
+-- line, the subscriber had no line after `from` up to that one
 pub record AreWindowNumbers (u : Database) (s : ℕ) (lines : List Line) (numbers : List ℕ)
     : Type 0 where
   pub from : ℕ

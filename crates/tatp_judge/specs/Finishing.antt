@@ -17,13 +17,13 @@ use Rattle.tatp_judge.specs.Verdicts.{IsAside, IsLegalBut}
 abbrev pub LeadsTo : Database → List Line → Database → Type 0
 LeadsTo u lines after = IsStrictlySerializableTo u (calls_of lines) after
 
--- some order of the subscriber's calls leaves these rows of it
+-- some order of the subscriber's calls results in these rows of it
 abbrev pub Leaves : Database → ℕ → List Line → Database → Type 0
 Leaves u s lines rows =
     IsStrictlySerializableTo (of_subscriber u s) (calls_on u s (calls_of lines)) rows
 
--- of each of the part's subscribers that isn't set aside some order of its calls leaves its rows
--- at the end
+-- for each of the part's subscribers that isn't set aside, some order of its calls results in its
+-- rows at the end
 abbrev pub LeaveInPart : Database → Part → List Undecided → List Line → Database → Type 0
 LeaveInPart u part aside lines after =
     (s : ℕ) → is_of_part part (Some s) ≡ true → (IsAside aside s → ⊥)
@@ -36,8 +36,8 @@ pub record LeadsInPart (u : Database) (part : Part) (aside : List Undecided) (li
   pub legal : IsLegalBut u aside lines
   pub leave : LeaveInPart u part aside lines after
 
--- no order of this subscriber's calls leaves its rows at the end, and of each one before it in the
--- part that isn't set aside some order does
+-- no order of this subscriber's calls results in its rows at the end; and for each subscriber of
+-- the part before it that isn't set aside, some order does
 pub record IsFirstUnreached (u : Database) (part : Part) (aside : List Undecided)
     (lines : List Line) (after : Database) (s : ℕ) : Type 0 where
   pub first : 1 ≤ s

@@ -16,7 +16,7 @@ use Rattle.tatp_judge.specs.Population.{IsDirectoryOf}
 use Rattle.tatp_judge.specs.Verdicts.{IsUnexplained}
 use Rattle.tatp_judge.specs.Windows.{IsForgotten, IsKept, IsSpent}
 
--- so many lines, from the database on
+-- it has read these lines of a history that begins with the database
 pub record HasRead (u : Database) (lines : List Line) (judge : Judge) : Type 0 where
   pub consistent : IsConsistent u
   pub directory_is : IsDirectoryOf u (length judge.windows.items) judge.directory
@@ -38,16 +38,16 @@ abbrev pub Forgets : Judge → Option ℕ → Type 0
 Forgets judge but = (place : ℕ) (w : Window) → slice_get judge.windows.items place ≡ Some w
     → (but ≡ Some (suc place) → ⊥) → w.aside ≡ false → w.waiting ≡ 0 → IsForgotten w
 
--- it has followed the lines, which decided nothing: of the calls that name no subscriber each that
--- was answered failed
+-- it has followed the lines, which decided nothing: each call that names no subscriber and was
+-- answered failed
 pub record HasFollowed (u : Database) (most : ℕ) (lines : List Line) (judge : Judge)
     : Type 0 where
   pub noted : HasNoted u most lines judge
   pub forgets : Forgets judge None
   pub none : FailWithout u (calls_of lines)
 
--- the last of the lines ends an open call so: the calls before that name no subscriber failed, and
--- all do where this one does
+-- the last of the lines ends an open call with this outcome: before it, calls that name no
+-- subscriber failed; after it, they all did exactly where this one did, if it is one of them
 pub record EndsAs (u : Database) (lines : List Line) (asked : Asked) (outcome : Outcome)
     : Type 0 where
   pub some : 1 ≤ length lines
@@ -59,9 +59,9 @@ pub record EndsOn (u : Database) (lines : List Line) : Type 0 where
   pub some : 1 ≤ length lines
   pub none : FailWithout u (calls_of lines)
 
--- what a search for the first illegal line begins with: where the lines are known to be illegal,
--- they are so by this subscriber's calls, whose window may be spent; or, where none is named, by a
--- call that names none, and the last line is the first
+-- what a search for the first illegal line begins with. Where the lines are known to be illegal,
+-- this subscriber's calls are why, and its window may be spent. Where no subscriber is given, a
+-- call that names none is why, and the last line is the first illegal one
 pub record IsSearchable (u : Database) (most : ℕ) (lines : List Line) (illegal : Bool)
     (s_id : Option ℕ) (judge : Judge) : Type 0 where
   pub read : HasRead u lines judge

@@ -1,4 +1,4 @@
--- Whether some order of one subscriber's calls leaves given rows.
+-- Whether some order of one subscriber's calls results in given rows.
 use Rattle.std.specs.Prelude.{◌≡◌, ℕ, List, length}
 use Rattle.tatp_tables.specs.Database.{Database, of_subscriber}
 use Rattle.tatp_history.specs.declared.line.Line.{Line}
@@ -16,7 +16,7 @@ pub record IsAtEnd (u : Database) (most s : ℕ) (lines : List Line) (w : Window
   pub own : AreOfSubscriber s w.explanations
   pub most_is : w.explanations.most ≡ most
 
--- what is said of a window that went on over its events
+-- what is said of a window that has followed its events
 abbrev pub GoesToEnd : Database → ℕ → ℕ → List Line → Standing → Window → Type 0
 GoesToEnd u most s lines Explained w = IsAtEnd u most s lines w
 GoesToEnd u most s lines Unexplained w = (rows : Database) → Leaves u s lines rows → ⊥

@@ -11,7 +11,7 @@ use Rattle.tatp_history.specs.HistoryLines.{end_at, call_at}
 use Rattle.tatp_history.specs.Locality.{is_on}
 
 -- ---- an outcome is written
--- the call, which ends so if it was asked then
+-- the call, which has this outcome if it was asked at the time `asked`
 abbrev pub ended_call : ℕ → Outcome → Observed → Observed
 ended_call asked outcome x = record {
   asked = x.asked;
@@ -19,7 +19,7 @@ ended_call asked outcome x = record {
   outcome = if x.asked == asked then outcome else x.outcome;
 }
 
--- the events, where the call that was asked then ends so
+-- the events, where the call asked at the time `asked` has this outcome
 abbrev pub with_outcome : ℕ → Outcome → List Event → List Event
 with_outcome asked outcome [] = []
 with_outcome asked outcome (Asks x ∷ more) =
@@ -28,7 +28,7 @@ with_outcome asked outcome (Ends other at ∷ more) =
     Ends other at ∷ with_outcome asked outcome more
 
 -- ---- a line
--- the end of the call that was asked then, if the line of this number answers it
+-- the end of the call asked at the time `asked`, if the line of this number answers it
 abbrev pub ends_of : ℕ → ℕ → Line → List Event
 ends_of asked number (Ask client call) = []
 ends_of asked number (End client recorded) = Ends asked number ∷ []
@@ -48,7 +48,7 @@ number_of_last number (End client recorded) = number ∷ []
 number_of_last number (Abort client) = number ∷ []
 number_of_last number (Lost client) = number ∷ []
 
--- and where its client has such a call
+-- ... if its client has an open call
 abbrev pub number_closed_by : Option ℕ → ℕ → Line → List ℕ
 number_closed_by None number line = []
 number_closed_by (Some asked) number line = number_of_last number line

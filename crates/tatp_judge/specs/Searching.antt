@@ -16,7 +16,7 @@ pub record IsSearchedFor (u : Database) (most s : ℕ) (lines : List Line) (know
   pub some : IsTrue known → 1 ≤ length lines
   pub unexplained : IsTrue known → IsExplainedBy u s lines (length lines) → ⊥
 
--- some of the windows were released, and else nothing happened but that they are told
+-- some of the windows were released; nothing else changed but the list of those set aside
 pub record ReleasesSome (old new : Judge) : Type 0 where
   pub directory_is : new.directory ≡ old.directory
   pub asked_is : new.asked ≡ old.asked

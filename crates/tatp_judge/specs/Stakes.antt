@@ -36,7 +36,7 @@ abbrev pub how_many : (Outcome → Bool) → List Observed → ℕ
 how_many ended calls = length (filter (λ (x : Observed). ended x.outcome) calls)
 
 -- ---- whom they were on
--- so many numbers have the property
+-- `n` numbers have the property
 pub record IsNumberOf (n : ℕ) (Has : ℕ → Type 0) : Type 0 where
   pub numbers : List ℕ
   pub count : length numbers ≡ n
@@ -44,7 +44,7 @@ pub record IsNumberOf (n : ℕ) (Has : ℕ → Type 0) : Type 0 where
   pub all : (x : ℕ) → Has x → IsAmong x numbers
   pub only : (x : ℕ) → IsAmong x numbers → Has x
 
--- after so many lines a client asks a call on the subscriber
+-- after the first `before` lines a client asks a call on the subscriber
 pub record Asks (u : Database) (s : ℕ) (lines : List Line) (before client : ℕ) : Type 0 where
   pub call : Call
   pub asked : slice_get lines before ≡ Some (Ask client call)
@@ -55,7 +55,7 @@ abbrev pub IsCalled : Database → List Line → ℕ → Type 0
 IsCalled u lines s = (before client : ℕ) × Asks u s lines before client
 
 -- ---- which met others
--- after so many lines a client asks a call, while another client has one open on its subscriber
+-- after `before` lines a client asks a call, while another client has one open on its subscriber
 pub record MeetsOthers (u : Database) (lines : List Line) (before : ℕ) : Type 0 where
   pub s : ℕ
   pub client : ℕ
@@ -71,7 +71,7 @@ pub record HasOpen (u : Database) (s : ℕ) (lines : List Line) (client : ℕ) (
   pub still : opened_after u s 1 no_calls lines client ≡ Some number
   pub asked : slice_get lines (number - 1) ≡ Some (Ask client call)
 
--- after so many lines a client asks a call, while another client has one open on its subscriber,
+-- after `before` lines a client asks a call, while another client has one open on its subscriber,
 -- and one of the two writes
 pub record MeetsConflict (u : Database) (lines : List Line) (before : ℕ) : Type 0 where
   pub s : ℕ
@@ -83,7 +83,7 @@ pub record MeetsConflict (u : Database) (lines : List Line) (before : ℕ) : Typ
   pub still : HasOpen u s (take before lines) other met
   pub conflict : (only_reads asks.call ≡ false) ⊎ (only_reads met ≡ false)
 
--- on one subscriber so many calls were open at once, and never more
+-- on one subscriber `n` calls were open at once, and never more on any
 pub record IsWidest (u : Database) (lines : List Line) (n : ℕ) : Type 0 where
   pub most : (before s k : ℕ) → before ≤ length lines
       → AreCounted (opened_after u s 1 no_calls (take before lines)) k → k ≤ n

@@ -19,14 +19,14 @@ use Rattle.tatp_judge.specs.NextLine.{closed_by, number_closed_by, asks_of}
 use Rattle.tatp_judge.specs.Verdicts.{NeedMoreBy}
 use Rattle.tatp_judge.specs.Windows.{IsWindowAfter, IsExplainedBy, IsForgotten, IsSpent}
 
--- each window of the second list stands for one of the first, at the same place
+-- each window of the second list is in this relation to the one at its place in the first
 pub record AreEach (Stands : ℕ → Window → Window → Type 0) (old new : List Window)
     : Type 0 where
   pub count : length new ≡ length old
   pub each : (place : ℕ) (after : Window) → slice_get new place ≡ Some after
       → (before : Window) × (slice_get old place ≡ Some before) × Stands place before after
 
--- the window goes on so, if it isn't set aside; calls are counted anyway
+-- the window changes so, if it isn't set aside; its open calls are counted anyway
 pub record Steps (Open : Window → Window → Type 0) (waits : ℕ → ℕ) (w after : Window)
     : Type 0 where
   pub aside_is : after.aside ≡ w.aside

@@ -18,15 +18,15 @@ abbrev pub IsLegal : Database → List Line → Type 0
 IsLegal u lines = IsStrictlySerializable u (calls_of lines)
 
 -- ---- subscribers that are set aside
--- after some of the subscriber's events in the first lines, up to this one at most, more than so
--- many configurations are possible
+-- after some of the subscriber's events in the first lines, up to `line` at most, more than `most`
+-- configurations are possible
 pub record NeedMoreBy (u : Database) (most : ℕ) (lines : List Line) (line s : ℕ) : Type 0 where
   pub within : line ≤ length lines
   pub first : ℕ
   pub by : first ≤ line
   pub many : NeedMore most (of_subscriber u s) (events_of u s (take first lines))
 
--- so it is of each of these by its line. Lines don't fall, and no subscriber is there twice
+-- each needs more than `most` by its line. Lines don't fall, and no subscriber is there twice
 abbrev pub AreInOrder : List Undecided → Type 0
 AreInOrder [] = Unit {0}
 AreInOrder (one ∷ more) =
@@ -57,7 +57,7 @@ IsLegalBut u [] lines = IsLegal u lines
 IsLegalBut u (one ∷ more) lines = AreOthersLegal u (one ∷ more) lines
 
 -- ---- verdicts on all others
--- the lines up to this one are not, and those before it are
+-- the first `n` lines are not legal, and those before the last of these are
 pub record IsFirstIllegal (u : Database) (aside : List Undecided) (lines : List Line) (n : ℕ)
     : Type 0 where
   pub first : 1 ≤ n
@@ -65,14 +65,14 @@ pub record IsFirstIllegal (u : Database) (aside : List Undecided) (lines : List 
   pub illegal : IsLegalBut u aside (take n lines) → ⊥
   pub before : IsLegalBut u aside (take (n - 1) lines)
 
--- the calls on each other subscriber of which none is open are strictly serializable on its rows
+-- the calls on each other subscriber that has no open call are strictly serializable on its rows
 abbrev pub AreExplainedWhereClosed : Database → List Undecided → List Line → Type 0
 AreExplainedWhereClosed u aside lines =
     (s : ℕ) → (IsAside aside s → ⊥) → NothingIsOpen u s lines
     → IsStrictlySerializable (of_subscriber u s) (calls_on u s (calls_of lines))
 
--- the calls on the subscriber in the first lines, up to this one, are not; or, where none is named,
--- a call that names none was answered there otherwise than by its failure
+-- the calls on the subscriber in the first `n` lines are not strictly serializable. Where none is
+-- given, a call in these lines that names none was answered otherwise than by its failure
 abbrev pub IsUnexplained : Database → List Line → ℕ → Option ℕ → Type 0
 IsUnexplained u lines n None = FailWithout u (calls_of (take n lines)) → ⊥
 IsUnexplained u lines n (Some s) =

@@ -32,7 +32,7 @@ abbrev pub AreEachOnce : List ℕ → Type 0
 AreEachOnce [] = Unit {0}
 AreEachOnce (client ∷ more) = (IsAmong client more → ⊥) × AreEachOnce more
 
--- so many clients have a call open
+-- `n` clients have a call open
 pub record AreCounted (opened : OpenCalls) (n : ℕ) : Type 0 where
   pub clients : List ℕ
   pub count : length clients ≡ n
@@ -41,16 +41,16 @@ pub record AreCounted (opened : OpenCalls) (n : ℕ) : Type 0 where
   pub still : (client : ℕ) → IsAmong client clients → opened client ≡ None → ⊥
 
 -- ---- windows
--- what is kept of the lines: the numbers of those of the subscriber's calls since the window began.
--- None of the calls was open then, nor after a later line once there was such a line
+-- what is kept of the lines: the numbers of the subscriber's lines since the window began. None of
+-- its calls was open then; from its first line after that, one was open until the last line came
 pub record AreNumbersKept (u : Database) (s : ℕ) (lines : List Line) (w : Window) : Type 0 where
   pub numbers_are : w.numbers.items ≡ numbers_since u s w.from lines
   pub none : NothingIsOpen u s (take w.from lines)
   pub last : (later : ℕ) → later < length lines → NothingIsOpen u s (take later lines)
       → numbers_since u s w.from (take later lines) ≡ []
 
--- the configurations kept are those after the events before the window, which is of the last events
--- on the subscriber
+-- the configurations kept are those after the events before the window; the window has the last
+-- events on the subscriber
 pub record IsWindowAfter (u : Database) (most s : ℕ) (lines : List Line) (w : Window)
     : Type 0 where
   pub before : List Event
@@ -69,7 +69,7 @@ pub record IsWindowAfter (u : Database) (most s : ℕ) (lines : List Line) (w : 
   pub few : w.waiting ≤ length lines
   pub numbers : AreNumbersKept u s lines w
 
--- of a subscriber that is set aside, so many calls are open
+-- the subscriber is set aside, and `waiting` of its calls are open
 pub record IsCounted (u : Database) (s : ℕ) (lines : List Line) (w : Window) : Type 0 where
   pub aside : w.aside ≡ true
   pub counted : AreCounted (opened_after u s 1 no_calls lines) w.waiting
@@ -86,12 +86,12 @@ pub record IsForgotten (w : Window) : Type 0 where
   pub numbers : w.numbers.items ≡ []
 
 -- ---- explained calls
--- those of the subscriber in the first lines have an order
+-- those of the subscriber in the first `k` lines have an order
 abbrev pub IsExplainedBy : Database → ℕ → List Line → ℕ → Type 0
 IsExplainedBy u s lines k =
     IsStrictlySerializable (of_subscriber u s) (calls_on u s (calls_of (take k lines)))
 
--- in fewer lines than so many they always do
+-- in fewer lines than `end` they always have one
 abbrev pub IsExplainedBefore : Database → ℕ → List Line → ℕ → Type 0
 IsExplainedBefore u s lines end =
     (k : ℕ) → k < end → k ≤ length lines → IsExplainedBy u s lines k
@@ -100,8 +100,8 @@ IsExplainedBefore u s lines end =
 abbrev pub only_reply : Observed → Reply → OnlyReply
 only_reply x reply = record { call = x.call; reply = reply }
 
--- where the last line leaves no order, and no events are kept, but the only reply with which the
--- call could have been answered there
+-- where no order explains the calls up to the last line, and instead of the events only the reply
+-- is kept with which the call could have been answered there
 pub record IsSpent (u : Database) (s : ℕ) (lines : List Line) (w : Window) : Type 0 where
   pub none : w.events.items ≡ []
   pub only : OnlyReply

@@ -30,7 +30,7 @@ impl Window {
     }
 }
 
-/// The window of this subscriber is set aside.
+/// Sets the window of this subscriber aside.
 fn set_aside_in(alloc: Global, windows: &mut Vec<Window>, s_id: u64)
     requires { (1 ≤ s_id) × (s_id ≤ length windows.old.items) }
     ensures { AreEach (SetsAside s_id) windows.old.items windows.new.items }
@@ -46,7 +46,7 @@ impl Judge {
         self.undecided.as_slice()
     }
 
-    /// The subscriber is set aside, by the lines that were followed.
+    /// Sets the subscriber aside, by the lines that were followed.
     pub(crate) fn set_aside(&mut self, alloc: Global, s_id: u64) -> Result<(), AllocError>
         requires { (1 ≤ s_id) × (s_id ≤ length self.old.windows.items) }
         ensures windows { OnOk result

@@ -14,7 +14,7 @@ use tatp_history::{Event, Observed};
 use tatp_linearization::{First, Standing};
 use tatp_procs::Reply;
 
-/// The call of events that are its ask and, in the line of this number, its answer.
+/// The call, where the events are its ask and, in the line of this number, its answer.
 fn alone(events: &[Event], number: u64) -> Option<Observed>
     ensures { IfSome result (λ x. events.now ≡ events_alone x number) }
 {
@@ -63,8 +63,8 @@ impl Window {
         Ok(())
     }
 
-    /// Goes on over a call that overlaps no other, and is answered in the line of this number, in
-    /// place.
+    /// Follows a call that overlaps no other, and is answered in the line of this number. It does
+    /// so in place.
     fn go_on_alone(
         &mut self,
         alloc: Global,
@@ -90,7 +90,7 @@ impl Window {
         }
     }
 
-    /// Goes on over the events, if an order explains the calls up to now.
+    /// Follows the events, if an order explains the calls up to now.
     fn go_on(&mut self, alloc: Global, number: u64) -> Result<Standing, AllocError>
         requires window { (u : Database) × (most : ℕ) × (s : ℕ) × (lines : List ALine)
             × IsWindowAfter u most s lines self.old }

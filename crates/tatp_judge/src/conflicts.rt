@@ -14,7 +14,7 @@ use std::alloc::{AllocError, Global};
 use tatp_history::{Line, only_reads};
 use tatp_procs::Call;
 
-/// How many calls of a history met another one, of which one of the two writes.
+/// How many calls of a history met another one, where one of the two writes.
 #[derive(Drop)]
 pub(crate) struct Conflicts {
     /// How many calls that write are open on the subscriber, by s_id from 1 on.
@@ -43,7 +43,7 @@ impl Judge {
 }
 
 impl Conflicts {
-    /// Those of a history of which no line came yet.
+    /// The conflicts of a history of which no line has come yet.
     pub(crate) fn new(alloc: Global, judge: &Judge) -> Result<Conflicts, AllocError>
         ensures { IfOk result (λ conflicts. (u : Database) (most : ℕ)
             → HasFollowed u most [] judge.now → HasConflicts u [] conflicts) }
@@ -125,8 +125,8 @@ impl Conflicts {
         }
     }
 
-    /// Counts a call that writes to a subscriber on which so many others are open: it conflicts
-    /// with them all.
+    /// Counts a call that writes to a subscriber on which `others` other calls are open: it
+    /// conflicts with them all.
     fn write_on(&mut self, s_id: u64, others: u64)
         requires within { (1 ≤ s_id) × (s_id ≤ length self.old.writing.items) }
         requires writing { get_or self.old.writing.items (s_id - 1) 0 + 1 < 2 ^ 64 }

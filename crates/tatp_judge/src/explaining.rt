@@ -1,4 +1,4 @@
-//! Which lines are told of a subscriber whose calls no order explains.
+//! Which lines are reported for a subscriber whose calls no order explains.
 ghost use Rattle.std.specs.Prelude.{◌≤◌, ℕ, All, Some, IfOk, List, length, take};
 ghost use Rattle.tatp_tables.specs.Database.{Database};
 ghost use Rattle.tatp_history.specs.declared.line.Line.{Line as ALine};
@@ -12,7 +12,7 @@ use std::alloc::{AllocError, Global};
 
 impl Judge {
     /// The numbers of the lines in which the subscriber's calls were asked and ended, up to this
-    /// line, by which no order explains them, and since none of them was open.
+    /// line, by which no order explains them. They begin after the last time that none was open.
     pub fn window_numbers(
         &self,
         alloc: Global,

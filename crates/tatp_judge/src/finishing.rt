@@ -24,13 +24,13 @@ use tatp_tables::Rows;
 pub enum FinalVerdict {
     /// Some order of its calls leads to them.
     Reached,
-    /// None does. Of the part's subscribers this is the first of whose calls no order leaves its
-    /// rows.
+    /// None does. This is the first of the part's subscribers for which no order of its calls
+    /// results in its rows.
     Unreached(u64),
 }
 
 impl Window {
-    /// Goes on over all events, if an order explains the subscriber's calls.
+    /// Follows all events, if an order explains the subscriber's calls.
     fn go_to_end(&mut self, alloc: Global) -> Result<Standing, AllocError>
         requires { (u : Database) × (most : ℕ) × (s : ℕ) × (lines : List ALine)
             × IsWindowAfter u most s lines self.old }
@@ -44,8 +44,8 @@ impl Window {
         self.explanations.follow(alloc, self.events.as_slice())
     }
 
-    /// Whether some order of the subscriber's calls leaves these rows. Calls that are open at the
-    /// end may have taken effect.
+    /// Whether some order of the subscriber's calls results in these rows. Calls that are open at
+    /// the end may have taken effect.
     fn leads_to(&mut self, alloc: Global, rows: &Home) -> Result<Standing, AllocError>
         requires { (u : Database) × (most : ℕ) × (lines : List ALine)
             × IsWindowAfter u most rows.now.s_id lines self.old }
@@ -63,8 +63,8 @@ impl Window {
 
 impl Judge {
     /// Whether some order of the calls that were followed leads to these rows of the part's
-    /// subscribers that aren't set aside. More of them may be, for it. After this the judge follows
-    /// no more lines.
+    /// subscribers that aren't set aside. More of them may be set aside for it. After this the
+    /// judge follows no more lines.
     pub fn finish_to(
         &mut self,
         alloc: Global,

@@ -39,8 +39,8 @@ pub enum Verdict {
     Illegal {
         /// How many lines these are.
         line: u64,
-        /// The subscriber whose calls in them no order explains; none where a call that names none
-        /// was answered otherwise than by its failure.
+        /// The subscriber whose calls in them no order explains; `None` where a call that names no
+        /// subscriber was answered otherwise than by its failure.
         s_id: Option<u64>,
     },
 }
@@ -48,7 +48,7 @@ pub enum Verdict {
 /// The judge of a history, which follows it line after line. Of each subscriber it keeps what
 /// explains its calls so far, and what happened to them since none of them was open. A subscriber
 /// of which more configurations are possible than may be kept is set aside, and the history is
-/// judged on for all others.
+/// still judged for all others.
 #[derive(Drop)]
 pub struct Judge {
     pub(crate) directory: Directory,
@@ -179,7 +179,7 @@ impl Judge {
         }
     }
 
-    /// A client asks in the line of this number.
+    /// A client asks a call in the line of this number.
     fn ask(&mut self, client: u64, call: &Call, number: u64) -> Result<(), AllocError>
         requires directory { (u : Database)
             × IsDirectoryOf u (length self.old.windows.items) self.old.directory }

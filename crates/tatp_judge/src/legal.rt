@@ -16,8 +16,8 @@ use std::alloc::{AllocError, Global};
 use tatp_history::{Event, Observed, Outcome};
 use tatp_procs::{Call, Reply};
 
-/// How many events are searched for replies: the rows that the calls of a window may leave, times
-/// its events. Each of these rows may have a reply, with which the window is searched again.
+/// How many events are searched for replies at most. Each of the rows that a window's calls may
+/// result in can have a reply of its own, with which all events of the window are searched again.
 const MOST_SEARCHED: usize = 1 << 14;
 
 /// A call, and the replies with which it could have been answered.
@@ -76,7 +76,7 @@ fn answered_at(events: &[Event], time: u64) -> Option<Observed>
 }
 
 impl Window {
-    /// Those of the call that overlapped no other and was answered in the last line.
+    /// The legal replies of the call that overlapped no other and was answered in the last line.
     fn only_reply(&self, alloc: Global) -> Result<Option<LegalReplies>, AllocError>
         ensures { IfOk result (λ found. IfSome found (λ legal.
             (u : Database) (s : ℕ) (lines : List ALine) → IsSpent u s lines self.now
@@ -130,9 +130,9 @@ impl Window {
 }
 
 impl Judge {
-    /// The replies with which the call could have been answered that the last of these lines
-    /// answers, by which no order explains the subscriber's calls. `None` means that the line
-    /// answers none, or that too many rows or configurations are possible.
+    /// The call that the line of this number answers, and its legal replies. By this line no order
+    /// explains the subscriber's calls. `None` means that the line answers none, or that too many
+    /// rows or configurations are possible.
     pub fn legal_replies(
         &self,
         alloc: Global,

@@ -1,4 +1,4 @@
-//! Laws of histories that are judged but for subscribers who are set aside.
+//! Laws of histories that are judged except for subscribers that are set aside.
 ghost use Rattle.std.specs.Prelude.{◌↔◌, ◌≤◌, ℕ, [], List};
 ghost use Rattle.tatp_tables.specs.Database.{Database};
 ghost use Rattle.tatp_procs.specs.Consistent.{IsConsistent};

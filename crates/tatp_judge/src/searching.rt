@@ -13,7 +13,7 @@ use crate::judge::{Judge, Verdict};
 use std::alloc::{AllocError, Global};
 use tatp_linearization::First;
 
-/// The last line, where it is known to be illegal by a call that names nobody; else the next.
+/// The last line, if it is known to be illegal by a call that names no subscriber; else the next.
 fn bound(number: u64, illegal: bool, s_id: Option<u64>) -> u64
     requires { number + 1 < 2 ^ 64 }
     ensures last { illegal ≡ true → s_id ≡ None → result ≡ number }
@@ -37,8 +37,8 @@ fn is_known(illegal: bool, s_id: Option<u64>, own: u64) -> bool
 }
 
 impl Judge {
-    /// The first line by which the calls of the window at this place are unexplained; whether they
-    /// are known to be so by the last line.
+    /// The first line by which the calls of the window at this place are unexplained. `known` says
+    /// whether they are known to be unexplained by the last line.
     fn first_at(&self, alloc: Global, place: usize, known: bool) -> Result<First, AllocError>
         requires inside { place < length self.now.windows.items }
         requires window { (w : AWindow) → slice_get self.now.windows.items place ≡ Some w
@@ -58,8 +58,8 @@ impl Judge {
         window.first_unexplained(alloc, self.number)
     }
 
-    /// The verdict on the lines so far, by all windows as they stand; whether these lines are known
-    /// to be illegal, and by which subscriber's calls. Subscribers may be set aside for it.
+    /// The verdict on the lines so far, by all windows as they are. `illegal` says if the lines are
+    /// known to be illegal, and `s_id` by whose calls. Subscribers may be set aside for it.
     pub(crate) fn search(
         &mut self,
         alloc: Global,

@@ -27,7 +27,7 @@ pub struct Stakes {
     pub subscribers: u64,
     /// Calls that were asked while another one was open on their subscriber.
     pub overlapped: u64,
-    /// Those of them of which one of the two calls writes.
+    /// Those of them where one of the two calls writes.
     pub conflicted: u64,
     /// The most calls that were open at once on one subscriber.
     pub widest: u64,

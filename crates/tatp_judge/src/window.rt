@@ -18,7 +18,7 @@ use tatp_linearization::Explanations;
 pub(crate) struct Window {
     /// What explains the calls before.
     pub(crate) explanations: Explanations,
-    /// The number of the last line before, or of one after that which says nothing of its calls.
+    /// The number of the last line before it, or of a later one that says nothing of its calls.
     pub(crate) from: u64,
     pub(crate) events: Vec<Event>,
     /// The numbers of the lines that asked its calls, and of those that ended one.
@@ -31,7 +31,7 @@ pub(crate) struct Window {
     pub(crate) aside: bool,
 }
 
-/// The event, where the call that was asked then ends by the line of this number.
+/// The event, where the call asked at the time `asked` ends by the line of this number.
 fn ended(event: &Event, asked: u64, number: u64, line: &Line) -> Event
     ensures { result ∷ [] ≡ with_outcome asked (end_at number line.now) (event.now ∷ []) }
 {
@@ -62,8 +62,8 @@ fn time_of(event: &Event) -> u64
     }
 }
 
-/// Writes down how the call that was asked then ends by the line of this number. Events are in the
-/// order of time, so that it was asked is looked for by halves.
+/// Writes down how the call asked at the time `asked` ends by the line of this number. Events are
+/// in the order of time: a binary search finds the one that asked it.
 fn write_outcome(events: &mut Vec<Event>, asked: u64, number: u64, line: &Line)
     requires { TimesRise events.old.items }
     ensures { events.new.items ≡ with_outcome asked (end_at number line.now) events.old.items }
@@ -74,7 +74,7 @@ fn write_outcome(events: &mut Vec<Event>, asked: u64, number: u64, line: &Line)
     }
 }
 
-/// One event more.
+/// Appends an event.
 fn push(events: &mut Vec<Event>, event: &Event) -> Result<(), AllocError>
     ensures { OnOk result (events.new.items ≡ events.old.items ++ event.now ∷ []) }
 {
@@ -83,7 +83,7 @@ fn push(events: &mut Vec<Event>, event: &Event) -> Result<(), AllocError>
 }
 
 impl Window {
-    /// That of a subscriber with this home, before any line.
+    /// The window of a subscriber with this home, before any line.
     pub(crate) fn new(alloc: Global, home: &Home, most: usize) -> Result<Window, AllocError>
         ensures reached { IfOk result (λ w. AreReached home.now.tables [] w.explanations) }
         ensures own { IfOk result (λ w. AreOfSubscriber home.now.s_id w.explanations) }
@@ -105,7 +105,7 @@ impl Window {
         })
     }
 
-    /// A call is asked. Of a subscriber that is set aside it is only counted.
+    /// A call is asked. If the subscriber is set aside, it is only counted.
     pub(crate) fn ask(&mut self, x: &Observed) -> Result<(), AllocError>
         requires { self.old.waiting + 1 < 2 ^ 64 }
         ensures events { OnOk result (self.old.aside ≡ false
@@ -126,8 +126,8 @@ impl Window {
         Ok(())
     }
 
-    /// The open call that was asked then ends by the line of this number. Of a subscriber that is
-    /// set aside it is only counted.
+    /// The open call asked at the time `asked` ends by the line of this number. If the subscriber
+    /// is set aside, it is only counted.
     pub(crate) fn end(&mut self, asked: u64, number: u64, line: &Line) -> Result<(), AllocError>
         requires some { 0 < self.old.waiting }
         requires rise { self.old.aside ≡ false → TimesRise self.old.events.items }

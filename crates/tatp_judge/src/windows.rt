@@ -16,7 +16,7 @@ use tatp_history::{Line, Observed};
 use tatp_homes::Home;
 use tatp_linearization::Standing;
 
-/// Those of these homes, before any line.
+/// The windows of these homes, before any line.
 pub(crate) fn windows_of(
     alloc: Global,
     homes: &[Home],

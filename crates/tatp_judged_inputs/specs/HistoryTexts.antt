@@ -1,4 +1,4 @@
--- The history that texts tell, line by line: docs/FORMATS.md.
+-- The history that texts hold, line by line: docs/FORMATS.md.
 use Rattle.std.specs.Prelude.{ℕ, ◌+◌, List, [], ◌∷◌, Option, Some, None, Result, Ok, Err, if◌then◌else◌}
 use Rattle.std.specs.Str.{is_utf8}
 use Rattle.tatp_history.specs.declared.line.Line.{Line}
@@ -27,7 +27,7 @@ onto number line (Ok more) =
     Ok (record { numbers = number ∷ more.numbers; lines = line ∷ more.lines })
 onto number line (Err bad) = Err bad
 
--- by what the text with this number says, and what those that follow tell
+-- from what the text with this number says, and the history that those after it hold
 abbrev pub tell_on
     : ℕ → CallsOpen → Result (Option Line) LineFault → (CallsOpen → Result Told BadText)
     → Result Told BadText
@@ -35,7 +35,7 @@ tell_on number opened (Ok None) rest = rest opened
 tell_on number opened (Ok (Some line)) rest = onto number line (rest (opened_by opened line))
 tell_on number opened (Err fault) rest = Err (record { number = number; fault = fault })
 
--- what the texts from this number on tell, where clients have these calls open
+-- the history that the texts from this number on hold, where clients have these calls open
 abbrev pub history_from : CallsOpen → ℕ → List (List ℕ) → Result Told BadText
 history_from opened number [] = Ok (record { numbers = []; lines = [] })
 history_from opened number (text ∷ more) =

@@ -12,8 +12,8 @@ use Rattle.tatp_judged_inputs.specs.declared.judging.Judged.{Judged}
 use Rattle.tatp_judged_inputs.specs.declared.judging.Window.{Window}
 use Rattle.tatp_judged_inputs.specs.declared.judging.Judged.TheVariants.{Legal, Illegal, Unreached}
 
--- the texts, the first of which comes after so many lines of the input, tell a history of which
--- this holds
+-- the texts, of which the first comes after `taken` lines of the input, hold a history of which
+-- this is true
 abbrev pub Tell : ℕ → List (List ℕ) → (Told → Type 0) → Type 0
 Tell taken texts Holds =
     (told : Told) × (history_from none_open (taken + 1) texts ≡ Ok told) × Holds told
@@ -29,8 +29,8 @@ TellIllegal u aside taken texts = Tell taken texts (λ told. IsLegalBut u aside 
 abbrev pub TellStakes : View → ℕ → List (List ℕ) → Stakes → Type 0
 TellStakes u taken texts stakes = Tell taken texts (λ told. AreStakes u told.lines stakes)
 
--- the lines up to the one with this number in the input tell an illegal history, and those up to
--- the one before a legal one
+-- the lines up to the one with this number in the input hold an illegal history, and those before
+-- it a legal one
 pub record IsIllegalAt (u : View) (aside : List Undecided) (taken : ℕ) (texts : List (List ℕ))
     (number : ℕ) : Type 0 where
   pub later : taken < number
@@ -38,7 +38,7 @@ pub record IsIllegalAt (u : View) (aside : List Undecided) (taken : ℕ) (texts 
   pub illegal : TellIllegal u aside taken (take (number - taken) texts)
   pub before : TellLegal u aside taken (take (number - taken - 1) texts)
 
--- the lines up to the one with this number tell a history in which more than so many
+-- the lines up to the one with this number hold a history in which more than `most`
 -- configurations of the subscriber are possible after some of its events
 pub record IsUndecidedAt (u : View) (most taken : ℕ) (texts : List (List ℕ)) (number s : ℕ)
     : Type 0 where
@@ -47,14 +47,14 @@ pub record IsUndecidedAt (u : View) (most taken : ℕ) (texts : List (List ℕ))
   pub many : Tell taken (take (number - taken) texts)
       (λ told. NeedMoreBy u most told.lines (length told.lines) s)
 
--- so it is of each subscriber that is set aside. The lines don't fall, and none is there twice
+-- so it is with each subscriber set aside. Their lines don't fall, and no subscriber is there twice
 pub record AreUndecidedAt (u : View) (most taken : ℕ) (texts : List (List ℕ))
     (aside : List Undecided) : Type 0 where
   pub each : AllByRecursion (λ one. IsUndecidedAt u most taken texts one.line one.s_id) aside
   pub order : AreInOrder aside
 
 -- in the lines up to the one with this number the calls on this subscriber aren't strictly
--- serializable; or, where none is named, a call that names none didn't fail
+-- serializable. Where none is given, a call that names none didn't fail
 abbrev pub AreUnexplainedAt : View → ℕ → List (List ℕ) → ℕ → Option ℕ → Type 0
 AreUnexplainedAt u taken texts number s_id = Tell taken (take (number - taken) texts)
     (λ told. IsUnexplained u told.lines (length told.lines) s_id)
@@ -75,8 +75,8 @@ IsTold u told verdicts.Legal judged =
 IsTold u told (verdicts.Illegal first s_id) judged = (number : ℕ)
     × (slice_get told.numbers (first - 1) ≡ Some number) × (judged ≡ Illegal number s_id)
 
--- the number in the input of the last of so many lines; where there are none, how many come before
--- the history
+-- the number that the history's line of this number has in the input; for 0, how many lines of the
+-- input come before the history
 abbrev pub number_after : ℕ → List ℕ → ℕ → ℕ
 number_after taken numbers zero = taken
 number_after taken numbers (suc n) = slice_index numbers n
@@ -94,8 +94,8 @@ aside_told taken numbers aside = map (one_told taken numbers) aside
 abbrev pub in_input : List ℕ → List ℕ → List ℕ
 in_input numbers lines = map (λ line. slice_index numbers (line - 1)) lines
 
--- they are those of the window of the subscriber that ends with the last line; and where replies
--- are told, they are those with which this line could have answered its call
+-- the lines are those of the subscriber's window that ends with the last line; and where replies
+-- are reported, they are those with which this line could have answered its call
 pub record IsWindowTold (u : View) (s : ℕ) (told : Told) (window : Window) : Type 0 where
   pub lines : List ℕ
   pub numbers : AreNumbersTold u s told.lines lines
@@ -103,12 +103,12 @@ pub record IsWindowTold (u : View) (s : ℕ) (told : Told) (window : Window) : T
   pub legal : IfSome window.legal
       (λ legal. AreRepliesTold u s told.lines legal.call legal.replies.items)
 
--- nothing is told
+-- nothing is reported
 pub record IsUntold (window : Window) : Type 0 where
   pub lines : window.lines.items ≡ []
   pub legal : window.legal ≡ None
 
--- what is told with what is said of the texts, where this names a subscriber whose calls are
+-- what is reported with what is said of the texts, where that names a subscriber whose calls are
 -- unexplained
 abbrev pub IsWindowOf : View → ℕ → List (List ℕ) → Judged → Window → Type 0
 IsWindowOf u taken texts (Legal stakes) window = IsUntold window
@@ -117,18 +117,18 @@ IsWindowOf u taken texts (Illegal number (Some s)) window =
     Tell taken (take (number - taken) texts) (λ told. IsWindowTold u s told window)
 IsWindowOf u taken texts (Unreached number s) window = IsUntold window
 
--- what is said of the texts, and what is told with it
+-- what is said of the texts, and what is reported with it
 pub record IsJudgement (u : View) (most taken : ℕ) (texts : List (List ℕ)) (judged : Judged)
     (aside : List Undecided) (window : Window) : Type 0 where
   pub judged_is : IsJudged u aside taken texts judged
   pub aside_are : AreUndecidedAt u most taken texts aside
   pub window_is : IsWindowOf u taken texts judged window
 
--- the first lines of what is told
+-- the first `n` lines of a history, with their numbers
 abbrev pub first_told : ℕ → Told → Told
 first_told n told = record { numbers = take n told.numbers; lines = take n told.lines }
 
--- what is told with a verdict on lines
+-- what is reported with a verdict on lines
 abbrev pub IsWindowBy : View → Told → Verdict → Window → Type 0
 IsWindowBy u told verdicts.Legal window = IsUntold window
 IsWindowBy u told (verdicts.Illegal first None) window = IsUntold window

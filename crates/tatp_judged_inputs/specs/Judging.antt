@@ -1,5 +1,5 @@
--- What the command `judge` writes, and what each fault leaves. Old and new are the bytes that a
--- writer holds.
+-- What the command `judge` writes, and what each fault leaves behind. Old and new are the bytes
+-- that a writer holds.
 use Rattle.std.specs.Prelude.{◌≡◌, ◌⊎◌, ℕ, zero, suc, ◌+◌, ◌-◌, length, take, Bool, true, false, if◌then◌else◌, List, [], ◌∷◌, ◌++◌, Option, Some, None, Ok, Err, codes, decimal}
 use Rattle.std.specs.Io.KnownBytes.{Appends}
 use Rattle.tatp_lines.specs.Lines.{lines_of}
@@ -37,11 +37,11 @@ use Rattle.tatp_judged_inputs.specs.declared.judging.Window.{Window}
 use Rattle.tatp_judged_inputs.specs.declared.judging.Judged.TheVariants.{Legal, Illegal, Unreached}
 
 -- ---- an input
--- of the rows and the lines that the lines of an input bring
+-- `P` holds of the rows and the lines that the lines of an input bring
 abbrev pub OfWork : Population → List (List ℕ) → (Work → Type 0) → Type 0
 OfWork population lines P = (work : Work) × (work_of population 1 lines ≡ Ok work) × P work
 
--- this is said of the history that the lines are, with the rows at its end where these follow it
+-- this is said of the history in the lines, and of the rows at its end where these follow it
 abbrev pub IsJudgedWith
     : Bool → View → ℕ → ℕ → List (List ℕ) → Judgement → Type 0
 IsJudgedWith false u most taken texts j =
@@ -57,8 +57,8 @@ part_asked plan = record { number = plan.part; count = plan.parts }
 abbrev pub view_asked : JudgePlan → Rows → View
 view_asked plan rows = record { rows = database_of rows; part = part_asked plan }
 
--- the history begins with the rows; so many lines of the input come before it, and at most so many
--- configurations of a subscriber are kept
+-- the history begins with the rows; `taken` lines of the input come before it, and at most
+-- `plan.most` configurations of a subscriber are kept
 pub record JudgesWork (plan : JudgePlan) (work : Work) (taken : ℕ) (judgement : Judgement)
     : Type 0 where
   pub admitted : AreAdmitted work.rows
@@ -87,7 +87,7 @@ RefusesTexts final taken texts (Unopened error) =
 RefusesTexts final taken texts (Stream WriteFault) = ⊥
 RefusesTexts final taken texts (Stream fault) = Unit {0}
 
--- they are, after rows that are admitted
+-- they are refused, after rows that are admitted
 abbrev pub RefusesAfterRows : JudgePlan → List (List ℕ) → JudgeFault → Type 0
 RefusesAfterRows plan lines fault = OfWork plan.population lines (λ work. AreAdmitted work.rows
     × RefusesTexts plan.final_rows (lines_before plan.population lines) work.lines fault)
@@ -143,7 +143,7 @@ legal_lines (Some legal) =
 abbrev pub told_lines : Window → List ℕ
 told_lines window = window_lines window.lines.items ++ legal_lines window.legal
 
--- the lines that tell what was at stake
+-- the lines that say what was at stake
 abbrev pub stakes_lines : Stakes → List ℕ
 stakes_lines stakes =
     number_line (codes "ANSWERED ") stakes.answered
@@ -165,7 +165,7 @@ abbrev pub others_word : List Undecided → List ℕ
 others_word [] = []
 others_word (one ∷ more) = codes "OTHERS "
 
--- what was at stake is told where none is set aside
+-- what was at stake is reported where no subscriber is set aside
 abbrev pub stakes_told : List Undecided → Stakes → List ℕ
 stakes_told [] stakes = stakes_lines stakes
 stakes_told (one ∷ more) stakes = []
@@ -184,19 +184,19 @@ judgement_lines j = undecided_lines j.undecided.items
     ++ (others_word j.undecided.items
     ++ judged_lines j.undecided.items j.judged j.window)
 
--- the text tells what is said of the input
+-- the text reports what is said of the input
 pub record TellsJudged (plan : JudgePlan) (input text : List ℕ) : Type 0 where
   pub judgement : Judgement
   pub is : JudgesInput plan (lines_of input) judgement
   pub told : text ≡ judgement_lines judgement
 
--- this is said of the input, and new has it besides
+-- this is said of the input, and new is old with the lines of it appended
 pub record WritesJudged (plan : JudgePlan) (input : List ℕ) (judgement : Judgement)
     (old new : Option (List ℕ)) : Type 0 where
   pub is : JudgesInput plan (lines_of input) judgement
   pub written : Appends old new (judgement_lines judgement)
 
--- what each fault tells of the input, and leaves
+-- what each fault says of the input, and leaves behind
 abbrev pub LeavesJudged : JudgePlan → List ℕ → Option (List ℕ) → Option (List ℕ)
     → JudgeFault → Type 0
 LeavesJudged plan input old new (Stream fault) =

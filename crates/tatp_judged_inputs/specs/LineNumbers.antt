@@ -19,7 +19,7 @@ numbers_in (run ∷ more) = count_from run.first run.count ++ numbers_in more
 abbrev pub AreFit : List Run → Type 0
 AreFit runs = AllByRecursion (λ (run : Run). run.first + run.count ≤ 2 ^ 64) runs
 
--- so many numbers in all, each of which fits
+-- the runs hold `count` numbers in all, each of which fits
 pub record HoldNumbers (runs : List Run) (count : ℕ) : Type 0 where
   pub fit : AreFit runs
   pub all : length (numbers_in runs) ≡ count

@@ -34,7 +34,7 @@ before first (Ok more) =
     Ok (record { numbers = first.numbers ++ more.numbers; lines = first.lines ++ more.lines })
 before first (Err bad) = Err bad
 
--- what was read, and then what the texts from this number on tell
+-- what was read, and then the history that the texts from this number on hold
 abbrev pub told_by : Reading → List Line → ℕ → List (List ℕ) → Result Told BadText
 told_by r past number texts =
     before (told_of r past) (history_from (open_call r.opened) number texts)
@@ -47,8 +47,8 @@ RefusesText number (lines.BadArgument bad) fault = fault ≡ BadArgument number 
 abbrev pub RefusesAt : BadText → HistoryFault → Type 0
 RefusesAt bad fault = RefusesText bad.number bad.fault fault
 
--- after the text with this number the judge has followed these lines, which are counted, and those
--- that follow tell the rest
+-- after the text with this number the judge has followed these lines, which are counted; the texts
+-- that follow hold the rest
 pub record GoesOn (u : View) (most : ℕ) (past : List Line) (number : ℕ) (text : List ℕ)
     (judge : Judge) (old new : Reading) : Type 0 where
   pub now : List Line
@@ -75,7 +75,7 @@ pub record Decides (u : View) (most : ℕ) (past : List Line) (number : ℕ) (te
   pub kept : IsKeptFor u (past ++ line ∷ []) verdict judge
 
 -- the fault is that of the first text that is no line. A reader can fail, and memory run out, at
--- any
+-- any text
 abbrev pub RefusesHistory : Result Told BadText → HistoryFault → Type 0
 RefusesHistory told (BadLine n) =
     told ≡ Err (record { number = n; fault = lines.BadLine })
@@ -85,8 +85,8 @@ RefusesHistory told (Stream WriteFault) = ⊥
 RefusesHistory told (Stream fault) = Unit {0}
 
 -- ---- up to a line `.`
--- the lines up to the first line `.` are taken, and tell these lines of a history; before and after
--- them so many lines are taken in all
+-- the lines up to the first line `.` are taken, and hold these lines of a history; `before` and
+-- `after` are how many lines are taken in all before and after that
 pub record ReadsToDot (past : List Line) (before after : ℕ) (all left : LinesLeft) : Type 0 where
   pub told : Told
   pub tell : history_from none_open (before + 1) (before_dot all.lines) ≡ Ok told

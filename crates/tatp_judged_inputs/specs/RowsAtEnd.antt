@@ -24,13 +24,13 @@ pub record AreAdmitted (rows : Rows) : Type 0 where
   pub clean : IsClean rows
 
 -- ---- the rows at the end
--- the number that the line `.` behind the history has in the input, where so many lines come before
+-- the number that the line `.` after the history has in the input, where `taken` lines come before
 -- the history
 abbrev pub dot_number : ℕ → List (List ℕ) → ℕ
 dot_number taken texts = taken + length (before_dot texts) + 1
 
--- by the lines after the line `.`, the first of which has this number; where that line is missing,
--- its number would be n
+-- the rows in the lines after the line `.`, of which the first has this number; where the line `.`
+-- is missing, its number would be n
 abbrev pub rows_after : ℕ → ℕ → Option (List (List ℕ)) → Result Rows ℕ
 rows_after n first None = Err n
 rows_after n first (Some lines) = rows_of_lines first lines
@@ -66,7 +66,7 @@ IsJudgedTo u aside taken texts (Illegal number s_id) =
     × IsOther aside s_id
 IsJudgedTo u aside taken texts (Unreached number s) = IsUnreachedAt u aside taken texts number s
 
--- what is said of both, and what is told with it
+-- what is said of both, and what is reported with it
 pub record IsJudgementTo (u : View) (most taken : ℕ) (texts : List (List ℕ)) (judged : Judged)
     (aside : List Undecided) (window : Window) : Type 0 where
   pub judged_is : IsJudgedTo u aside taken texts judged

@@ -51,7 +51,7 @@ fn part_of(plan: &JudgePlan) -> Part
     }
 }
 
-/// What is said of the history that an input is.
+/// What is said of the history in an input.
 fn judged<R: Read, P: Progress>(
     alloc: Global,
     reader: &mut R,
@@ -104,7 +104,7 @@ fn push_with_subscriber(
     push_number_line(text, "SUBSCRIBER ", s_id)
 }
 
-/// Appends the lines that tell a subscriber that is set aside.
+/// Appends the lines that report a subscriber that is set aside.
 fn push_one_undecided(text: &mut String, one: &Undecided) -> Result<(), AllocError>
     ensures { OnOk result (string_bytes text.new ≡ string_bytes text.old
         ++ (number_line (codes "UNDECIDED ") one.now.line ++ subscriber_line (Some one.now.s_id))) }
@@ -112,7 +112,7 @@ fn push_one_undecided(text: &mut String, one: &Undecided) -> Result<(), AllocErr
     push_with_subscriber(text, "UNDECIDED ", one.line, one.s_id)
 }
 
-/// Appends the lines that tell the subscribers that are set aside.
+/// Appends the lines that report the subscribers that are set aside.
 fn push_undecided(text: &mut String, aside: &[Undecided]) -> Result<(), AllocError>
     ensures { OnOk result
         (string_bytes text.new ≡ string_bytes text.old ++ undecided_lines aside.now) }
@@ -135,7 +135,7 @@ fn push_others(text: &mut String, aside: &[Undecided]) -> Result<(), AllocError>
     }
 }
 
-/// Appends the lines that tell what was at stake, where none is set aside.
+/// Appends the lines that say what was at stake, where no subscriber is set aside.
 fn push_stakes_told(
     text: &mut String,
     aside: &[Undecided],
@@ -151,7 +151,7 @@ fn push_stakes_told(
     }
 }
 
-/// Appends the lines that tell what was at stake.
+/// Appends the lines that say what was at stake.
 fn push_stakes(text: &mut String, stakes: &Stakes) -> Result<(), AllocError>
     ensures { OnOk result
         (string_bytes text.new ≡ string_bytes text.old ++ stakes_lines stakes.now) }
@@ -188,7 +188,7 @@ fn push_told(text: &mut String, window: &Window) -> Result<(), AllocError>
     }
 }
 
-/// Appends the lines that tell why the lines up to one are illegal.
+/// Appends the lines that say why the lines up to one are illegal.
 fn push_explanation(text: &mut String, s_id: Option<u64>, window: &Window) -> Result<(), AllocError>
     ensures { OnOk result (string_bytes text.new
         ≡ string_bytes text.old ++ (subscriber_line s_id ++ told_lines window.now)) }
@@ -199,7 +199,7 @@ fn push_explanation(text: &mut String, s_id: Option<u64>, window: &Window) -> Re
     push_told(text, window)
 }
 
-/// Appends the lines that tell what is said of all subscribers that aren't set aside.
+/// Appends the lines for what is said of all subscribers that aren't set aside.
 fn push_judged(text: &mut String, judgement: &Judgement) -> Result<(), AllocError>
     ensures { OnOk result (string_bytes text.new ≡ string_bytes text.old
         ++ judged_lines judgement.now.undecided.items judgement.now.judged judgement.now.window) }
@@ -217,7 +217,7 @@ fn push_judged(text: &mut String, judgement: &Judgement) -> Result<(), AllocErro
     }
 }
 
-/// The lines that tell it.
+/// The lines of a judgement.
 fn lines_that_tell(alloc: Global, judgement: &Judgement) -> Result<String, AllocError>
     ensures { IfOk result (λ lines. string_bytes lines ≡ judgement_lines judgement.now) }
 {

@@ -1,4 +1,4 @@
-//! Why no verdict is told.
+//! Why no verdict is given.
 ghost use Rattle.std.specs.Prelude.{◌≡◌};
 ghost use Rattle.tatp_streams.specs.declared.fault.StreamFault.TheVariants.{NoMemory};
 ghost use Rattle.tatp_judged_inputs.specs.declared.fault.JudgeFault.TheVariants.{Stream, Unopened};
@@ -12,7 +12,7 @@ use tatp_procs::BadArgument;
 use tatp_streams::StreamFault;
 use thiserror::Error;
 
-/// Why no verdict is told. Its text is a number, a name and details.
+/// Why no verdict is given. Its text is a number, a name and details.
 #[derive(Clone, Copy, Debug, PartialEq, Eq, Error)]
 pub enum JudgeFault {
     /// The line with this number, counted from 1, is no row, or no line of a history; or it is the

@@ -1,4 +1,4 @@
-//! The verdict on the history that the lines left of an input are.
+//! The verdict on the history in the remaining lines of an input.
 ghost use Rattle.std.specs.Prelude.{◌≡◌, [], ℕ, ◌+◌, IfOk, IfErr, IfSome, List};
 ghost use Rattle.tatp_history.specs.declared.line.Line.{Line as ALine};
 ghost use Rattle.tatp_judge.specs.declared.aside.Undecided.{Undecided as AnUndecided};
@@ -27,20 +27,20 @@ pub enum Judged {
     Illegal {
         /// The number of that line, counted from 1.
         line: u64,
-        /// The subscriber whose calls no order explains up to there; none where a call that names
-        /// none was answered otherwise than by its failure.
+        /// The subscriber whose calls no order explains up to there; `None` where a call that names
+        /// no subscriber was answered otherwise than by its failure.
         s_id: Option<u64>,
     },
     /// It is, and no order of its calls leads to the rows at its end.
     Unreached {
         /// The number of the line `.` before these rows.
         line: u64,
-        /// The first subscriber of whose calls no order leaves its rows.
+        /// The first subscriber for which no order of its calls results in its rows.
         s_id: u64,
     },
 }
 
-/// What is told where a subscriber's calls are unexplained.
+/// What is reported where a subscriber's calls are unexplained.
 #[derive(Drop)]
 pub struct Window {
     /// The numbers in the input of the lines in which its calls were asked and ended, since none of
@@ -51,7 +51,7 @@ pub struct Window {
     pub legal: Option<LegalReplies>,
 }
 
-/// What is said of a history in an input, and what is told with it.
+/// What is said of a history in an input, and what is reported with it.
 #[derive(Drop)]
 pub struct Judgement {
     /// What is said of all subscribers but those that are set aside.
@@ -81,7 +81,7 @@ impl Reading {
     }
 
     /// A verdict by the numbers of the lines in the input, `taken` of which precede the history,
-    /// and what is told with it.
+    /// and what is reported with it.
     pub(crate) fn judgement(
         &self,
         alloc: Global,
@@ -114,8 +114,8 @@ impl Reading {
     }
 }
 
-/// The verdict on a part of the history that all lines left of an input are. Lines after that which
-/// decides it aren't read.
+/// The verdict on a part of the history in all remaining lines of an input. Lines after the one
+/// that decides it aren't read.
 pub fn judge_history<R: Read, P: Progress>(
     alloc: Global,
     part: &Part,

@@ -1,4 +1,4 @@
-//! The lines that tell replies with which a call could have been answered.
+//! The lines of replies with which a call could have been answered.
 ghost use Rattle.std.specs.Prelude.{◌≡◌, ◌++◌, OnOk, Some};
 ghost use Rattle.std.specs.String.{string_bytes};
 ghost use Rattle.tatp_judged_inputs.specs.Judging.{legal_lines, could_line, could_lines};
@@ -8,10 +8,10 @@ use std::alloc::AllocError;
 use tatp_judge::LegalReplies;
 use tatp_procs::{Ask, Reply, push_reply};
 
-/// How many replies are told.
+/// The most replies that are reported.
 const MOST_TOLD: usize = 8;
 
-/// Appends the line that tells a reply to what was asked.
+/// Appends the line of a reply to what was asked.
 fn push_could(text: &mut String, ask: &Ask, reply: &Reply) -> Result<(), AllocError>
     ensures { OnOk result
         (string_bytes text.new ≡ string_bytes text.old ++ could_line ask.now reply.now) }

@@ -5,7 +5,7 @@ ghost use Rattle.tatp_judged_inputs.specs.LineNumbers.{AreFit, numbers_in};
 use std::alloc::{AllocError, Global};
 use std::marker::Model;
 
-/// How many numbers there may be. No input has so many lines.
+/// The most numbers that there may be. No input has this many lines.
 const MOST: u64 = 1 << 62;
 
 /// Numbers each of which is one more than the one before.
@@ -15,8 +15,8 @@ struct Run {
     count: u64,
 }
 
-/// Numbers, in the order in which they were added. Where each is one more than the one before, as
-/// those of lines without comments between them, they take no memory.
+/// Numbers, in the order in which they were added. Those that are each one more than the one
+/// before, as of lines without comments between them, take the memory of one run.
 #[derive(Drop)]
 pub(crate) struct LineNumbers {
     runs: Vec<Run>,
@@ -41,7 +41,7 @@ fn continues(run: &Run, number: u64) -> bool
     run.first <= number && number - run.first == run.count && run.count < MOST
 }
 
-/// Adds the number to the last run, if that goes on with it.
+/// Adds the number to the last run, if it continues that.
 fn continue_last(runs: &mut Vec<Run>, number: u64) -> bool
     requires fit { AreFit runs.old.items }
     ensures more { result ≡ true
@@ -93,7 +93,7 @@ fn number_at(runs: &[Run], place: u64) -> u64
 }
 
 impl LineNumbers {
-    /// None.
+    /// No numbers.
     pub(crate) fn new(alloc: Global) -> LineNumbers
         ensures items { result.items ≡ [] }
     {
@@ -103,7 +103,7 @@ impl LineNumbers {
         }
     }
 
-    /// One more.
+    /// Adds a number.
     pub(crate) fn push(&mut self, number: u64) -> Result<(), AllocError>
         ensures items { OnOk result (self.new.items ≡ self.old.items ++ number ∷ []) }
         ensures few { OnOk result (length self.old.items + 2 < 2 ^ 64) }
@@ -116,7 +116,7 @@ impl LineNumbers {
         Ok(())
     }
 
-    /// The one at a place.
+    /// The number at a place.
     pub(crate) fn at(&self, place: u64) -> u64
         requires { place < length self.now.items }
         ensures { result ≡ slice_index self.now.items place }

@@ -1,6 +1,6 @@
-//! Reports of how the judging of a history goes on.
+//! Reports of the progress of judging a history.
 
-/// After how many lines one is reported.
+/// How many lines are judged from one report to the next.
 const LINES: u64 = 1_000_000;
 
 /// Gets each line of a history as it is judged.

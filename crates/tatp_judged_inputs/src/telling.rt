@@ -1,4 +1,4 @@
-//! What is told with a verdict: lines of the history, and legal replies.
+//! What is reported with a verdict: lines of the history, and legal replies.
 ghost use Rattle.std.specs.Prelude.{◌≡◌, ◌≤◌, ℕ, All, Some, IfOk, List, length};
 ghost use Rattle.tatp_history.specs.declared.line.Line.{Line as ALine};
 ghost use Rattle.tatp_judge.specs.Aside.{undecided_in};
@@ -12,7 +12,7 @@ use crate::reading::Reading;
 use std::alloc::{AllocError, Global};
 use tatp_judge::{Judge, Verdict};
 
-/// Nothing is told.
+/// Nothing is reported.
 fn nothing(alloc: Global) -> Window
     ensures { IsUntold result }
 {
@@ -37,7 +37,7 @@ impl Reading {
         Ok(told)
     }
 
-    /// What is told where the subscriber's calls are unexplained up to a line of the history.
+    /// What is reported where the subscriber's calls are unexplained up to a line of the history.
     fn explained(
         &self,
         alloc: Global,
@@ -61,7 +61,7 @@ impl Reading {
         Ok(Window { lines, legal })
     }
 
-    /// What is told with a verdict.
+    /// What is reported with a verdict.
     pub(crate) fn window(
         &self,
         alloc: Global,

@@ -1,4 +1,4 @@
-//! Laws of the definitions, for who reads them. Nothing runs here: a clause is the law.
+//! Laws of the definitions, for their readers. Nothing runs here: a clause is the law.
 ghost use Rattle.std.specs.Prelude.{◌≡◌, ℕ, List};
 ghost use Rattle.tatp_inputs.specs.Parts.{before_dot};
 ghost use Rattle.tatp_judge.specs.declared.aside.Undecided.{Undecided};
@@ -19,8 +19,8 @@ pub fn histories_have_one_verdict()
         → IsIllegalAt u aside taken texts other → number ≡ other }
 {}
 
-/// So have a history and the rows at its end: an order leads to them, or none does, and then one
-/// subscriber is the first of whose calls none leaves its rows.
+/// So have a history and the rows at its end: either an order leads to them, or one subscriber is
+/// the first for which no order of its calls results in its rows.
 pub fn histories_and_rows_have_one_verdict()
     ensures legal { (u : View) (aside : List Undecided) (taken : ℕ) (texts : List (List ℕ))
         (stakes : Stakes) (number s : ℕ) → IsJudgedTo u aside taken texts (Legal stakes)

@@ -23,8 +23,8 @@ use tatp_inputs::{is_dot, read_rows_to_end};
 use tatp_judge::{Counts, FinalVerdict, Judge, Part, Stakes};
 use tatp_streams::LineReader;
 
-/// The verdict on the history that the lines up to a line `.` are. Where it is legal, the lines
-/// after that are left; else lines after that which decides it aren't read.
+/// The verdict on the history in the lines up to a line `.`. Where it is legal, the lines after
+/// that are left; else lines after the one that decides it aren't read.
 fn judge_to_dot<R: Read, P: Progress>(
     alloc: Global,
     part: &Part,
@@ -87,7 +87,7 @@ fn judged_to(stakes: Stakes, verdict: FinalVerdict, dot: u64) -> Judged
     }
 }
 
-/// The verdict on the history that the lines left of an input are, up to a line `.`, and on the
+/// The verdict on the history in the remaining lines of an input, up to a line `.`, and on the
 /// rows after it. These aren't read where the history decides.
 fn judge_to_rows<R: Read, P: Progress>(
     alloc: Global,
@@ -127,7 +127,7 @@ fn judge_to_rows<R: Read, P: Progress>(
     }
 }
 
-/// The verdict on the history that the lines left of an input are, with the rows at its end where
+/// The verdict on the history in the remaining lines of an input, with the rows at its end where
 /// these follow it.
 pub(crate) fn judge_lines<R: Read, P: Progress>(
     alloc: Global,

@@ -1,4 +1,4 @@
--- What a search knows ahead of the events that it goes along: the last times at which calls of a
+-- What a search knows in advance of the events that it follows: the last times at which calls of a
 -- window are asked that saw or set a location.
 use Rattle.std.specs.Prelude.{◌≡◌, ℕ, ◌<◌, ◌≤◌, ◌⊎◌, true, nat_eq, List, [], ◌∷◌, ◌++◌, Option, Some, None}
 use Rattle.std.specs.List.{AllByRecursion}
@@ -32,8 +32,8 @@ times_in ahead location = times_or_none (get nat_eq ahead.locations location)
 abbrev pub SawOtherAfter : ℕ → ℕ → LastRead → Type 0
 SawOtherAfter location time read = (read.location ≡ location → ⊥) × (time < read.asked)
 
--- a call that is asked after the time replaces the location, at the latest: one that updates it, or
--- one that saw another
+-- the location has been replaced by the time that some call asked after this time takes effect: one
+-- that updates it, or one that saw another
 abbrev pub IsReplacedAfter : Ahead → ℕ → ℕ → Type 0
 IsReplacedAfter ahead location time = (time < ahead.last_update)
     ⊎ (SawOtherAfter location time ahead.last_read ⊎ SawOtherAfter location time ahead.other_read)
@@ -53,7 +53,7 @@ pub record RaisesTimes (last : ℕ) (x : Observed) (old new : Times) : Type 0 wh
   pub ended : (new.ended ≡ old.ended) ⊎ ((new.ended ≡ x.asked) × IsAnsweredBy last x.outcome
       × ((location : ℕ) × (location_in x ≡ Some location)))
 
--- it is the call, which ends by the time
+-- the read is the call, which is answered by the time `last`
 pub record IsReadOf (last : ℕ) (x : Observed) (read : LastRead) : Type 0 where
   pub saw : location_in x ≡ Some read.location
   pub ended : IsAnsweredBy last x.outcome
@@ -64,7 +64,7 @@ pub record NotesRead (x : Observed) (old new : Ahead) : Type 0 where
   pub last_read : (new.last_read ≡ old.last_read) ⊎ IsReadOf old.last x new.last_read
   pub other_read : (new.other_read ≡ old.other_read) ⊎ (new.other_read ≡ old.last_read)
 
--- ---- what it tells of the events of a window
+-- ---- what it says of the events of a window
 -- a read that saw the location, and ends in the window, is asked at the time
 pub record IsEndedRead (events : List Event) (last location time : ℕ) (x : Observed) : Type 0 where
   pub there : IsIn x (asked_in events)
@@ -96,7 +96,7 @@ pub record Tells (events : List Event) (ahead : Ahead) : Type 0 where
   pub last_read : IsNoted events ahead.last ahead.last_read
   pub other_read : IsNoted events ahead.last ahead.other_read
 
--- it tells nothing
+-- it says nothing
 pub record TellsNothing (ahead : Ahead) : Type 0 where
   pub ended : (location : ℕ) → (times_in ahead location).ended ≡ 0
   pub updated : ahead.last_update ≡ 0
@@ -114,9 +114,9 @@ IsLastTime last events =
 abbrev pub IsAheadOf : List Event → Ahead → Type 0
 IsAheadOf events ahead = TellsNothing ahead ⊎ (IsLastTime ahead.last events × Tells events ahead)
 
--- ---- what it tells of the events that are left, at a time
--- the location is replaced, at the latest, by a call that is asked after `time` in the events, and
--- who reads a location that isn't read any more in the window is asked after its end
+-- ---- what it says of the events that are left, at a time
+-- the call is asked after `time`, and the location is replaced by the time it takes effect. Where
+-- the window has no later read that saw the location, each read that did is asked after its end
 pub record IsReplaced (ahead : Ahead) (now : ℕ) (rest : List Event) (location time : ℕ)
     (x : Observed) : Type 0 where
   pub there : IsIn x (asked_in rest)
@@ -130,8 +130,8 @@ pub record IsNextRead (last location : ℕ) (rest : List Event) (x : Observed) :
   pub saw : SawLocation location x
   pub ended : IsAnsweredBy last x.outcome
 
--- `sets` says that who sets a location that isn't set any more in the window is asked after the end
--- of each call that ends in the window
+-- `sets` says: where a location isn't set any more in the window, each call that sets it is asked
+-- after the end of each call that ends in the window
 pub record LooksAhead (ahead : Ahead) (now : ℕ) (rest : List Event) : Type 0 where
   pub from : AllByRecursion (λ event. now ≤ time_of event) rest
   pub replaced : (location time : ℕ) → now ≤ time → IsReplacedAfter ahead location time
@@ -142,15 +142,15 @@ pub record LooksAhead (ahead : Ahead) (now : ℕ) (rest : List Event) : Type 0 w
       → (times_in ahead location).set ≤ now → IsAnsweredBy ahead.last x.outcome
       → SetAfter x location (asked_in rest)
 
--- it does so where the first of the events is followed, if that is an end
+-- it looks ahead of the events at the time of the first of them, if that is an end
 abbrev pub IsSeenAhead : Ahead → List Event → Type 0
 IsSeenAhead ahead [] = Unit {0}
 IsSeenAhead ahead (Asks x ∷ rest) = Unit {0}
 IsSeenAhead ahead (Ends asked at ∷ rest) = LooksAhead ahead at (Ends asked at ∷ rest)
 
 -- ---- a location that is lost
--- the configuration doesn't have the location, nobody sets it any more in the window, and a read of
--- the window that is open, or is asked later, saw it
+-- the configuration doesn't have the location, no open or later call of the window sets it, and a
+-- read that is open, or is asked later in the window, saw it
 pub record IsLost (ahead : Ahead) (now : ℕ) (c : Held) (location : ℕ) : Type 0 where
   pub rows : NoneHasLocation location c.home.tables
   pub opened : NoneSets location c.opened.items

@@ -1,5 +1,5 @@
 -- Clusters (Gibbons and Korach, 1997): an open update of the location, and the open reads that saw
--- what it set. Where nobody sees that any more, and another update overwrites it in any order, they
+-- what it set. Where no later read sees that, and another update overwrites it in any order, they
 -- may take effect right before an update that takes effect now.
 use Rattle.std.specs.Prelude.{◌≡◌, ℕ, ◌≤◌, not, Bool, true, List, Some, filter, slice_get, remove}
 use Rattle.std.specs.List.{AllByRecursion}
@@ -62,7 +62,7 @@ pub record GoTo (u : Database) (opened : List Observed) (v : Database) (left : L
 abbrev pub GoFirst : Database → List Observed → List Observed → Type 0
 GoFirst u opened left = (v : Database) × GoTo u opened v left
 
--- some of the calls without those that don't pass the test have each order that they had with those
+-- where some of the calls have an order to given rows, those of them that pass the test have one
 abbrev pub KeepOrders : List Event → List Observed → (Observed → Bool) → Type 0
 KeepOrders events opened test =
     (u after : Database) (some : List Observed) → AreOfOne u

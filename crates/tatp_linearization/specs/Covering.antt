@@ -33,7 +33,7 @@ Covers c d = (e : Configuration) → StandsFor d e → StandsFor c e
 abbrev pub IsOther : Held → Held → Type 0
 IsOther c d = c.home.s_id ≡ d.home.s_id → seen c ≡ seen d → d.overwritten ≤ c.overwritten → ⊥
 
--- each for which it stands is one for which one of these does
+-- one of these stands for each configuration for which `d` does
 abbrev pub AreCovered : List Held → Held → Type 0
 AreCovered set d = (e : Configuration) → StandsFor d e → OneStandsFor set e
 
@@ -57,8 +57,8 @@ IsApart c = AreAskedApart c.opened.items
 abbrev pub AreEachApart : List Held → Type 0
 AreEachApart set = AllByRecursion IsApart set
 
--- a call that ends may be let go, and has taken effect: the second configuration is the first
--- without it. Where there is none, it has to take effect yet
+-- a call that ends may be dropped, as one that took effect before: the second configuration is the
+-- first without it. Where there is no second, the call still has to take effect
 abbrev pub IsLetGo : ℕ → Held → Option Held → Type 0
 IsLetGo asked c (Some d) =
     Covers c d × (d.home.s_id ≡ c.home.s_id)
@@ -69,7 +69,7 @@ IsLetGo asked c None =
     Opens asked (seen c) → (e : Configuration) → StandsFor c e → Opens asked e
 
 -- ---- what becomes of one
--- this holds of one that is stood for and the configuration
+-- `Holds` relates some configuration for which `c` stands to this one
 abbrev pub From : (Configuration → Configuration → Type 0) → Held → Configuration → Type 0
 From Holds c d = (e : Configuration) × StandsFor c e × Holds e d
 
@@ -97,7 +97,7 @@ MayBeTried (Asks x) c d = FollowsAtOnce (Asks x) c d
 MayBeTried (Ends asked at) c d = MayCome c d
 
 -- ---- lists of them
--- those that are stood for now were so before, or this holds of them
+-- one of the old list stands for the configuration, or this holds of it
 abbrev pub IsStoodOr : List Held → (Configuration → Type 0) → Configuration → Type 0
 IsStoodOr old Holds d = OneStandsFor old d ⊎ Holds d
 
@@ -113,7 +113,7 @@ abbrev pub AreOf : ℕ → List Held → Type 0
 AreOf s set = AllByRecursion (λ (c : Held). c.home.s_id ≡ s) set
 
 -- ---- a call that may have taken effect
--- it stands for one where the call isn't open
+-- it stands for a configuration in which the call isn't open
 pub record IsGone (asked : ℕ) (c : Held) (d : Configuration) : Type 0 where
   pub apart : IsApart c
   pub stands : StandsFor c d

@@ -1,5 +1,5 @@
 -- Configurations from which no order explains the rest of a window: a read that is open saw a
--- location that the subscriber doesn't have, and nobody sets it before the read ends.
+-- location that the subscriber doesn't have, and no call sets it before the read ends.
 use Rattle.std.specs.Prelude.{◌≡◌, ℕ, Bool, true, false, ◌==◌, ◌⊎◌, List, [], ◌∷◌, slice_index}
 use Rattle.std.specs.List.{AllByRecursion}
 use Rattle.tatp_tables.specs.Tuples.{Tuple, has}

@@ -11,7 +11,7 @@ use Rattle.tatp_linearization.specs.AtOnce.{IsSettled}
 use Rattle.tatp_linearization.specs.Covering.{OneStandsFor}
 
 -- a serial order of the calls that are open in the configuration and of those that are asked in the
--- events leaves these rows
+-- events results in these rows
 pub record LeadsOn (after : Database) (events : List Event) (c : Configuration) : Type 0 where
   pub rise : TimesRise events
   pub ends : HaveEnds events
@@ -19,7 +19,7 @@ pub record LeadsOn (after : Database) (events : List Event) (c : Configuration) 
   pub settled : IsSettled c
   pub order : HasOrderTo after c.rows events c.opened
 
--- it does so from one for which one of these stands
+-- an order leads on from a configuration for which one of these stands
 abbrev pub OneLeadsOn : Database → List Event → List Held → Type 0
 OneLeadsOn after events cs =
     (d : Configuration) × OneStandsFor cs d × LeadsOn after events d

@@ -1,4 +1,4 @@
--- Calls of three kinds: what one of a kind reads or writes none of another kind writes. So before a
+-- Calls of three kinds: no call writes what a call of another kind reads or writes. So before a
 -- call is answered only calls of its kind need take effect.
 use Rattle.std.specs.Prelude.{◌≡◌, Option, Some, None}
 use Rattle.tatp_procs.specs.declared.call.Call.{Call}

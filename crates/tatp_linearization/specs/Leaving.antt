@@ -1,4 +1,4 @@
--- Rows that calls leave, as the search holds them.
+-- The rows that calls result in, as the search holds them.
 use Rattle.std.specs.Prelude.{◌≡◌, List, [], Ok}
 use Rattle.std.specs.List.{AllByRecursion}
 use Rattle.tatp_procs.specs.declared.call.Call.{Call}
@@ -16,15 +16,15 @@ AreAcceptedCalls calls = AllByRecursion (λ call. arguments_accepted call ≡ Ok
 abbrev pub without_calls : Configuration → Configuration
 without_calls c = record { rows = c.rows; opened = [] }
 
--- the rows that the call leaves of the configuration's, with no call open
+-- the rows after the call runs on the configuration's rows, with no call open
 abbrev pub left_by : Call → Configuration → Configuration
 left_by call c = record { rows = (transaction call c.rows).database; opened = [] }
 
--- the calls may leave each of these, of one of the first
+-- the calls may turn one of the first into each of these
 abbrev pub AreFrom : List Call → List Held → List Held → Type 0
 AreFrom calls first cs = (d : Configuration) → Has cs d → HoldsOfOne (MayLeave calls) first d
 
--- what each of the calls leaves of each of these is one of these
+-- what each of the calls makes of each of these is one of these
 abbrev pub AreClosed : List Call → List Held → Type 0
 AreClosed calls cs = (d : Configuration) → Has cs d → (call : Call) → IsAmong call calls
     → Has cs (left_by call d)

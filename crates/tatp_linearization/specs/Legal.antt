@@ -23,7 +23,7 @@ events_with y [] = []
 events_with y (Asks x ∷ more) = Asks (placed y x) ∷ events_with y more
 events_with y (Ends asked at ∷ more) = Ends asked at ∷ events_with y more
 
--- ---- rows that calls leave, whatever their replies
+-- ---- rows that calls result in, whatever their replies
 abbrev pub calls_in : List Observed → List Call
 calls_in calls = map (λ (x : Observed). x.call) calls
 
@@ -47,6 +47,6 @@ pub record MayLeave (calls : List Call) (c d : Configuration) : Type 0 where
   pub made : AllByRecursion (λ call. IsAmong call calls) order
   pub rows : d ≡ record { rows = (in_order c.rows order).database; opened = [] }
 
--- the calls of a window and those open before it do so, from one of these configurations
+-- the calls of a window and those open before it may turn one of these into the configuration
 abbrev pub MayBeLeft : List Held → List Event → Configuration → Type 0
 MayBeLeft cs events d = HoldsOfOne (MayLeave (all_calls cs events)) cs d

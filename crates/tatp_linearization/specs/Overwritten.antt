@@ -17,7 +17,7 @@ pub record SetsLocation (u : Database) (call : Call) : Type 0 where
   pub updates : call ≡ UpdateLocation number location
   pub named : is_some (row_with_number u.subscribers number) ≡ true
 
--- and it may have been answered so
+-- ... and may have been answered with success
 pub record IsBlind (u : Database) (x : Observed) : Type 0 where
   pub sets : SetsLocation u x.call
   pub may : MayHaveReply x.outcome (Values [])
@@ -32,7 +32,7 @@ AreButSome Free many (x ∷ more) left =
 abbrev pub least : ℕ → ℕ → ℕ
 least many size = if nat_le many size then many else size
 
--- how many of the last `many` of so many calls are left without the one at a place
+-- how many of the last `many` of `size` calls are left without the one at `place`
 abbrev pub without_place : ℕ → ℕ → ℕ → ℕ
 without_place many size place = if nat_le (size - place) many then many - 1 else many
 

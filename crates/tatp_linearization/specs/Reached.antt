@@ -11,7 +11,7 @@ use Rattle.tatp_linearization.specs.Covering.{OneStandsFor}
 use Rattle.tatp_linearization.specs.Going.{LeadsOn, OneLeadsOn}
 
 -- each order of the calls of these events and of any more leads on from a configuration for which
--- one of these stands; and they stand for none that isn't possible
+-- one of these stands; and they stand for possible configurations only
 pub record AreKept (u : Database) (past : List Event) (cs : List Held) : Type 0 where
   pub complete : (after : Database) (more : List Event) → LeadsOn after (past ++ more) (starting u)
       → OneLeadsOn after more cs

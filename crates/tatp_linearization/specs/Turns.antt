@@ -1,5 +1,5 @@
 -- Turns in which open calls take effect before one is answered: each order that leads on from the
--- configurations of before leads on from one of those that come of them.
+-- configurations of before leads on from one of those that result.
 use Rattle.std.specs.Prelude.{◌≡◌, ℕ, ◌<◌, ◌≤◌, ◌⊎◌, List, [], ◌∷◌, ◌++◌, length, Option, Some, None, slice_get, remove}
 use Rattle.tatp_tables.specs.Database.{Database}
 use Rattle.tatp_history.specs.declared.event.Event.{Event}
@@ -47,8 +47,8 @@ pub record IsFewer (c d : Held) : Type 0 where
   pub accepted : AreAccepted c.opened.items → AreAccepted d.opened.items
   pub apart : IsApart c → IsApart d
 
--- the second comes of the first, and each order of events of which this is known that leads on from
--- what the open call at the place makes of the first leads on from the second
+-- calls that take effect lead from the first to the second. Of events of which this is known, each
+-- order that leads on from what the open call at the place makes of the first does from the second
 pub record TakesOn (Known : List Event → Type 0) (c : Held) (i : ℕ) (d : Held) : Type 0 where
   pub sound : (e : Configuration) → StandsFor d e → From MayCome c e
   pub served : (asked : ℕ) (after : Database) (events : List Event) (e : Configuration)
@@ -57,14 +57,14 @@ pub record TakesOn (Known : List Event → Type 0) (c : Held) (i : ℕ) (d : Hel
       × LeadsOn after events b
   pub less : IsFewer c d
 
--- there is such a one, or no order of such events leads on
+-- there is such a configuration, or no order of such events leads on
 abbrev pub TakesAhead : (List Event → Type 0) → Held → ℕ → Option Held → Type 0
 TakesAhead Known c i (Some d) = TakesOn Known c i d
 TakesAhead Known c i None =
     (asked : ℕ) (after : Database) (events : List Event) (e : Configuration)
     → Known events → IsThere (IsOtherTime asked) c i e → LeadsOn after events e → ⊥
 
--- so it is for a call of the kind, if one is given
+-- the same for a call of the kind, if one is given
 abbrev pub TakesTried : (List Event → Type 0) → Option Kind → Held → ℕ → Option Held → Type 0
 TakesTried Known kind c i (Some d) = TakesOn Known c i d
 TakesTried Known kind c i None =
@@ -78,7 +78,7 @@ IsKindAt asked c kind =
     IsApart c → (x : Observed) → IsIn x c.opened.items → x.asked ≡ asked → IsTried kind x.call
 
 -- ---- lists of them
--- those where the call was answered, those that were tried, and those that go on
+-- those where the call was answered, those that were tried, and those to be tried in the next turn
 pub record Lists : Type 0 where
   pub answered : List Held
   pub tried : List Held
@@ -103,7 +103,7 @@ IsServed asked at rest answered tried d =
     (after : Database) → LeadsOn after (Ends asked at ∷ rest) d
     → LeadsFurther asked at rest (length d.opened) answered tried after
 
--- and from each for which one stands, where the call is open
+-- so does each from every configuration for which `c` stands and in which the call is open
 abbrev pub AreServed : ℕ → ℕ → List Event → Held → List Held → List Held → Type 0
 AreServed asked at rest c answered tried =
     (d : Configuration) → StandsFor c d → Opens asked d → IsServed asked at rest answered tried d
@@ -113,7 +113,7 @@ AreAllServed asked at rest set answered tried =
     (d : Configuration) → OneStandsFor set d → Opens asked d
     → IsServed asked at rest answered tried d
 
--- and of all that was tried
+-- so does each from all that were tried
 abbrev pub AreTriedOut : ℕ → ℕ → List Event → List Held → List Held → Type 0
 AreTriedOut asked at rest answered tried = AreAllServed asked at rest tried answered tried
 
@@ -121,7 +121,7 @@ abbrev pub AreTriedOutAt : Event → List Event → List Held → List Held → 
 AreTriedOutAt (Asks x) rest answered tried = Unit {0}
 AreTriedOutAt (Ends asked at) rest answered tried = AreTriedOut asked at rest answered tried
 
--- the lists have got more, of which this holds; what is tried anew goes on
+-- the lists have grown by what this holds of; what is newly tried is to be tried in the next turn
 pub record Grow (Holds : Configuration → Type 0) (asked : ℕ) (old new : Lists) : Type 0 where
   pub answers : (d : Configuration) → OneStandsFor old.answered d → OneStandsFor new.answered d
   pub tries : (d : Configuration) → OneStandsFor old.tried d → OneStandsFor new.tried d
@@ -143,7 +143,7 @@ abbrev pub WentFromOne : List Held → List Held → Type 0
 WentFromOne set new = (k : ℕ) (d : Held) → slice_get new k ≡ Some d
     → (j : ℕ) × (c : Held) × (slice_get set j ≡ Some c) × IsFewer c d
 
--- it goes on, unless others that were tried stand for all for which it does
+-- it is to be tried in the next turn, unless others that were tried stand for all for which it does
 abbrev pub GoesOn : Held → List Held → List Held → List Held → Type 0
 GoesOn d tried old new = ((new ≡ old) × AreCovered tried d) ⊎ (new ≡ old ++ d ∷ [])
 

@@ -83,7 +83,7 @@ SetAfter read location calls = AllByRecursion
     (λ (x : Observed). (sets_location location x.call ≡ false) ⊎ Precedes read x) calls
 
 -- ---- updates
--- the call updates the location, and was answered, and not that it failed
+-- the call updates the location, and was answered otherwise than by a failure
 pub record HasSetLocation (x : Observed) : Type 0 where
   pub number : ℕ
   pub location : ℕ
@@ -96,7 +96,7 @@ abbrev pub SawOther : ℕ → Observed → Type 0
 SawOther location x =
     (other : ℕ) × (location_in x ≡ Some other) × (other ≡ location → ⊥)
 
--- where the call takes effect the location is replaced, at the latest
+-- the location has been replaced by the time the call takes effect
 abbrev pub IsReplacedBy : ℕ → Observed → Type 0
 IsReplacedBy location x = HasSetLocation x ⊎ SawOther location x
 

@@ -1,4 +1,4 @@
-//! What a window's events tell ahead of the search that goes along them.
+//! What is known of a window's events before the search follows them.
 ghost use Rattle.std.specs.Prelude.{◌≡◌, ◌≤◌, ◌↔◌, ℕ, ◌⊎◌, ◌++◌, ◌∷◌, [], IsTrue, IfOk, OnOk, Some, false, List, nat_eq};
 ghost use Rattle.indexmap.specs.IndexMap.{get};
 ghost use Rattle.tatp_history.specs.declared.event.Event.{Event as AnEvent};
@@ -13,7 +13,7 @@ use indexmap::IndexMap;
 use std::alloc::{AllocError, Global};
 use tatp_history::{Event, Observed, Outcome};
 
-/// A window with no more events than these is gone through sooner than its locations are noted.
+/// A window with at most this many events is searched in less time than noting its locations takes.
 const FEW: usize = 24;
 
 const NO_READ: LastRead = LastRead {
@@ -32,7 +32,7 @@ pub(crate) struct Times {
     pub(crate) set: u64,
 }
 
-/// A read of the subscriber, 0 where there is none.
+/// A read of the subscriber; both fields are 0 where there is none.
 #[derive(Clone, Copy, Debug)]
 pub(crate) struct LastRead {
     /// The location that it saw.
@@ -41,7 +41,7 @@ pub(crate) struct LastRead {
     pub(crate) asked: u64,
 }
 
-/// What a window's events tell ahead.
+/// What is known in advance of a window's events.
 #[derive(Drop)]
 pub(crate) struct Ahead {
     /// Of each location that is seen or set.
@@ -56,7 +56,7 @@ pub(crate) struct Ahead {
     pub(crate) last: u64,
 }
 
-/// It tells nothing of a window whose last event has this time.
+/// Nothing is known of a window whose last event has this time.
 fn nothing(alloc: Global, last: u64) -> Ahead
     ensures last { result.last ≡ last }
     ensures nothing { last ≡ 0 → TellsNothing result }
@@ -101,7 +101,7 @@ fn saw_other_after(read: &LastRead, location: u64, time: u64) -> bool
     read.location != location && time < read.asked
 }
 
-/// Whether a call that is asked after a time replaces the location, at the latest.
+/// Whether the location has been replaced by the time that some call asked later takes effect.
 pub(crate) fn is_replaced_after(ahead: &Ahead, location: u64, time: u64) -> bool
     ensures { IsTrue result → IsReplacedAfter ahead.now location time }
 {
@@ -239,7 +239,7 @@ fn time_of(event: &Event) -> u64
     }
 }
 
-/// What the events of a window tell ahead: nothing, where they are few.
+/// What is known in advance of the events of a window: nothing, where they are few.
 pub(crate) fn look_ahead(alloc: Global, events: &[Event]) -> Result<Ahead, AllocError>
     ensures { IfOk result (IsAheadOf events.now) }
 {

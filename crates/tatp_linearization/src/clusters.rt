@@ -1,5 +1,5 @@
 //! Clusters: open updates of the location, each with the open reads that saw what it set. Where
-//! nobody sees that any more, they take effect right before another update that does.
+//! no later read sees that, they take effect right before another update that does.
 ghost use Rattle.std.specs.Prelude.{◌≡◌, ◌<◌, ◌⊎◌, ◌↔◌, IsTrue, IfSome, Ok, length};
 ghost use Rattle.tatp_history.specs.declared.observed.Observed.{Observed as Asked};
 ghost use Rattle.tatp_history.specs.Histories.{AreAskedApart};
@@ -47,7 +47,7 @@ fn seers_fit(home: &mut Home, opened: &[Observed], location: u64) -> bool
     true
 }
 
-/// Lets the open update at a place and the reads that saw the location go, if all of them may take
+/// Drops the open update at a place, and the reads that saw the location, if all of them may take
 /// effect now.
 fn let_go_with(home: &mut Home, opened: &mut Vec<Observed>, place: usize, location: u64)
     requires inside { place < length opened.old.items }
@@ -68,8 +68,8 @@ fn let_go_with(home: &mut Home, opened: &mut Vec<Observed>, place: usize, locati
     *home = after;
 }
 
-/// Lets the open call at a place go with the reads that saw what it set, if it is an update that
-/// something overwrites and no read sees later, and if all of them may take effect now.
+/// Drops the open call at a place, and the reads that saw what it set, if all may take effect now.
+/// The call has to be an update that something overwrites and no read sees later.
 fn let_go_at(home: &mut Home, opened: &mut Vec<Observed>, place: usize, ahead: &Ahead, now: u64)
     requires inside { place < length opened.old.items }
     requires accepted { AreAccepted opened.old.items }
@@ -84,7 +84,7 @@ fn let_go_at(home: &mut Home, opened: &mut Vec<Observed>, place: usize, ahead: &
     }
 }
 
-/// Lets clusters of the open calls go that may take effect one after another from this home on,
+/// Drops clusters of the open calls that may take effect one after another from this home on,
 /// before an update of the location that takes effect now.
 pub(crate) fn let_clusters_go(before: &Home, opened: &mut Vec<Observed>, ahead: &Ahead, now: u64)
     requires accepted { AreAccepted opened.old.items }

@@ -110,7 +110,7 @@ pub(crate) fn add_once(
     Ok(())
 }
 
-/// As many, but no more than there are.
+/// `many`, but no more than `size`.
 fn at_most(many: usize, size: usize) -> usize
     ensures { result ≡ least many size }
 {

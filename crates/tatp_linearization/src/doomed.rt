@@ -10,7 +10,7 @@ use crate::locations::{VLR_LOCATION, location_seen, sets_location};
 use tatp_history::{Event, Observed};
 use tatp_homes::{Home, what_holds_of_every_home};
 
-/// Where no more configurations are kept, to go on with each costs less than to look at it.
+/// Where at most this many configurations are kept, following each costs less than testing it.
 const FEW: usize = 4;
 
 /// Whether the subscriber has this location.
@@ -33,8 +33,8 @@ pub(crate) fn none_sets(opened: &[Observed], location: u64) -> bool
     true
 }
 
-/// Whether none that does is asked, from a place in the events on, before the call ends that was
-/// asked at the time `asked`.
+/// Whether no call that sets the location is asked, from a place in the events on, before the call
+/// asked at the time `asked` ends.
 fn none_sets_until(events: &[Event], from: usize, location: u64, asked: u64) -> bool
     ensures { IsTrue result → NoneSetsUntil location asked (drop from events.now) }
 {
@@ -84,7 +84,7 @@ fn is_doomed(c: &Configuration, events: &[Event], from: usize) -> bool
     false
 }
 
-/// Lets configurations go from which no order explains the events from a place on, where many are
+/// Drops configurations from which no order explains the events from a place on, where many are
 /// kept.
 pub(crate) fn drop_doomed(set: &mut Vec<Configuration>, events: &[Event], from: usize)
     ensures kept { (d : Seen) → OneStandsFor set.new.items d → OneStandsFor set.old.items d }

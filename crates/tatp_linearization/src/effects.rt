@@ -19,8 +19,8 @@ use crate::taking::take_ahead;
 use std::alloc::{AllocError, Global};
 use tatp_homes::what_holds_of_every_home;
 
-/// Adds a configuration to those that were tried and to those that go on, unless one that was tried
-/// stands for all for which it does.
+/// Adds a configuration to those that were tried and to those of the next turn, unless one that was
+/// tried stands for all for which it does.
 fn go_on(
     alloc: Global,
     d: Configuration,
@@ -79,9 +79,9 @@ fn take_tried(
     take_ahead(alloc, c, i, ahead, now)
 }
 
-/// Lets each open call of a configuration take effect that writes, and is of the kind of the one
-/// that is answered: calls of other kinds may as well do so later. The configuration after that is
-/// added to `answered` where the call asked at the time `asked` isn't open, and else it goes on.
+/// Each open call of a configuration that writes takes effect, if it is of the kind of the one that
+/// is answered: calls of other kinds may as well do so later. The configuration after that is
+/// added to `answered` where the call asked at the time `asked` isn't open, else to the next turn.
 fn try_each(
     alloc: Global,
     c: &Configuration,
@@ -133,7 +133,7 @@ fn try_each(
     Ok(())
 }
 
-/// Does the same with each configuration of the set, and gives those that go on.
+/// Does the same with each configuration of the set, and returns those of the next turn.
 fn try_all(
     alloc: Global,
     set: &[Configuration],

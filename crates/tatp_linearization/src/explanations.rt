@@ -124,7 +124,7 @@ impl Explanations {
         }
     }
 
-    /// Goes on over a window of events, if an order explains all calls up to its end.
+    /// Follows a window of events, if an order explains all calls up to its end.
     pub fn follow(&mut self, alloc: Global, events: &[Event]) -> Result<Standing, AllocError>
         requires reached { (u : Database) × (past : List Event) × AreReached u past self.old }
         requires some { 0 < length events.now }

@@ -1,10 +1,10 @@
-//! Calls of three kinds: what one of a kind reads or writes none of another kind writes.
+//! Calls of three kinds: no call writes what a call of another kind reads or writes.
 ghost use Rattle.std.specs.Prelude.{◌≡◌, ◌↔◌, IsTrue};
 ghost use Rattle.tatp_linearization.specs.Kinds.{IsTried, kind_of as kind_then};
 
 use tatp_procs::Call;
 
-/// Of which rows a call reads or writes what may change.
+/// The rows of which a call reads or writes what may change.
 #[derive(Clone, Copy, PartialEq, Eq)]
 pub(crate) enum Kind {
     /// The columns of the subscriber and of its facilities.

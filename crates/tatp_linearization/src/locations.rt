@@ -9,7 +9,7 @@ use tatp_procs::{Call, Reply};
 /// The column of a Subscriber row.
 pub(crate) const VLR_LOCATION: u8 = 33;
 
-/// The location with which a read of the subscriber ended, if this is how it did.
+/// The location in the reply with which a read of the subscriber ended, if it ended with one.
 fn location_of_outcome(outcome: &Outcome) -> Option<u64>
     ensures { result ≡ location_answered outcome.now }
 {
@@ -74,7 +74,7 @@ pub(crate) fn sets_location(call: &Call, location: u64) -> bool
     }
 }
 
-/// Whether a call updates the location, and was answered, and not that it failed.
+/// Whether a call updates the location, and was answered otherwise than by a failure.
 pub(crate) fn has_set_location(x: &Observed) -> bool
     ensures { IsTrue result → HasSetLocation x.now }
 {

@@ -1,5 +1,5 @@
-//! Locations that are lost: nobody sets them any more in the window, and a read that has to take
-//! effect yet saw them.
+//! Locations that are lost: no open or later call of the window sets them, and a read that still
+//! has to take effect saw them.
 ghost use Rattle.std.specs.Prelude.{ℕ, ◌<◌, ◌⊎◌, IsTrue};
 ghost use Rattle.tatp_history.specs.declared.observed.Observed.{Observed as Asked};
 ghost use Rattle.tatp_history.specs.Histories.{IsIn};
@@ -43,7 +43,7 @@ fn is_read_yet(opened: &[Observed], location: u64, ahead: &Ahead, now: u64) -> b
     now < times_of(ahead, location).ended || is_open_read(opened, location, ahead)
 }
 
-/// Whether the location of a home is lost in the configuration that came of it.
+/// Whether the location of a home is lost in the configuration that resulted from it.
 pub(crate) fn is_lost(before: &Home, d: &Configuration, ahead: &Ahead, now: u64) -> bool
     ensures { IsTrue result → (location : ℕ) × IsLost ahead.now now d.now location }
 {

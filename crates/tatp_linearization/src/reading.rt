@@ -56,7 +56,7 @@ pub(crate) fn needs_no_place(home: &mut Home, x: &Observed) -> bool
     }
 }
 
-/// Takes an open call out, if it changes nothing and its reply fits, and tells whether it does. The
+/// Removes an open call, if it changes nothing and its reply fits, and returns whether it did. The
 /// home keeps its rows.
 fn settle_at(home: &mut Home, opened: &mut Vec<Observed>, place: usize) -> bool
     requires inside { place < length opened.old.items }
@@ -75,7 +75,7 @@ fn settle_at(home: &mut Home, opened: &mut Vec<Observed>, place: usize) -> bool
     true
 }
 
-/// Takes the calls that change nothing and whose reply fits out of the open calls, and tells how
+/// Removes the calls that change nothing and whose reply fits from the open calls, and returns how
 /// many of the last `many` are left. The home keeps its rows.
 pub(crate) fn settle(home: &mut Home, opened: &mut Vec<Observed>, many: usize) -> usize
     requires accepted { AreAccepted opened.old.items }

@@ -1,4 +1,4 @@
-//! Rows that calls may leave, in any order, each any number of times.
+//! Rows that may result from calls, in any order, each any number of times.
 ghost use Rattle.std.specs.Prelude.{◌≡◌, ℕ, ◌<◌, ◌≤◌, OnOk, IfOk, IsErrOf, List, ◌∷◌, [], ◌++◌, length, slice_get, Ok, Some};
 ghost use Rattle.tatp_procs.specs.declared.call.Call.{Call as Asked};
 ghost use Rattle.tatp_procs.specs.Arguments.{arguments_accepted};
@@ -70,7 +70,7 @@ fn without_calls(alloc: Global, c: &Configuration) -> Configuration
     }
 }
 
-/// The rows that a call leaves of a configuration's, with no call open.
+/// The rows after a call runs on a configuration's rows, with no call open.
 fn left_by(alloc: Global, c: &Configuration, call: &Call) -> Configuration
     requires { arguments_accepted call.now ≡ Ok tt }
     ensures left { seen result ≡ left call.now (seen c.now) }
@@ -86,7 +86,7 @@ fn left_by(alloc: Global, c: &Configuration, call: &Call) -> Configuration
     }
 }
 
-/// Adds the rows that each of the calls leaves of those at a place of the set.
+/// Adds the rows that each of the calls makes of those at a place of the set.
 fn add_left(
     alloc: Global,
     set: &mut Vec<Configuration>,
@@ -136,7 +136,7 @@ fn all_without_calls(
     Ok(rows)
 }
 
-/// The rows that the calls may leave of those of the configurations, each once. `Err` means that
+/// The rows that the calls may make of those of the configurations, each once. `Err` means that
 /// there are more than `most`, or that memory was refused.
 pub(crate) fn rows_left(
     alloc: Global,

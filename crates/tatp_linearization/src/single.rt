@@ -22,9 +22,9 @@ impl Explanations {
         self.configurations.len() == 1 && self.configurations[0].opened.is_empty()
     }
 
-    /// Goes on over a call that is answered before anything else happens, in place: whether an
-    /// order explains the calls up to its end. The reply that is written is the only one with which
-    /// one does; where the call was answered otherwise, there is nothing to go on from.
+    /// Follows, in place, a call that is answered before anything else happens. Whether an order
+    /// explains the calls up to its end. `reply` becomes the only reply with which one does; where
+    /// the call was answered otherwise, there is nothing to continue from.
     pub fn follow_alone(&mut self, x: &Observed, reply: &mut Reply) -> bool
         requires single { IsSingle self.old }
         requires accepted { arguments_accepted x.now.call ≡ Ok tt }

@@ -1,4 +1,4 @@
-//! Whether calls leave given rows.
+//! Whether calls result in given rows.
 ghost use Rattle.std.specs.Prelude.{◌≡◌, ◌≤◌, ℕ, IsTrue, IfOk, OnOk, IsErrOf, Ok, List, [], length};
 ghost use Rattle.std.specs.List.{AllByRecursion};
 ghost use Rattle.tatp_tables.specs.Database.{Database};
@@ -129,7 +129,7 @@ fn may_have_rows(
 }
 
 impl Explanations {
-    /// Whether an order that explains all calls leaves these rows of their subscriber. Calls of
+    /// Whether an order that explains all calls results in these rows of their subscriber. Calls of
     /// unknown outcome that have not taken effect may do so at the end, or never.
     pub fn leads_to(&self, alloc: Global, rows: &Home) -> Result<Standing, AllocError>
         requires reached { (u : Database) × (past : List Event) × AreReached u past self.now }

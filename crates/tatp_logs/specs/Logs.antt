@@ -10,7 +10,7 @@ use Rattle.tatp_procs.specs.contracts.entry.Entry as entry
 use Rattle.tatp_procs.specs.declared.reply.Reply.{Reply}
 
 -- what contracts see of a log: the last stamp before it, its entries, and for how many more there
--- is room
+-- is capacity
 pub record LogState : Type 0 where
   pub kept_stamp : ℕ
   pub entries : List Entry

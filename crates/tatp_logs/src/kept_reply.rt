@@ -8,8 +8,8 @@ use tatp_limits::MAX_OUTPUTS;
 use tatp_machine::Trap;
 use tatp_procs::{Outputs, Reply, ReplyRef};
 
-/// A reply whose outputs are in a list of the outputs of many. A [`Reply`] of its own has room
-/// for the most.
+/// A reply whose outputs are in a list of the outputs of many. A [`Reply`] of its own has space
+/// for the most outputs that there may be.
 #[derive(Clone, Copy, Debug)]
 pub(crate) enum KeptReply {
     /// It ended with `count` outputs, which are from the place `first` on.

@@ -168,7 +168,7 @@ impl Log {
         }
     }
 
-    /// The entries so far, as a log of their own. This one goes on without entries, after their
+    /// The entries so far, as a log of their own. This one continues without entries, after their
     /// last stamp.
     pub fn split(&mut self, alloc: Global) -> Log
         ensures entries { result.entries ≡ self.old.entries }
@@ -179,9 +179,9 @@ impl Log {
         mem::replace(self, rest)
     }
 
-    /// The log that goes on after these entries, without any yet, with memory for as many, and for
-    /// an eighth more outputs, since not all calls have as many: a log that grows is copied, and
-    /// asks for memory each time.
+    /// The log that continues after these entries, without any yet, with memory for as many, and
+    /// for an eighth more outputs, since not all calls have as many: a log that grows is copied,
+    /// and asks for memory each time.
     pub fn successor(&self, alloc: Global) -> Result<Log, AllocError>
         ensures entries { IfOk result (λ log. log.entries ≡ []) }
         ensures stamp { IfOk result (λ log.

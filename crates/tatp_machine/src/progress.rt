@@ -48,7 +48,7 @@ pub enum End {
 /// What a step answers.
 #[derive(Clone, Copy, Debug, PartialEq, Eq)]
 pub enum Progress {
-    /// The call goes on.
+    /// The call continues.
     Running,
     /// That was its last step.
     Ended(End),
@@ -58,7 +58,7 @@ pub enum Progress {
 /// a step with a place for an answer pays for that whether or not it writes.
 #[derive(Clone, Copy)]
 pub(crate) enum WriteOutcome {
-    /// It was made, or it wasn't and the call was told why.
+    /// It was made, or it wasn't and the call was given the reason.
     Made,
     /// No row was current, so the call has ended.
     NoCurrent,

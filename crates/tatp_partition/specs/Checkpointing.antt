@@ -14,7 +14,7 @@ use Rattle.tatp_partition.specs.Sites.{SiteState, HomelessCalls, slot, last_stam
 use Rattle.tatp_partition.specs.Obstacles.{first_of}
 use Rattle.tatp_partition.specs.Moving.{with_extent}
 
--- of a log here: whether it is mixed, how many chapters were handed out, and its entries
+-- what is seen of a log here: whether it is mixed, how many chapters it handed out, its entries
 pub record LogHere : Type 0 where
   pub mixed : Bool
   pub chapters : ℕ
@@ -85,7 +85,7 @@ HandsOut s (suc e) chapter s' =
     × (chapter ≡ chapter_of x)
     × (s' ≡ with_extent s (suc e) (Some (after_checkpoint x)))
 
--- what a checkpoint of extent e answers and leaves; that of the calls without a home takes no
+-- what a checkpoint of extent e answers and changes; that of the calls without a home takes no
 -- memory
 abbrev pub Checkpoints : SiteState → ℕ → Result ChapterState SiteRefusal → SiteState → Type 0
 Checkpoints s e (Ok chapter) s' = (checkpoint_obstacle s e ≡ None) × HandsOut s e chapter s'

@@ -14,9 +14,9 @@ use tatp_procs::{Ask, Call, Entry, Reply};
 /// the completion, if one is there.
 ///
 /// A function clears the memory of all its locals when it begins, and a large answer is cleared and
-/// copied wherever it is handed on. A completion has some 480 bytes, and nearly no step leaves one.
+/// copied wherever it is handed on. A completion has some 480 bytes, and nearly no step makes one.
 /// So it is written to a buffer that the caller keeps, and what ends a call is in functions that
-/// are not inlined: a step that goes on pays for neither.
+/// are not inlined: a step that doesn't end the call pays for neither.
 #[derive(Debug, Drop)]
 pub struct CompletionBuffer {
     is_filled: bool,

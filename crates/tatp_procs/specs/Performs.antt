@@ -19,8 +19,8 @@ CallAlone modul call u o =
     Alone modul (procedure_of call) (arguments_of call)
     (home_of_key u.subscribers (key_of_call call)) u o
 
--- run alone on the database, the call has an outcome, and it is what its transaction answers and
--- leaves
+-- run alone on the database, the call has an outcome, and it is the reply and the database of its
+-- transaction
 pub record Performs (modul : ModuleState) (call : Call) (u : Database) : Type 0 where
   pub some : (o : Outcome) × CallAlone modul call u o
   pub each : (o : Outcome) → CallAlone modul call u o → answer_of o ≡ transaction call u

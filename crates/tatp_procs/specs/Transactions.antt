@@ -1,8 +1,8 @@
 -- trusted: read it
 -- The seven transactions, on four sets of tuples: what each answers, and the database after it.
 -- TATP Benchmark Description 1.0, transactions; their SQL is beside each. A failure leaves the
--- database. The failure numbers, the parent test and the order of the numbers answered are this
--- profile's: docs/FORMATS.md.
+-- database as it is. The failure numbers, the parent test and the order of the numbers answered
+-- are this profile's: docs/FORMATS.md.
 use Rattle.std.specs.Prelude.{ℕ, Bool, false, ◌&&◌, ◌==◌, nat_lt, nat_le, List, [], ◌∷◌, Option, Some, None, map, filter, drop, slice_index, slice_set}
 use Rattle.tatp_tables.specs.Tuples.{Tuple, rows_of, insert_row, remove_row, replace_row}
 use Rattle.tatp_tables.specs.Keys.{has_key, row_at, row_with_number}

@@ -18,8 +18,8 @@ ghost use Rattle.tatp_procs.specs.Locality.{IsLocal};
 ghost use Rattle.tatp_procs.specs.Transactions.{fails};
 
 /// Run alone on a consistent database, each standard procedure is its transaction, for all
-/// arguments in their domains: it ends, without a trap, with the reply of the transaction, and
-/// leaves its database. It takes as many arguments as the call has.
+/// arguments in their domains: it ends, without a trap, with the reply and the database of the
+/// transaction. It takes as many arguments as the call has.
 pub fn standard_procedures_are_transactions()
     ensures performs { (call : Call) (u : Database)
         → IsConsistent u

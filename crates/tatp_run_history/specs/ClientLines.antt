@@ -13,19 +13,19 @@ abbrev pub asked_text : Ask → List ℕ
 asked_text (Txn call) = call_text call
 asked_text (Raw raw) = []
 
--- that a client asks, with the line feed
+-- the line that says that a client asks, with the line feed
 abbrev pub asked_line : ℕ → Ask → List ℕ
 asked_line client ask =
     codes "ask " ++ (decimal client ++ (32 ∷ (asked_text ask ++ 10 ∷ [])))
 
--- what came of its call: the reply of its receipt; where memory was refused to it, it was aborted
+-- the outcome of its call: the reply of its receipt; where memory was refused to it, it was aborted
 abbrev pub answered_line : ℕ → Ask → Receipt → List ℕ
 answered_line client ask (Done of_client number reply extent stamp) =
     codes "end " ++ (decimal client ++ (32 ∷ (reply_text ask reply ++ 10 ∷ [])))
 answered_line client ask (Refused of_client number) =
     codes "abort " ++ (decimal client ++ 10 ∷ [])
 
--- what a client did, call by call: that it asked, and what came of it
+-- what a client did, call by call: that it asked, and the outcome
 abbrev pub client_lines : ℕ → List Ask → List Receipt → List (List ℕ)
 client_lines client [] receipts = []
 client_lines client (ask ∷ asks) [] = []

@@ -12,7 +12,7 @@ is_done p =
 abbrev pub lines_from : Part → List (List ℕ)
 lines_from p = client_lines p.client (drop p.call p.asks.now) (drop p.call p.receipts.now.receipts)
 
--- of these that the first call is asked is left out, where it is written
+-- these lines without the one that the first call is asked, where that is already written
 abbrev pub without_asked : Bool → List (List ℕ) → List (List ℕ)
 without_asked true lines = drop 1 lines
 without_asked false lines = lines
@@ -24,7 +24,7 @@ rest_of p = without_asked p.is_asked (lines_from p)
 abbrev pub rests_of : List Part → List (List (List ℕ))
 rests_of parts = map rest_of parts
 
--- the first line that is left is appended, and no more left
+-- the first line that is left is appended, and isn't left any more
 abbrev pub PushesFirst : Part → List ℕ → Part → List ℕ → Type 0
 PushesFirst p old p' new =
     (line : List ℕ) × (rest_of p ≡ line ∷ rest_of p') × (new ≡ old ++ line)

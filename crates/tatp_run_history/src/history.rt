@@ -62,7 +62,7 @@ fn earliest(parts: &[Part<'_>], numbers: &Numbers) -> Option<usize>
     found
 }
 
-/// Writes a text, and behind it what clients asked and were answered: each client's lines in their
+/// Writes a text, and after it what clients asked and were answered: each client's lines in their
 /// order, and those of all clients in the order of their numbers. A line is made when those before
 /// it are in the text that is gathered to be written, so no more of them is held than one piece.
 pub fn write_history<W: Write>(

@@ -37,7 +37,7 @@ fn push_asked(text: &mut String, client: u64, ask: &Ask) -> Result<(), AllocErro
     }
 }
 
-/// Appends the line of what came of a client's call.
+/// Appends the line of the outcome of a client's call.
 fn push_answered(
     text: &mut String,
     client: u64,

@@ -59,7 +59,7 @@ entries_of_part c e i =
     then option_map_or (λ (x : ChapterState). x.entries) (chapter_numbered c e i) []
     else entries_since c e
 
--- the homes from which part i has to go on: the population's, or those after the chapter before it
+-- the homes from which part i has to start: the population's, or those after the chapter before it
 abbrev pub homes_due : Rows → ClosedState → ℕ → ℕ → Option (List SubscriberRows)
 homes_due population c e zero = homes_at_first population e
 homes_due population c e (suc i) =
@@ -75,7 +75,7 @@ pub record PartStampFalls (c : ClosedState) (e i : ℕ) : Type 0 where
   pub in_part : Contains (entries_of_part c e i) second
   pub falls : second.stamp ≤ first.stamp
 
--- part i, the last of which is the extent's log, doesn't go on from where the parts before it ended
+-- part i, the last of which is the extent's log, doesn't start where the parts before it ended
 pub record IsUnjoined (population : Rows) (c : ClosedState) (e i : ℕ) : Type 0 where
   pub within : i ≤ chapter_count c e
   pub differs

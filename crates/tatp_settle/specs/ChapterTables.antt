@@ -11,7 +11,7 @@ use Rattle.tatp_settle.specs.Closings.{ClosedState, chapter_count, chapter_numbe
 use Rattle.tatp_settle.specs.CallPlaces.{IsSooner, IsLeastCall, HoldsNowhere}
 use Rattle.tatp_settle.specs.Placing.{cells_of}
 
--- the least chapter of which it holds, if it holds of any
+-- the least chapter of which this holds, if it holds of any
 abbrev pub IsFirstChapter : (ℕ → ℕ → Type 0) → Option ChapterPlace → Type 0
 IsFirstChapter P None = HoldsNowhere P
 IsFirstChapter P (Some place) = IsLeastCall P place.extent place.index
@@ -25,7 +25,7 @@ IsChapterAtMost (Some place) extent index = IsSooner extent index place.extent p
 abbrev pub chapter_handed_out : ClosedState → ℕ → ℕ → Option ChapterState
 chapter_handed_out c e i = if nat_lt i (chapter_count c e) then chapter_numbered c e i else None
 
--- the entries of a part, none without one
+-- the entries of a part; none where there is no part
 abbrev pub entries_of_some : Option LogPart → List Entry
 entries_of_some part = option_map_or (λ (p : LogPart). p.entries.now.entries) part []
 

@@ -19,7 +19,7 @@ abbrev pub IsAnsweredInAnyOrder : Database → List (List Entry) → Database �
 IsAnsweredInAnyOrder before logs after =
     (history : List PlacedEntry) → Interleaves logs history → IsAnsweredInOrder before history after
 
--- so are the logs that a run left, from the population to the rows now
+-- this holds of the logs that a run left, from the population to the rows now
 abbrev pub IsOneHistoryInAnyOrder : Run → Type 0
 IsOneHistoryInAnyOrder run =
     IsAnsweredInAnyOrder (database_of run.population) (logs_left run) (database_of (rows_left run))

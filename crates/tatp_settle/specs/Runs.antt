@@ -64,7 +64,7 @@ homes_populated population e =
     then Some (homes_of_extent (database_of population) (length population.subscribers) e)
     else None
 
--- the homes from which the whole log of an extent goes on: the population's; extent 0 has none
+-- the homes from which the whole log of an extent starts: the population's; extent 0 has none
 abbrev pub homes_at_first : Rows → ℕ → Option (List SubscriberRows)
 homes_at_first population zero = Some []
 homes_at_first population (suc e) = homes_populated population (suc e)

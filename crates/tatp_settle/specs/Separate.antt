@@ -40,8 +40,8 @@ abbrev pub AllFindNone : Database → List Entry → Type 0
 AllFindNone u [] = Unit {0}
 AllFindNone u (entry ∷ more) = FindsNone u entry × AllFindNone u more
 
--- the log of an extent leads from its homes in the database to its last; that of extent 0 finds
--- none
+-- the log of an extent leads from its homes in the database to its last; the calls in that of
+-- extent 0 find no subscriber
 abbrev pub LogAt : Parts → Database → ℕ → List Entry → Type 0
 LogAt parts u zero log = AllFindNone u log
 LogAt parts u (suc e) log = Leads (homes_at parts u (suc e)) log (parts.last (suc e))

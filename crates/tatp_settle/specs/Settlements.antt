@@ -30,7 +30,7 @@ use Rattle.tatp_settle.specs.Causes.{IsMixed, StampFalls, NamesHome, IsFirstCaus
 
 -- each extent of the population is there once, at a site and unmixed, and no other is; the chapters
 -- that it handed out came once each, and no other did; these, joined end to end, lead from the
--- population's homes to those from which its log goes on, with stamps that rise through them all;
+-- population's homes to those from which its log continues, with stamps that rise through them all;
 -- and no call that was logged without a home names a subscriber of the population
 pub record IsPopulationOnce (run : Run) : Type 0 where
   pub unmixed : (e : ℕ) → IsMixed run.closed e → ⊥

@@ -9,8 +9,8 @@ use Rattle.tatp_settle.specs.declared.log_parts.JoinedPart.{JoinedPart}
 abbrev pub entries_of_parts : List JoinedPart → List Entry
 entries_of_parts parts = flat_map (λ (part : JoinedPart). part.entries.now.entries) parts
 
--- each part says how many entries come before it, counted from this many on; all together are so
--- many
+-- each part says how many entries come before it, counted from `before` on; with those of all parts
+-- there are `len`
 abbrev pub AreJoined : ℕ → List JoinedPart → ℕ → Type 0
 AreJoined before [] len = len ≡ before
 AreJoined before (part ∷ more) len =

@@ -70,7 +70,7 @@ pub(crate) fn chapter_cause(
     Ok(join_cause(first_unjoined(chapters, &homes)))
 }
 
-/// That the chapter differs.
+/// The cause that the chapter differs.
 fn join_cause(place: Option<ChapterPlace>) -> Option<Unsettled>
     ensures { result ≡ option_map (λ (chapter : ChapterPlace).
         Unsettled.ChapterDiffers chapter.extent chapter.index) place }
@@ -143,7 +143,7 @@ pub(crate) fn cause_without_home(
     Ok(home_cause(first_homed(alloc, &directory, chapters)?))
 }
 
-/// That the call has a home.
+/// The cause that the call has a home.
 fn home_cause(place: Option<CallPlace>) -> Option<Unsettled>
     ensures { result ≡ option_map (λ (call : CallPlace).
         Unsettled.HasHome call.client call.number) place }

@@ -1,5 +1,5 @@
-//! Whether chapters join end to end, from the population's homes to those from which the log goes
-//! on.
+//! Whether chapters join end to end, from the population's homes to those from which the log
+//! continues.
 ghost use Rattle.std.specs.Prelude.{◌≡◌, ◌↔◌, IsTrue, true, ℕ};
 ghost use Rattle.std.specs.Option.{option_copied, option_map};
 ghost use Rattle.tatp_tables.specs.declared.row.Rows.{Rows};
@@ -17,7 +17,7 @@ use tatp_extents::extent_count;
 use tatp_homes::Home;
 use tatp_limits::EXTENT_SUBSCRIBERS;
 
-/// The homes from which the whole log of a number goes on, of those of the population.
+/// The homes from which the whole log of a number starts, of those of the population.
 fn homes_at_first(homes: &[Home], number: u64) -> Option<&[Home]>
     ensures { (population : Rows) → AreHomesOf population homes.now
         → option_copied result ≡ homes_at_first population number }
@@ -33,7 +33,7 @@ fn homes_at_first(homes: &[Home], number: u64) -> Option<&[Home]>
     Some(&homes[first..(first + size).min(homes.len())])
 }
 
-/// Whether a part goes on from these homes, or there is neither.
+/// Whether a part continues from these homes, or there is neither.
 fn goes_on_from(part: Option<LogPart<'_>>, due: Option<&[Home]>) -> bool
     ensures { IsTrue result
         ↔ (option_map (λ (p : LogPart). p.before.now) part.entry ≡ option_copied due.entry) }
@@ -59,7 +59,7 @@ fn rises_from(part: Option<LogPart<'_>>, last: u64) -> bool
     }
 }
 
-/// Whether a part goes on from these homes, with stamps above the last one before it.
+/// Whether a part continues from these homes, with stamps above the last one before it.
 fn is_joined(part: Option<LogPart<'_>>, due: Option<&[Home]>, last: u64) -> bool
     ensures { IsTrue result
         ↔ ((option_map (λ (p : LogPart). p.before.now) part.entry ≡ option_copied due.entry)

@@ -50,7 +50,7 @@ fn homeless_at(sites: &[ClosedSite]) -> Option<&ClosedSite>
     sites.iter().find(|site| site.partition() == 0)
 }
 
-/// The first log that has a number, and the homes from which it goes on; that of the calls without
+/// The first log that has a number, and the homes from which it starts; that of the calls without
 /// a home has the number 0, and no homes.
 pub(crate) fn last_part(closed: &Closed, number: u64) -> Option<LogPart<'_>>
     ensures before { option_map (λ (part : LogPart). part.before.now) result

@@ -13,8 +13,8 @@ use std::alloc::{AllocError, Global};
 use std::thread::{Threads, join};
 use tatp_logs::Receipts;
 
-/// How often the clients are halved, where each half is seen to by a thread of its own, where one
-/// can be made. Each thread reads all logs: more of them than processors would read in vain.
+/// How often the clients are halved. Each half is handled by a thread of its own, if one can be
+/// started. Each thread reads all logs: more threads than processors would gain nothing.
 const HALVINGS: u32 = 2;
 
 /// Some clients that follow one another, with their receipts.

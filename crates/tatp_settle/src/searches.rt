@@ -20,8 +20,8 @@ pub(crate) trait Search {
         ensures { IsFirstNumber (sought self.now client) result };
 }
 
-/// How often the clients are halved, where each half is seen to by a thread of its own, where one
-/// can be made.
+/// How often the clients are halved. Each half is handled by a thread of its own, if one can be
+/// started.
 const HALVINGS: u32 = 3;
 
 /// The first call that is sought, which is none of a client past the first `clients`.

@@ -11,8 +11,8 @@ ghost use Rattle.tatp_settle.specs.Runs.{Run, logs_left, rows_left};
 ghost use Rattle.tatp_settle.specs.Settlements.{IsPopulationOnce, IsReceived};
 ghost use Rattle.tatp_settle.specs.Separate.{Parts, AreSeparate, LogsAt, LeadsToLast};
 
-/// The logs of separate extents, each of which leads from its extent's homes in a database to its
-/// last homes, are one history in every order that keeps each log's own: of transactions on the
+/// Let each of the logs of separate extents lead from its extent's homes in a database to its last
+/// homes. In every order that keeps each log's own they are one history: of transactions on the
 /// database, answered as they were, which leads to a database with all the last homes.
 ///
 /// This is why runs are linearizable. An entry is appended to its log after its call was asked and
@@ -24,8 +24,8 @@ pub fn every_interleaving_is_one_history()
         → LeadsToLast parts u logs history }
 {}
 
-/// The logs of separate extents, each of which leads from its extent's homes in a database to its
-/// last homes, are one history when they are merged: of transactions on the database, answered as
+/// Let each of the logs of separate extents lead from its extent's homes in a database to its last
+/// homes. When they are merged they are one history: of transactions on the database, answered as
 /// they were, which leads to a database with all the last homes.
 pub fn merged_logs_are_one_history()
     ensures { (parts : Parts) (history : List PlacedEntry) (u : Database)
@@ -34,10 +34,10 @@ pub fn merged_logs_are_one_history()
         → LeadsToLast parts u logs history }
 {}
 
-/// The whole logs that a run left are one history, from the population to the rows that it left:
-/// where each extent is there once and unmixed, and its chapters lead end to end from the
-/// population's homes to its log; no entry without a home names a subscriber; each entry has its
-/// receipt; and each client's stamps rise.
+/// The whole logs that a run left are one history, from the population to the rows that it left.
+/// This holds where each extent is there once and unmixed, and its chapters lead end to end from
+/// the population's homes to its log; no entry without a home names a subscriber; each entry has
+/// its receipt; and each client's stamps rise.
 pub fn runs_are_one_history()
     ensures { (run : Run)
         → IsClean run.population → IsClosed run.closed → IsPopulationOnce run → IsReceived run
@@ -45,9 +45,9 @@ pub fn runs_are_one_history()
 {}
 
 /// The whole logs that a run left are one history in every order that keeps each log's own, from
-/// the population to the rows that it left: where each extent is there once, unmixed, its chapters
-/// lead end to end from the population's homes to its log, and no entry without a home names a
-/// subscriber. So it is of every settled run.
+/// the population to the rows that it left. This holds where each extent is there once, unmixed,
+/// its chapters lead end to end from the population's homes to its log, and no entry without a home
+/// names a subscriber. It holds of every settled run.
 pub fn runs_are_one_history_in_any_order()
     ensures { (run : Run)
         → IsClean run.population → IsClosed run.closed → IsPopulationOnce run

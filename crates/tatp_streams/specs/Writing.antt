@@ -24,7 +24,7 @@ abbrev pub WritesFrontOfText : (List ℕ → Type 0) → Option (List ℕ) → O
 WritesFrontOfText IsText old new =
     (front : List ℕ) × (rest : List ℕ) × IsText (front ++ rest) × Appends old new front
 
--- what a fault leaves of a command that reads its whole input and then writes such a text
+-- what a fault leaves written of a command that reads its whole input and then writes such a text
 abbrev pub LeavesText : (List ℕ → Type 0) → Option (List ℕ) → Option (List ℕ) → StreamFault → Type 0
 LeavesText IsText old new NoMemory = Appends old new []
 LeavesText IsText old new ReadFault = Appends old new []

@@ -131,7 +131,7 @@ impl<M: Drop, L: MessageRule<M>> Model for Reader<M, L> {
 
 impl<M: Drop, L: MessageRule<M>> Reader<M, L> {
     /// Takes the message at the front: looks for it many times, and then sleeps until one comes.
-    /// None where no end that puts is left; that none is left no contract of a channel says.
+    /// `None` where no end that puts is left. No contract of a channel says when none is left.
     pub fn take<R: Wait>(&mut self, rt: &R) -> Option<M>
         ensures allowed { IfSome result L.allows }
         ensures taken { Takes self.old result self.new }

@@ -44,8 +44,8 @@ pub fn pause<R: Wait>(rt: &R, time: Duration) {
     AtomicU64::new(0).park_timeout(rt, 0, time);
 }
 
-/// Waits a little, between two looks of a thread that has looked so often in vain: it yields, and
-/// once it has looked many times it sleeps.
+/// Waits a little, between two looks of a thread that has looked `looks` times in vain: it yields,
+/// and once it has looked many times it sleeps.
 pub fn rest<R: Wait>(rt: &R, looks: u32) {
     if looks < LOOKS {
         thread::yield_now();

@@ -1,6 +1,6 @@
 //! The four tables of the TATP benchmark: their columns, which values fit them, and lists of rows.
 //!
-//! A contract sees a database as four finite sets of tuples of numbers. `docs/MODEL.md` tells the
+//! A contract sees a database as four finite sets of tuples of numbers. `docs/MODEL.md` gives the
 //! definitions in words.
 #![tactic(auto)]
 

@@ -27,12 +27,12 @@ pub enum Task<'a> {
     Audit {
         input_limit: usize,
     },
-    /// Judge a history; `progress` says whether to report how it goes on.
+    /// Judge a history; `progress` says whether to report how far that is.
     Judge {
         plan: JudgePlan,
         progress: bool,
     },
-    /// Run the benchmark; `progress` says whether to report how it goes on, `history` whether to
+    /// Run the benchmark; `progress` says whether to report how far it is, `history` whether to
     /// write its history.
     Bench {
         plan: BenchPlan,

@@ -26,11 +26,11 @@ first_of [] = None
 first_of (Some obstacle ∷ more) = Some obstacle
 first_of (None ∷ more) = first_of more
 
--- why the first call of a list that can't be run can't be, if there is one
+-- why the first call of a list that can't be run is refused, if there is one
 abbrev pub obstacle_in : ModuleState → List Ask → Option RunRefusal
 obstacle_in modul asks = first_of (map (obstacle_to modul) asks)
 
--- why the first call of the first client that can't be run can't be, if there is one
+-- why the first call of the first client that can't be run is refused, if there is one
 abbrev pub obstacle_among : ModuleState → List (Vec Ask Global) → Option RunRefusal
 obstacle_among modul lists =
     first_of (map (λ (list : Vec Ask Global). obstacle_in modul list.items) lists)

@@ -12,7 +12,7 @@ use Rattle.tatp_threads.specs.Locked.{OfSomeSite}
 abbrev pub OfPartition : ℕ → ℕ → (SiteState → SiteState → Type 0) → Type 0
 OfPartition count partition Answers = partition < count → OfSomeSite Answers
 
--- whether a site was stopped, and what that leaves
+-- whether a site was stopped, and the site after that
 abbrev pub StopsWhether : SiteState → Bool → SiteState → Type 0
 StopsWhether s true s' = (done : ⊤) × Stops s (Ok done) s'
 StopsWhether s false s' = (refusal : SiteRefusal) × Stops s (Err refusal) s'

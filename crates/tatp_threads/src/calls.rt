@@ -39,7 +39,7 @@ fn obstacle_to(loaded: &Loaded, ask: &Ask) -> Option<RunRefusal>
     }
 }
 
-/// Why the first call of a list that can't be run can't be, if there is one.
+/// Why the first call of a list that can't be run is refused, if there is one.
 fn obstacle_in(loaded: &Loaded, asks: &[Ask]) -> Option<RunRefusal>
     ensures { result ≡ obstacle_in loaded.now asks.now }
 {
@@ -51,8 +51,8 @@ fn obstacle_in(loaded: &Loaded, asks: &[Ask]) -> Option<RunRefusal>
     None
 }
 
-/// Why the first call of the first client that can't be run can't be, if there is one. This thread
-/// alone looks for it.
+/// Why the first call of the first client that can't be run is refused, if there is one. This
+/// thread alone looks for it.
 fn obstacle_in_turn(loaded: &Loaded, lists: &[Vec<Ask>]) -> Option<RunRefusal>
     ensures { result ≡ obstacle_among loaded.now lists.now }
 {
@@ -91,7 +91,7 @@ fn obstacle_in_parts<R: Threads + Sync>(
     front.or(back)
 }
 
-/// Why the first call of the first client that can't be run can't be, if there is one.
+/// Why the first call of the first client that can't be run is refused, if there is one.
 pub(crate) fn obstacle_among<R: Threads + Sync>(
     rt: &R,
     loaded: &Loaded,

@@ -12,8 +12,8 @@ use tatp_partition::Item;
 use tatp_sync::rest;
 use tatp_workers::{Delivery, Gate, Looked, Requester, ask_all};
 
-/// The inboxes and the mailboxes, with what else the threads share. What is a client's own are its
-/// ends at the inboxes.
+/// The inboxes and the mailboxes, with what else the threads share. Each client has its own ends at
+/// the inboxes.
 #[derive(Drop)]
 struct Post<'c, 'a, 'm, R, G, A: Arities> {
     rt: &'c R,

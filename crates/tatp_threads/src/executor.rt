@@ -59,7 +59,7 @@ impl<R: Wait, G: Gate, A: Arities> Executing for ExecutorEnds<'_, '_, '_, '_, R,
         self.partition.slice(self.rt, self.shared.gate, buffer)
     }
 
-    /// Room for the chapter is taken before the lock.
+    /// Memory for the chapter is reserved before the lock is taken.
     fn checkpoint(&mut self, extent: u32, chapter: u64) -> Checkpointed {
         if self.chapters.reserve(1).is_err() {
             return Checkpointed::Refused(SiteRefusal::NoMemory);

@@ -26,9 +26,9 @@ fn copy_of(alloc: Global, site: &Site<'_>, extent: u32) -> Result<Option<ExtentP
 }
 
 /// Copies the parts of an extent, while other threads run calls at its site: the log, the homes at
-/// the last checkpoint, and the homes to which the log led from those. None where the extent isn't
-/// at this site, and where a call runs on one of its homes. The contract of `copy_of`, which
-/// borrows the site, says that it is None only there; here nothing is known of the site before its
+/// the last checkpoint, and the homes to which the log led from those. `None` if the extent isn't
+/// at this site, or if a call runs on one of its homes. The contract of `copy_of`, which borrows
+/// the site, says that it is `None` only then; here nothing is known of the site before its
 /// lock is taken.
 pub fn copy_extent<R: Wait>(
     rt: &R,

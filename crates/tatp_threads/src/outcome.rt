@@ -1,16 +1,16 @@
-//! What a run of threads leaves.
+//! The result of a run of threads.
 ghost use Rattle.std.specs.Prelude.{◌≡◌};
 
 use tatp_extents::Chapter;
 use tatp_logs::Receipts;
 use tatp_partition::{Parcel, Site};
 
-/// What a run leaves. It can be neither copied nor dropped: [`RunOutcome::parts`] spends it.
+/// The result of a run. It can be neither copied nor dropped: [`RunOutcome::parts`] spends it.
 pub struct RunOutcome<'m> {
     parts: RunOutcomeParts<'m>,
 }
 
-/// The parts of what a run leaves.
+/// The parts of the result of a run.
 pub struct RunOutcomeParts<'m> {
     /// The sites, that of partition 0 first, one for each partition.
     pub sites: Vec<Site<'m>>,
@@ -23,7 +23,7 @@ pub struct RunOutcomeParts<'m> {
 }
 
 impl<'m> RunOutcome<'m> {
-    /// What a run that has ended leaves.
+    /// The result of a run that has ended.
     pub(crate) fn new(parts: RunOutcomeParts<'m>) -> RunOutcome<'m>
         ensures { result.parts ≡ parts.entry }
     {

@@ -102,7 +102,7 @@ impl<'m> Partition<'m> {
         made
     }
 
-    /// Lets other threads go on, where the call goes on and one of them wants the lock.
+    /// Lets other threads run, where the call continues and one of them wants the lock.
     fn give_way(&self, made: &Result<u64, SiteRefusal>, buffer: &CompletionBuffer) {
         if made.is_ok() && !buffer.is_some() && is_wanted(&self.wanted) {
             thread::yield_now();
@@ -210,7 +210,7 @@ impl<'m> Partition<'m> {
         site.resume()
     }
 
-    /// Asks the executor to leave the lock.
+    /// Asks the executor to release the lock.
     fn want(&self) {
         self.wanted.fetch_add(1, Ordering::SeqCst);
     }

@@ -17,7 +17,7 @@ pub enum RunRefusal {
     /// The rows aren't clean: this is the verdict on them.
     #[error("27 NotClean {0}")]
     NotClean(Verdict),
-    /// The module has no such procedure with as many arguments.
+    /// The module has no such procedure with the call's number of arguments.
     #[error("48 NoProcedure")]
     NoProcedure,
     /// An argument is outside its domain.

@@ -98,7 +98,7 @@ struct Setup<'m, 'w> {
     plan: RunPlan<'w>,
 }
 
-/// Runs the calls of clients, which can all be run, over sites, and gives back what they leave.
+/// Runs the calls of clients, which can all be run, over sites, and returns the result.
 fn run_ruled<'m, R: Threads + Wait + Sync, G: Gate + Sync, A: Arities + Send + Sync>(
     rt: &R,
     alloc: Global,
@@ -217,9 +217,9 @@ pub fn run_clean_calls<'m, R: Threads + Wait + Sync, G: Gate + Sync>(
 }
 
 /// Runs a plan on these rows, by an executor for each partition, threads for the clients, a mover
-/// and a debugger, and gives back what they leave. After the end of a call the executor hands out
-/// the log of its extent, where it has as many entries as the plan says, or more; where memory for
-/// the chapter is refused, or the site refuses, the run goes on without it. The rows are consumed,
+/// and a debugger, and returns the result. After the end of a call the executor hands out the log
+/// of its extent, where it has as many entries as the plan says, or more. Where memory for the
+/// chapter is refused, or the site refuses, the run continues without it. The rows are consumed,
 /// on a refusal too.
 pub fn run_calls<'m, R: Threads + Wait + Sync, G: Gate + Sync>(
     rt: &R,

@@ -14,7 +14,7 @@ use Rattle.tatp_trace_lines.specs.declared.line.TraceLine.{TraceLine}
 use Rattle.tatp_trace_lines.specs.declared.line.TraceLine.TheVariants.{Event, Steps, Look, Home, Audit}
 
 -- ---- numbers
--- the first field, which has to be a number, and what comes of it and of the fields after it
+-- the first field, which has to be a number, and what `rest` makes of it and the fields after it
 abbrev pub next_number : {A : Type 0} → List (List ℕ) → (ℕ → List (List ℕ) → Option A) → Option A
 next_number [] rest = None
 next_number (field ∷ more) rest = option_and_then (λ n. rest n more) (number_of field)

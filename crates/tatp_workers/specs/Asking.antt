@@ -75,8 +75,8 @@ abbrev pub ComesToNothing : Item → Conversation → Conversation → Type 0
 ComesToNothing item before c =
     (c ≡ with_asked before item false) ⊎ (c ≡ with_nothing (with_asked before item true))
 
--- the first n calls were asked one after another, and each got a receipt; the last stamp that was
--- seen then
+-- the first n calls were asked one after another, and each got a receipt; `seen` is the last stamp
+-- that was seen then
 abbrev pub Answered : Listing → ℕ → List Ask → ℕ → Conversation → ℕ → Type 0
 Answered listing client asks zero c seen =
     (c ≡ record { effects = []; receipts = [] }) × (seen ≡ 0)

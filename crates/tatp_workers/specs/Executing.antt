@@ -38,7 +38,7 @@ abbrev pub is_not_running : SiteRefusal → Bool
 is_not_running NotRunning = true
 is_not_running refusal = false
 
--- steps after which more are to be made: the call goes on, or its site is stopped or at a
+-- steps after which more are to be made: the call continues, or its site is stopped or at a
 -- breakpoint
 abbrev pub continues : Result Stepped SiteRefusal → Bool
 continues (Ok Moved) = true

@@ -10,9 +10,9 @@ use Rattle.tatp_workers.specs.declared.checkpoints.Checkpointed.TheVariants.{Kep
 abbrev pub log_length : SiteState → ℕ → ℕ
 log_length s e = length (entries_here s e)
 
--- what became of the log of an extent, where a chapter needs `chapter` entries, and what that
--- leaves of the site and of the chapters: the log was handed out and appended to them; or all is as
--- it was, since the log is shorter or the site refused
+-- what became of the log of an extent, where a chapter needs `chapter` entries, and of the site and
+-- the chapters. Either the log was handed out and appended to the chapters; or all is as it was,
+-- since the log is shorter or the site refused
 abbrev pub ChecksLog : SiteState → ℕ → ℕ → List ChapterState
     → Checkpointed → SiteState → List ChapterState → Type 0
 ChecksLog s e chapter chapters Kept s' chapters' =

@@ -1,4 +1,4 @@
--- A call is offered to a site whose lock is held, and what comes of it.
+-- A call is offered to a site whose lock is held, and the outcome of that.
 use Rattle.std.specs.Prelude.{◌≡◌, ◌⊎◌, Bool, true, false, Some, None}
 use Rattle.tatp_procs.specs.Asked.{Fits, arities_of}
 use Rattle.tatp_partition.specs.declared.item.Item.{Item}
@@ -24,7 +24,7 @@ IsDropped s item =
 abbrev pub IsToWait : SiteState → Item → Type 0
 IsToWait s item = (begin_obstacle s item ≡ Some Running) ⊎ (begin_obstacle s item ≡ Some Stopped)
 
--- what comes of a call that is offered under the lock, and what that leaves
+-- the outcome of offering a call under the lock, and the site after that
 abbrev pub Offers : SiteState → Item → Offered → SiteState → Type 0
 Offers s item Began s' = IsTaken s item × (begin_obstacle s item ≡ None) × (s' ≡ begun s item)
 Offers s item Again s' = IsTaken s item × IsToWait s item × (s' ≡ s)

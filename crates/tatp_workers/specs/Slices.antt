@@ -33,7 +33,7 @@ steps_ahead_unless None s = alone (step_ahead s)
 abbrev pub steps_ahead : SiteState → List StepAhead
 steps_ahead s = steps_ahead_unless (step_obstacle s) s
 
--- this many steps, each of which went on and was seen before it was made, lead from one site to
+-- this many steps, each seen before it was made and none ending the call, lead from one site to
 -- another
 abbrev pub GoesOnObserved : ℕ → SiteState → SiteState → List StepAhead → Type 0
 GoesOnObserved zero s s' steps = (s' ≡ s) × (steps ≡ [])
@@ -47,8 +47,8 @@ GoesOnObserved (suc n) s s' steps =
 abbrev pub most_steps : ℕ
 most_steps = 16
 
--- fewer than the most steps went on, and one more step answered so; each was seen before it was
--- made
+-- fewer than the most steps were made without ending the call, and one more step gave this answer;
+-- each was seen before it was made
 pub record IsSlice (s : SiteState) (answer : Result Stepped SiteRefusal) (s' : SiteState)
     (steps : List StepAhead) : Type 0 where
   pub count : ℕ
@@ -60,13 +60,13 @@ pub record IsSlice (s : SiteState) (answer : Result Stepped SiteRefusal) (s' : S
   pub seen : steps ≡ before ++ steps_ahead mid
 
 -- ---- the log of the call's extent
--- how many entries it has where the call ended; 0 where it goes on
+-- how many entries it has where the call ended; 0 where the call continues
 abbrev pub logged_at : SiteState → Option Completion → ℕ
 logged_at s None = 0
 logged_at s (Some completion) = log_length s completion.extent
 
--- steps of the running call are made, which leave its completion where it ends, and the answer is
--- how many entries the log of its extent has then
+-- steps of the running call are made; `ended` is its completion, if it ends, and the answer is how
+-- many entries the log of its extent has then
 abbrev pub MakesSlice : SiteState → Result ℕ SiteRefusal → Option Completion → SiteState → Type 0
 MakesSlice s answer ended s' =
     (steps : List StepAhead)

@@ -1,4 +1,4 @@
--- Where a client stands in its conversation.
+-- The state of a client in its conversation.
 use Rattle.std.specs.Prelude.{◌≡◌, ℕ, List, [], ◌++◌, length, Option, Some, None, slice_get, true, ◌≤◌, ◌+◌, Vec}
 use Rattle.std.specs.declared.alloc.Global.{Global}
 use Rattle.tatp_procs.specs.declared.ask.Ask.{Ask}
@@ -19,8 +19,8 @@ calls_in (Some list) = list.items
 abbrev pub asks_of : List (Vec Ask Global) → ℕ → List Ask
 asks_of lists client = calls_in (slice_get lists client)
 
--- what was asked and what came of it, by where the client stands: each call that was asked got its
--- receipt; so did all but the last, for which it waits; or the conversation has ended
+-- what was asked and the outcomes, by the client's state: each call that was asked got its receipt;
+-- so did all but the last, for which it waits; or the conversation has ended
 abbrev pub HasSaid : Standing → Listing → ℕ → List Ask → Session → Conversation → Type 0
 HasSaid Free listing client asks s c = Answered listing client asks s.number c s.seen
 HasSaid Waiting listing client asks s c =
@@ -39,7 +39,7 @@ module _ {E : Type 0} where
   abbrev pub session_of : Client E → Session
   session_of client = record { number = client.answered; seen = client.seen }
 
-  -- a client has asked nothing yet, and has room for a receipt of each of these calls
+  -- a client has asked nothing yet, and has capacity for a receipt of each of these calls
   pub record IsReady (asks : List Ask) (client : Client E) : Type 0 where
     pub answered : client.answered ≡ 0
     pub seen : client.seen ≡ 0
@@ -47,7 +47,7 @@ module _ {E : Type 0} where
     pub room : length asks ≤ client.receipts.room
 
   module _ (effects : E → Option (List AskEffect)) (listing : Listing) where
-    -- a client of these calls stands somewhere in its conversation, which began there
+    -- a client of these calls is somewhere in its conversation, which began with `start`
     pub record Stands (asks : List Ask) (start : Beginning) (client : Client E) : Type 0 where
       pub said : Conversation
       pub so_far : HasSaid client.standing listing client.number asks (session_of client) said
@@ -55,7 +55,7 @@ module _ {E : Type 0} where
       pub kept : client.receipts.receipts ≡ start.receipts ++ said.receipts
       pub room : length asks ≤ client.receipts.room + client.answered
 
-    -- a client goes on: wherever its conversation began, it stands in it where it stood in it
+    -- a client continues: it is in each conversation, by its beginning, in which it was before
     pub record GoesOn (lists : List (Vec Ask Global)) (before after : Client E) : Type 0 where
       pub number : after.number ≡ before.number
       pub stands : (start : Beginning)

@@ -1,5 +1,5 @@
-//! What clients do: each asks its calls one after another, and a thread goes on with those of its
-//! clients whose receipts have come.
+//! What clients do: each asks its calls one after another, and a thread continues with those of
+//! its clients whose receipts have come.
 ghost use Rattle.std.specs.Prelude.{◌≡◌, ◌++◌, ◌∷◌, [], ◌<◌, ◌^◌, List, Vec, All, IfSome, IfNone, Some, None, true, length, slice_get};
 ghost use Rattle.std.specs.List.{AllZip};
 ghost use Rattle.std.specs.declared.alloc.Global.{Global};
@@ -57,8 +57,8 @@ fn call_of(lists: &[Vec<Ask>], client: u64, number: usize) -> Option<&Ask>
 }
 
 impl<E> Client<E> {
-    /// Asks the client's next call. It has ended where there is none, or no room for its receipt,
-    /// and where no inbox takes it.
+    /// Asks the client's next call. The client has ended where there is none, or no capacity for
+    /// its receipt, and where no inbox takes the call.
     fn ask_next<Q: Requester<E>>(
         &mut self,
         requester: &Q,
@@ -125,7 +125,7 @@ impl<E> Client<E> {
         has_come
     }
 
-    /// Goes on with the client as far as that needs no waiting. Whether it went on.
+    /// Continues with the client as far as that needs no waiting. Whether it did.
     fn advance<Q: Requester<E>>(
         &mut self,
         requester: &Q,
@@ -145,7 +145,7 @@ impl<E> Client<E> {
     }
 }
 
-/// Goes on with each client as far as that needs no waiting. Whether one of them went on.
+/// Continues with each client as far as that needs no waiting. Whether it did with one of them.
 fn advance_all<E, Q: Requester<E>>(
     requester: &Q,
     directory: &Directory,

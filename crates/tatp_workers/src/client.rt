@@ -1,10 +1,10 @@
-//! A client, and how far it is.
+//! A client, and its state.
 ghost use Rattle.std.specs.Prelude.{◌≡◌, ◌≤◌, ◌<◌, ◌^◌};
 ghost use Rattle.tatp_workers.specs.declared.client.Standing.TheVariants.{Free, Waiting};
 
 use tatp_logs::Receipts;
 
-/// Where a client stands.
+/// The state of a client.
 #[derive(Clone, Copy, Debug, PartialEq, Eq)]
 pub enum Standing {
     /// It waits for nothing: it may ask its next call.

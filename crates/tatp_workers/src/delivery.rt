@@ -1,4 +1,4 @@
-//! What comes of a call that a client asked.
+//! The outcome of a call that a client asked.
 ghost use Rattle.std.specs.Prelude.{◌≡◌};
 ghost use Rattle.tatp_workers.specs.Effects.{receipt_of};
 
@@ -16,7 +16,7 @@ pub enum Delivery {
 }
 
 impl Delivery {
-    /// Writes the receipt of a completed call in place of this delivery, once and where it stays.
+    /// Writes the receipt of a completed call in place of this delivery, directly where it stays.
     pub fn write_receipt(&mut self, completion: &Completion)
         ensures { self.new ≡ Delivery.Got (receipt_of completion.now) }
     {

@@ -64,7 +64,7 @@ pub trait Answering {
 
 /// Takes calls out of an inbox, has a site run them and hand out full logs, and sends them on.
 pub trait Executing: Answering {
-    /// Takes the next message out of the inbox. None where no end that puts is left.
+    /// Takes the next message out of the inbox. `None` where no end that puts is left.
     fn receive(&mut self) -> Option<Message>
         ensures { Grows (Self.effects self.old) (Self.effects self.new) (Receives result ∷ []) };
 

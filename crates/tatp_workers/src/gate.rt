@@ -3,7 +3,7 @@
 use tatp_debug::Snapshot;
 use tatp_partition::SiteRefusal;
 
-/// Is called by the threads as calls go on and end. It must return for the run to go on.
+/// Is called by the threads as calls make steps and end. It must return for the run to continue.
 pub trait Gate {
     /// An executor is about to make a step of a client's call, from this position of its procedure.
     /// It holds its partition's lock. No step is announced that is refused, as at a stopped site,

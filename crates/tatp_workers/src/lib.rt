@@ -1,4 +1,4 @@
-//! What executors, clients, the mover and the debugger do, whatever surrounds them: each works over
+//! What executors, clients, the mover and the debugger do, whatever surrounds them. Each works over
 //! a trait, by which it takes and hands on, and its contract says what it does there, in order. And
 //! what an executor does at a site under one hold of its lock: a call is offered, steps of it are
 //! made, which an observer sees, and a full log is handed out.

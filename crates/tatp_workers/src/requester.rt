@@ -1,4 +1,4 @@
-//! How clients ask calls, and learn what comes of them.
+//! How clients ask calls, and learn their outcomes.
 ghost use Rattle.std.specs.Prelude.{◌≡◌, ◌≤◌, List, Option, None, [], ◌∷◌};
 ghost use Rattle.tatp_workers.specs.Growing.{Grows, Does};
 ghost use Rattle.tatp_workers.specs.Asking.{Finds};
@@ -44,6 +44,6 @@ pub trait Requester<E> {
         ensures { Does (Finds result receipts.old receipts.new)
             (effects end.old) (effects end.new) };
 
-    /// Waits a little, after so many rounds of looks in vain.
+    /// Waits a little, after `rounds` rounds of looks in vain.
     fn wait(&self, rounds: u32);
 }

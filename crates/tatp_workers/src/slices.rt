@@ -61,9 +61,9 @@ fn observed_step<O: Observer>(
     site.step_into(StepKind::One, buffer)
 }
 
-/// Makes up to 16 steps of the running call: it stops at the first after which the call doesn't go
-/// on, and after any step if another thread wants the lock. Where the call ends, its completion is
-/// written to the buffer.
+/// Makes up to 16 steps of the running call: it stops at the first after which the call doesn't
+/// continue, and after any step if another thread wants the lock. Where the call ends, its
+/// completion is written to the buffer.
 fn make_steps<O: Observer>(
     site: &mut Site<'_>,
     observer: &mut O,
@@ -88,7 +88,7 @@ fn make_steps<O: Observer>(
     observed_step(site, observer, buffer)
 }
 
-/// How many entries the log of the extent has on which a call ended; 0 where it goes on.
+/// How many entries the log of the extent has on which a call ended; 0 where the call continues.
 fn logged_at(site: &Site<'_>, buffer: &CompletionBuffer) -> u64
     ensures { result ≡ logged_at site.now buffer.now }
 {
@@ -98,10 +98,10 @@ fn logged_at(site: &Site<'_>, buffer: &CompletionBuffer) -> u64
     }
 }
 
-/// Makes up to 16 steps of the running call at a site whose lock is held: it stops at the first
-/// after which the call doesn't go on, and after any step if another thread wants the lock. Where
-/// the call ends, its completion is written to the buffer, and the answer is how many entries the
-/// log of its extent has then.
+/// Makes up to 16 steps of the running call at a site whose lock is held. It stops at the first
+/// after which the call doesn't continue, and after any step if another thread wants the lock.
+/// Where the call ends, its completion is written to the buffer, and the answer is how many entries
+/// the log of its extent has then.
 pub fn slice<O: Observer>(
     site: &mut Site<'_>,
     observer: &mut O,

@@ -33,7 +33,7 @@ static TOLD: [Told; 54] = [
     (1, "give 1 3", "REFUSED 43 NotInHand"),
     (1, "route 3 1", "SET 3 1"),
     (1, "begin 0", "AWAY 1"),
-    // It comes to a breakpoint, is stopped, makes one step and goes on.
+    // It comes to a breakpoint, is stopped, makes one step and continues.
     (1, "break 1 4 4", "OK"),
     (1, "begin 1", "BEGAN 0"),
     (4, "step 1", "MOVED"),

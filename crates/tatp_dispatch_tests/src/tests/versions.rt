@@ -141,7 +141,7 @@ fn are_answered(
     Ok(all && ended == is_mixed)
 }
 
-/// The number of steps after which the client's call at partition 0 goes on, and its reply.
+/// The number of steps after which the client's call at partition 0 continues, and its reply.
 fn stepped(world: &mut World<'_>) -> (usize, Option<Reply>) {
     for moved in 0..5000 {
         match world.apply(Event::Step(0)) {
@@ -161,7 +161,7 @@ fn seen(reply: &Option<Reply>) -> Option<ReplyRef<'_>> {
     }
 }
 
-/// Whether a call of the module's procedure 0, which takes one argument, goes on for `moved`
+/// Whether a call of the module's procedure 0, which takes one argument, continues for `moved`
 /// steps and has this reply at the next: on the home of subscriber 1, and without a home.
 fn ends_after(
     alloc: Global,

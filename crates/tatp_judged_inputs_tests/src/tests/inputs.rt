@@ -12,7 +12,7 @@ use tatp_procs::BadArgument;
 use tatp_streams::LineReader;
 use tatp_tables::Rows;
 
-/// The verdict on an input, where so many configurations are kept of a subscriber.
+/// The verdict on an input, where at most `most` configurations are kept of a subscriber.
 fn judgement(
     alloc: Global,
     rows: &Rows,

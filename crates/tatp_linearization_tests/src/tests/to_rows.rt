@@ -10,8 +10,8 @@ use tatp_homes::Home;
 use tatp_linearization::{Explanations, Standing};
 use tatp_procs::Call;
 
-/// Whether an order that explains the events on a home leaves these rows of it, where at most so
-/// many configurations may be kept; none where no order explains the events.
+/// Whether an order that explains the events on a home results in these rows of it, where at most
+/// `most` configurations may be kept; `None` where no order explains the events.
 fn leads_with(
     alloc: Global,
     home: &Home,
@@ -29,7 +29,7 @@ fn leads_with(
     }
 }
 
-/// The same with room for what these tests need.
+/// The same with as many configurations as these tests need.
 fn leads(
     alloc: Global,
     home: &Home,

@@ -10,7 +10,7 @@ use tatp_loader::Loaded;
 
 impl<'m> Machine<'m> {
     /// Another call at its entry, on this machine: nothing is left of the call before. What a call
-    /// writes only as it goes on is not written here.
+    /// writes only as it runs is not written here.
     pub fn enter_next(
         &mut self,
         loaded: &'m Loaded,

@@ -12,7 +12,7 @@ impl<'m> Site<'m> {
     ghost use Rattle.tatp_partition.specs.Checkpointing.{Checkpoints, KeepsLastStamps, entries_here};
     ghost use Rattle.tatp_partition.specs.Sound.{IsSite};
 
-    /// How many calls of an extent were logged since its last checkpoint; none where it isn't here.
+    /// How many calls of an extent were logged since its last checkpoint; `None` if it isn't here.
     /// The calls without a home, which partition 0 logs, count as those of extent 0.
     pub fn log_len(&self, e: u32) -> u64
         ensures { result ≡ length (entries_here self.now e) }

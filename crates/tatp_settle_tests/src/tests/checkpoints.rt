@@ -38,7 +38,7 @@ fn raw() -> Item {
 /// location after.
 type Told = (u32, u16, Option<u64>, u64, Option<u64>);
 
-/// What a chapter tells, which is then spent.
+/// What a chapter says, which is then spent.
 fn told_by(chapter: Chapter) -> Told {
     let before = chapter
         .before()
@@ -95,7 +95,7 @@ fn a_logged_call_is_handed_out(rt: HostRuntime) -> Result<(), Fail> {
     Ok(())
 }
 
-// The stamp goes on after a checkpoint, though the log is empty.
+// The stamp continues after a checkpoint, though the log is empty.
 #[test]
 fn checkpoints_of_extents_that_are_mixed_or_elsewhere(rt: HostRuntime) -> Result<(), Fail> {
     let loaded = module(rt.alloc())?;

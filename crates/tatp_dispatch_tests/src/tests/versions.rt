@@ -1,5 +1,6 @@
 //! Modules of either version in the system: the standard module as it was in version 1, and
 //! procedures with LOOP.
+use super::standard_1::STANDARD_1;
 use std::alloc::{AllocError, Global};
 use std::test::Fail;
 use tatp_assembly::{AssemblyFault, module_of_text};

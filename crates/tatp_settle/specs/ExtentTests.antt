@@ -1,4 +1,4 @@
--- The causes that an extent can be, as tests.
+-- The causes that concern an extent, as tests.
 use Rattle.std.specs.Prelude.{ℕ, ◌==◌, ◌&&◌, ◌||◌, ◌≤◌, Bool, false}
 use Rattle.std.specs.Option.{option_map_or}
 use Rattle.tatp_extents.specs.Extents.{ExtentState}

@@ -1,4 +1,4 @@
-//! The causes that an extent can be.
+//! The causes that concern an extent.
 ghost use Rattle.std.specs.Prelude.{◌≡◌, ◌≤◌, ◌==◌, ◌↔◌, IsTrue, count_by};
 ghost use Rattle.std.specs.List.{list_any};
 ghost use Rattle.tatp_extents.specs.Extents.{ExtentState};
@@ -13,7 +13,7 @@ use crate::run::Run;
 use crate::{Closed, ClosedSite};
 use tatp_extents::Extent;
 
-/// The causes that an extent can be.
+/// The causes that concern an extent.
 #[derive(Clone, Copy)]
 pub(crate) enum ExtentCause {
     /// It is mixed.

@@ -27,7 +27,7 @@ is_on u s call = is_this s (subscriber_of u call)
 abbrev pub calls_on : Database → ℕ → List Observed → List Observed
 calls_on u s calls = filter (λ (x : Observed). is_on u s x.call) calls
 
--- a call that names no subscriber fails, if it was answered
+-- a call that names no subscriber failed with 1, if it was answered
 abbrev pub FailsWithout : Option ℕ → Outcome → Type 0
 FailsWithout (Some s) outcome = Unit {0}
 FailsWithout None outcome = IsAnswered outcome → MayHaveReply outcome (Failed 1)
@@ -53,12 +53,12 @@ pub record AreCalls (calls : List Observed) : Type 0 where
   pub accepted : AreAccepted calls
 
 -- ---- subscriber by subscriber
--- each subscriber's calls are strictly serializable on its rows, and calls that name none fail
+-- each subscriber's calls are strictly serializable on its rows, and those on none failed with 1
 pub record IsSerializableAtEach (u : Database) (calls : List Observed) : Type 0 where
   pub each : (s : ℕ) → IsStrictlySerializable (of_subscriber u s) (calls_on u s calls)
   pub none : FailWithout u calls
 
--- a serial order of each subscriber's calls results in its rows, and calls that name none fail
+-- a serial order of each subscriber's calls results in its rows, and those on none failed with 1
 pub record IsSerializableToEach (u : Database) (calls : List Observed) (after : Database)
     : Type 0 where
   pub each : (s : ℕ)

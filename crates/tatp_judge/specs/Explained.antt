@@ -33,9 +33,9 @@ numbers_since u s from lines =
     filter (λ number. nat_lt from number) (numbers_on u s 1 no_calls lines)
 
 -- ---- a window
--- the numbers of the subscriber's lines since none of its calls was open, for the last time before
--- the last line: none was open after the line `from`; and wherever none was open after a later
--- line, the subscriber had no line after `from` up to that one
+-- the numbers of the subscriber's lines after the line `from`, before the last of the lines. None
+-- of its calls was open there; and wherever that is so after a later line, the subscriber had no
+-- line after `from` up to that one
 pub record AreWindowNumbers (u : Database) (s : ℕ) (lines : List Line) (numbers : List ℕ)
     : Type 0 where
   pub from : ℕ

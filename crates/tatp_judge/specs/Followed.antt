@@ -39,7 +39,7 @@ Forgets judge but = (place : ℕ) (w : Window) → slice_get judge.windows.items
     → (but ≡ Some (suc place) → ⊥) → w.aside ≡ false → w.waiting ≡ 0 → IsForgotten w
 
 -- it has followed the lines, which decided nothing: each call that names no subscriber and was
--- answered failed
+-- answered failed with 1
 pub record HasFollowed (u : Database) (most : ℕ) (lines : List Line) (judge : Judge)
     : Type 0 where
   pub noted : HasNoted u most lines judge
@@ -54,7 +54,7 @@ pub record EndsAs (u : Database) (lines : List Line) (asked : Asked) (outcome : 
   pub before : FailWithout u (calls_of (take (length lines - 1) lines))
   pub now : FailsWithout asked.s_id outcome ↔ FailWithout u (calls_of lines)
 
--- the last of the lines ends a call on a subscriber, and those that name none failed
+-- there is a last line, and each answered call that names no subscriber failed with 1
 pub record EndsOn (u : Database) (lines : List Line) : Type 0 where
   pub some : 1 ≤ length lines
   pub none : FailWithout u (calls_of lines)

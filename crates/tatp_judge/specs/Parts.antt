@@ -1,5 +1,5 @@
 -- trusted: read it
--- One of `count` parts of a history: the calls on every `count`-th subscriber.
+-- One of `count` parts of a history: each `count`-th subscriber's calls; the first, also on none.
 use Rattle.std.specs.Prelude.{ℕ, ◌-◌, ◌%◌, ◌≤◌, ◌==◌, Bool, if◌then◌else◌, List, map, Option, Some, None}
 use Rattle.tatp_tables.specs.Database.{Database}
 use Rattle.tatp_history.specs.declared.line.Line.{Line}
@@ -30,7 +30,7 @@ line_of_part u part (Lost client) = Lost client
 abbrev pub lines_of_part : Database → Part → List Line → List Line
 lines_of_part u part lines = map (line_of_part u part) lines
 
--- the whole history, and one of `count` parts of it
+-- the whole history as its only part; below, one of `count` parts of it
 abbrev pub whole : Part
 whole = record { number = 1; count = 1 }
 

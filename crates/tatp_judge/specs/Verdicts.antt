@@ -26,13 +26,14 @@ pub record NeedMoreBy (u : Database) (most : ℕ) (lines : List Line) (line s : 
   pub by : first ≤ line
   pub many : NeedMore most (of_subscriber u s) (events_of u s (take first lines))
 
--- each needs more than `most` by its line. Lines don't fall, and no subscriber is there twice
+-- their lines don't fall, and no subscriber is there twice
 abbrev pub AreInOrder : List Undecided → Type 0
 AreInOrder [] = Unit {0}
 AreInOrder (one ∷ more) =
     AllByRecursion (λ other. (one.line ≤ other.line) × (one.s_id ≡ other.s_id → ⊥)) more
     × AreInOrder more
 
+-- each needs more than `most` by its line, and they are in this order
 pub record AreUndecided (u : Database) (most : ℕ) (lines : List Line) (aside : List Undecided)
     : Type 0 where
   pub each : AllByRecursion (λ one. NeedMoreBy u most lines one.line one.s_id) aside
@@ -44,7 +45,7 @@ IsAside [] s = ⊥
 IsAside (one ∷ more) s = (one.s_id ≡ s) ⊎ IsAside more s
 
 -- the calls on each other subscriber are strictly serializable on its rows, and those that name
--- none failed, if they were answered
+-- none failed with 1, if they were answered
 pub record AreOthersLegal (u : Database) (aside : List Undecided) (lines : List Line)
     : Type 0 where
   pub each : (s : ℕ) → (IsAside aside s → ⊥)
@@ -72,7 +73,7 @@ AreExplainedWhereClosed u aside lines =
     → IsStrictlySerializable (of_subscriber u s) (calls_on u s (calls_of lines))
 
 -- the calls on the subscriber in the first `n` lines are not strictly serializable. Where none is
--- given, a call in these lines that names none was answered otherwise than by its failure
+-- given, a call in these lines that names none was answered, and not by FAILED 1
 abbrev pub IsUnexplained : Database → List Line → ℕ → Option ℕ → Type 0
 IsUnexplained u lines n None = FailWithout u (calls_of (take n lines)) → ⊥
 IsUnexplained u lines n (Some s) =

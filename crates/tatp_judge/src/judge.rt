@@ -40,7 +40,7 @@ pub enum Verdict {
         /// How many lines these are.
         line: u64,
         /// The subscriber whose calls in them no order explains; `None` where a call that names no
-        /// subscriber was answered otherwise than by its failure.
+        /// subscriber was answered, and not by FAILED 1.
         s_id: Option<u64>,
     },
 }

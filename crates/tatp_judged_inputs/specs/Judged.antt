@@ -54,7 +54,7 @@ pub record AreUndecidedAt (u : View) (most taken : ℕ) (texts : List (List ℕ)
   pub order : AreInOrder aside
 
 -- in the lines up to the one with this number the calls on this subscriber aren't strictly
--- serializable. Where none is given, a call that names none didn't fail
+-- serializable. Where none is given, an answered call that names none didn't fail with 1
 abbrev pub AreUnexplainedAt : View → ℕ → List (List ℕ) → ℕ → Option ℕ → Type 0
 AreUnexplainedAt u taken texts number s_id = Tell taken (take (number - taken) texts)
     (λ told. IsUnexplained u told.lines (length told.lines) s_id)

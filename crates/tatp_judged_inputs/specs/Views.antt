@@ -1,5 +1,5 @@
--- What a judge says of the part of a history that it is asked for: what is said of lines here is
--- said of what they say of the part's calls.
+-- What a judge says of the part of a history that it is asked for: each statement of lines here is
+-- made of the lines of the part (`seen`).
 use Rattle.std.specs.Prelude.{◌≡◌, ℕ, List, [], Option}
 use Rattle.tatp_tables.specs.Database.{Database}
 use Rattle.tatp_procs.specs.declared.call.Call.{Call}
@@ -65,7 +65,7 @@ abbrev pub IsFinalVerdictOn
 IsFinalVerdictOn v aside lines after verdict =
     IsFinalVerdictOnAll v.rows v.part aside (seen v lines) after verdict
 
--- ---- what is reported of the last of the lines
+-- ---- what is reported of the window that ends with the last line
 abbrev pub AreNumbersTold : View → ℕ → List Line → List ℕ → Type 0
 AreNumbersTold v s lines numbers = AreWindowNumbers v.rows s (seen v lines) numbers
 

@@ -28,7 +28,7 @@ pub enum Judged {
         /// The number of that line, counted from 1.
         line: u64,
         /// The subscriber whose calls no order explains up to there; `None` where a call that names
-        /// no subscriber was answered otherwise than by its failure.
+        /// no subscriber was answered, and not by FAILED 1.
         s_id: Option<u64>,
     },
     /// It is, and no order of its calls leads to the rows at its end.

@@ -3,7 +3,7 @@
 /// How many lines are judged from one report to the next.
 const LINES: u64 = 1_000_000;
 
-/// Gets each line of a history as it is judged.
+/// Is called after each line that is read, comments too, but for one that decides.
 pub trait Progress {
     /// One more line was judged, which decided nothing.
     fn after_line(&mut self);

@@ -9,8 +9,8 @@ use std::alloc::{AllocError, Global};
 use tatp_judge::Undecided;
 
 impl Reading {
-    /// The number that the history's line of the number `lines` has in the input; for 0, how many
-    /// lines of the input come before the history.
+    /// The number in the input of line `lines` of the history; for 0, how many lines of the input
+    /// come before the history.
     fn number_after(&self, lines: u64, taken: u64) -> u64
         requires { lines ≤ length self.now.numbers.items }
         ensures { result ≡ number_after taken self.now.numbers.items lines }

@@ -44,7 +44,7 @@ IsAnsweredBy time (Answered at recorded) = at ≤ time
 IsAnsweredBy time (Aborted at) = ⊥
 IsAnsweredBy time Unknown = ⊥
 
--- the second times are the first once a call is asked that saw or sets their location
+-- no time falls, and they count the call x, where it saw or sets their location
 pub record RaisesTimes (last : ℕ) (x : Observed) (old new : Times) : Type 0 where
   pub keeps_read : old.read ≤ new.read
   pub keeps_set : old.set ≤ new.set
@@ -59,7 +59,7 @@ pub record IsReadOf (last : ℕ) (x : Observed) (read : LastRead) : Type 0 where
   pub ended : IsAnsweredBy last x.outcome
   pub asked : read.asked ≡ x.asked
 
--- the reads that are noted last are those of before, once a call is asked
+-- the last read is that of before, or x; the other one is that of before, or the last before
 pub record NotesRead (x : Observed) (old new : Ahead) : Type 0 where
   pub last_read : (new.last_read ≡ old.last_read) ⊎ IsReadOf old.last x new.last_read
   pub other_read : (new.other_read ≡ old.other_read) ⊎ (new.other_read ≡ old.last_read)
@@ -130,8 +130,8 @@ pub record IsNextRead (last location : ℕ) (rest : List Event) (x : Observed) :
   pub saw : SawLocation location x
   pub ended : IsAnsweredBy last x.outcome
 
--- `sets` says: where a location isn't set any more in the window, each call that sets it is asked
--- after the end of each call that ends in the window
+-- `sets` says: where the window doesn't set a location any more, each later call that sets it is
+-- asked after the end of each call that ends in the window
 pub record LooksAhead (ahead : Ahead) (now : ℕ) (rest : List Event) : Type 0 where
   pub from : AllByRecursion (λ event. now ≤ time_of event) rest
   pub replaced : (location time : ℕ) → now ≤ time → IsReplacedAfter ahead location time
@@ -149,8 +149,8 @@ IsSeenAhead ahead (Asks x ∷ rest) = Unit {0}
 IsSeenAhead ahead (Ends asked at ∷ rest) = LooksAhead ahead at (Ends asked at ∷ rest)
 
 -- ---- a location that is lost
--- the configuration doesn't have the location, no open or later call of the window sets it, and a
--- read that is open, or is asked later in the window, saw it
+-- the configuration doesn't have the location, and no open or later call of the window sets it;
+-- but a read that is open or still to be asked saw it, and ends in the window
 pub record IsLost (ahead : Ahead) (now : ℕ) (c : Held) (location : ℕ) : Type 0 where
   pub rows : NoneHasLocation location c.home.tables
   pub opened : NoneSets location c.opened.items

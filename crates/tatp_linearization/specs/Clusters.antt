@@ -62,7 +62,7 @@ pub record GoTo (u : Database) (opened : List Observed) (v : Database) (left : L
 abbrev pub GoFirst : Database → List Observed → List Observed → Type 0
 GoFirst u opened left = (v : Database) × GoTo u opened v left
 
--- where some of the calls have an order to given rows, those of them that pass the test have one
+-- of one subscriber: where some of the calls have an order to rows, so have those that pass it
 abbrev pub KeepOrders : List Event → List Observed → (Observed → Bool) → Type 0
 KeepOrders events opened test =
     (u after : Database) (some : List Observed) → AreOfOne u

@@ -86,7 +86,7 @@ pub record MayCome (c d : Configuration) : Type 0 where
 abbrev pub MayAnswer : ℕ → Configuration → Configuration → Type 0
 MayAnswer asked c d = MayCome c d × NoneAskedAt asked d.opened
 
--- open calls take effect before an event at which the second may follow on the first
+-- the second may follow on the first at the event; before an end, open calls may take effect
 abbrev pub MayFollow : Event → Configuration → Configuration → Type 0
 MayFollow (Asks x) c d = FollowsAtOnce (Asks x) c d
 MayFollow (Ends asked at) c d = MayAnswer asked c d
@@ -101,8 +101,8 @@ MayBeTried (Ends asked at) c d = MayCome c d
 abbrev pub IsStoodOr : List Held → (Configuration → Type 0) → Configuration → Type 0
 IsStoodOr old Holds d = OneStandsFor old d ⊎ Holds d
 
--- the new list stands for all for which the old one does, for others of which this holds, and for
--- each of these
+-- the new list stands for all for which the old one does, and for each of which `Has` holds; for
+-- no others but some of which `May` holds
 pub record Gains (May Has : Configuration → Type 0) (old new : List Held) : Type 0 where
   pub kept : (d : Configuration) → OneStandsFor old d → OneStandsFor new d
   pub sound : (d : Configuration) → OneStandsFor new d → IsStoodOr old May d

@@ -1,5 +1,5 @@
 //! Clusters: open updates of the location, each with the open reads that saw what it set. Where
-//! no later read sees that, they take effect right before another update that does.
+//! no later read sees that, they take effect right before another update takes effect.
 ghost use Rattle.std.specs.Prelude.{◌≡◌, ◌<◌, ◌⊎◌, ◌↔◌, IsTrue, IfSome, Ok, length};
 ghost use Rattle.tatp_history.specs.declared.observed.Observed.{Observed as Asked};
 ghost use Rattle.tatp_history.specs.Histories.{AreAskedApart};

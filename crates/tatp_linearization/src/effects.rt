@@ -79,8 +79,8 @@ fn take_tried(
     take_ahead(alloc, c, i, ahead, now)
 }
 
-/// Each open call of a configuration that writes takes effect, if it is of the kind of the one that
-/// is answered: calls of other kinds may as well do so later. The configuration after that is
+/// Tries one call at a time: an open one that writes, and is of the kind of the one answered, takes
+/// effect. Calls of other kinds may do so later. The configuration after that is
 /// added to `answered` where the call asked at the time `asked` isn't open, else to the next turn.
 fn try_each(
     alloc: Global,

@@ -1,4 +1,5 @@
-//! The standard module as it was in version 1 of the instruction table.
+//! The standard module as it was in version 1 of the instruction table. A case of the script
+//! `tests/commands` cuts it out of this file too.
 
 /// The assembly text of a module of version 1 that does what the standard module does. Its
 /// GET_NEW_DESTINATION has a block for each start time, and after each a label: `a`, `b`, `c`.

@@ -152,7 +152,7 @@ client_at_last a p s' completion l =
 pub record IsCompleted (a : Inside) (completed : CompletionsState) (clients : Vec Client Global) (completion : Completion) : Type 0 where
   pub pushed : completed.entries ≡ a.completions.entries ++ completion.entry ∷ []
   pub taken : a.completions.room ≤ completed.room + 1
-  pub freed : (c : Client) → slice_get a.clients.items completion.entry.client ≡ Some c → clients.items ≡ set a.clients.items completion.entry.client (record c { busy = false; seen = completion.entry.stamp })
+  pub freed : (c : Client) → slice_get a.clients.items completion.entry.client ≡ Some c → clients.items ≡ set a.clients.items completion.entry.client (record c { is_busy = false; seen = completion.entry.stamp })
 
 pub finishes_ended : (a : Inside) (p : ℕ) (s' : SiteState) (completed : CompletionsState) (clients : Vec Client Global) (completion : Completion) → IsLastStep a p s' completion → IsCompleted a completed clients completion
     → Finishes a p (Ok tt) (after_end a (with_item a.sites p s') completed clients)

@@ -115,17 +115,17 @@ longer_at_rest n m w le r = let one = r.one in
     }
 
 -- ---- where no call is under way
-none_under_way : (w : WorldState) (c : Client) (k : ℕ) → IsWorld w → w.clients ≡ c ∷ [] → c.busy ≡ false → times_queued k w.queues + times_running k w.sites ≡ 0
+none_under_way : (w : WorldState) (c : Client) (k : ℕ) → IsWorld w → w.clients ≡ c ∷ [] → c.is_busy ≡ false → times_queued k w.queues + times_running k w.sites ≡ 0
 none_under_way w c zero good alone idle = (good.clients.clients 0 c (ap (λ (cs : List Client). slice_get cs 0) alone)).once ∙ ap one_if idle
 none_under_way w c (suc k) good alone idle = omega (arith, good.clients.known (suc k) (omega (arith, ap length alone)))
 
-none_waits : (w : WorldState) (c : Client) (p : ℕ) (before : List Item) → IsWorld w → w.clients ≡ c ∷ [] → c.busy ≡ false → slice_get w.queues p ≡ Some before → before ≡ []
+none_waits : (w : WorldState) (c : Client) (p : ℕ) (before : List Item) → IsWorld w → w.clients ≡ c ∷ [] → c.is_busy ≡ false → slice_get w.queues p ≡ Some before → before ≡ []
 none_waits w c p [] good alone idle at = refl
 none_waits w c p (item ∷ rest) good alone idle at =
     let itself : one_if (item.client == item.client) ≡ 1 = ap one_if (eq-eqb item.client item.client refl) in
     absurd (omega (arith, none_under_way w c item.client good alone idle, total_at (times_waiting item.client) w.queues p (item ∷ rest) at, itself))
 
-none_runs : (w : WorldState) (c : Client) (p : ℕ) (s : SiteState) (o : Option RunningCall) → IsWorld w → w.clients ≡ c ∷ [] → c.busy ≡ false → slice_get w.sites p ≡ Some s → s.running ≡ o → is_some o ≡ false
+none_runs : (w : WorldState) (c : Client) (p : ℕ) (s : SiteState) (o : Option RunningCall) → IsWorld w → w.clients ≡ c ∷ [] → c.is_busy ≡ false → slice_get w.sites p ≡ Some s → s.running ≡ o → is_some o ≡ false
 none_runs w c p s None good alone idle at is = refl
 none_runs w c p s (Some r) good alone idle at is =
     let itself : one_if (is_call_of r.client s) ≡ 1 = ap (λ o. one_if (option_map_or (λ (q : RunningCall). q.client == r.client) o false)) is ∙ ap one_if (eq-eqb r.client r.client refl) in
@@ -202,15 +202,15 @@ in_place w n m p s item (Some h) good one at names by_route =
     )
 
 -- ---- a client asks
-none_against : (busy has full : Bool) (bad : Option Bad) → busy ≡ false → has ≡ true → bad ≡ None → full ≡ false
-    → or_else (where_holds busy ClientBusy) (or_else (where_holds (not has) NoProcedure) (or_else (option_map BadArgument bad) (where_holds full NumbersFull))) ≡ None
-none_against busy has full bad a b c d = rw (a, b, c, d) refl
+none_against : (is_busy has full : Bool) (bad : Option Bad) → is_busy ≡ false → has ≡ true → bad ≡ None → full ≡ false
+    → or_else (where_holds is_busy ClientBusy) (or_else (where_holds (not has) NoProcedure) (or_else (option_map BadArgument bad) (where_holds full NumbersFull))) ≡ None
+none_against is_busy has full bad a b c d = rw (a, b, c, d) refl
 
 submit_free : (w : WorldState) (n : ℕ) (ask : Ask) → n + 1 < 2 ^ 64 → has_procedure w.modul ask ≡ true → bad_argument ask ≡ None → IsAtRest n w → submit_obstacle w 0 ask ≡ None
 submit_free w n ask few has fits r =
     let c : Client = r.one.client in
     ap (λ (cs : List Client). client_obstacle w ask (slice_get cs 0)) r.one.alone
-    ∙ none_against c.busy (has_procedure w.modul ask) (c.accepted == 2 ^ 64 - 1) (bad_argument ask) r.idle has fits
+    ∙ none_against c.is_busy (has_procedure w.modul ask) (c.accepted == 2 ^ 64 - 1) (bad_argument ask) r.idle has fits
     (false_from_ne_true (c.accepted == 2 ^ 64 - 1) (λ full. omega (arith, few, r.one.accepted, eqb-true c.accepted (2 ^ 64 - 1) full)))
 
 client_is : (w : WorldState) (n m : ℕ) (ask : Ask) (p : ℕ) (w' : WorldState) (one : HasOneClient n m w) (q : QueuesCall w 0 ask p w') → one.client ≡ q.c
@@ -422,11 +422,11 @@ ends_or_lacks_memory w n ask (Err refusal) w' may made =
 argument_against : (w : WorldState) (n : ℕ) (ask : Ask) (bad : Bad) → has_procedure w.modul ask ≡ true → bad_argument ask ≡ Some bad → IsAtRest n w → submit_obstacle w 0 ask ≡ Some (BadArgument bad)
 argument_against w n ask bad has is r =
     ap (λ (cs : List Client). client_obstacle w ask (slice_get cs 0)) r.one.alone
-    ∙ against r.one.client.busy (has_procedure w.modul ask) (r.one.client.accepted == 2 ^ 64 - 1) (bad_argument ask) r.idle has is
+    ∙ against r.one.client.is_busy (has_procedure w.modul ask) (r.one.client.accepted == 2 ^ 64 - 1) (bad_argument ask) r.idle has is
   where
-    against : (busy has full : Bool) (o : Option Bad) → busy ≡ false → has ≡ true → o ≡ Some bad
-        → or_else (where_holds busy ClientBusy) (or_else (where_holds (not has) NoProcedure) (or_else (option_map BadArgument o) (where_holds full NumbersFull))) ≡ Some (BadArgument bad)
-    against busy has full o a b c = rw (a, b, c) refl
+    against : (is_busy has full : Bool) (o : Option Bad) → is_busy ≡ false → has ≡ true → o ≡ Some bad
+        → or_else (where_holds is_busy ClientBusy) (or_else (where_holds (not has) NoProcedure) (or_else (option_map BadArgument o) (where_holds full NumbersFull))) ≡ Some (BadArgument bad)
+    against is_busy has full o a b c = rw (a, b, c) refl
 
 -- the first event was refused for it
 only_refused : (w : WorldState) (ask : Ask) (refusal : Refusal) (p steps before : ℕ) (last : Answered) (w' : WorldState) → submit_obstacle w 0 ask ≡ Some refusal

@@ -26,7 +26,7 @@ argument_obstacle ask = option_map BadArgument (bad_argument ask)
 -- why a call of this client is refused, if it is
 abbrev pub call_obstacle : ModuleState → Ask → Client → Option Refusal
 call_obstacle modul ask c =
-    or_else (where_holds c.busy ClientBusy)
+    or_else (where_holds c.is_busy ClientBusy)
     (or_else (where_holds (not (has_procedure modul ask)) NoProcedure)
     (or_else (argument_obstacle ask)
     (where_holds (c.accepted == 2 ^ 64 - 1) NumbersFull)))

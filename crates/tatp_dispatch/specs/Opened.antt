@@ -19,7 +19,7 @@ at_rest u = record { database = u; calls = λ client. None; completions = [] }
 
 -- a client that has asked nothing
 abbrev pub new_client : Client
-new_client = record { accepted = 0; refused = 0; busy = false; seen = 0 }
+new_client = record { accepted = 0; refused = 0; is_busy = false; seen = 0 }
 
 -- the extents of these rows
 abbrev pub extents_of : Rows → List ExtentState

@@ -35,7 +35,7 @@ pub record HasOneClient (most_accepted most_stamp : ℕ) (w : WorldState) : Type
 -- the same after at most `calls` calls, of which none is under way
 pub record IsAtRest (calls : ℕ) (w : WorldState) : Type 0 where
   pub one : HasOneClient calls calls w
-  pub idle : one.client.busy ≡ false
+  pub idle : one.client.is_busy ≡ false
 
 -- what becomes of a call from rest, by its first argument outside its domain: with such an argument
 -- it is refused for that; without one it ends, or is refused memory

@@ -65,7 +65,7 @@ impl Window {
 
     /// Follows a call that overlaps no other, and is answered in the line of this number. It does
     /// so in place.
-    fn go_on_alone(
+    fn follow_one(
         &mut self,
         alloc: Global,
         x: &Observed,
@@ -91,7 +91,7 @@ impl Window {
     }
 
     /// Follows the events, if an order explains the calls up to now.
-    fn go_on(&mut self, alloc: Global, number: u64) -> Result<Standing, AllocError>
+    fn follow_all(&mut self, alloc: Global, number: u64) -> Result<Standing, AllocError>
         requires window { (u : Database) × (most : ℕ) × (s : ℕ) × (lines : List ALine)
             × IsWindowAfter u most s lines self.old }
         requires some { 0 < length self.old.events.items }
@@ -127,10 +127,10 @@ impl Window {
         }
         if self.explanations.is_single() {
             if let Some(x) = alone(self.events.as_slice(), number) {
-                return self.go_on_alone(alloc, &x, number);
+                return self.follow_one(alloc, &x, number);
             }
         }
-        self.go_on(alloc, number)
+        self.follow_all(alloc, number)
     }
 
     /// The first line, up to that of this number, by which the calls are unexplained.

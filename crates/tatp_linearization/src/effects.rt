@@ -21,7 +21,7 @@ use tatp_homes::what_holds_of_every_home;
 
 /// Adds a configuration to those that were tried and to those of the next turn, unless one that was
 /// tried stands for all for which it does.
-fn go_on(
+fn add_untried(
     alloc: Global,
     d: Configuration,
     most: usize,
@@ -124,7 +124,7 @@ fn try_each(
                 if none_asked(&d, asked) {
                     add(answered, d, most)?;
                 } else {
-                    go_on(alloc, d, most, tried, going)?;
+                    add_untried(alloc, d, most, tried, going)?;
                 }
             }
             None => {}

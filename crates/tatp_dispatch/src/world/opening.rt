@@ -37,7 +37,7 @@ fn new_clients(alloc: Global, clients: u16) -> Result<Vec<Client>, AllocError>
         made.push_reserved(Client {
             accepted: 0,
             refused: 0,
-            busy: false,
+            is_busy: false,
             seen: 0,
         });
     }

@@ -8,7 +8,7 @@ use Rattle.tatp_linearization.specs.Ahead.{LooksAhead}
 use Rattle.tatp_linearization.specs.Turns.{TakesOn, TakesTried, Lists}
 use Rattle.tatp_linearization.proofs.TurnLaws.{Trying, trying_none, trying_refused, trying_answered, trying_going, trying_all, trying_many}
 use Rattle.tatp_linearization.proofs.effects.try_each.Goals as goal
-use Rattle.tatp_linearization.proofs.effects.try_each.Goals.{in-Some+then-none_asked+in_ok-add-in-Some, in-Some+else-none_asked+in_ok-go_on-in-Some, in-None}
+use Rattle.tatp_linearization.proofs.effects.try_each.Goals.{in-Some+then-none_asked+in_ok-add-in-Some, in-Some+else-none_asked+in_ok-add_untried-in-Some, in-None}
 
 pub calls-init : goal.calls-init
 calls-init c = trying_none (LooksAhead c.args.ahead.now c.args.now) c.kind_at-kind.result c.args.c.now c.args.asked (record { answered = c.args.answered.now.items; tried = c.args.tried.now.items; going = c.args.going.now.items })
@@ -32,13 +32,13 @@ calls-preserved c =
           (subst (λ (t : Vec Held Global). All w.add.new.set t c.match-branch-2.going) (sym w.tried-is)
           (subst (λ (g : Vec Held Global). All w.add.new.set c.calls.tried g) (sym w.going-is)
           (trying_answered K kind k w.in-Some.d asked i old before taken inv w.add.new.set.items last w.in_ok-add-in-Some.ensures.gained w.in_ok-add-in-Some.ensures.ready w.in_ok-add-in-Some.ensures.apart)))
-      | in-Some+else-none_asked+in_ok-go_on-in-Some w ↦
+      | in-Some+else-none_asked+in_ok-add_untried-in-Some w ↦
           let taken : TakesOn (LooksAhead c.args.ahead.now c.args.now) c.args.c.now c.calls.i w.in-Some.d = subst (TakesTried (LooksAhead c.args.ahead.now c.args.now) c.kind_at-kind.result c.args.c.now c.calls.i) w.in-Some.is c.in_ok-d.ensures in
           let other : NoneAskedAt c.args.asked w.in-Some.d.opened.items → ⊥ = λ last. true≢false (sym (w.none_asked.ensures.1 last) ∙ w.if-none_asked.false) in
           subst (λ (a : Vec Held Global). All a c.match-branch-2.tried c.match-branch-2.going) (sym w.answered-is)
           (subst (λ (t : Vec Held Global). All c.calls.answered t c.match-branch-2.going) (sym w.tried-is)
-          (subst (λ (g : Vec Held Global). All c.calls.answered w.go_on.new.tried g) (sym w.going-is)
-          (trying_going K kind k w.in-Some.d asked i old before taken inv w.go_on.new.tried.items w.go_on.new.going.items other w.in_ok-go_on-in-Some.ensures.gained w.in_ok-go_on-in-Some.ensures.goes w.in_ok-go_on-in-Some.ensures.ready w.in_ok-go_on-in-Some.ensures.apart)))
+          (subst (λ (g : Vec Held Global). All c.calls.answered w.add_untried.new.tried g) (sym w.going-is)
+          (trying_going K kind k w.in-Some.d asked i old before taken inv w.add_untried.new.tried.items w.add_untried.new.going.items other w.in_ok-add_untried-in-Some.ensures.gained w.in_ok-add_untried-in-Some.ensures.goes w.in_ok-add_untried-in-Some.ensures.ready w.in_ok-add_untried-in-Some.ensures.apart)))
       | in-None w ↦
           let none : TakesTried (LooksAhead c.args.ahead.now c.args.now) c.kind_at-kind.result c.args.c.now c.calls.i None = subst (TakesTried (LooksAhead c.args.ahead.now c.args.now) c.kind_at-kind.result c.args.c.now c.calls.i) w.in-None.is c.in_ok-d.ensures in
           subst (λ (a : Vec Held Global). All a c.match-branch-2.tried c.match-branch-2.going) (sym w.answered-is)
@@ -52,8 +52,8 @@ add-requires c =
     let taken : TakesOn (LooksAhead c.args.ahead.now c.args.now) c.args.c.now c.calls.i c.in-Some.d = subst (TakesTried (LooksAhead c.args.ahead.now c.args.now) c.kind_at-kind.result c.args.c.now c.calls.i) c.in-Some.is c.in_ok-d.ensures in
     record { accepted = taken.less.accepted c.requires.accepted }
 
-pub go_on-requires : goal.go_on-requires
-go_on-requires c =
+pub add_untried-requires : goal.add_untried-requires
+add_untried-requires c =
     let taken : TakesOn (LooksAhead c.args.ahead.now c.args.now) c.args.c.now c.calls.i c.in-Some.d = subst (TakesTried (LooksAhead c.args.ahead.now c.args.now) c.kind_at-kind.result c.args.c.now c.calls.i) c.in-Some.is c.in_ok-d.ensures in
     record { accepted = taken.less.accepted c.requires.accepted }
 
@@ -93,9 +93,9 @@ returns-in_err-add-in-Some-clause-many c =
     let apart : AreApart d.home.s_id c.calls.answered.items = subst (λ s. AreApart s c.calls.answered.items) (sym taken.less.own) (c.calls.invariant.apart answered) in
     inl ((trying_many (LooksAhead c.args.ahead.now c.args.now) c.kind_at-kind.result c.args.most k d c.args.asked c.calls.i old before taken c.calls.invariant).0 (c.in_err-add-in-Some.ensures.many is apart)))
 
-pub returns-in_err-go_on-in-Some-clause-many : goal.returns-in_err-go_on-in-Some-clause-many
-returns-in_err-go_on-in-Some-clause-many c =
-    let p = err_from_is_err_and c.from_residual-in_err-go_on-in-Some.result c.from_residual-in_err-go_on-in-Some.ensures.1 in
+pub returns-in_err-add_untried-in-Some-clause-many : goal.returns-in_err-add_untried-in-Some-clause-many
+returns-in_err-add_untried-in-Some-clause-many c =
+    let p = err_from_is_err_and c.from_residual-in_err-add_untried-in-Some.result c.from_residual-in_err-add_untried-in-Some.ensures.1 in
     let k = c.args.c.now in
     let d : Held = c.in-Some.d in
     let old : Lists = record { answered = c.args.answered.now.items; tried = c.args.tried.now.items; going = c.args.going.now.items } in
@@ -103,4 +103,4 @@ returns-in_err-go_on-in-Some-clause-many c =
     let taken : TakesOn (LooksAhead c.args.ahead.now c.args.now) c.args.c.now c.calls.i d = subst (TakesTried (LooksAhead c.args.ahead.now c.args.now) c.kind_at-kind.result c.args.c.now c.calls.i) c.in-Some.is c.in_ok-d.ensures in
     rw (p.1, p.2) (λ is answered tried.
     let apart : AreApart d.home.s_id c.calls.tried.items = subst (λ s. AreApart s c.calls.tried.items) (sym taken.less.own) (c.calls.invariant.distinct tried) in
-    inr ((trying_many (LooksAhead c.args.ahead.now c.args.now) c.kind_at-kind.result c.args.most k d c.args.asked c.calls.i old before taken c.calls.invariant).1 (c.in_err-go_on-in-Some.ensures.many is apart)))
+    inr ((trying_many (LooksAhead c.args.ahead.now c.args.now) c.kind_at-kind.result c.args.most k d c.args.asked c.calls.i old before taken c.calls.invariant).1 (c.in_err-add_untried-in-Some.ensures.many is apart)))

@@ -2,8 +2,8 @@ use Rattle.std.proofs.Common.{vec_len, sym, ◌∙◌, arith, eqb-true}
 use Rattle.tatp_judge.proofs.ClosingLaws.{closed_empty, none_left}
 use Rattle.tatp_judge.proofs.window.Window.close.Goals as goal
 
-pub go_on_alone-requires-clause-single : goal.go_on_alone-requires-clause-single
-go_on_alone-requires-clause-single c = c.is_single.ensures.0 c.if-is_single.true
+pub follow_one-requires-clause-single : goal.follow_one-requires-clause-single
+follow_one-requires-clause-single c = c.is_single.ensures.0 c.if-is_single.true
 
 pub returns-then-is_empty-clause-closes : goal.returns-then-is_empty-clause-closes
 returns-then-is_empty-clause-closes c = λ u most s lines is now.

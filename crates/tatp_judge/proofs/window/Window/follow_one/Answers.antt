@@ -10,7 +10,7 @@ use Rattle.tatp_linearization.specs.Single.{answered_with, events_alone}
 use Rattle.tatp_judge.specs.Windows.{AreCounted, only_reply}
 use Rattle.tatp_judge.proofs.LegalReplyLaws.{alone_legal, kept_same}
 use Rattle.tatp_judge.proofs.ClosingLaws.{alone_began, closed, rise_both, end_both, unsaid, spent}
-use Rattle.tatp_judge.proofs.window.Window.go_on_alone.Goals as goal
+use Rattle.tatp_judge.proofs.window.Window.follow_one.Goals as goal
 
 pub returns-then-fits-clause-closes : goal.returns-then-fits-clause-closes
 returns-then-fits-clause-closes c = λ u most s lines is now.

@@ -6,7 +6,7 @@ use Rattle.tatp_linearization.specs.declared.explanations.Explanations.{Explanat
 use Rattle.tatp_linearization.specs.Reached.{AreOfSubscriber, AreReached}
 use Rattle.tatp_linearization.specs.Possible.{NeedMore}
 use Rattle.tatp_judge.proofs.ClosingLaws.{closed, many_now, rise_both, end_both, unsaid, same_window}
-use Rattle.tatp_judge.proofs.window.Window.go_on.Goals as goal
+use Rattle.tatp_judge.proofs.window.Window.follow_all.Goals as goal
 
 pub returns-in-Explained-clause-closes : goal.returns-in-Explained-clause-closes
 returns-in-Explained-clause-closes c = λ u most s lines is now.

@@ -17,3 +17,8 @@ pub mod JudgedLaws
 pub mod CutLaws
 pub mod OutcomeLaws
 pub mod TurnLaws
+pub mod ReplacedLaws
+pub mod ClearedLaws
+pub mod ClearedHomeLaws
+pub mod ClearedOrderLaws
+pub mod ClearedEventLaws

@@ -69,11 +69,11 @@ in_any test x (y ∷ ys) h t = elim h [
   | inr k ↦ elim (test y) as (λ b. (b || list_any test ys) ≡ true) [ true ↦ refl | false ↦ in_any test x ys k t ]
 ]
 
-in_map : (f : Observed → Observed) (x : Observed) (xs : List Observed) → IsIn x xs → IsIn (f x) (map f xs)
+pub in_map : (f : Observed → Observed) (x : Observed) (xs : List Observed) → IsIn x xs → IsIn (f x) (map f xs)
 in_map f x [] h = h
 in_map f x (y ∷ ys) h = elim h [ inl e ↦ inl (ap f e) | inr k ↦ inr (in_map f x ys k) ]
 
-of_map : (f : Observed → Observed) (y : Observed) (xs : List Observed) → IsIn y (map f xs) → (x : Observed) × IsIn x xs × (y ≡ f x)
+pub of_map : (f : Observed → Observed) (y : Observed) (xs : List Observed) → IsIn y (map f xs) → (x : Observed) × IsIn x xs × (y ≡ f x)
 of_map f y [] h = absurd h
 of_map f y (x ∷ xs) h = elim h [
   | inl e ↦ (x, inl refl, e)

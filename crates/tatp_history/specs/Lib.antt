@@ -10,3 +10,4 @@ pub mod SubscriberEvents
 pub mod Outcomes
 pub mod Turns
 pub mod Remaining
+pub mod Cleared

@@ -1,6 +1,7 @@
 //! What is proved of the definitions. Nothing runs here: a clause is the theorem.
 ghost use Rattle.std.specs.Prelude.{◌≡◌, ◌↔◌, ℕ, suc, true, List, [], ◌++◌, length};
 ghost use Rattle.tatp_tables.specs.Database.{Database, of_subscriber};
+ghost use Rattle.tatp_homes.specs.Home.{SubscriberRows, IsHome};
 ghost use Rattle.tatp_procs.specs.declared.call.Call.{Call};
 ghost use Rattle.tatp_procs.specs.declared.reply.Reply.{Reply};
 ghost use Rattle.tatp_procs.specs.Order.{in_order};
@@ -9,9 +10,10 @@ ghost use Rattle.tatp_procs.specs.Consistent.{IsConsistent};
 ghost use Rattle.tatp_history.specs.declared.event.Event.{Event};
 ghost use Rattle.tatp_history.specs.declared.line.Line.{Line};
 ghost use Rattle.tatp_history.specs.declared.observed.Observed.{Observed};
-ghost use Rattle.tatp_history.specs.Histories.{MayHaveReply, AreAnsweredInOrder, IsStrictlySerializable, rows_after, IsStrictlySerializableTo};
+ghost use Rattle.tatp_history.specs.Histories.{MayHaveReply, AreAskedApart, AreAnsweredInOrder, IsStrictlySerializable, rows_after, IsStrictlySerializableTo};
 ghost use Rattle.tatp_history.specs.HistoryLines.{calls_of, AreAcceptedLines};
 ghost use Rattle.tatp_history.specs.Changes.{LeavesRows, changes_nothing};
+ghost use Rattle.tatp_history.specs.Cleared.{cleared_call, cleared_calls, cleared_rows, IsCleared};
 ghost use Rattle.tatp_history.specs.Outcomes.{without_aborted, answered_alone};
 ghost use Rattle.tatp_history.specs.Turns.{AreInTurn, lines_in_turn, calls_made, replies_had};
 ghost use Rattle.tatp_history.specs.Locality.{AreInTime, AreAccepted, AreCalls, calls_on, FailWithout, IsSerializableAtEach, IsSerializableToEach};
@@ -161,4 +163,27 @@ pub fn histories_may_be_cut_where_nothing_is_open()
         (λ c. IsStrictlySerializableTo c.rows (c.opened ++ asked_in second) after)) }
     ensures unknown { (u : Database) (first : List Event) (c : Configuration)
         → TimesRise first → HaveEnds first → Lead first (starting u) c → AreUnanswered c.opened }
+{}
+
+/// No transaction reads data_a, and none inserts or deletes a facility. So a call that sets bit_1
+/// and data_a may be taken for one that sets bit_1 alone, from rows with data_a cleared: each call
+/// has the same reply and leaves the same rows but for data_a, and calls are strictly serializable
+/// exactly where those are. The rows of a home are cleared by one change.
+pub fn data_a_is_never_read()
+    ensures replies { (u v : Database) (call : Call)
+        → IsCleared u v
+        → (transaction (cleared_call v.facilities call) v).reply ≡ (transaction call u).reply }
+    ensures rows { (u v : Database) (call : Call)
+        → IsCleared u v
+        → IsCleared (transaction call u).database
+        (transaction (cleared_call v.facilities call) v).database }
+    ensures facilities { (u v : Database) (call : Call)
+        → IsCleared u v
+        → (transaction (cleared_call v.facilities call) v).database.facilities ≡ v.facilities }
+    ensures serializable { (u v : Database) (calls : List Observed)
+        → IsCleared u v → AreAskedApart calls
+        → (IsStrictlySerializable v (cleared_calls v.facilities calls)
+        ↔ IsStrictlySerializable u calls) }
+    ensures homes { (home : SubscriberRows)
+        → IsHome home → IsCleared home.tables (cleared_rows home.tables home.s_id) }
 {}

@@ -27,7 +27,7 @@ use Rattle.tatp_linearization.specs.Possible.{NeedMore}
 use Rattle.tatp_linearization.specs.Reached.{AreOfSubscriber, AreReached}
 use Rattle.tatp_linearization.specs.Single.{events_alone}
 use Rattle.tatp_linearization.proofs.CutLaws.{asked_by, both_by, by_append, none_by, first_rises}
-use Rattle.tatp_linearization.proofs.FollowLaws.{some_explain}
+use Rattle.tatp_linearization.proofs.SearchedLaws.{reached_explained}
 use Rattle.tatp_linearization.proofs.SingleLaws.{alone_answered}
 use Rattle.tatp_judge.specs.declared.window.Window.{Window}
 use Rattle.tatp_judge.specs.Verdicts.{NeedMoreBy}
@@ -152,7 +152,7 @@ module _ (u : Database) (most s : ℕ) (lines : List Line) (w : Window) (is : Is
 
   -- ---- a call that overlaps no other, and is answered in the last line
   past_explained : IsStrictlySerializable (of_subscriber u s) (asked_in is.before)
-  past_explained = some_explain (of_subscriber u s) is.before w.explanations.configurations.items is.reached.kept (first_rises is.before w.events.items rise_both) is.ends is.reached.some
+  past_explained = reached_explained w.explanations (of_subscriber u s) is.before is.reached (first_rises is.before w.events.items rise_both) is.ends
 
   -- so it begins before a line by which they are unexplained
   pub begins_after : (line : ℕ) → line ≤ length lines → (IsExplainedBy u s lines line → ⊥) → w.from < line

@@ -220,6 +220,11 @@ pub window_there : (u : Database) (most : ℕ) (part : Part) (lines : List Line)
 window_there u most part lines after i old now w is so_far lt at unmarked =
     kept_open u most (suc i) lines w (is.noted.windows_are i w (so_far.later i w (omega arith) (found_at now.windows.items i w lt at))) unmarked
 
+-- the rows may be asked for of its window
+pub exact_there : (u : Database) (most : ℕ) (part : Part) (lines : List Line) (after : Database) (i : ℕ) (old now : Judge) (w : Window) → HasFollowed u most lines old → LeavesSoFar u most part lines after i old now → i < length now.windows.items → w ≡ get_or now.windows.items i w → w.aside ≡ false → w.explanations.exact ≡ old.exact
+exact_there u most part lines after i old now w is so_far lt at unmarked =
+    is.noted.read.exact_are i w (so_far.later i w (omega arith) (found_at now.windows.items i w lt at)) unmarked
+
 pub not_yet_aside : (u : Database) (most : ℕ) (part : Part) (lines : List Line) (after : Database) (i : ℕ) (old now : Judge) (w : Window) → HasFollowed u most lines old → LeavesSoFar u most part lines after i old now → i < length now.windows.items → w ≡ get_or now.windows.items i w → w.aside ≡ false → IsAside now.undecided.items (suc i) → ⊥
 not_yet_aside u most part lines after i old now w is so_far lt at unmarked own = elim (so_far.fresh (suc i) own) [
   | inl was ↦ not_aside u most lines old i w is.noted.aside (so_far.later i w (omega arith) (found_at now.windows.items i w lt at)) unmarked was

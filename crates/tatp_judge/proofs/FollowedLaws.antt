@@ -7,11 +7,13 @@ use Rattle.indexmap.specs.IndexMap.{get}
 use Rattle.tatp_tables.specs.Database.{Database, of_subscriber}
 use Rattle.tatp_numbers.specs.Listing.{Listing}
 use Rattle.tatp_history.specs.declared.line.Line.{Line}
+use Rattle.tatp_history.specs.declared.event.Event.{Event}
 use Rattle.tatp_history.specs.declared.observed.Outcome.{Outcome}
 use Rattle.tatp_history.specs.Histories.{IsStrictlySerializable}
 use Rattle.tatp_history.specs.HistoryLines.{calls_of}
 use Rattle.tatp_history.specs.SubscriberEvents.{NothingIsOpen, no_calls, opened_after}
 use Rattle.tatp_history.specs.Locality.{calls_on, FailsWithout, FailWithout}
+use Rattle.tatp_linearization.specs.declared.explanations.Explanations.{Explanations}
 use Rattle.tatp_linearization.specs.declared.explanations.Standing.{Standing}
 use Rattle.tatp_linearization.specs.declared.explanations.Standing.TheVariants.{Explained, Unexplained, Undecided}
 use Rattle.tatp_judge.specs.declared.asked.Asked.{Asked}
@@ -19,10 +21,10 @@ use Rattle.tatp_judge.specs.declared.judge.Judge.{Judge}
 use Rattle.tatp_judge.specs.declared.window.Window.{Window}
 use Rattle.tatp_judge.specs.Asked.{asked_in_all}
 use Rattle.tatp_judge.specs.Aside.{AreSetAside, SetsAside}
-use Rattle.tatp_judge.specs.Followed.{Forgets, HasRead, HasNoted, HasFollowed, EndsAs, EndsOn, IsSearchable}
+use Rattle.tatp_judge.specs.Followed.{AreAllExact, Forgets, HasRead, HasNoted, HasFollowed, EndsAs, EndsOn, IsSearchable}
 use Rattle.tatp_judge.specs.Population.{IsDirectoryOf}
 use Rattle.tatp_judge.specs.Searching.{ReleasesSome}
-use Rattle.tatp_judge.specs.Steps.{AreEach, ClosesAt}
+use Rattle.tatp_judge.specs.Steps.{AreEach, ClosesAt, NotesLine}
 use Rattle.tatp_judge.specs.Verdicts.{AreExplainedWhereClosed, IsAside, IsLegalBut, NeedMoreBy}
 use Rattle.tatp_judge.specs.Windows.{AreCounted, IsForgotten, IsKept, IsWindowAfter, IsExplainedBy}
 use Rattle.tatp_judge.proofs.AsideLaws.{kept_counted, kept_few, kept_open, not_aside, one_more_aside, still_aside}
@@ -39,14 +41,40 @@ ends_on u lines asked s_id outcome e ends = record { some = ends.some; none = en
 fewer_none : (u : Database) (lines : List Line) (k : ℕ) → FailWithout u (calls_of lines) → FailWithout u (calls_of (take k lines))
 fewer_none u lines k none = first_fail u (take k lines) (drop k lines) (subst (λ ls. FailWithout u (calls_of ls)) (sym (parts k lines)) none)
 
-pub still_read : (u : Database) (lines : List Line) (old new : Judge) → HasRead u lines old → new.directory ≡ old.directory → length new.windows.items ≡ length old.windows.items → new.number ≡ old.number → HasRead u lines new
-still_read u lines old new read directory count number = record {
+pub still_read : (u : Database) (lines : List Line) (old new : Judge) → HasRead u lines old → new.directory ≡ old.directory → length new.windows.items ≡ length old.windows.items → new.number ≡ old.number → AreAllExact new → HasRead u lines new
+still_read u lines old new read directory count number exact = record {
   consistent = read.consistent;
   directory_is = subst (λ n. IsDirectoryOf u n new.directory) (sym count) (subst (λ (d : Listing). IsDirectoryOf u (length old.windows.items) d) (sym directory) read.directory_is);
   number_is = number ∙ read.number_is;
   accepted = read.accepted;
   room = read.room;
+  exact_are = exact;
 }
+
+-- each window that isn't set aside was one that isn't, and is searched as before
+pub still_exact : (Stands : ℕ → Window → Window → Type 0) (old new : Judge) → new.exact ≡ old.exact → AreEach Stands old.windows.items new.windows.items
+    → ((place : ℕ) (w after : Window) → Stands place w after → after.aside ≡ false → (w.aside ≡ false) × (after.explanations.exact ≡ w.explanations.exact)) → AreAllExact old → AreAllExact new
+still_exact Stands old new same each stands are place after at still =
+    let found = each.each place after at in
+    let was = stands place found.0 after found.2 still in
+    was.1 ∙ (are place found.0 found.1 was.0 ∙ sym same)
+
+pub closing_exact : (s_id number : ℕ) (standing : Standing) (place : ℕ) (w after : Window) → ClosesAt s_id number standing place w after → after.aside ≡ false → (w.aside ≡ false) × (after.explanations.exact ≡ w.explanations.exact)
+closing_exact s_id number standing place w after h still = elim h [
+  | inl k ↦ (sym k.1.aside_is ∙ still, k.1.exact_is)
+  | inr k ↦ (ap (λ (v : Window). v.aside) (sym k.1) ∙ still, ap (λ (v : Window). v.explanations.exact) k.1)
+]
+
+pub setting_exact : (s_id place : ℕ) (w after : Window) → SetsAside s_id place w after → after.aside ≡ false → (w.aside ≡ false) × (after.explanations.exact ≡ w.explanations.exact)
+setting_exact s_id place w after h still = elim h [
+  | inl k ↦ absurd (false≢true (sym still ∙ k.1.aside_is))
+  | inr k ↦ (ap (λ (v : Window). v.aside) (sym k.1) ∙ still, ap (λ (v : Window). v.explanations.exact) k.1)
+]
+
+pub noting_exact : (one : Option ℕ) (asks : List Event) (number : ℕ) (line : Line) (w after : Window) → NotesLine one asks number line w after → after.aside ≡ false → (w.aside ≡ false) × (after.explanations.exact ≡ w.explanations.exact)
+noting_exact one asks number line w after h still =
+    let was = sym h.aside_is ∙ still in
+    (was, ap (λ (e : Explanations). e.exact) (h.kept was).explanations_are)
 
 -- a window that closes keeps its mark
 closing_marks : (s_id number : ℕ) (standing : Standing) (place : ℕ) (w after : Window) → ClosesAt s_id number standing place w after → after.aside ≡ w.aside
@@ -77,10 +105,13 @@ module _ (u : Database) (most : ℕ) (lines : List Line) (s_id : ℕ) (old : Jud
   aside_then : (standing : Standing) (new : Judge) → new.undecided.items ≡ old.undecided.items → AreEach (ClosesAt s_id old.number standing) old.windows.items new.windows.items → AreSetAside u most lines new
   aside_then standing new same closes = still_aside u most lines lines old new (ClosesAt s_id old.number standing) noted.aside same closes (closing_marks s_id old.number standing) noted.aside.undecided
 
-  pub goes_on : (new : Judge) → new.directory ≡ old.directory → new.number ≡ old.number → new.asked ≡ old.asked → new.undecided.items ≡ old.undecided.items → Forgets old (Some s_id) → AreEach (ClosesAt s_id old.number Explained) old.windows.items new.windows.items → HasFollowed u most lines new
-  goes_on new directory number asked_same same forgets closes = record {
+  exact_then : (standing : Standing) (new : Judge) → new.exact ≡ old.exact → AreEach (ClosesAt s_id old.number standing) old.windows.items new.windows.items → AreAllExact new
+  exact_then standing new same closes = still_exact (ClosesAt s_id old.number standing) old new same closes (closing_exact s_id old.number standing) noted.read.exact_are
+
+  pub goes_on : (new : Judge) → new.directory ≡ old.directory → new.number ≡ old.number → new.exact ≡ old.exact → new.asked ≡ old.asked → new.undecided.items ≡ old.undecided.items → Forgets old (Some s_id) → AreEach (ClosesAt s_id old.number Explained) old.windows.items new.windows.items → HasFollowed u most lines new
+  goes_on new directory number exact asked_same same forgets closes = record {
     noted = record {
-      read = still_read u lines old new noted.read directory closes.count number;
+      read = still_read u lines old new noted.read directory closes.count number (exact_then Explained new exact closes);
       asked_are = subst (λ m. (client : ℕ) → get nat_eq m client ≡ asked_in_all u lines client) (sym asked_same) noted.asked_are;
       windows_are = λ place w h.
           let found = closes.each place w h in
@@ -101,9 +132,9 @@ module _ (u : Database) (most : ℕ) (lines : List Line) (s_id : ℕ) (old : Jud
   }
 
   -- where its window is unexplained
-  pub unexplained : (new : Judge) → new.directory ≡ old.directory → new.number ≡ old.number → new.undecided.items ≡ old.undecided.items → s_id ≤ length old.windows.items → AreEach (ClosesAt s_id old.number Unexplained) old.windows.items new.windows.items → IsSearchable u most lines true (Some s_id) new
-  unexplained new directory number same last closes = record {
-    read = still_read u lines old new noted.read directory closes.count number;
+  pub unexplained : (new : Judge) → new.directory ≡ old.directory → new.number ≡ old.number → new.exact ≡ old.exact → new.undecided.items ≡ old.undecided.items → s_id ≤ length old.windows.items → AreEach (ClosesAt s_id old.number Unexplained) old.windows.items new.windows.items → IsSearchable u most lines true (Some s_id) new
+  unexplained new directory number exact same last closes = record {
+    read = still_read u lines old new noted.read directory closes.count number (exact_then Unexplained new exact closes);
     windows_are = λ place w h.
         let found = closes.each place w h in
         elim found.2 [
@@ -176,11 +207,12 @@ module _ (u : Database) (most : ℕ) (lines : List Line) (s_id : ℕ) (old : Jud
         | inr k ↦ absurd (k.0 same)
       ]
 
-  pub goes_on_without : (mid new : Judge) → s_id ≤ length old.windows.items → Forgets old (Some s_id) → mid.directory ≡ old.directory → mid.number ≡ old.number → mid.asked ≡ old.asked → mid.undecided.items ≡ old.undecided.items → AreEach (ClosesAt s_id old.number Undecided) old.windows.items mid.windows.items
-      → new.directory ≡ mid.directory → new.number ≡ mid.number → new.asked ≡ mid.asked → new.undecided.items ≡ mid.undecided.items ++ record { line = mid.number; s_id = s_id } ∷ [] → AreEach (SetsAside s_id) mid.windows.items new.windows.items → HasFollowed u most lines new
-  goes_on_without mid new last forgets mid_directory mid_number mid_asked mid_undecided closes directory number asked undecided sets = record {
+  pub goes_on_without : (mid new : Judge) → s_id ≤ length old.windows.items → Forgets old (Some s_id) → mid.directory ≡ old.directory → mid.number ≡ old.number → mid.exact ≡ old.exact → mid.asked ≡ old.asked → mid.undecided.items ≡ old.undecided.items → AreEach (ClosesAt s_id old.number Undecided) old.windows.items mid.windows.items
+      → new.directory ≡ mid.directory → new.number ≡ mid.number → new.exact ≡ mid.exact → new.asked ≡ mid.asked → new.undecided.items ≡ mid.undecided.items ++ record { line = mid.number; s_id = s_id } ∷ [] → AreEach (SetsAside s_id) mid.windows.items new.windows.items → HasFollowed u most lines new
+  goes_on_without mid new last forgets mid_directory mid_number mid_exact mid_asked mid_undecided closes directory number exact asked undecided sets = record {
     noted = record {
-      read = still_read u lines old new noted.read (directory ∙ mid_directory) (sets.count ∙ closes.count) (number ∙ mid_number);
+      read = still_read u lines old new noted.read (directory ∙ mid_directory) (sets.count ∙ closes.count) (number ∙ mid_number)
+          (still_exact (SetsAside s_id) mid new exact sets (setting_exact s_id) (exact_then Undecided mid mid_exact closes));
       asked_are = subst (λ m. (client : ℕ) → get nat_eq m client ≡ asked_in_all u lines client) (sym (asked ∙ mid_asked)) noted.asked_are;
       windows_are = λ place w h.
           let later = sets.each place w h in

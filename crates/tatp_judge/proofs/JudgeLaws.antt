@@ -29,6 +29,7 @@ use Rattle.tatp_judge.specs.Steps.{AreEach, AsksCall, EndsCall, IsNotedBy, Notes
 use Rattle.tatp_judge.specs.Verdicts.{IsLegalBut, IsSaid, IsUnexplained}
 use Rattle.tatp_judge.proofs.AsideLaws.{kept_counted, kept_few, kept_open, still_aside, undecided_stay}
 use Rattle.tatp_judge.proofs.ClosingLaws.{rise_both}
+use Rattle.tatp_judge.proofs.FollowedLaws.{noting_exact, still_exact}
 use Rattle.tatp_judge.proofs.NoneLaws.{MayEnd, asked_next, still_fail, fails_itself}
 use Rattle.tatp_judge.proofs.NumberLaws.{front}
 use Rattle.tatp_judge.proofs.SearchLaws.{named_within}
@@ -121,9 +122,9 @@ module _ (u : Database) where
   one_longer lines line = length-append lines (line ∷ []) ∙ omega arith
 
   pub has_noted : (most : ℕ) (lines : List Line) (line : Line) (number : ℕ) (ended : Option Asked) (old mid new after : Judge) → HasFollowed u most lines old → IsAcceptedLine line → length lines + 2 < 2 ^ 64 → number ≡ old.number + 1
-      → ended ≡ get nat_eq old.asked (client_of line) → ((c : ℕ) → get nat_eq mid.asked c ≡ cond (eqb (client_of line) c) None (get nat_eq old.asked c)) → mid.directory ≡ old.directory → mid.windows.items ≡ old.windows.items → mid.undecided.items ≡ old.undecided.items
+      → ended ≡ get nat_eq old.asked (client_of line) → ((c : ℕ) → get nat_eq mid.asked c ≡ cond (eqb (client_of line) c) None (get nat_eq old.asked c)) → mid.directory ≡ old.directory → mid.windows.items ≡ old.windows.items → mid.undecided.items ≡ old.undecided.items → after.exact ≡ old.exact
       → IsNotedBy u ended number line mid new → after.undecided.items ≡ new.undecided.items → after.directory ≡ new.directory → after.windows.items ≡ new.windows.items → ((c : ℕ) → get nat_eq after.asked c ≡ get nat_eq new.asked c) → after.number ≡ number → HasNoted u most (lines ++ line ∷ []) after
-  has_noted most lines line number ended old mid new after is accepted room next ended_is removed mid_directory mid_windows mid_undecided noted after_undecided after_directory after_windows after_asked after_number =
+  has_noted most lines line number ended old mid new after is accepted room next ended_is removed mid_directory mid_windows mid_undecided exact noted after_undecided after_directory after_windows after_asked after_number =
       let read = is.noted.read in
       let now : number ≡ suc (length lines) = omega (arith, next, read.number_is) in
       let client = client_of line in
@@ -138,6 +139,14 @@ module _ (u : Database) where
           number_is = after_number ∙ (now ∙ sym (one_longer lines line));
           accepted = accepted_next lines line read.accepted accepted;
           room = let long = one_longer lines line in omega (arith, long, room);
+          exact_are = still_exact (λ place w next. NotesLine (asked_on (suc place) ended) (asks_of u (suc place) number line) number line w next) old after exact
+              (record {
+                count = count;
+                each = λ place w h.
+                    let found = noted.windows_are.each place w (ap (λ ws. slice_get ws place) (sym after_windows) ∙ h) in
+                    (found.0, ap (λ ws. slice_get ws place) (sym mid_windows) ∙ found.1, found.2);
+              })
+              (λ place. noting_exact (asked_on (suc place) ended) (asks_of u (suc place) number line) number line) read.exact_are;
         };
         asked_are = λ c. after_asked c ∙ (noted.asked_are c
             ∙ (ap (λ (a : AskedCalls). also_asked u number a line c) mid_asked

@@ -1,5 +1,5 @@
 -- Windows by place.
-use Rattle.std.proofs.Common.{◌≡◌, ◌≢◌, ℕ, zero, suc, ◌+◌, ◌<◌, ◌⊎◌, ◌∙◌, sym, ap, subst, false, List, [], ◌∷◌, ◌++◌, length, set, get_or, slice_get, refl, arith, Some, inl, inr}
+use Rattle.std.proofs.Common.{◌≡◌, ◌≢◌, ℕ, Bool, zero, suc, ◌+◌, ◌<◌, ◌⊎◌, ◌∙◌, sym, ap, subst, false, List, [], ◌∷◌, ◌++◌, length, set, get_or, slice_get, refl, arith, Some, inl, inr}
 use Rattle.std.proofs.lemmas.List.{length-append, length-set}
 use Rattle.std.proofs.lemmas.Option.{none-some, same_Some}
 use Rattle.tatp_tables.specs.Database.{Database, of_subscriber}
@@ -81,10 +81,11 @@ window_new u most s w rows is reached own most_is from_is events_are numbers_are
 }
 
 -- those of the first homes
-pub record AreWindowsTo (most : ℕ) (homes : List SubscriberRows) (i : ℕ) (ws : List Window) : Type 0 where
+pub record AreWindowsTo (most : ℕ) (exact : Bool) (homes : List SubscriberRows) (i : ℕ) (ws : List Window) : Type 0 where
   pub count : length ws ≡ i
   pub none : (place : ℕ) (w : Window) → slice_get ws place ≡ Some w → IsForgotten w
   pub unmarked : (place : ℕ) (w : Window) → slice_get ws place ≡ Some w → w.aside ≡ false
+  pub exact_are : (place : ℕ) (w : Window) → slice_get ws place ≡ Some w → w.explanations.exact ≡ exact
   pub each : (u : Database) → AreHomesOf u homes → (place : ℕ) (w : Window) → slice_get ws place ≡ Some w → IsWindowAfter u most (suc place) [] w
 
 last_or_before : (ws : List Window) (new : Window) (place : ℕ) (w : Window) → slice_get (ws ++ new ∷ []) place ≡ Some w → (slice_get ws place ≡ Some w) ⊎ ((place ≡ length ws) × (w ≡ new))
@@ -93,17 +94,18 @@ last_or_before [] new (suc place) w h = absurd (none-some w h)
 last_or_before (x ∷ ws) new zero w h = inl h
 last_or_before (x ∷ ws) new (suc place) w h = elim (last_or_before ws new place w h) [ inl k ↦ inl k | inr k ↦ inr (ap suc k.0, k.1) ]
 
-pub none_yet : (most : ℕ) (homes : List SubscriberRows) (ws : List Window) → ws ≡ [] → AreWindowsTo most homes 0 ws
-none_yet most homes ws none = record {
+pub none_yet : (most : ℕ) (exact : Bool) (homes : List SubscriberRows) (ws : List Window) → ws ≡ [] → AreWindowsTo most exact homes 0 ws
+none_yet most exact homes ws none = record {
   count = ap length none;
   none = λ place w h. absurd (none-some w (ap (λ xs. slice_get xs place) (sym none) ∙ h));
   unmarked = λ place w h. absurd (none-some w (ap (λ xs. slice_get xs place) (sym none) ∙ h));
+  exact_are = λ place w h. absurd (none-some w (ap (λ xs. slice_get xs place) (sym none) ∙ h));
   each = λ u are place w h. absurd (none-some w (ap (λ xs. slice_get xs place) (sym none) ∙ h));
 }
 
-pub one_window_more : (most : ℕ) (homes : List SubscriberRows) (i : ℕ) (ws longer : List Window) (home : SubscriberRows) (new : Window) → AreWindowsTo most homes i ws → i < length homes → home ≡ get_or homes i home → longer ≡ ws ++ new ∷ []
-    → AreReached home.tables [] new.explanations → AreOfSubscriber home.s_id new.explanations → new.explanations.most ≡ most → new.from ≡ 0 → new.events.items ≡ [] → new.numbers.items ≡ [] → new.waiting ≡ 0 → new.aside ≡ false → AreWindowsTo most homes (i + 1) longer
-one_window_more most homes i ws longer home new are lt at is reached own most_is from_is events_are numbers_are waiting_is unmarked = record {
+pub one_window_more : (most : ℕ) (exact : Bool) (homes : List SubscriberRows) (i : ℕ) (ws longer : List Window) (home : SubscriberRows) (new : Window) → AreWindowsTo most exact homes i ws → i < length homes → home ≡ get_or homes i home → longer ≡ ws ++ new ∷ []
+    → AreReached home.tables [] new.explanations → AreOfSubscriber home.s_id new.explanations → new.explanations.most ≡ most → new.explanations.exact ≡ exact → new.from ≡ 0 → new.events.items ≡ [] → new.numbers.items ≡ [] → new.waiting ≡ 0 → new.aside ≡ false → AreWindowsTo most exact homes (i + 1) longer
+one_window_more most exact homes i ws longer home new are lt at is reached own most_is exact_is from_is events_are numbers_are waiting_is unmarked = record {
   count = ap length is ∙ (length-append ws (new ∷ []) ∙ omega (arith, are.count));
   none = λ place w h. elim (last_or_before ws new place w (ap (λ xs. slice_get xs place) (sym is) ∙ h)) [
     | inl k ↦ are.none place w k
@@ -112,6 +114,10 @@ one_window_more most homes i ws longer home new are lt at is reached own most_is
   unmarked = λ place w h. elim (last_or_before ws new place w (ap (λ xs. slice_get xs place) (sym is) ∙ h)) [
     | inl k ↦ are.unmarked place w k
     | inr k ↦ ap (λ (v : Window). v.aside) k.1 ∙ unmarked
+  ];
+  exact_are = λ place w h. elim (last_or_before ws new place w (ap (λ xs. slice_get xs place) (sym is) ∙ h)) [
+    | inl k ↦ are.exact_are place w k
+    | inr k ↦ ap (λ (v : Window). v.explanations.exact) k.1 ∙ exact_is
   ];
   each = λ u homes_are place w h. elim (last_or_before ws new place w (ap (λ xs. slice_get xs place) (sym is) ∙ h)) [
     | inl k ↦ are.each u homes_are place w k

@@ -16,7 +16,7 @@ use Rattle.tatp_judge.specs.Verdicts.{IsAside, IsUnexplained, NeedMoreBy}
 use Rattle.tatp_judge.specs.Windows.{AreCounted, IsKept, IsFirstOf, IsSpent, IsWindowAfter}
 use Rattle.tatp_judge.proofs.AsideLaws.{kept_counted, kept_few, kept_open, not_aside, one_more_aside, place_within}
 use Rattle.tatp_judge.proofs.ClosingLaws.{all_explained}
-use Rattle.tatp_judge.proofs.FollowedLaws.{still_read}
+use Rattle.tatp_judge.proofs.FollowedLaws.{setting_exact, still_exact, still_read}
 use Rattle.tatp_judge.proofs.PlaceLaws.{each_same}
 use Rattle.tatp_judge.proofs.SearchLaws.{IsLeast, least_known, least_moved, least_unknown}
 
@@ -49,13 +49,14 @@ searched_for u most lines illegal s_id known judge place w is at unmarked parts 
 
 -- ---- windows that are released
 pub releases_none : (judge : Judge) → ReleasesSome judge judge
-releases_none judge = record { directory_is = refl; asked_is = refl; number_is = refl; windows_are = each_same (λ place w after. (after ≡ w) ⊎ IsReleased w after) judge.windows.items (λ place w. inl refl) }
+releases_none judge = record { directory_is = refl; asked_is = refl; number_is = refl; exact_is = refl; windows_are = each_same (λ place w after. (after ≡ w) ⊎ IsReleased w after) judge.windows.items (λ place w. inl refl) }
 
-pub releases_more : (s_id : ℕ) (old mid new : Judge) → ReleasesSome old mid → new.directory ≡ mid.directory → new.asked ≡ mid.asked → new.number ≡ mid.number → AreEach (SetsAside s_id) mid.windows.items new.windows.items → ReleasesSome old new
-releases_more s_id old mid new is directory asked number sets = record {
+pub releases_more : (s_id : ℕ) (old mid new : Judge) → ReleasesSome old mid → new.directory ≡ mid.directory → new.asked ≡ mid.asked → new.number ≡ mid.number → new.exact ≡ mid.exact → AreEach (SetsAside s_id) mid.windows.items new.windows.items → ReleasesSome old new
+releases_more s_id old mid new is directory asked number exact sets = record {
   directory_is = directory ∙ is.directory_is;
   asked_is = asked ∙ is.asked_is;
   number_is = number ∙ is.number_is;
+  exact_is = exact ∙ is.exact_is;
   windows_are = record {
     count = sets.count ∙ is.windows_are.count;
     each = λ place w h.
@@ -72,9 +73,9 @@ releases_more s_id old mid new is directory asked number sets = record {
     ]
 
 pub searchable_more : (u : Database) (most : ℕ) (lines : List Line) (illegal : Bool) (named : Option ℕ) (place s_id : ℕ) (mid new : Judge) (v : Window) → IsSearchable u most lines illegal named mid → s_id ≡ suc place → slice_get mid.windows.items place ≡ Some v → v.aside ≡ false
-    → NeedMoreBy u most lines (length lines) (suc place) → new.directory ≡ mid.directory → new.number ≡ mid.number → new.undecided.items ≡ mid.undecided.items ++ record { line = mid.number; s_id = s_id } ∷ [] → AreEach (SetsAside s_id) mid.windows.items new.windows.items → IsSearchable u most lines illegal named new
-searchable_more u most lines illegal named place s_id mid new v is same at unmarked many directory number undecided sets = record {
-  read = still_read u lines mid new is.read directory sets.count number;
+    → NeedMoreBy u most lines (length lines) (suc place) → new.directory ≡ mid.directory → new.number ≡ mid.number → new.exact ≡ mid.exact → new.undecided.items ≡ mid.undecided.items ++ record { line = mid.number; s_id = s_id } ∷ [] → AreEach (SetsAside s_id) mid.windows.items new.windows.items → IsSearchable u most lines illegal named new
+searchable_more u most lines illegal named place s_id mid new v is same at unmarked many directory number exact undecided sets = record {
+  read = still_read u lines mid new is.read directory sets.count number (still_exact (SetsAside s_id) mid new exact sets (setting_exact s_id) is.read.exact_are);
   windows_are = λ p w h.
       let later = sets.each p w h in
       let was = is.windows_are p later.0 later.1 in

@@ -16,6 +16,12 @@ use Rattle.tatp_judge.specs.Population.{IsDirectoryOf}
 use Rattle.tatp_judge.specs.Verdicts.{IsUnexplained}
 use Rattle.tatp_judge.specs.Windows.{IsForgotten, IsKept, IsSpent}
 
+-- the rows at the end may be asked for of each window that isn't set aside, exactly where the judge
+-- was told that they may be
+abbrev pub AreAllExact : Judge → Type 0
+AreAllExact judge = (place : ℕ) (w : Window) → slice_get judge.windows.items place ≡ Some w
+    → w.aside ≡ false → w.explanations.exact ≡ judge.exact
+
 -- it has read these lines of a history that begins with the database
 pub record HasRead (u : Database) (lines : List Line) (judge : Judge) : Type 0 where
   pub consistent : IsConsistent u
@@ -23,6 +29,7 @@ pub record HasRead (u : Database) (lines : List Line) (judge : Judge) : Type 0 w
   pub number_is : judge.number ≡ length lines
   pub accepted : AreAcceptedLines lines
   pub room : length lines + 1 < 2 ^ 64
+  pub exact_are : AreAllExact judge
 
 -- open calls and windows are those after the lines
 pub record HasNoted (u : Database) (most : ℕ) (lines : List Line) (judge : Judge) : Type 0 where

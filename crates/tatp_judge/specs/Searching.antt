@@ -21,5 +21,6 @@ pub record ReleasesSome (old new : Judge) : Type 0 where
   pub directory_is : new.directory ≡ old.directory
   pub asked_is : new.asked ≡ old.asked
   pub number_is : new.number ≡ old.number
+  pub exact_is : new.exact ≡ old.exact
   pub windows_are : AreEach (λ place w after. (after ≡ w) ⊎ IsReleased w after)
       old.windows.items new.windows.items

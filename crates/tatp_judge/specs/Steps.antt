@@ -118,6 +118,7 @@ pub record ClosesHere (number : ℕ) (standing : Standing) (w after : Window) : 
   pub closes : Closes number standing w after
   pub aside_is : after.aside ≡ w.aside
   pub waiting_is : after.waiting ≡ w.waiting
+  pub exact_is : after.explanations.exact ≡ w.explanations.exact
 
 abbrev pub ClosesAt : ℕ → ℕ → Standing → ℕ → Window → Window → Type 0
 ClosesAt s_id number standing place w after =

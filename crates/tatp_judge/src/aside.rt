@@ -56,6 +56,7 @@ impl Judge {
         ensures directory { self.new.directory ≡ self.old.directory }
         ensures asked { self.new.asked ≡ self.old.asked }
         ensures number { self.new.number ≡ self.old.number }
+        ensures exact { self.new.exact ≡ self.old.exact }
     {
         self.undecided.push(Undecided {
             line: self.number,

@@ -50,6 +50,7 @@ impl Window {
         ensures only { OnOk result (self.new.only.items ≡ only_reply x.now reply.now ∷ []) }
         ensures from { self.new.from ≡ self.old.from }
         ensures numbers { self.new.numbers.items ≡ self.old.numbers.items }
+        ensures explanations { self.new.explanations ≡ self.old.explanations }
         ensures aside { self.new.aside ≡ self.old.aside }
         ensures waiting { self.new.waiting ≡ self.old.waiting }
     {
@@ -76,6 +77,7 @@ impl Window {
         requires accepted { arguments_accepted x.now.call ≡ Ok tt }
         requires none { self.old.waiting ≡ 0 }
         ensures closes { IfOk result (λ standing. Closes number standing self.old self.new) }
+        ensures exact { self.new.explanations.exact ≡ self.old.explanations.exact }
         ensures aside { self.new.aside ≡ self.old.aside }
         ensures waiting { self.new.waiting ≡ self.old.waiting }
     {
@@ -97,6 +99,7 @@ impl Window {
         requires some { 0 < length self.old.events.items }
         requires none { self.old.waiting ≡ 0 }
         ensures closes { IfOk result (λ standing. Closes number standing self.old self.new) }
+        ensures exact { self.new.explanations.exact ≡ self.old.explanations.exact }
         ensures aside { self.new.aside ≡ self.old.aside }
         ensures waiting { self.new.waiting ≡ self.old.waiting }
     {
@@ -115,6 +118,7 @@ impl Window {
         requires { (u : Database) × (most : ℕ) × (s : ℕ) × (lines : List ALine)
             × IsWindowAfter u most s lines self.old }
         ensures closes { IfOk result (λ standing. Closes number standing self.old self.new) }
+        ensures exact { self.new.explanations.exact ≡ self.old.explanations.exact }
         ensures aside { self.new.aside ≡ self.old.aside }
         ensures waiting { self.new.waiting ≡ self.old.waiting }
     {

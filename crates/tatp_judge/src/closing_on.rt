@@ -1,5 +1,5 @@
 //! The calls on a subscriber, after one of them ended.
-ghost use Rattle.std.specs.Prelude.{◌≡◌, ◌≤◌, ℕ, ◌++◌, IfOk, IfSome, Ok, None, Option, Some, List, length};
+ghost use Rattle.std.specs.Prelude.{◌≡◌, ◌≤◌, ℕ, ◌++◌, IfOk, IfSome, OnOk, Ok, None, Option, Some, List, length};
 ghost use Rattle.tatp_tables.specs.Database.{Database};
 ghost use Rattle.tatp_history.specs.declared.line.Line.{Line as ALine};
 ghost use Rattle.tatp_judge.specs.Aside.{undecided_in};
@@ -34,6 +34,7 @@ impl Judge {
             → (u : Database) (most : ℕ) (lines : List ALine)
             → HasNoted u most lines self.old → EndsOn u lines → HasKept u lines self.new }
         ensures never { result ≡ Ok (Some Verdict.Legal) → ⊥ }
+        ensures exact { OnOk result (self.new.exact ≡ self.old.exact) }
     {
         if self.windows[s_id as usize - 1].aside {
             return Ok(None);

@@ -1,5 +1,5 @@
 //! Whether some order of a history's calls leads to the rows at its end.
-ghost use Rattle.std.specs.Prelude.{ℕ, IfOk, OnOk, List};
+ghost use Rattle.std.specs.Prelude.{◌≡◌, ℕ, true, IfOk, OnOk, List};
 ghost use Rattle.tatp_tables.specs.Clean.{IsClean};
 ghost use Rattle.tatp_tables.specs.Database.{Database, database_of};
 ghost use Rattle.tatp_history.specs.declared.line.Line.{Line as ALine};
@@ -34,9 +34,10 @@ impl Window {
     fn go_to_end(&mut self, alloc: Global) -> Result<Standing, AllocError>
         requires { (u : Database) × (most : ℕ) × (s : ℕ) × (lines : List ALine)
             × IsWindowAfter u most s lines self.old }
-        ensures { IfOk result (λ standing. (u : Database) (most s : ℕ) (lines : List ALine)
+        ensures goes { IfOk result (λ standing. (u : Database) (most s : ℕ) (lines : List ALine)
             → IsWindowAfter u most s lines self.old
             → GoesToEnd u most s lines standing self.new) }
+        ensures exact { self.new.explanations.exact ≡ self.old.explanations.exact }
     {
         if self.events.is_empty() {
             return Ok(Standing::Explained);
@@ -47,8 +48,9 @@ impl Window {
     /// Whether some order of the subscriber's calls results in these rows. Calls that are open at
     /// the end may have taken effect.
     fn leads_to(&mut self, alloc: Global, rows: &Home) -> Result<Standing, AllocError>
-        requires { (u : Database) × (most : ℕ) × (lines : List ALine)
+        requires window { (u : Database) × (most : ℕ) × (lines : List ALine)
             × IsWindowAfter u most rows.now.s_id lines self.old }
+        requires exact { self.old.explanations.exact ≡ true }
         ensures { IfOk result (λ standing. (u : Database) (most : ℕ) (lines : List ALine)
             → IsWindowAfter u most rows.now.s_id lines self.old
             → SaysLeft u most rows.now.s_id lines rows.now.tables standing) }
@@ -64,7 +66,7 @@ impl Window {
 impl Judge {
     /// Whether some order of the calls that were followed leads to these rows of the part's
     /// subscribers that aren't set aside. More of them may be set aside for it. After this the
-    /// judge follows no more lines.
+    /// judge follows no more lines. It has to have been told that this would be asked.
     pub fn finish_to(
         &mut self,
         alloc: Global,
@@ -74,6 +76,7 @@ impl Judge {
         requires part { IsPart part.now }
         requires followed { (u : Database) × (most : ℕ) × (lines : List ALine)
             × HasFollowed u most lines self.old }
+        requires exact { self.old.exact ≡ true }
         requires clean { IsClean rows.now }
         ensures verdict { IfOk result (λ verdict. (u : Database) (most : ℕ) (lines : List ALine)
             → HasFollowed u most lines self.old → IsFinalVerdictOn u part.now

@@ -60,25 +60,35 @@ pub struct Judge {
     pub(crate) number: u64,
     /// The subscribers that were set aside.
     pub(crate) undecided: Vec<Undecided>,
+    /// Whether the rows at the end may be asked for.
+    pub(crate) exact: bool,
 }
 
 impl Judge {
     /// The judge of a history that begins with these rows. It keeps at most `most` configurations
-    /// of one subscriber.
-    pub fn new(alloc: Global, rows: &Rows, most: usize) -> Result<Judge, AllocError>
+    /// of one subscriber. `exact` says whether it may be asked for the rows at the end
+    /// ([`Judge::finish_to`]). Else it needn't tell apart what they alone tell apart.
+    pub fn new(
+        alloc: Global,
+        rows: &Rows,
+        most: usize,
+        exact: bool,
+    ) -> Result<Judge, AllocError>
         requires { IsClean rows.now }
         ensures followed { IfOk result (HasFollowed (database_of rows.now) most []) }
         ensures none { IfOk result (λ judge. undecided_in judge ≡ []) }
+        ensures exact { IfOk result (λ judge. judge.exact ≡ exact) }
     {
         let homes = homes(alloc, rows)?;
         let directory = Directory::of_clean(alloc, rows)?;
-        let windows = windows_of(alloc, homes.as_slice(), most)?;
+        let windows = windows_of(alloc, homes.as_slice(), most, exact)?;
         Ok(Judge {
             directory,
             windows,
             asked: none_asked(alloc),
             number: 0,
             undecided: Vec::new(alloc),
+            exact,
         })
     }
 
@@ -103,6 +113,7 @@ impl Judge {
         ensures explained { result ≡ Ok None → (u : Database) (most : ℕ) (lines : List ALine)
             → HasFollowed u most lines self.old
             → AreExplainedWhereClosed u (undecided_in self.new) (lines ++ line.now ∷ []) }
+        ensures exact { OnOk result (self.new.exact ≡ self.old.exact) }
     {
         let number = self.number + 1;
         let ended = self.asked.swap_remove(&client_of(line));
@@ -125,6 +136,7 @@ impl Judge {
             → HasFollowed u most lines self.old → HasKept u lines self.new) }
         ensures followed { OnOk result ((u : Database) (most : ℕ) (lines : List ALine)
             → HasFollowed u most lines self.old → HasFollowed u most lines self.new) }
+        ensures exact { OnOk result (self.new.exact ≡ self.old.exact) }
     {
         self.search(alloc, false, None)
     }
@@ -143,9 +155,10 @@ impl Judge {
             → w.aside ≡ false → TimesRise w.events.items }
         requires few { (place : ℕ) (w : AWindow)
             → slice_get self.old.windows.items place ≡ Some w → w.waiting + 1 < 2 ^ 64 }
-        ensures { OnOk result ((u : Database)
+        ensures noted { OnOk result ((u : Database)
             → IsDirectoryOf u (length self.old.windows.items) self.old.directory
             → IsNotedBy u ended.now number line.now self.old self.new) }
+        ensures exact { self.new.exact ≡ self.old.exact }
     {
         self.end(ended, number, line)?;
         match line {
@@ -169,6 +182,7 @@ impl Judge {
         ensures directory { self.new.directory ≡ self.old.directory }
         ensures asked { self.new.asked ≡ self.old.asked }
         ensures undecided { self.new.undecided.items ≡ self.old.undecided.items }
+        ensures exact { self.new.exact ≡ self.old.exact }
         ensures windows { OnOk result (AreEach (λ place.
             EndsCall (asked_on (suc place) ended.now) number line.now)
             self.old.windows.items self.new.windows.items) }
@@ -187,6 +201,7 @@ impl Judge {
             → slice_get self.old.windows.items place ≡ Some w → w.waiting + 1 < 2 ^ 64 }
         ensures directory { OnOk result (self.new.directory ≡ self.old.directory) }
         ensures undecided { OnOk result (self.new.undecided.items ≡ self.old.undecided.items) }
+        ensures exact { self.new.exact ≡ self.old.exact }
         ensures asked { OnOk result ((u : Database)
             → IsDirectoryOf u (length self.old.windows.items) self.old.directory
             → (other : ℕ) → get nat_eq self.new.asked other
@@ -242,6 +257,7 @@ impl Judge {
             → EndsAs u lines asked.now (end_at self.old.number line.now)
             → HasKept u lines self.new }
         ensures never { result ≡ Ok (Some Verdict.Legal) → ⊥ }
+        ensures exact { OnOk result (self.new.exact ≡ self.old.exact) }
     {
         match asked.s_id {
             Some(s_id) => self.close_on(alloc, s_id),

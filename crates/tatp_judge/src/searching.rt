@@ -75,6 +75,7 @@ impl Judge {
             → IsSearchable u most lines illegal s_id self.old
             → IsSearchable u most lines illegal s_id self.new) }
         ensures windows { OnOk result (ReleasesSome self.old self.new) }
+        ensures exact { OnOk result (self.new.exact ≡ self.old.exact) }
     {
         let number = self.number;
         let mut least = bound(number, illegal, s_id);

@@ -84,10 +84,16 @@ fn push(events: &mut Vec<Event>, event: &Event) -> Result<(), AllocError>
 
 impl Window {
     /// The window of a subscriber with this home, before any line.
-    pub(crate) fn new(alloc: Global, home: &Home, most: usize) -> Result<Window, AllocError>
+    pub(crate) fn new(
+        alloc: Global,
+        home: &Home,
+        most: usize,
+        exact: bool,
+    ) -> Result<Window, AllocError>
         ensures reached { IfOk result (λ w. AreReached home.now.tables [] w.explanations) }
         ensures own { IfOk result (λ w. AreOfSubscriber home.now.s_id w.explanations) }
         ensures most { IfOk result (λ w. w.explanations.most ≡ most) }
+        ensures exact { IfOk result (λ w. w.explanations.exact ≡ exact) }
         ensures from { IfOk result (λ w. w.from ≡ 0) }
         ensures events { IfOk result (λ w. w.events.items ≡ []) }
         ensures numbers { IfOk result (λ w. w.numbers.items ≡ []) }
@@ -95,7 +101,7 @@ impl Window {
         ensures aside { IfOk result (λ w. w.aside ≡ false) }
     {
         Ok(Window {
-            explanations: Explanations::new(alloc, home, most)?,
+            explanations: Explanations::new(alloc, home, most, exact)?,
             from: 0,
             events: Vec::new(alloc),
             numbers: Vec::new(alloc),

@@ -21,19 +21,22 @@ pub(crate) fn windows_of(
     alloc: Global,
     homes: &[Home],
     most: usize,
+    exact: bool,
 ) -> Result<Vec<Window>, AllocError>
     ensures count { IfOk result (λ windows. length windows.items ≡ length homes.now) }
     ensures none { IfOk result (λ windows. (place : ℕ) (w : AWindow)
         → slice_get windows.items place ≡ Some w → IsForgotten w) }
     ensures kept { IfOk result (λ windows. (place : ℕ) (w : AWindow)
         → slice_get windows.items place ≡ Some w → w.aside ≡ false) }
+    ensures exact { IfOk result (λ windows. (place : ℕ) (w : AWindow)
+        → slice_get windows.items place ≡ Some w → w.explanations.exact ≡ exact) }
     ensures windows { IfOk result (λ windows. (u : Database) → AreHomesOf u homes.now
         → (place : ℕ) (w : AWindow) → slice_get windows.items place ≡ Some w
         → IsWindowAfter u most (suc place) [] w) }
 {
     let mut windows = Vec::with_capacity(alloc, homes.len())?;
     'homes: for i in 0..homes.len() {
-        windows.push(Window::new(alloc, &homes[i], most)?)?;
+        windows.push(Window::new(alloc, &homes[i], most, exact)?)?;
     }
     Ok(windows)
 }

@@ -31,6 +31,7 @@ use tatp_tasks::{JudgePlan, Population};
 fn judge_of(alloc: Global, plan: &JudgePlan, rows: &Rows) -> Result<Judge, OpenError>
     requires { AreCleanWhereDrawn plan.now.population rows.now }
     ensures judge { IfOk result (HasFollowed (database_of rows.now) plan.now.most []) }
+    ensures exact { IfOk result (λ judge. judge.exact ≡ plan.now.final_rows) }
     ensures admitted { OnOk result (AreAdmitted rows.now) }
     ensures refusal { IfErr result (RefusesRows rows.now) }
 {
@@ -38,7 +39,7 @@ fn judge_of(alloc: Global, plan: &JudgePlan, rows: &Rows) -> Result<Judge, OpenE
         Population::Read => admit(alloc, rows)?,
         Population::Generated { .. } => {}
     }
-    Ok(Judge::new(alloc, rows, plan.most)?)
+    Ok(Judge::new(alloc, rows, plan.most, plan.final_rows)?)
 }
 
 /// The part of a history that is asked for.

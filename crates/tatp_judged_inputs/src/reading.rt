@@ -1,5 +1,5 @@
 //! A history, read line by line.
-ghost use Rattle.std.specs.Prelude.{◌≡◌, ◌++◌, ◌∷◌, [], ◌+◌, ℕ, List, Ok, None, Some, IfOk, IfErr, IfSome, length};
+ghost use Rattle.std.specs.Prelude.{◌≡◌, ◌++◌, ◌∷◌, [], ◌+◌, ℕ, List, Ok, None, Some, IfOk, IfErr, IfSome, OnOk, length};
 ghost use Rattle.tatp_history.specs.declared.line.Line.{Line as ALine};
 ghost use Rattle.tatp_history_lines.specs.Open.{open_call};
 ghost use Rattle.tatp_judged_inputs.specs.Views.{HasCounted, HasFollowed, IsVerdictOn, View};
@@ -72,6 +72,7 @@ impl Reading {
             → HasCounted u past self.old.counts
             → Decides u most past number text.now verdict judge.new self.old self.new)) }
         ensures never { result ≡ Ok (Some Verdict.Legal) → ⊥ }
+        ensures exact { OnOk result (judge.new.exact ≡ judge.old.exact) }
         ensures faults { IfErr result (λ fault. (past : List ALine) (more : List (List ℕ))
             → RefusesHistory (told_by self.old past number (text.now ∷ more)) fault) }
     {

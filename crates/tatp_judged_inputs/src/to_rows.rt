@@ -1,5 +1,5 @@
 //! The verdict on a history that is followed by the rows at its end.
-ghost use Rattle.std.specs.Prelude.{◌≡◌, ◌≤◌, [], ℕ, true, Ok, IfOk, IfErr, IfSome, List};
+ghost use Rattle.std.specs.Prelude.{◌≡◌, ◌≤◌, [], ℕ, true, Ok, IfOk, IfErr, IfSome, OnOk, List};
 ghost use Rattle.tatp_history.specs.declared.line.Line.{Line as ALine};
 ghost use Rattle.tatp_streams.specs.LineReading.{lines_left, Relates};
 ghost use Rattle.tatp_inputs.specs.Parts.{before_dot};
@@ -50,6 +50,7 @@ fn judge_to_dot<R: Read, P: Progress>(
         ids judgement.undecided.items ≡ ids (undecided_in judge.new)) }
     ensures some { IfOk result (λ judgement. (stakes : AStakes)
         → judgement.judged ≡ Judged.Legal stakes → 1 ≤ lines.new.number) }
+    ensures exact { OnOk result (judge.new.exact ≡ judge.old.exact) }
     ensures faults { IfErr result (λ fault.
         IfSome (lines_left lines.old (R.remaining reader.old)) (λ all.
         RefusesTexts true lines.old.number all.lines (history_fault fault))) }
@@ -97,7 +98,8 @@ fn judge_to_rows<R: Read, P: Progress>(
     reader: &mut R,
     progress: &mut P,
 ) -> Result<Judgement, JudgeFault>
-    requires { (u : View) × (most : ℕ) × IsBegun u most part.now judge.old }
+    requires exact { judge.old.exact ≡ true }
+    requires begun { (u : View) × (most : ℕ) × IsBegun u most part.now judge.old }
     ensures judged { IfOk result (λ judgement.
         IfSome (lines_left lines.old (R.remaining reader.old)) (λ all.
         (u : View) (most : ℕ) → IsBegun u most part.now judge.old → IsJudgementTo u most
@@ -138,7 +140,8 @@ pub(crate) fn judge_lines<R: Read, P: Progress>(
     reader: &mut R,
     progress: &mut P,
 ) -> Result<Judgement, JudgeFault>
-    requires { (u : View) × (most : ℕ) × IsBegun u most part.now judge.old }
+    requires exact { judge.old.exact ≡ final_rows }
+    requires begun { (u : View) × (most : ℕ) × IsBegun u most part.now judge.old }
     ensures judged { IfOk result (λ judgement.
         IfSome (lines_left lines.old (R.remaining reader.old)) (λ all.
         (u : View) (most : ℕ) → IsBegun u most part.now judge.old → IsJudgedWith final_rows u

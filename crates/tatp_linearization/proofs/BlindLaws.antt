@@ -1,29 +1,25 @@
 -- Updates of the location, one right before another: the other alone leaves the same.
-use Rattle.std.proofs.Common.{◌≡◌, ℕ, ◌⊎◌, ◌↔◌, Bool, true, false, not, ◌||◌, ◌&&◌, is_some, ◌==◌, List, [], ◌∷◌, ◌++◌, Option, Some, None, Ok, slice_index, refl, sym, ap, ◌∙◌, subst, arith, true≢false, inl, inr}
+use Rattle.std.proofs.Common.{◌≡◌, ℕ, ◌⊎◌, ◌↔◌, Bool, true, false, not, ◌||◌, ◌&&◌, is_some, ◌==◌, List, [], ◌∷◌, Option, Some, None, Ok, slice_index, refl, sym, ap, ◌∙◌, subst, arith, true≢false, inl, inr}
 use Rattle.std.specs.Option.{option_map}
 use Rattle.std.proofs.lemmas.List.{get_or-set_other, set-set}
 use Rattle.tatp_tables.specs.Tuples.{Tuple, Tuples, same, has, replace_row, remove_row, rows_of}
-use Rattle.tatp_tables.specs.Keys.{row_with_number, has_number}
+use Rattle.tatp_tables.specs.Keys.{row_at, row_with_number, has_number}
 use Rattle.tatp_tables.specs.Database.{Database}
 use Rattle.tatp_tables.specs.declared.table.Table.TheVariants.{Subscriber}
 use Rattle.tatp_tables.proofs.FindLaws.{found_in, found_passes}
 use Rattle.tatp_tables.proofs.KeyLaws.{key_is, has-found}
 use Rattle.tatp_tables.proofs.TupleLaws.{same_tuples, same_itself, same_is, has-insert_row, has-remove_row}
 use Rattle.tatp_homes.specs.Home.{SubscriberRows, IsHome}
-use Rattle.tatp_numbers.specs.declared.key.Key.TheVariants.{Number}
+use Rattle.tatp_numbers.specs.declared.key.Key.TheVariants.{Id, Number}
 use Rattle.tatp_numbers.specs.Homes.{s_id_of}
 use Rattle.tatp_procs.specs.Arguments.{arguments_accepted}
 use Rattle.tatp_procs.specs.declared.call.Call.{Call}
-use Rattle.tatp_procs.specs.Transactions.{Answer, replies, transaction, updates_location, with_vlr_location}
+use Rattle.tatp_procs.specs.Transactions.{replies, transaction, updates_location, with_vlr_location}
 use Rattle.tatp_procs.proofs.ConsistentLaws.{IsConsistent-home}
 use Rattle.tatp_procs.proofs.ConsistentAfterLaws.{keys_after}
 use Rattle.tatp_history.specs.declared.observed.Observed.{Observed}
-use Rattle.tatp_history.specs.Histories.{MayHaveReply}
-use Rattle.tatp_history.specs.Configurations.{Configuration}
-use Rattle.tatp_linearization.specs.Overwritten.{SetsLocation, IsBlind, AreButSome}
-use Rattle.tatp_linearization.proofs.SettlingLaws.{chooses_mid, shift}
-use Rattle.tatp_linearization.proofs.ButSomeLaws.{but_map}
-use Rattle.tatp_linearization.proofs.PossibleLaws.{SomeTakeEffect, some_on}
+use Rattle.tatp_linearization.specs.Overwritten.{SetsLocation, IsBlind}
+use Rattle.tatp_linearization.proofs.KindLaws.{facilities_alike}
 
 -- ---- one row
 pub record IsOnly (r : Tuple) (rows : Tuples) : Type 0 where
@@ -118,37 +114,6 @@ module _ (u : Database) (r : Tuple) (p : IsOnly r u.subscribers) where
         after ∙ (ap (λ q. replies (record u { subscribers = q }) []) rows ∙ sym (set_row call s)),
       )
 
--- ---- updates right before another
--- updates that are left out take effect, and leave another one's answer and rows as they were
-pub blind_chain : (u : Database) (r : Tuple) → IsOnly r u.subscribers → (k : ℕ) (before xs mid : List Observed) → AreButSome (IsBlind u) k xs mid
-    → (v : Database) × SomeTakeEffect (record { rows = u; opened = before ++ xs }) (record { rows = v; opened = before ++ mid })
-    × ((call : Call) → SetsLocation u call → transaction call v ≡ transaction call u)
-blind_chain u r p k before [] mid a = (u, (0, λ i. record { rows = u; opened = before ++ a i }), λ call s. refl)
-blind_chain u r p k before (x ∷ xs) mid a = elim a [
-  | inl q ↦
-      let go = blind_chain u r p k (before ++ x ∷ []) xs q.0 q.2 in (
-        go.0,
-        subst (λ zs. SomeTakeEffect (record { rows = u; opened = zs }) (record { rows = go.0; opened = before ++ mid })) (sym (shift before x xs))
-            (subst (λ zs. SomeTakeEffect (record { rows = u; opened = (before ++ x ∷ []) ++ xs }) (record { rows = go.0; opened = zs })) (sym (shift before x q.0) ∙ ap (λ zs. before ++ zs) (sym q.1)) go.1),
-        go.2,
-      )
-  | inr q ↦
-      let s = q.1.sets in
-      let v : Database = record u { subscribers = replace_row u.subscribers r (with_vlr_location r s.location) } in
-      let is : transaction x.call u ≡ replies v [] = set_row u r p x.call s in
-      let again = set_again u r p s.location in
-      let go = blind_chain v (with_vlr_location r s.location) (only_replaced r (with_vlr_location r s.location) u.subscribers p) k before xs mid
-      (but_map (IsBlind u) (IsBlind v) (λ z b. record { sets = (again z.call b.sets).0; may = b.may }) k k (omega arith) xs mid q.2) in
-      let first : Configuration = record { rows = u; opened = before ++ x ∷ xs } in
-      let second : Configuration = record { rows = v; opened = before ++ xs } in
-      let may : MayHaveReply x.outcome (transaction x.call u).reply = subst (λ (a : Answer). MayHaveReply x.outcome a.reply) (sym is) q.1.may in
-      let one : SomeTakeEffect first second = (1, (second, (x, before ++ xs, chooses_mid before xs x, may, λ i. record { rows = (sym is i).database; opened = before ++ xs }), refl)) in (
-        go.0,
-        some_on first second (record { rows = go.0; opened = before ++ mid }) one go.1,
-        λ call t. go.2 call (again call t).0 ∙ (again call t).1,
-      )
-]
-
 -- ---- a subscriber stays there
 some_mapped : (o : Option Tuple) → is_some (option_map s_id_of o) ≡ is_some o
 some_mapped None = refl
@@ -159,14 +124,42 @@ named_after home call n is accepted =
     let after = keys_after call home.tables (Number n) (IsConsistent-home home is) accepted in
     sym (some_mapped (row_with_number (transaction call home.tables).database.subscribers n)) ∙ (ap is_some after ∙ some_mapped (row_with_number home.tables.subscribers n))
 
-pub blind_after : (home : SubscriberRows) (call : Call) → IsHome home → arguments_accepted call ≡ Ok tt → (x : Observed) → IsBlind home.tables x ↔ IsBlind (transaction call home.tables).database x
-blind_after home call is accepted x = (
-  λ b. record { sets = record { number = b.sets.number; location = b.sets.location; updates = b.sets.updates; named = named_after home call b.sets.number is accepted ∙ b.sets.named }; may = b.may },
-  λ b. record { sets = record { number = b.sets.number; location = b.sets.location; updates = b.sets.updates; named = sym (named_after home call b.sets.number is accepted) ∙ b.sets.named }; may = b.may },
-)
+id_after : (home : SubscriberRows) (call : Call) (n : ℕ) → IsHome home → arguments_accepted call ≡ Ok tt → is_some (row_at (transaction call home.tables).database.subscribers (n ∷ [])) ≡ is_some (row_at home.tables.subscribers (n ∷ []))
+id_after home call n is accepted =
+    let after = keys_after call home.tables (Id n) (IsConsistent-home home is) accepted in
+    sym (some_mapped (row_at (transaction call home.tables).database.subscribers (n ∷ []))) ∙ (ap is_some after ∙ some_mapped (row_at home.tables.subscribers (n ∷ [])))
 
--- the row of a home whose location is set
-pub set_only : (home : SubscriberRows) (call : Call) → IsHome home → SetsLocation home.tables call → (r : Tuple) × IsOnly r home.tables.subscribers
-set_only home call is s =
-    let found = named_row home.tables.subscribers s.number s.named in
-    (found.0, only_home home found.0 is (has-found (has_number s.number) home.tables.subscribers found.0 found.1))
+pub blind_after : (home : SubscriberRows) (call : Call) → IsHome home → arguments_accepted call ≡ Ok tt → (x : Observed) → IsBlind home.tables x ↔ IsBlind (transaction call home.tables).database x
+blind_after home call is accepted x =
+    let alike = facilities_alike call home.tables (IsConsistent-home home is) accepted in (
+      λ b. record {
+        sets = elim b.sets [
+          | inl l ↦ inl (record { number = l.number; location = l.location; updates = l.updates; named = named_after home call l.number is accepted ∙ l.named })
+          | inr d ↦ inr (record {
+            s_id = d.s_id;
+            bit = d.bit;
+            sf_type = d.sf_type;
+            value = d.value;
+            updates = d.updates;
+            subscriber = id_after home call d.s_id is accepted ∙ d.subscriber;
+            facility = (alike d.s_id d.sf_type).0 ∙ d.facility;
+          })
+        ];
+        may = b.may;
+      },
+      λ b. record {
+        sets = elim b.sets [
+          | inl l ↦ inl (record { number = l.number; location = l.location; updates = l.updates; named = sym (named_after home call l.number is accepted) ∙ l.named })
+          | inr d ↦ inr (record {
+            s_id = d.s_id;
+            bit = d.bit;
+            sf_type = d.sf_type;
+            value = d.value;
+            updates = d.updates;
+            subscriber = sym (id_after home call d.s_id is accepted) ∙ d.subscriber;
+            facility = sym (alike d.s_id d.sf_type).0 ∙ d.facility;
+          })
+        ];
+        may = b.may;
+      },
+    )

@@ -1,5 +1,5 @@
 -- Configurations that one stands for.
-use Rattle.std.proofs.Common.{◌≡◌, ℕ, zero, suc, ◌<◌, ◌≤◌, ◌-◌, ◌⊎◌, ◌↔◌, Bool, true, false, nat_le, cond, leb-true, leb-false, List, [], ◌∷◌, ◌++◌, length, Some, None, Ok, slice_get, remove, refl, sym, ap, ◌∙◌, subst, arith, inl, inr}
+use Rattle.std.proofs.Common.{◌≡◌, ℕ, zero, suc, ◌<◌, ◌≤◌, ◌⊎◌, ◌↔◌, Bool, true, false, nat_le, cond, leb-true, leb-false, List, [], ◌∷◌, ◌++◌, length, Some, None, Ok, slice_get, remove, refl, sym, ap, ◌∙◌, subst, arith, inl, inr}
 use Rattle.std.specs.List.{AllByRecursion, items_where_true}
 use Rattle.std.specs.List.Retain.{IsFiltered, ReturnsInTurn}
 use Rattle.tatp_tables.specs.Database.{Database}
@@ -19,17 +19,18 @@ use Rattle.tatp_linearization.specs.declared.configuration.Configuration.{Config
 use Rattle.tatp_linearization.specs.AtOnce.{AreLeft, NeedsNoPlace, TakesOne, FollowsAtOnce}
 use Rattle.tatp_linearization.specs.Possible.{AreDistinct, AreMoreThan}
 use Rattle.tatp_linearization.specs.Held.{seen, all_seen, Has, AreReady, AreApart, Takes, IsAsked, IsOldOr}
-use Rattle.tatp_linearization.specs.Overwritten.{IsBlind, AreButSome, least, without_place}
-use Rattle.tatp_linearization.specs.Covering.{StandsFor, OneStandsFor, Covers, IsOther, Opens, IsApart, From, FromOne, MayCome, MayFollow, MayBeTried, MayAnswer, IsLetGo, IsStoodOr, Gains, GainsGone, IsGone}
+use Rattle.tatp_linearization.specs.Overwritten.{IsBlind, Overwrites, AreButSome, earlier}
+use Rattle.tatp_linearization.specs.Covering.{StandsFor, OneStandsFor, Covers, IsOther, Opens, IsApart, IsLater, From, FromOne, MayCome, MayFollow, MayBeTried, MayAnswer, IsLetGo, IsStoodOr, Gains, GainsGone, IsGone}
 use Rattle.tatp_linearization.specs.Turns.{IsThere, IsOtherTime, StandsForBut, IsFewer, TakesOn, AreTriedOut, AreAnswered, AreFollowed}
 use Rattle.tatp_linearization.proofs.PlaceLaws.{all_get, all_more, all_of_get, all_remove, same_item}
-use Rattle.tatp_linearization.proofs.PossibleLaws.{some_on, one_takes, one_comes, come_none, more_than}
+use Rattle.tatp_linearization.proofs.PossibleLaws.{some_on, one_takes, come_none, more_than}
 use Rattle.tatp_linearization.proofs.AtOnceLaws.{one_settled}
 use Rattle.tatp_linearization.proofs.GoingLaws.{event_on, end_on}
 use Rattle.tatp_linearization.proofs.HeldLaws.{has_get, own_more, one_too_many, ready_after}
-use Rattle.tatp_linearization.proofs.ButSomeLaws.{but_none_left_out, but_map, but_within, but_all, but_chosen, but_put, but_left, but_left_all, left_but, left_drop, removed_length, removed_none, but_gone, but_back, get_inside, without_last, left_apart, removed_apart}
+use Rattle.tatp_linearization.proofs.ButSomeLaws.{but_none_left_out, but_map, but_by, but_split, but_all, but_chosen, but_put, but_left, left_but, removed_length, removed_none, but_gone, but_back, get_inside, left_apart, removed_apart}
 use Rattle.tatp_linearization.proofs.SettlingLaws.{left_shorter}
-use Rattle.tatp_linearization.proofs.BlindLaws.{blind_chain, blind_after, set_only}
+use Rattle.tatp_linearization.proofs.BlindLaws.{blind_after}
+use Rattle.tatp_linearization.proofs.OverwritingLaws.{overwritten_chain}
 
 -- ---- those for which one of a list stands
 pub seen_stands : (c : Held) → StandsFor c (seen c)
@@ -223,57 +224,50 @@ module _ (c d : Held) (i : ℕ) (taken : Takes c i (Some d)) (accepted : AreAcce
       let v : Database = (transaction taken.0.call c.home.tables).database in
       let same : (transaction there.call.call there.before.rows).database ≡ v = λ k. (transaction (one k).call (there.rows k)).database in
       let settled : AreLeft v there.left e.opened = subst (λ w. AreLeft w there.left e.opened) same there.takes.settled in
-      let many = without_place c.overwritten (length c.opened.items) i in
-      let opened : AreButSome F d.overwritten d.opened.items e.opened = elim taken.1.overwritten [
-        | inl p ↦ subst (λ n. AreButSome F n d.opened.items e.opened) (sym p.1) (but_left_all v F many (remove c.opened.items i) d.opened.items there.left e.opened taken.1.settled there.opened settled)
-        | inr p ↦ but_left v many F (remove c.opened.items i) d.overwritten d.opened.items there.left e.opened p there.opened settled
-      ] in
-      (there.takes.rows ∙ (same ∙ sym taken.1.rows), but_map F G (λ x f. (blind_on x f.0, f.1)) d.overwritten d.overwritten (omega arith) d.opened.items e.opened opened)
+      let opened : AreButSome F c.overwritten d.opened.items e.opened = but_left v F c.overwritten (remove c.opened.items i) d.opened.items there.left e.opened taken.1.settled there.opened settled in
+      (there.takes.rows ∙ (same ∙ sym taken.1.rows), but_map F G (λ x f. (blind_on x f.0, f.1)) c.overwritten d.overwritten taken.1.overwritten.still d.opened.items e.opened opened)
 
-  -- and back
+  -- each that may be left out then might be so before, or is overwritten by the call
+  abbrev pub IsOut : Observed → Type 0
+  IsOut x = IsBlind c.home.tables x × ((x.asked < c.overwritten) ⊎ Overwrites taken.0.call x.call)
+
+  pub out_of : (xs left : List Observed) → AllByRecursion (λ (x : Observed). x.asked < d.overwritten → IsBlind c.home.tables x → (x.asked < c.overwritten) ⊎ Overwrites taken.0.call x.call) xs
+      → AreButSome (IsBlind d.home.tables) d.overwritten xs left → AreButSome IsOut d.overwritten xs left
+  out_of xs left others but = but_by (IsBlind c.home.tables) IsOut d.overwritten d.overwritten xs left (each xs others) (but_map (IsBlind d.home.tables) (IsBlind c.home.tables) blind_back d.overwritten d.overwritten (omega arith) xs left but)
+    where
+      each : (zs : List Observed) → AllByRecursion (λ (x : Observed). x.asked < d.overwritten → IsBlind c.home.tables x → (x.asked < c.overwritten) ⊎ Overwrites taken.0.call x.call) zs
+          → AllByRecursion (λ (x : Observed). x.asked < d.overwritten → IsBlind c.home.tables x → (x.asked < d.overwritten) × IsOut x) zs
+      each [] h = tt
+      each (z ∷ zs) h = ((λ lt b. (lt, (b, h.0 lt b))), each zs h.1)
+
+  -- and back: those that the call overwrites take effect right before it
   pub taken_from : (e : Configuration) → StandsFor d e → From MayCome c e
   taken_from e stands =
       let u : Database = c.home.tables in
       let x = taken.0 in
       let v : Database = (transaction x.call u).database in
-      let F : Observed → Type 0 = IsBlind c.home.tables in
-      let but : AreButSome F d.overwritten d.opened.items e.opened = but_map (IsBlind d.home.tables) F blind_back d.overwritten d.overwritten (omega arith) d.opened.items e.opened stands.opened in
-      let rows : e.rows ≡ v = stands.rows ∙ taken.1.rows in
-      let others = remove c.opened.items i in
-      elim taken.1.overwritten [
-        | inl p ↦
-            let n : ℕ = length c.opened.items in
-            let row = set_only c.home x.call taken.1.home p.0 in
-            let mid = left_drop v F d.overwritten others d.opened.items e.opened taken.1.settled but in
-            let lt = get_inside c.opened.items i x taken.1.at in
-            let size = removed_length c.opened.items i lt in
-            let less : without_place n n i ≡ n - 1 = without_last n n i (omega arith) in
-            let fewer : length others ≤ without_place n n i = subst (λ m. length others ≤ m) (sym less) (omega (arith, size)) in
-            let put = but_put F n c.opened.items i x mid.0 taken.1.at (but_within F (length others) (without_place n n i) others mid.0 fewer mid.1) in
-            let chain = blind_chain u row.0 row.1 n [] c.opened.items put.0 put.1 in
-            let w = chain.0 in
-            let same : transaction x.call w ≡ transaction x.call u = chain.2 x.call p.0 in
-            let b : Configuration = record { rows = w; opened = put.0 } in
-            let one : TakesOne b e = (
-              x,
-              mid.0,
-              record {
-                chosen = put.2;
-                writes = taken.1.writes;
-                may = subst (λ (a : Answer). MayHaveReply x.outcome a.reply) (sym same) taken.1.may;
-                rows = rows ∙ ap (λ (a : Answer). a.database) (sym same);
-                settled = subst (λ (a : Answer). AreLeft a.database mid.0 e.opened) (sym same) mid.2;
-              },
-            ) in
-            (seen c, seen_stands c, record { calls = some_on (seen c) b e chain.1 (one_takes b e one); settled = λ _. one_settled b e one })
-        | inr p ↦
-            let many = without_place c.overwritten (length c.opened.items) i in
-            let ys = left_but v many F others d.overwritten d.opened.items e.opened p but in
-            let put = but_put F c.overwritten c.opened.items i x ys.0 taken.1.at ys.1 in
-            let b : Configuration = record { rows = u; opened = put.0 } in
-            let one : TakesOne b e = (x, ys.0, record { chosen = put.2; writes = taken.1.writes; may = taken.1.may; rows = rows; settled = ys.2 }) in
-            (b, record { rows = refl; opened = put.1 }, one_comes b e one)
-      ]
+      let k : ℕ = d.overwritten in
+      let but = out_of d.opened.items e.opened taken.1.overwritten.others stands.opened in
+      let left = left_but v IsOut k (remove c.opened.items i) d.opened.items e.opened taken.1.settled but in
+      let put = but_put IsOut k c.opened.items i x left.0 taken.1.at left.1 in
+      let both = but_split (IsBlind u) (λ z. Overwrites x.call z.call) c.overwritten k c.opened.items put.0 put.1 in
+      let chain = overwritten_chain c.home taken.1.home x.call k both.0 put.0 both.2 in
+      let w = chain.0 in
+      let same : transaction x.call w ≡ transaction x.call u = chain.2 in
+      let before : Configuration = record { rows = u; opened = both.0 } in
+      let mid : Configuration = record { rows = w; opened = put.0 } in
+      let one : TakesOne mid e = (
+        x,
+        left.0,
+        record {
+          chosen = put.2;
+          writes = taken.1.writes;
+          may = subst (λ (a : Answer). MayHaveReply x.outcome a.reply) (sym same) taken.1.may;
+          rows = stands.rows ∙ (taken.1.rows ∙ ap (λ (a : Answer). a.database) (sym same));
+          settled = subst (λ (a : Answer). AreLeft a.database left.0 e.opened) (sym same) left.2;
+        },
+      ) in
+      (before, record { rows = refl; opened = both.1 }, record { calls = some_on before mid e chain.1 (one_takes mid e one); settled = λ _. one_settled mid e one })
 
   pub taken_fewer : IsFewer c d
   taken_fewer =
@@ -296,70 +290,76 @@ module _ (c d : Held) (i : ℕ) (taken : Takes c i (Some d)) (accepted : AreAcce
   }
 
 -- ---- one call is asked
-least_most : (many size : ℕ) → least many size ≤ size
-least_most many size = elim (nat_le many size) as (λ b. nat_le many size ≡ b → cond b many size ≤ size) [
-  | true ↦ λ e. leb-true many size e
+earlier_first : (k m : ℕ) → earlier k m ≤ k
+earlier_first k m = elim (nat_le k m) as (λ b. nat_le k m ≡ b → cond b k m ≤ k) [
+  | true ↦ λ e. omega arith
+  | false ↦ λ e. let lt = leb-false k m e in omega (arith, lt)
+] refl
+
+earlier_second : (k m : ℕ) → earlier k m ≤ m
+earlier_second k m = elim (nat_le k m) as (λ b. nat_le k m ≡ b → cond b k m ≤ m) [
+  | true ↦ λ e. leb-true k m e
   | false ↦ λ e. omega arith
 ] refl
 
-least_within : (F : Observed → Type 0) (many : ℕ) (xs ys : List Observed) → AreButSome F (least many (length xs)) xs ys ↔ AreButSome F many xs ys
-least_within F many xs ys = elim (nat_le many (length xs)) as (λ b. nat_le many (length xs) ≡ b → AreButSome F (cond b many (length xs)) xs ys ↔ AreButSome F many xs ys) [
-  | true ↦ λ e. ((λ h. h), (λ h. h))
-  | false ↦ λ e. let lt = leb-false many (length xs) e in (
-    (λ h. raise xs ys many (length xs) e h),
-    (λ h. but_within F many (length xs) xs ys (omega arith) h),
-  )
-] refl
+before_both : (n k m : ℕ) → n < k → n < m → n < earlier k m
+before_both n k m first second = elim (nat_le k m) as (λ b. n < cond b k m) [ true ↦ first | false ↦ second ]
+
+-- fewer may be left out before an earlier time, and no fewer where all were asked before that
+earlier_but : (F : Observed → Type 0) (k m : ℕ) (xs ys : List Observed) → AreButSome F (earlier k m) xs ys → AreButSome F k xs ys
+earlier_but F k m xs ys a = but_map F F (λ x f. f) (earlier k m) k (earlier_first k m) xs ys a
+
+but_earlier : (F : Observed → Type 0) (k m : ℕ) (xs ys : List Observed) → AllByRecursion (λ (z : Observed). z.asked < m) xs → AreButSome F k xs ys → AreButSome F (earlier k m) xs ys
+but_earlier F k m xs ys all a = but_by F F k (earlier k m) xs ys (each xs all) a
   where
-    raise : (zs ws : List Observed) (m n : ℕ) → nat_le m n ≡ false → AreButSome F n zs ws → AreButSome F m zs ws
-    raise zs ws m n e h = let lt = leb-false m n e in but_map F F (λ x f. f) n m (omega (arith, lt)) zs ws h
+    each : (zs : List Observed) → AllByRecursion (λ (z : Observed). z.asked < m) zs → AllByRecursion (λ (z : Observed). z.asked < k → F z → (z.asked < earlier k m) × F z) zs
+    each [] h = tt
+    each (z ∷ zs) h = ((λ lt f. (before_both z.asked k m lt h.0, f)), each zs h.1)
 
-module _ (c d : Held) (x : Observed) (asked : IsAsked c x d) (over : d.overwritten ≡ least c.overwritten (length c.opened.items)) where
-  same_stands : seen d ≡ seen c → (e : Configuration) → StandsFor d e ↔ StandsFor c e
-  same_stands same e =
-      let F : Observed → Type 0 = IsBlind c.home.tables in
-      let Stands : Configuration → ℕ → Type 0 = λ b k. (e.rows ≡ b.rows) × AreButSome (IsBlind b.rows) k b.opened e.opened in
-      let law = least_within F c.overwritten c.opened.items e.opened in (
-        λ h. let k : Stands (seen c) (least c.overwritten (length c.opened.items)) = subst (Stands (seen c)) over (subst (λ (b : Configuration). Stands b d.overwritten) same (h.rows, h.opened)) in record { rows = k.0; opened = law.0 k.1 },
-        λ h.
-            let own : Stands (seen c) (least c.overwritten (length c.opened.items)) = (h.rows, law.1 h.opened) in
-            let k : Stands (seen d) d.overwritten = subst (λ n. Stands (seen d) n) (sym over) (subst (λ (b : Configuration). Stands b (least c.overwritten (length c.opened.items))) (sym same) own) in record { rows = k.0; opened = k.1 },
-      )
+module _ (c d : Held) (x : Observed) (asked : IsAsked c x d) (over : d.overwritten ≡ earlier c.overwritten x.asked) where
+  abbrev Stands : Configuration → Configuration → ℕ → Type 0
+  Stands e b k = (e.rows ≡ b.rows) × AreButSome (IsBlind b.rows) k b.opened e.opened
 
-  next_stands : seen d ≡ record { rows = c.home.tables; opened = x ∷ c.opened.items } → (e : Configuration) → StandsFor d e ↔ ((rest : List Observed) × (e ≡ record { rows = c.home.tables; opened = x ∷ rest }) × StandsFor c (record { rows = c.home.tables; opened = rest }))
-  next_stands same e =
-      let F : Observed → Type 0 = IsBlind c.home.tables in
-      let n : ℕ = least c.overwritten (length c.opened.items) in
-      let next : Configuration = record { rows = c.home.tables; opened = x ∷ c.opened.items } in
-      let Stands : Configuration → ℕ → Type 0 = λ b k. (e.rows ≡ b.rows) × AreButSome (IsBlind b.rows) k b.opened e.opened in (
-        λ h.
-            let k : Stands next n = subst (Stands next) over (subst (λ (b : Configuration). Stands b d.overwritten) same (h.rows, h.opened)) in
-            elim k.1 [
-              | inl p ↦ (p.0, (λ i. record { rows = k.0 i; opened = p.1 i }), record { rows = refl; opened = (least_within F c.overwritten c.opened.items p.0).0 p.2 })
-              | inr p ↦ let few = p.0 in let most = least_most c.overwritten (length c.opened.items) in absurd (omega (arith, few, most))
-            ],
-        λ h.
-            let own : Stands next n = ((λ i. (h.1 i).rows), inl (h.0, (λ i. (h.1 i).opened), (least_within F c.overwritten c.opened.items h.0).1 h.2.opened)) in
-            let k : Stands (seen d) d.overwritten = subst (λ m. Stands (seen d) m) (sym over) (subst (λ (b : Configuration). Stands b n) (sym same) own) in record { rows = k.0; opened = k.1 },
-      )
+  -- what the second stands for, by the rows and calls of another
+  seen_as : (b : Configuration) → seen d ≡ b → (e : Configuration) → StandsFor d e → Stands e b (earlier c.overwritten x.asked)
+  seen_as b same e h = subst (Stands e b) over (subst (λ (q : Configuration). Stands e q d.overwritten) same (h.rows, h.opened))
+
+  as_seen : (b : Configuration) → seen d ≡ b → (e : Configuration) → Stands e b (earlier c.overwritten x.asked) → StandsFor d e
+  as_seen b same e h = let k : Stands e (seen d) d.overwritten = subst (Stands e (seen d)) (sym over) (subst (λ (q : Configuration). Stands e q (earlier c.overwritten x.asked)) (sym same) h) in record { rows = k.0; opened = k.1 }
+
+  abbrev next : Configuration
+  next = record { rows = c.home.tables; opened = x ∷ c.opened.items }
 
   pub asked_from : (e : Configuration) → StandsFor d e → From (FollowsAtOnce (Asks x)) c e
   asked_from e h = elim asked.follows [
-    | inl p ↦ let own = (same_stands p.1 e).0 h in (e, own, inl (subst (λ v. NeedsNoPlace v x) (sym own.rows) p.0, refl))
-    | inr p ↦ let q = (next_stands p.1 e).0 h in (record { rows = c.home.tables; opened = q.0 }, q.2, inr (p.0, q.1))
+    | inl p ↦
+        let k = seen_as (seen c) p.1 e h in
+        (e, record { rows = k.0; opened = earlier_but (IsBlind c.home.tables) c.overwritten x.asked c.opened.items e.opened k.1 }, inl (subst (λ v. NeedsNoPlace v x) (sym k.0) p.0, refl))
+    | inr p ↦
+        let k = seen_as next p.1 e h in
+        elim k.1 [
+          | inl q ↦ (
+            record { rows = c.home.tables; opened = q.0 },
+            record { rows = refl; opened = earlier_but (IsBlind c.home.tables) c.overwritten x.asked c.opened.items q.0 q.2 },
+            inr (p.0, λ i. record { rows = k.0 i; opened = q.1 i }),
+          )
+          | inr q ↦ let lt = q.0 in let le = earlier_second c.overwritten x.asked in absurd (omega (arith, lt, le))
+        ]
   ]
 
-  pub asked_stands : (e : Configuration) → From (FollowsAtOnce (Asks x)) c e → StandsFor d e
-  asked_stands e h = elim asked.follows [
-    | inl p ↦ elim h.2 [
-      | inl q ↦ (same_stands p.1 e).1 (subst (StandsFor c) (sym q.1) h.1)
-      | inr q ↦ absurd (q.0 (subst (λ v. NeedsNoPlace v x) (sym h.1.rows) p.0))
-    ]
-    | inr p ↦ elim h.2 [
-      | inl q ↦ absurd (p.0 (subst (λ v. NeedsNoPlace v x) h.1.rows q.0))
-      | inr q ↦ (next_stands p.1 e).1 (h.0.opened, q.1 ∙ (λ i. record { rows = h.1.rows i; opened = x ∷ h.0.opened }), record { rows = refl; opened = h.1.opened })
-    ]
-  ]
+  pub asked_stands : IsLater (Asks x) c → (e : Configuration) → From (FollowsAtOnce (Asks x)) c e → StandsFor d e
+  asked_stands later e h =
+      let but = but_earlier (IsBlind c.home.tables) c.overwritten x.asked c.opened.items h.0.opened later h.1.opened in
+      elim asked.follows [
+        | inl p ↦ elim h.2 [
+          | inl q ↦ as_seen (seen c) p.1 e (ap (λ (b : Configuration). b.rows) q.1 ∙ h.1.rows, subst (λ (b : Configuration). AreButSome (IsBlind c.home.tables) (earlier c.overwritten x.asked) c.opened.items b.opened) (sym q.1) but)
+          | inr q ↦ absurd (q.0 (subst (λ v. NeedsNoPlace v x) (sym h.1.rows) p.0))
+        ]
+        | inr p ↦ elim h.2 [
+          | inl q ↦ absurd (p.0 (subst (λ v. NeedsNoPlace v x) h.1.rows q.0))
+          | inr q ↦ as_seen next p.1 e (ap (λ (b : Configuration). b.rows) q.1 ∙ h.1.rows, inl (h.0.opened, ap (λ (b : Configuration). b.opened) q.1, but))
+        ]
+      ]
 
 -- ---- what is gained at an event
 pub gains_map : (P Q R S : Configuration → Type 0) (old new : List Held) → ((d : Configuration) → P d → R d) → ((d : Configuration) → S d → Q d) → Gains P Q old new → Gains R S old new
@@ -385,16 +385,16 @@ same_sound c d asked at old new none same gains = λ e h. elim (gains.sound e h)
 ]
 
 -- a call is asked
-pub asked_followed : (c d : Held) (x : Observed) (rest : List Event) (old new : List Held) → IsAsked c x d → d.overwritten ≡ least c.overwritten (length c.opened.items) → Gains (StandsFor d) (StandsFor d) old new → AreFollowed (Asks x) rest c new
-asked_followed c d x rest old new asked over gains = λ to b stands on.
+pub asked_followed : (c d : Held) (x : Observed) (rest : List Event) (old new : List Held) → IsLater (Asks x) c → IsAsked c x d → d.overwritten ≡ earlier c.overwritten x.asked → Gains (StandsFor d) (StandsFor d) old new → AreFollowed (Asks x) rest c new
+asked_followed c d x rest old new later asked over gains = λ to b stands on.
     let next = event_on to (Asks x) rest b on in
-    (next.0, gains.found next.0 (asked_stands c d x asked over next.0 (b, stands, next.1)), next.2)
+    (next.0, gains.found next.0 (asked_stands c d x asked over later next.0 (b, stands, next.1)), next.2)
 
-pub asked_sound : (c d : Held) (x : Observed) (old new : List Held) → IsAsked c x d → d.overwritten ≡ least c.overwritten (length c.opened.items) → Gains (StandsFor d) (StandsFor d) old new
+pub asked_sound : (c d : Held) (x : Observed) (old new : List Held) → IsAsked c x d → d.overwritten ≡ earlier c.overwritten x.asked → Gains (StandsFor d) (StandsFor d) old new
     → (e : Configuration) → OneStandsFor new e → IsStoodOr old (From (MayFollow (Asks x)) c) e
 asked_sound c d x old new asked over gains = λ e h. elim (gains.sound e h) [ inl k ↦ inl k | inr k ↦ inr (asked_from c d x asked over e k) ]
 
-pub asked_many : (most : ℕ) (c d : Held) (x : Observed) (old : List Held) → IsAsked c x d → d.overwritten ≡ least c.overwritten (length c.opened.items) → AreMoreThan most (IsStoodOr old (StandsFor d)) → AreMoreThan most (IsStoodOr old (From (MayBeTried (Asks x)) c))
+pub asked_many : (most : ℕ) (c d : Held) (x : Observed) (old : List Held) → IsAsked c x d → d.overwritten ≡ earlier c.overwritten x.asked → AreMoreThan most (IsStoodOr old (StandsFor d)) → AreMoreThan most (IsStoodOr old (From (MayBeTried (Asks x)) c))
 asked_many most c d x old asked over many = more_than most (IsStoodOr old (StandsFor d)) (IsStoodOr old (From (MayBeTried (Asks x)) c)) (λ e h. elim h [
   | inl k ↦ inl k
   | inr k ↦ inr (asked_from c d x asked over e k)
@@ -441,16 +441,16 @@ covered_many most c d old covers many = more_than most (IsStoodOr old (StandsFor
 ]) many
 
 -- ---- a call that is let go
-pub gone_some : (asked : ℕ) (c d : Held) (i : ℕ) (x : Observed) → slice_get c.opened.items i ≡ Some x → x.asked ≡ asked → length c.opened.items - i ≤ c.overwritten → IsBlind c.home.tables x
-    → d.home ≡ c.home → d.opened.items ≡ remove c.opened.items i → d.overwritten ≡ c.overwritten - 1 → IsLetGo asked c (Some d)
-gone_some asked c d i x at is last blind home opened over =
+pub gone_some : (asked : ℕ) (c d : Held) (i : ℕ) (x : Observed) → slice_get c.opened.items i ≡ Some x → x.asked ≡ asked → x.asked < c.overwritten → IsBlind c.home.tables x
+    → d.home ≡ c.home → d.opened.items ≡ remove c.opened.items i → d.overwritten ≡ c.overwritten → IsLetGo asked c (Some d)
+gone_some asked c d i x at is early blind home opened over =
     let F : Observed → Type 0 = IsBlind c.home.tables in
     let others = remove c.opened.items i in
-    let n : ℕ = c.overwritten - 1 in (
+    let k : ℕ = c.overwritten in (
       λ e h. record {
         rows = h.rows ∙ ap (λ (b : SubscriberRows). b.tables) home;
-        opened = but_back F c.overwritten c.opened.items i x e.opened at last blind
-            (subst (λ (b : SubscriberRows). AreButSome (IsBlind b.tables) n others e.opened) home (subst (λ m. AreButSome (IsBlind d.home.tables) m others e.opened) over (subst (λ xs. AreButSome (IsBlind d.home.tables) d.overwritten xs e.opened) opened h.opened)));
+        opened = but_back F c.overwritten c.opened.items i x e.opened at early blind
+            (subst (λ (b : SubscriberRows). AreButSome (IsBlind b.tables) k others e.opened) home (subst (λ m. AreButSome (IsBlind d.home.tables) m others e.opened) over (subst (λ xs. AreButSome (IsBlind d.home.tables) d.overwritten xs e.opened) opened h.opened)));
       },
       ap (λ (b : SubscriberRows). b.s_id) home,
       (λ h. subst AreAccepted (sym opened) (all_remove (λ (z : Observed). arguments_accepted z.call ≡ Ok tt) c.opened.items i h)),
@@ -460,11 +460,11 @@ gone_some asked c d i x at is last blind home opened over =
           record {
             rows = h.rows ∙ ap (λ (b : SubscriberRows). b.tables) (sym home);
             opened = subst (λ (b : SubscriberRows). AreButSome (IsBlind b.tables) d.overwritten d.opened.items e.opened) (sym home)
-                (subst (λ m. AreButSome F m d.opened.items e.opened) (sym over) (subst (λ xs. AreButSome F n xs e.opened) (sym opened) gone.2));
+                (subst (λ m. AreButSome F m d.opened.items e.opened) (sym over) (subst (λ xs. AreButSome F k xs e.opened) (sym opened) gone.2));
           },
     )
 
-pub gone_none : (asked : ℕ) (c : Held) (i : ℕ) (x : Observed) → slice_get c.opened.items i ≡ Some x → x.asked ≡ asked → ((length c.opened.items - i ≤ c.overwritten) → IsBlind c.home.tables x → ⊥) → IsLetGo asked c None
+pub gone_none : (asked : ℕ) (c : Held) (i : ℕ) (x : Observed) → slice_get c.opened.items i ≡ Some x → x.asked ≡ asked → (x.asked < c.overwritten → IsBlind c.home.tables x → ⊥) → IsLetGo asked c None
 gone_none asked c i x at is other = λ opens e h none. let gone = but_gone (IsBlind c.home.tables) c.overwritten asked c.opened.items i x e.opened at is none h.opened in other gone.0 gone.1
 
 pub gone_nowhere : (asked : ℕ) (c : Held) → ((k : ℕ) (x : Observed) → slice_get c.opened.items k ≡ Some x → x.asked ≡ asked → ⊥) → IsLetGo asked c None

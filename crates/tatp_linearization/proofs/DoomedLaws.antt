@@ -116,7 +116,10 @@ stays F k (x ∷ xs) left a z other h = elim a [
 ]
 
 pub no_update : (u : Database) (x : Observed) (s : ℕ) → x.call ≡ GetSubscriberData s → IsBlind u x → ⊥
-no_update u x s reads b = let same : GetSubscriberData s ≡ UpdateLocation b.sets.number b.sets.location = sym reads ∙ b.sets.updates in cc
+no_update u x s reads b = elim b.sets [
+  | inl l ↦ let same : GetSubscriberData s ≡ UpdateLocation l.number l.location = sym reads ∙ l.updates in cc
+  | inr d ↦ let same : GetSubscriberData s ≡ UpdateSubscriberData d.s_id d.bit d.sf_type d.value = sym reads ∙ d.updates in cc
+]
 
 pub doomed_stands : (events : List Event) (c : Held) (d : Configuration) → IsDoomed events (seen c) → StandsFor c d → IsDoomed events d
 doomed_stands events c d doomed h =

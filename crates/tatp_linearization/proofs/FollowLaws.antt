@@ -15,14 +15,14 @@ use Rattle.tatp_linearization.specs.AtOnce.{FollowsAtOnce}
 use Rattle.tatp_linearization.specs.Doomed.{IsDoomed}
 use Rattle.tatp_linearization.specs.Possible.{AreMoreThan, IsPossible, NeedMore}
 use Rattle.tatp_linearization.specs.Held.{seen, AreReady, AreApart}
-use Rattle.tatp_linearization.specs.Covering.{OneStandsFor, AreEachApart, FromOne, MayBeTried}
+use Rattle.tatp_linearization.specs.Covering.{OneStandsFor, AreEachApart, AreEachLater, FromOne, MayBeTried}
 use Rattle.tatp_linearization.specs.Going.{LeadsOn, OneLeadsOn}
 use Rattle.tatp_linearization.specs.Turns.{FollowSet}
 use Rattle.tatp_linearization.specs.Reached.{AreKept}
 use Rattle.tatp_linearization.proofs.SettlingLaws.{shift}
 use Rattle.tatp_linearization.proofs.GoingLaws.{serial_to, serial_leads_on}
 use Rattle.tatp_linearization.proofs.PossibleLaws.{ArePossible, follow_possible, need_more}
-use Rattle.tatp_linearization.proofs.SerialLaws.{possible_serial, possible_apart}
+use Rattle.tatp_linearization.proofs.SerialLaws.{possible_serial, possible_apart, possible_later}
 use Rattle.tatp_linearization.proofs.CoveringLaws.{seen_stands, bare_stands}
 use Rattle.tatp_linearization.proofs.AheadLaws.{rises_on}
 use Rattle.tatp_linearization.proofs.LostLaws.{none_doomed}
@@ -66,6 +66,12 @@ pub each_apart : (u : Database) (past : List Event) (cs : List Held) → TimesRi
 each_apart u past [] rise all = tt
 each_apart u past (c ∷ cs) rise all = (possible_apart u past (seen c) rise (all (seen c) (inl (seen_stands c))).0, each_apart u past cs rise (λ d h. all d (inr h)))
 
+-- a call that is asked next is asked after those that are open in each
+pub each_later : (u : Database) (past : List Event) (event : Event) (more : List Event) (cs : List Held) → TimesRise (past ++ event ∷ more) → ArePossible u past cs → AreEachLater event cs
+each_later u past event more [] rise all = tt
+each_later u past (Asks x) more (c ∷ cs) rise all = (possible_later u past more x (seen c) rise (all (seen c) (inl (seen_stands c))).0, each_later u past (Asks x) more cs rise (λ d h. all d (inr h)))
+each_later u past (Ends asked at) more (c ∷ cs) rise all = (tt, each_later u past (Ends asked at) more cs rise (λ d h. all d (inr h)))
+
 -- these are kept where the events go on with the rest of a window
 pub record AreKeptBefore (u : Database) (past rest : List Event) (cs : List Held) : Type 0 where
   pub sound : ArePossible u past cs
@@ -94,7 +100,7 @@ kept_more Known u past event rest before after known all ready apart kept = reco
   complete = λ to more on.
       let whole : LeadsOn to (past ++ event ∷ (rest ++ more)) (starting u) = subst (λ es. LeadsOn to es (starting u)) (sym (shift past event (rest ++ more))) on in
       let one = kept.complete to more whole in
-      all.found (each_apart u past before (first_rise past (event ∷ (rest ++ more)) whole.rise) kept.sound) to (rest ++ more) (known more whole.rise) one;
+      all.found (each_apart u past before (first_rise past (event ∷ (rest ++ more)) whole.rise) kept.sound) (each_later u past event (rest ++ more) before whole.rise kept.sound) to (rest ++ more) (known more whole.rise) one;
   ready = ready;
   apart = (kept.apart.0, apart kept.apart.0 kept.apart.1);
 }

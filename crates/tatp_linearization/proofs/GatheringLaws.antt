@@ -11,7 +11,7 @@ use Rattle.tatp_linearization.specs.AtOnce.{TakesOne, FollowsAtOnce}
 use Rattle.tatp_linearization.specs.Possible.{AreMoreThan}
 use Rattle.tatp_linearization.specs.Held.{Has, AreReady, AreApart, Takes}
 use Rattle.tatp_linearization.specs.Overwritten.{IsBlind}
-use Rattle.tatp_linearization.specs.Covering.{StandsFor, OneStandsFor, IsApart, From, FromOne, MayCome, MayFollow, MayBeTried, IsStoodOr, Gains, AreEachApart}
+use Rattle.tatp_linearization.specs.Covering.{StandsFor, OneStandsFor, IsApart, From, FromOne, MayCome, MayFollow, MayBeTried, IsStoodOr, Gains, AreEachApart, IsLater, AreEachLater}
 use Rattle.tatp_linearization.specs.Turns.{IsThere, AreTriedOutAt, AreFollowed, FollowSet}
 use Rattle.tatp_linearization.proofs.PlaceLaws.{all_get, same_item, below_or_is}
 use Rattle.tatp_linearization.proofs.PossibleLaws.{come_none, until_takes, more_than}
@@ -71,7 +71,7 @@ none_and most R set many = more_than most (IsStoodOr [] (λ d. (j : ℕ) × (b :
 -- what follows on each of a set, and what was tried there
 pub record Sharing (Known : List Event → Type 0) (event : Event) (set : List Held) (i : ℕ) (after tried : List Held) : Type 0 where
   pub sound : (d : Configuration) → OneStandsFor after d → FromOne (MayFollow event) set d
-  pub followed : AreEachApart set → (rest : List Event) → Known (event ∷ rest) → (j : ℕ) (c : Held) → j < i → slice_get set j ≡ Some c → AreFollowed event rest c after
+  pub followed : AreEachApart set → AreEachLater event set → (rest : List Event) → Known (event ∷ rest) → (j : ℕ) (c : Held) → j < i → slice_get set j ≡ Some c → AreFollowed event rest c after
   pub done : AreEachApart set → (rest : List Event) → Known (event ∷ rest) → AreTriedOutAt event rest after tried
   pub tries : (d : Configuration) → OneStandsFor tried d → FromOne (MayBeTried event) set d
   pub ready : AreReady after
@@ -81,7 +81,7 @@ pub record Sharing (Known : List Event → Type 0) (event : Event) (set : List H
 pub sharing_none : (Known : List Event → Type 0) (event : Event) (set after tried : List Held) → after ≡ [] → tried ≡ [] → Sharing Known event set 0 after tried
 sharing_none Known event set after tried is none = record {
   sound = λ d h. let k : OneStandsFor [] d = subst (λ cs. OneStandsFor cs d) is h in absurd k;
-  followed = λ aparts rest known j c lt at. absurd (omega (arith, lt));
+  followed = λ aparts laters rest known j c lt at. absurd (omega (arith, lt));
   done = λ aparts rest known. nothing event rest;
   tries = λ d h. let k : OneStandsFor [] d = subst (λ cs. OneStandsFor cs d) none h in absurd k;
   ready = subst AreReady (sym is) tt;
@@ -95,16 +95,16 @@ sharing_none Known event set after tried is none = record {
 
 pub sharing_more : (Known : List Event → Type 0) (event : Event) (set : List Held) (i : ℕ) (c : Held) (before after first tried : List Held) → slice_get set i ≡ Some c → Sharing Known event set i before first
     → ((d : Configuration) → OneStandsFor before d → OneStandsFor after d) → ((d : Configuration) → OneStandsFor after d → IsStoodOr before (From (MayFollow event) c) d)
-    → (IsApart c → (rest : List Event) → Known (event ∷ rest) → AreTriedOutAt event rest before first → AreFollowed event rest c after)
+    → (IsApart c → IsLater event c → (rest : List Event) → Known (event ∷ rest) → AreTriedOutAt event rest before first → AreFollowed event rest c after)
     → (IsApart c → (rest : List Event) → Known (event ∷ rest) → AreTriedOutAt event rest before first → AreTriedOutAt event rest after tried) → ((d : Configuration) → OneStandsFor tried d → IsStoodOr first (From (MayBeTried event) c) d)
     → (AreReady before → AreReady after) → (AreApart c.home.s_id before → AreApart c.home.s_id after) → (AreApart c.home.s_id first → AreApart c.home.s_id tried) → Sharing Known event set (i + 1) after tried
 sharing_more Known event set i c before after first tried there p kept sound followed done tries readies aparts distincts = record {
   sound = λ d h. elim (sound d h) [ inl k ↦ p.sound d k | inr k ↦ from_one (MayFollow event) set i c d there k ];
-  followed = λ all rest known j b lt get. elim (below_or_is j i lt) [
-    | inl k ↦ λ to d stands on. let one = p.followed all rest known j b k get to d stands on in (one.0, kept one.0 one.1, one.2)
+  followed = λ all later rest known j b lt get. elim (below_or_is j i lt) [
+    | inl k ↦ λ to d stands on. let one = p.followed all later rest known j b k get to d stands on in (one.0, kept one.0 one.1, one.2)
     | inr e ↦
         let is : b ≡ c = same_item set i b c (subst (λ k. slice_get set k ≡ Some b) e get) there in
-        subst (λ (q : Held). AreFollowed event rest q after) (sym is) (followed (all_get IsApart set i c all there) rest known (p.done all rest known))
+        subst (λ (q : Held). AreFollowed event rest q after) (sym is) (followed (all_get IsApart set i c all there) (all_get (IsLater event) set i c later there) rest known (p.done all rest known))
   ];
   done = λ all rest known. done (all_get IsApart set i c all there) rest known (p.done all rest known);
   tries = λ d h. elim (tries d h) [ inl k ↦ p.tries d k | inr k ↦ from_one (MayBeTried event) set i c d there k ];
@@ -116,10 +116,10 @@ sharing_more Known event set i c before after first tried there p kept sound fol
 pub sharing_all : (Known : List Event → Type 0) (event : Event) (set : List Held) (i : ℕ) (after tried : List Held) → Sharing Known event set i after tried → length set ≤ i → FollowSet Known event set after
 sharing_all Known event set i after tried p le = record {
   sound = p.sound;
-  found = λ all to rest known one.
+  found = λ all later to rest known one.
       let there = stands_get set one.0 one.1 in
       let lt = there.1 in
-      p.followed all rest known there.0 there.2 (omega (arith, lt, le)) there.3 to one.0 there.4 one.2;
+      p.followed all later rest known there.0 there.2 (omega (arith, lt, le)) there.3 to one.0 there.4 one.2;
 }
 
 -- too much of what was tried

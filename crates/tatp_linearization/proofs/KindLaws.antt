@@ -204,6 +204,20 @@ accesses_commute (UpdateLocation n v) b u kind = absurd cc
 accesses_commute (InsertCallForwarding n t k e x) b u kind = absurd cc
 accesses_commute (DeleteCallForwarding n t k) b u kind = absurd cc
 
+-- ---- facilities
+-- with each call the same facilities stay there, and active
+forwarded : (call : Call) (u : Database) → kind_of call ≡ Forwardings → AreAlikeFacilities u.facilities (transaction call u).database.facilities
+forwarded call u kind = subst (AreAlikeFacilities u.facilities) (sym (ap (λ (w : Database). w.facilities) (forwardings_alike call u u kind (itself u)).1)) (λ s t. (refl, refl))
+
+pub facilities_alike : (call : Call) (u : Database) → IsConsistent u → arguments_accepted call ≡ Ok tt → AreAlikeFacilities u.facilities (transaction call u).database.facilities
+facilities_alike (GetSubscriberData s) u is accepted = (columns_alike (GetSubscriberData s) u refl is accepted).facilities
+facilities_alike (GetNewDestination s t b e) u is accepted = forwarded (GetNewDestination s t b e) u refl
+facilities_alike (GetAccessData s t) u is accepted = subst (λ (w : Database). AreAlikeFacilities u.facilities w.facilities) (sym (reading_leaves (GetAccessData s t) refl u)) (λ s t. (refl, refl))
+facilities_alike (UpdateSubscriberData s x t y) u is accepted = (columns_alike (UpdateSubscriberData s x t y) u refl is accepted).facilities
+facilities_alike (UpdateLocation n v) u is accepted = (columns_alike (UpdateLocation n v) u refl is accepted).facilities
+facilities_alike (InsertCallForwarding n t b e x) u is accepted = forwarded (InsertCallForwarding n t b e x) u refl
+facilities_alike (DeleteCallForwarding n t b) u is accepted = forwarded (DeleteCallForwarding n t b) u refl
+
 -- ---- the law
 pub same_kind : (j k : Kind) → (j ≡ k) ⊎ (j ≡ k → ⊥)
 same_kind Columns Columns = inl refl

@@ -27,10 +27,12 @@ use Rattle.tatp_linearization.specs.Cut.{events_by, AreWindow}
 use Rattle.tatp_linearization.specs.Legal.{with_call, events_with, calls_in, open_calls, all_calls, IsAmong}
 use Rattle.tatp_linearization.specs.Leaving.{without_calls, AreAcceptedCalls, AreClosed}
 use Rattle.tatp_linearization.specs.Listed.{IsListed, AreSifted}
+use Rattle.tatp_linearization.specs.Searched.{searched, searched_call, searched_events}
 use Rattle.tatp_linearization.proofs.GoingLaws.{serial_leads, serial_to}
 use Rattle.tatp_linearization.proofs.ButSomeLaws.{but_in}
 use Rattle.tatp_linearization.proofs.HeldLaws.{get_has}
 use Rattle.tatp_linearization.proofs.CoveringLaws.{stands_get}
+use Rattle.tatp_linearization.proofs.SearchedLaws.{searched_both, searched_call_of, searched_in, searched_outcome, searched_serial, searched_told, searched_window}
 use Rattle.tatp_linearization.proofs.PlacedLaws.{told_rises, told_have, told_asked, other_in, among_window}
 
 -- ---- calls among those of a window and those open before it
@@ -116,18 +118,32 @@ pub all_accepted : (cs : List Held) (events : List Event) → AreReady cs → Al
 all_accepted cs events ready accepted = all_both (open_calls cs) (calls_in (asked_in events)) (open_accepted cs ready) (window_accepted events accepted)
 
 -- ---- the replies that are left are the legal ones
-pub legal_exact : (explanations : Explanations) (u : Database) (past events : List Event) (x : Observed) (at : ℕ) (rows : List Held) (replies legal : List Reply) → AreReached u past explanations → AreWindow past events → IsIn x (asked_in events) → IsAnsweredAt at x.outcome
-    → ((c : Configuration) → Has explanations.configurations.items c → Has rows (without_calls c)) → AreClosed (all_calls explanations.configurations.items events) rows
-    → ((w : Configuration) → Has rows w → IsListed (transaction x.call w.rows).reply replies) → AreSifted explanations (λ reply. events_with (answered_with x at reply) (events_by at events)) replies legal
+pub legal_exact : (explanations : Explanations) (u : Database) (past events : List Event) (x : Observed) (at : ℕ) (rows : List Held) (replies legal : List Reply) (reached : AreReached u past explanations) → AreWindow past events → IsIn x (asked_in events) → IsAnsweredAt at x.outcome
+    → ((c : Configuration) → Has explanations.configurations.items c → Has rows (without_calls c)) → AreClosed (all_calls explanations.configurations.items (searched_events explanations.exact reached.from.facilities events)) rows
+    → ((w : Configuration) → Has rows w → IsListed (transaction (searched_call explanations.exact reached.from.facilities x.call) w.rows).reply replies) → AreSifted explanations (λ reply. events_with (answered_with x at reply) (events_by at events)) replies legal
     → (reply : Reply) → IsListed reply legal ↔ IsStrictlySerializable u (asked_in past ++ with_call (answered_with x at reply) (calls_by at (asked_in events)))
 legal_exact explanations u past events x at rows replies legal reached window there was starts closed listed sifted reply =
+    let e = explanations.exact in
+    let v = reached.from in
+    let fs = v.facilities in
     let rise = told_rises past events x at reply window there was in
     let have = told_have past events x at reply window there was in
-    let asked = told_asked past events x at reply window there was in (
+    let asked = told_asked past events x at reply window there was in
+    let x' : Observed = searched e fs x in
+    let past' : List Event = searched_events e fs past in
+    let events' : List Event = searched_events e fs events in
+    let window' : AreWindow past' events' = searched_window e fs past events window in
+    let there' : IsIn x' (asked_in events') = searched_in e fs x events there in
+    let was' : IsAnsweredAt at x'.outcome = subst (IsAnsweredAt at) (sym (searched_outcome e fs x)) was in
+    let told : List Event = events_with (answered_with x at reply) (events_by at events) in
+    let told_is : searched_events e fs (past ++ told) ≡ past' ++ events_with (answered_with x' at reply) (events_by at events') = searched_both e fs past told ∙ ap (λ es. past' ++ es) (searched_told e fs x at reply events) in (
       λ h. subst (IsStrictlySerializable u) asked (sifted.sound reply h u past reached rise have),
       λ s.
-          let on = legal_on_rows u past events x at reply explanations.configurations.items rows window there was reached.kept starts closed s in
-          elim (sifted.found reply (subst (λ r. IsListed r replies) (sym on.2) (listed on.0 on.1))) [
+          let s' : IsStrictlySerializable v (asked_in (past' ++ events_with (answered_with x' at reply) (events_by at events'))) = subst (λ es. IsStrictlySerializable v (asked_in es)) told_is
+              ((searched_serial e u v reached.begins (past ++ told) rise).0 (subst (IsStrictlySerializable u) (sym asked) s)) in
+          let on = legal_on_rows v past' events' x' at reply explanations.configurations.items rows window' there' was' reached.kept starts closed (subst (IsStrictlySerializable v) (told_asked past' events' x' at reply window' there' was') s') in
+          let here = subst (λ (call : Call). IsListed (transaction call on.0.rows).reply replies) (sym (searched_call_of e fs x)) (listed on.0 on.1) in
+          elim (sifted.found reply (subst (λ r. IsListed r replies) (sym on.2) here)) [
             | inl k ↦ k
             | inr fails ↦ absurd (fails u past reached rise have (subst (IsStrictlySerializable u) (sym asked) s))
           ],

@@ -1,5 +1,7 @@
 -- A configuration that is possible after all events is one of a serial order.
-use Rattle.std.proofs.Common.{◌≡◌, ℕ, zero, suc, ◌<◌, true, false, cond, List, [], ◌∷◌, refl, sym, subst, arith, inl, inr}
+use Rattle.std.proofs.Common.{◌≡◌, ℕ, zero, suc, ◌<◌, true, false, cond, List, [], ◌∷◌, ◌++◌, refl, sym, subst, arith, inl, inr}
+use Rattle.std.proofs.lemmas.List.{append-nil}
+use Rattle.std.specs.List.{AllByRecursion}
 use Rattle.tatp_tables.specs.Database.{Database}
 use Rattle.tatp_procs.specs.Transactions.{transaction}
 use Rattle.tatp_history.specs.declared.event.Event.{Event}
@@ -121,9 +123,16 @@ passes_early (Asks x) more rise c d h are = elim (may_take_effect x.outcome) as 
 ] h
 passes_early (Ends asked at) more rise c d h are = subst (λ (b : Configuration). AreEarly more b.opened) (sym h.1) (record { apart = are.apart; before = λ z k. (are.before z k).1 })
 
-becomes_early : (events : List Event) → TimesRise events → (c d : Configuration) → MayBecome events c d → AreEarly events c.opened → AreAskedApart d.opened
-becomes_early [] rise c d may are = (calls_early [] may.0 c d may.1 are).apart
-becomes_early (event ∷ more) rise c d may are = becomes_early more rise.1 may.3 d may.5 (passes_early event more rise may.1 may.3 may.4 (calls_early (event ∷ more) may.0 c may.1 may.2 are))
+becomes_early : (events more : List Event) → TimesRise (events ++ more) → (c d : Configuration) → MayBecome events c d → AreEarly (events ++ more) c.opened → AreEarly more d.opened
+becomes_early [] more rise c d may are = calls_early more may.0 c d may.1 are
+becomes_early (event ∷ events) more rise c d may are = becomes_early events more rise.1 may.3 d may.5 (passes_early event (events ++ more) rise may.1 may.3 may.4 (calls_early (event ∷ (events ++ more)) may.0 c may.1 may.2 are))
+
+started : (events more : List Event) (u : Database) (d : Configuration) → TimesRise (events ++ more) → MayBecome events (starting u) d → AreEarly more d.opened
+started events more u d rise may = becomes_early events more rise (starting u) d may (record { apart = tt; before = λ z k. absurd k })
 
 pub possible_apart : (u : Database) (events : List Event) (d : Configuration) → TimesRise events → MayBecome events (starting u) d → AreAskedApart d.opened
-possible_apart u events d rise may = becomes_early events rise (starting u) d may (record { apart = tt; before = λ z k. absurd k })
+possible_apart u events d rise may = (started events [] u d (subst TimesRise (sym (append-nil events)) rise) may).apart
+
+-- a call that is asked next is asked after those that are open
+pub possible_later : (u : Database) (events more : List Event) (x : Observed) (d : Configuration) → TimesRise (events ++ Asks x ∷ more) → MayBecome events (starting u) d → AllByRecursion (λ (z : Observed). z.asked < x.asked) d.opened
+possible_later u events more x d rise may = let early = started events (Asks x ∷ more) u d rise may in all_in (λ (z : Observed). z.asked < x.asked) d.opened (λ z k. (early.before z k).0)

@@ -1,10 +1,12 @@
 -- One call takes effect, and clusters right before it.
-use Rattle.std.proofs.Common.{◌≡◌, ℕ, zero, suc, ◌≤◌, Bool, true, false, cond, List, [], ◌∷◌, filter, length, Some, Ok, remove, refl, sym, ◌∙◌, ap, subst, arith, inl, inr}
+use Rattle.std.proofs.Common.{◌≡◌, ℕ, zero, suc, ◌<◌, ◌≤◌, ◌⊎◌, Bool, true, false, cond, List, [], ◌∷◌, filter, length, Some, Ok, remove, refl, sym, ◌∙◌, ap, subst, arith, inl, inr}
 use Rattle.tatp_tables.specs.Keys.{has_number}
 use Rattle.tatp_tables.specs.Database.{Database}
 use Rattle.tatp_tables.proofs.KeyLaws.{has-found}
 use Rattle.tatp_homes.specs.Home.{SubscriberRows}
 use Rattle.tatp_procs.specs.Arguments.{arguments_accepted}
+use Rattle.tatp_procs.specs.declared.call.Call.{Call}
+use Rattle.tatp_procs.specs.declared.call.Call.TheVariants.{UpdateSubscriberData, UpdateLocation}
 use Rattle.tatp_procs.specs.Transactions.{Answer, transaction}
 use Rattle.tatp_history.specs.declared.event.Event.{Event}
 use Rattle.tatp_history.specs.declared.observed.Observed.{Observed}
@@ -17,8 +19,8 @@ use Rattle.tatp_linearization.specs.declared.ahead.Ahead.{Ahead}
 use Rattle.tatp_linearization.specs.declared.configuration.Configuration.{Configuration as Held}
 use Rattle.tatp_linearization.specs.AtOnce.{FitsAtOnce, AreLeft, TakesOne}
 use Rattle.tatp_linearization.specs.Possible.{CallsTakeEffect}
-use Rattle.tatp_linearization.specs.Overwritten.{SetsLocation, IsBlind, AreButSome}
-use Rattle.tatp_linearization.specs.Held.{seen, Takes}
+use Rattle.tatp_linearization.specs.Overwritten.{SetsLocation, IsBlind, Overwrites, AreButSome}
+use Rattle.tatp_linearization.specs.Held.{Takes}
 use Rattle.tatp_linearization.specs.Covering.{StandsFor, From, MayCome}
 use Rattle.tatp_linearization.specs.Going.{LeadsOn}
 use Rattle.tatp_linearization.specs.Turns.{IsOtherTime, IsThere, IsFewer, TakesOn}
@@ -27,10 +29,11 @@ use Rattle.tatp_linearization.specs.Unseen.{AreOfOne}
 use Rattle.tatp_linearization.specs.Ahead.{LooksAhead, IsLost}
 use Rattle.tatp_linearization.specs.Clusters.{GoFirst, LosesNone}
 use Rattle.tatp_linearization.proofs.AtOnceLaws.{one_settled}
-use Rattle.tatp_linearization.proofs.BlindLaws.{named_row, blind_chain}
-use Rattle.tatp_linearization.proofs.ButSomeLaws.{but_map, but_in, but_all, left_drop}
+use Rattle.tatp_linearization.proofs.BlindLaws.{named_row, number_of}
+use Rattle.tatp_linearization.proofs.OverwritingLaws.{AreOverwrittenBy, IsNumbered, SetsItsLocation, location_step, chain}
+use Rattle.tatp_linearization.proofs.ButSomeLaws.{but_map, but_in, but_all, but_filter, but_split, but_chooses, left_but}
 use Rattle.tatp_linearization.proofs.ClusterLaws.{open_filter, loses_apart, calls_all, calls_fewer, calls_one}
-use Rattle.tatp_linearization.proofs.CoveringLaws.{seen_stands, taken_there, taken_fewer, blind_back}
+use Rattle.tatp_linearization.proofs.CoveringLaws.{taken_there, taken_fewer, IsOut, out_of}
 use Rattle.tatp_linearization.proofs.DoomedLaws.{stays, no_update}
 use Rattle.tatp_linearization.proofs.LostLaws.{none_lost}
 use Rattle.tatp_linearization.proofs.PlaceLaws.{chooses_at}
@@ -80,16 +83,22 @@ calls_put w x (suc n) c d h big others chosen left =
     let next : SomeTakeEffect mid (record { rows = d.rows; opened = go.0 }) = subst (λ v. SomeTakeEffect (record { rows = v; opened = second.0 }) (record { rows = d.rows; opened = go.0 })) rows_after go.2 in
     (go.0, go.1, some_on (record { rows = c.rows; opened = big }) mid (record { rows = d.rows; opened = go.0 }) effect next, go.3, go.4)
 
-but_chooses : (F : Observed → Type 0) (m : ℕ) (big : List Observed) (x : Observed) (others : List Observed) → length big ≤ m → Chooses big x others → (left : List Observed) → AreButSome F m others left
-    → (put : List Observed) × AreButSome F m big put × Chooses put x left
-but_chooses F m [] x others le c left a = absurd c
-but_chooses F m (y ∷ ys) x others le c left a = elim c [
-  | inl p ↦ (y ∷ left, inl (left, refl, subst (λ zs. AreButSome F m zs left) p.1 a), inl (p.0, refl))
-  | inr p ↦ let own : AreButSome F m (y ∷ p.0) left = subst (λ zs. AreButSome F m zs left) p.1 a in elim own [
-    | inl q ↦ let go = but_chooses F m ys x p.0 (omega (arith, le)) p.2 q.0 q.2 in (y ∷ go.0, inl (go.0, refl, go.1), inr (q.0, q.1, go.2))
-    | inr q ↦ let go = but_chooses F m ys x p.0 (omega (arith, le)) p.2 left q.2 in (go.0, inr (omega (arith, le), q.1, go.1), go.2)
-  ]
-]
+-- ---- with some left out
+-- calls take effect as before where some of those that stay open are left out
+pub calls_but : (F : Observed → Type 0) (k n : ℕ) (c d : Configuration) → CallsTakeEffect n c d → (left : List Observed) → AreButSome F k d.opened left
+    → (start : List Observed) × AreButSome F k c.opened start × SomeTakeEffect (record { rows = c.rows; opened = start }) (record { rows = d.rows; opened = left })
+calls_but F k zero c d h left but = (left, subst (λ (b : Configuration). AreButSome F k b.opened left) h but, (0, λ i. record { rows = (h i).rows; opened = left }))
+calls_but F k (suc n) c d h left but =
+    let one = h.1 in
+    let rest = calls_but F k n h.0 d h.2 left but in
+    let open_after : h.0.opened ≡ one.1 = ap (λ (b : Configuration). b.opened) one.4 in
+    let rows_after : h.0.rows ≡ (transaction one.0.call c.rows).database = ap (λ (b : Configuration). b.rows) one.4 in
+    let put = but_chooses F k c.opened one.0 one.1 one.2 rest.0 (subst (λ zs. AreButSome F k zs rest.0) open_after rest.1) in
+    let mid : Configuration = record { rows = (transaction one.0.call c.rows).database; opened = rest.0 } in
+    let first : Configuration = record { rows = c.rows; opened = put.0 } in
+    let effect : SomeTakeEffect first mid = one_call first mid (one.0, rest.0, put.2, one.3, refl) in
+    let next : SomeTakeEffect mid (record { rows = d.rows; opened = left }) = subst (λ v. SomeTakeEffect (record { rows = v; opened = rest.0 }) (record { rows = d.rows; opened = left })) rows_after rest.2 in
+    (put.0, put.1, some_on first mid (record { rows = d.rows; opened = left }) effect next)
 
 -- ---- filters
 filter_shorter : (test : Observed → Bool) (xs : List Observed) → length (filter test xs) ≤ length xs
@@ -99,30 +108,23 @@ filter_shorter test (x ∷ xs) = let le = filter_shorter test xs in elim (test x
   | false ↦ omega (arith, le)
 ]
 
-but_filter : (F : Observed → Type 0) (k m : ℕ) (test : Observed → Bool) (xs ys : List Observed) → length (filter test xs) ≤ m → AreButSome F k xs ys → AreButSome F m (filter test xs) (filter test ys)
-but_filter F k m test [] ys le a = subst (λ zs. AreButSome F m [] (filter test zs)) (sym a) refl
-but_filter F k m test (x ∷ xs) ys le a = elim (test x) as (λ b. test x ≡ b → length (cond b (x ∷ filter test xs) (filter test xs)) ≤ m → AreButSome F m (cond b (x ∷ filter test xs) (filter test xs)) (filter test ys)) [
-  | true ↦ λ e few. elim a [
-    | inl p ↦ inl (
-      filter test p.0,
-      ap (filter test) p.1 ∙ ap (λ b. cond b (x ∷ filter test p.0) (filter test p.0)) e,
-      but_filter F k m test xs p.0 (omega (arith, few)) p.2,
-    )
-    | inr p ↦ inr (omega (arith, few), p.1, but_filter F k m test xs ys (omega (arith, few)) p.2)
-  ]
-  | false ↦ λ e few. elim a [
-    | inl p ↦ subst (AreButSome F m (filter test xs)) (sym (ap (filter test) p.1 ∙ ap (λ b. cond b (x ∷ filter test p.0) (filter test p.0)) e)) (but_filter F k m test xs p.0 few p.2)
-    | inr p ↦ but_filter F k m test xs ys few p.2
-  ]
-] refl le
-
 -- ---- clusters before an update
 module _ (c d e : Held) (i : ℕ) (taken : Takes c i (Some d)) (accepted : AreAccepted c.opened.items) (sets : SetsLocation c.home.tables taken.0.call)
-    (home : e.home ≡ d.home) (over : e.overwritten ≡ length e.opened.items) (gone : GoFirst c.home.tables d.opened.items e.opened.items) where
+    (home : e.home ≡ d.home) (over : e.overwritten ≡ d.overwritten) (gone : GoFirst c.home.tables d.opened.items e.opened.items) where
   one : AreOfOne c.home.tables
   one = one_home c.home taken.1.home
 
-  -- they may take effect before it
+  -- calls that the update overwrites are updates of the same location
+  overwritten_here : (z : Observed) → AreOverwrittenBy c.home.tables taken.0.call z → SetsItsLocation sets.number z
+  overwritten_here z b = elim b.1 [
+    | inl o ↦
+        let same : UpdateLocation sets.number sets.location ≡ UpdateLocation o.number o.location = sym sets.updates ∙ o.first in
+        let number : o.number ≡ sets.number = cc in
+        (o.other, (o.second ∙ ap (λ m. UpdateLocation m o.other) number, b.0.may))
+    | inr o ↦ let same : UpdateLocation sets.number sets.location ≡ UpdateSubscriberData o.s_id o.bit o.sf_type o.value = sym sets.updates ∙ o.first in absurd cc
+  ]
+
+  -- they may take effect before it, and what it overwrites in between
   pub cleared_from : (q : Configuration) → StandsFor e q → From MayCome c q
   cleared_from q stands =
       let u : Database = c.home.tables in
@@ -130,25 +132,27 @@ module _ (c d e : Held) (i : ℕ) (taken : Takes c i (Some d)) (accepted : AreAc
       let v : Database = (transaction x.call u).database in
       let m : Database = gone.0 in
       let go = gone.1 in
-      let alike = go.alike x.call sets in
+      let k : ℕ = d.overwritten in
+      let O : Observed → Type 0 = IsOut c d i taken accepted in
       let others = remove c.opened.items i in
       let put = calls_put v x go.many (record { rows = u; opened = d.opened.items }) (record { rows = m; opened = e.opened.items }) go.effects c.opened.items others (chooses_at c.opened.items i x taken.1.at) taken.1.settled in
-      let big = put.0 in
-      let G : Observed → Type 0 = IsBlind m in
-      let blind : (z : Observed) → IsBlind e.home.tables z → IsBlind m z = λ z b.
-      let own = blind_back c d i taken accepted z (subst (λ (h : SubscriberRows). IsBlind h.tables z) home b) in
-      record { sets = (go.alike z.call own.sets).0; may = own.may } in
-      let but : AreButSome G e.overwritten e.opened.items q.opened = but_map (IsBlind e.home.tables) G blind e.overwritten e.overwritten (omega arith) e.opened.items q.opened stands.opened in
-      let mid = left_drop v G e.overwritten put.1 e.opened.items q.opened put.4 but in
-      let n : ℕ = length big in
-      let few : length put.1 ≤ length big = shorter big x put.1 put.3 in
-      let back = but_chooses G (length big) big x put.1 (omega arith) put.3 mid.0 (but_map G G (λ z g. g) (length put.1) (length big) few put.1 mid.0 mid.1) in
-      let number = alike.0 in
-      let row = named_row m.subscribers number.number number.named in
-      let only = one_only m.subscribers row.0 (calls_one go.many (record { rows = u; opened = d.opened.items }) (record { rows = m; opened = e.opened.items }) go.effects one) (has-found (has_number number.number) m.subscribers row.0 row.1) in
-      let chain = blind_chain m row.0 only n [] big back.0 back.1 in
-      let w = chain.0 in
-      let same : transaction x.call w ≡ transaction x.call u = chain.2 x.call alike.0 ∙ alike.1 in
+      let stood : AreButSome (IsBlind d.home.tables) d.overwritten e.opened.items q.opened = subst (λ n. AreButSome (IsBlind d.home.tables) n e.opened.items q.opened) over (subst (λ (h : SubscriberRows). AreButSome (IsBlind h.tables) e.overwritten e.opened.items q.opened) home stands.opened) in
+      let known = calls_all (λ (z : Observed). z.asked < d.overwritten → IsBlind u z → (z.asked < c.overwritten) ⊎ Overwrites x.call z.call) go.many (record { rows = u; opened = d.opened.items }) (record { rows = m; opened = e.opened.items }) go.effects taken.1.overwritten.others in
+      let but = out_of c d i taken accepted e.opened.items q.opened known stood in
+      let mid = left_but v O k put.1 e.opened.items q.opened put.4 but in
+      let back = but_chooses O k put.0 x put.1 put.3 mid.0 mid.1 in
+      let both = but_split (IsBlind u) (λ z. Overwrites x.call z.call) c.overwritten k put.0 back.0 back.1 in
+      let start = calls_but (IsBlind u) c.overwritten put.2.0 (record { rows = u; opened = c.opened.items }) (record { rows = m; opened = put.0 }) put.2.1 both.0 both.1 in
+      let alike = go.alike x.call sets in
+      let row = named_row m.subscribers alike.0.number alike.0.named in
+      let only = one_only m.subscribers row.0 (calls_one go.many (record { rows = u; opened = d.opened.items }) (record { rows = m; opened = e.opened.items }) go.effects one) (has-found (has_number alike.0.number) m.subscribers row.0 row.1) in
+      let number : alike.0.number ≡ sets.number = let both_ways : UpdateLocation alike.0.number alike.0.location ≡ UpdateLocation sets.number sets.location = sym alike.0.updates ∙ sets.updates in cc in
+      let good : IsNumbered sets.number m = record { row = row.0; only = only; number = subst (λ n. has_number n row.0 ≡ true) number (number_of row.0 m.subscribers alike.0.number only alike.0.named) } in
+      let call : Call = UpdateLocation sets.number sets.location in
+      let ran = chain call (SetsItsLocation sets.number) (IsNumbered sets.number) (location_step sets.number sets.location) m good k [] both.0 back.0
+      (but_map (AreOverwrittenBy u x.call) (SetsItsLocation sets.number) overwritten_here k k (omega arith) both.0 back.0 both.2) in
+      let w = ran.0 in
+      let same : transaction x.call w ≡ transaction x.call u = subst (λ (f : Call). transaction f w ≡ transaction f m) (sym sets.updates) ran.2 ∙ alike.1 in
       let rows : q.rows ≡ v = stands.rows ∙ (ap (λ (h : SubscriberRows). h.tables) home ∙ taken.1.rows) in
       let b : Configuration = record { rows = w; opened = back.0 } in
       let last : TakesOne b q = (
@@ -162,15 +166,9 @@ module _ (c d e : Held) (i : ℕ) (taken : Takes c i (Some d)) (accepted : AreAc
           settled = subst (λ (a : Answer). AreLeft a.database mid.0 q.opened) (sym same) mid.2;
         },
       ) in
-      let before : Configuration = record { rows = m; opened = big } in
-      (seen c, seen_stands c, record { calls = some_on (seen c) before q put.2 (some_on before b q chain.1 (one_takes b q last)); settled = λ _. one_settled b q last })
-    where
-      shorter : (zs : List Observed) (z : Observed) (rest : List Observed) → Chooses zs z rest → length rest ≤ length zs
-      shorter [] z rest h = absurd h
-      shorter (y ∷ ys) z rest h = elim h [
-        | inl p ↦ let is : length rest ≡ length ys = ap length p.1 in omega (arith, is)
-        | inr p ↦ let is : length rest ≡ suc (length p.0) = ap length p.1 in let le = shorter ys z p.0 p.2 in omega (arith, is, le)
-      ]
+      let first : Configuration = record { rows = u; opened = start.0 } in
+      let cleared : Configuration = record { rows = m; opened = both.0 } in
+      (first, record { rows = refl; opened = start.1 }, record { calls = some_on first cleared q start.2 (some_on cleared b q ran.1 (one_takes b q last)); settled = λ _. one_settled b q last })
 
   module _ (ahead : Ahead) (now : ℕ) (loses : AreAskedApart d.opened.items → LosesNone ahead now d.opened.items e.opened.items) where
     cleared_fewer : IsFewer c e
@@ -197,8 +195,7 @@ module _ (c d e : Held) (i : ℕ) (taken : Takes c i (Some d)) (accepted : AreAc
           let F : Observed → Type 0 = λ z. IsBlind d.home.tables z × IsOtherTime asked z in
           let G : Observed → Type 0 = λ z. IsBlind e.home.tables z × IsOtherTime asked z in
           let left : List Observed = filter test q.opened in
-          let all : length (filter test d.opened.items) ≤ e.overwritten = subst (λ n. length (filter test d.opened.items) ≤ n) (sym (over ∙ ap length lost.others)) (omega arith) in
-          let but : AreButSome F e.overwritten e.opened.items left = subst (λ zs. AreButSome F e.overwritten zs left) (sym lost.others) (but_filter F d.overwritten e.overwritten test d.opened.items q.opened all k.1) in
+          let but : AreButSome F e.overwritten e.opened.items left = subst (λ n. AreButSome F n e.opened.items left) (sym over) (subst (λ zs. AreButSome F d.overwritten zs left) (sym lost.others) (but_filter F d.overwritten test d.opened.items q.opened k.1)) in
           let rows_one : AreOfOne q.rows = subst AreOfOne (sym (k.0 ∙ taken.1.rows)) (one_after taken.0.call c.home.tables one) in (
             record { rows = q.rows; opened = left },
             record {

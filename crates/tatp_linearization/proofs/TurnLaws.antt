@@ -20,7 +20,7 @@ use Rattle.tatp_linearization.specs.declared.configuration.Configuration.{Config
 use Rattle.tatp_linearization.specs.AtOnce.{TakesOne}
 use Rattle.tatp_linearization.specs.Possible.{AreMoreThan}
 use Rattle.tatp_linearization.specs.Held.{AreReady, AreApart, TakeMany}
-use Rattle.tatp_linearization.specs.Overwritten.{IsBlind, AreButSome, without_place}
+use Rattle.tatp_linearization.specs.Overwritten.{IsBlind, AreButSome}
 use Rattle.tatp_linearization.specs.Covering.{StandsFor, OneStandsFor, Opens, IsApart, AreEachApart, From, FromOne, MayCome, MayAnswer, IsStoodOr, Gains, AreOf}
 use Rattle.tatp_linearization.specs.Going.{LeadsOn, OneLeadsOn}
 use Rattle.tatp_linearization.specs.Turns.{IsOtherTime, IsThere, IsFewer, TakesOn, TakesAhead, TakesTried, IsKindAt, Lists, LeadsFurther, IsServed, AreServed, AreAllServed, AreTriedOut, Grow, WentFrom, WentFromOne, GoesOn, AreAnswered}
@@ -114,7 +114,7 @@ there_at c asked j i e is there = record {
   rows = there.rows;
   takes = there.takes;
   at = subst (λ k. slice_get c.opened.items k ≡ Some there.call) is there.at;
-  opened = subst (λ k. AreButSome (λ x. IsBlind c.home.tables x × IsOtherTime asked x) (without_place c.overwritten (length c.opened.items) k) (remove c.opened.items k) there.left) is there.opened;
+  opened = subst (λ k. AreButSome (λ x. IsBlind c.home.tables x × IsOtherTime asked x) c.overwritten (remove c.opened.items k) there.left) is there.opened;
 }
 
 pub trying_none : (Known : List Event → Type 0) (kind : Option Kind) (c : Held) (asked : ℕ) (old : Lists) → Trying Known kind c asked old 0 old

@@ -1,6 +1,5 @@
--- Configurations that one stands for: open updates of the location that were overwritten may be
--- left out.
-use Rattle.std.specs.Prelude.{◌≡◌, ℕ, ◌<◌, ◌≤◌, ◌-◌, ◌⊎◌, List, [], ◌∷◌, length, Option, Some, None, slice_get}
+-- Configurations that one stands for: open calls that were overwritten may be left out.
+use Rattle.std.specs.Prelude.{◌≡◌, ℕ, ◌<◌, ◌≤◌, ◌⊎◌, List, [], ◌∷◌, length, Option, Some, None, slice_get}
 use Rattle.std.specs.List.{AllByRecursion}
 use Rattle.tatp_history.specs.declared.event.Event.{Event}
 use Rattle.tatp_history.specs.declared.event.Event.TheVariants.{Asks, Ends}
@@ -15,7 +14,7 @@ use Rattle.tatp_linearization.specs.Possible.{CallsTakeEffect}
 use Rattle.tatp_linearization.specs.Held.{seen}
 use Rattle.tatp_linearization.specs.Overwritten.{IsBlind, AreButSome}
 
--- the configuration is the one that is held, without some of its updates that were overwritten
+-- the configuration is the one that is held, without some of its calls that were overwritten
 pub record StandsFor (c : Held) (d : Configuration) : Type 0 where
   pub rows : d.rows ≡ c.home.tables
   pub opened : AreButSome (IsBlind c.home.tables) c.overwritten c.opened.items d.opened
@@ -43,8 +42,8 @@ pub record IsKept (c : Held) (i : ℕ) (d : Held) (j : ℕ) : Type 0 where
   pub inside : j < length d.opened.items
   pub first : slice_get c.opened.items i ≡ Some call
   pub second : slice_get d.opened.items j ≡ Some call
-  pub last : length d.opened.items - j ≤ d.overwritten
-      → length c.opened.items - i ≤ c.overwritten
+  pub early : call.asked < d.overwritten → IsBlind c.home.tables call
+      → call.asked < c.overwritten
 
 -- a call was asked at this time, and is open
 abbrev pub Opens : ℕ → Configuration → Type 0
@@ -56,6 +55,14 @@ IsApart c = AreAskedApart c.opened.items
 
 abbrev pub AreEachApart : List Held → Type 0
 AreEachApart set = AllByRecursion IsApart set
+
+-- the call that is asked at the event is asked after those that are open
+abbrev pub IsLater : Event → Held → Type 0
+IsLater (Asks x) c = AllByRecursion (λ (z : Observed). z.asked < x.asked) c.opened.items
+IsLater (Ends asked at) c = Unit {0}
+
+abbrev pub AreEachLater : Event → List Held → Type 0
+AreEachLater event set = AllByRecursion (IsLater event) set
 
 -- a call that ends may be dropped, as one that took effect before: the second configuration is the
 -- first without it. Where there is no second, the call still has to take effect

@@ -1,5 +1,5 @@
 -- Configurations as the search holds them, and what it makes of them.
-use Rattle.std.specs.Prelude.{◌≡◌, ℕ, zero, suc, ◌⊎◌, ◌↔◌, false, List, [], ◌∷◌, ◌++◌, Option, Some, None, Ok, map, length, slice_get, remove}
+use Rattle.std.specs.Prelude.{◌≡◌, ℕ, zero, suc, ◌≤◌, ◌⊎◌, ◌↔◌, false, List, [], ◌∷◌, ◌++◌, Option, Some, None, Ok, map, slice_get, remove}
 use Rattle.std.specs.List.{AllByRecursion}
 use Rattle.tatp_homes.specs.Home.{IsHome}
 use Rattle.tatp_procs.specs.Arguments.{arguments_accepted}
@@ -13,7 +13,7 @@ use Rattle.tatp_history.specs.Locality.{AreAccepted}
 use Rattle.tatp_history.specs.Configurations.{Configuration}
 use Rattle.tatp_linearization.specs.declared.configuration.Configuration.{Configuration as Held}
 use Rattle.tatp_linearization.specs.AtOnce.{AreLeft, TakesOne, FollowsAtOnce}
-use Rattle.tatp_linearization.specs.Overwritten.{SetsLocation, AreLeftOf, without_place}
+use Rattle.tatp_linearization.specs.Overwritten.{AreOut}
 use Rattle.tatp_linearization.specs.Possible.{AreDistinct}
 
 -- the configuration that the search holds
@@ -49,13 +49,10 @@ pub record IsAsked (c : Held) (x : Observed) (d : Held) : Type 0 where
   pub own : d.home.s_id ≡ c.home.s_id
 
 -- ---- one call takes effect
--- where it sets the location all open calls are overwritten then, and else those that were before
-abbrev pub IsOverwritten : Held → Held → ℕ → Observed → Type 0
-IsOverwritten c d i x =
-    (SetsLocation c.home.tables x.call × (d.overwritten ≡ length d.opened.items))
-    ⊎ AreLeftOf (transaction x.call c.home.tables).database
-    (without_place c.overwritten (length c.opened.items) i)
-    (remove c.opened.items i) d.overwritten d.opened.items
+-- what might be left out before may be so then, and beside that only what the call overwrites
+pub record AreOverwritten (c d : Held) (x : Observed) : Type 0 where
+  pub still : c.overwritten ≤ d.overwritten
+  pub others : AreOut c.home.tables x.call c.overwritten d.overwritten d.opened.items
 
 pub record TakesAt (c d : Held) (i : ℕ) (x : Observed) : Type 0 where
   pub at : slice_get c.opened.items i ≡ Some x
@@ -66,7 +63,7 @@ pub record TakesAt (c d : Held) (i : ℕ) (x : Observed) : Type 0 where
       (remove c.opened.items i) d.opened.items
   pub own : d.home.s_id ≡ c.home.s_id
   pub home : IsHome c.home
-  pub overwritten : IsOverwritten c d i x
+  pub overwritten : AreOverwritten c d x
 
 -- the second is the first after its open call at this place, which writes, took effect. There is
 -- none where that call changes nothing, or can't have ended with its reply here

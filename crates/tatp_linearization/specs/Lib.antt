@@ -1,6 +1,7 @@
 pub mod AtOnce
 pub mod Possible
 pub mod Held
+pub mod Searched
 pub mod Reached
 pub mod Single
 pub mod Cut

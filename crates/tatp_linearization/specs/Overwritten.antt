@@ -1,15 +1,16 @@
--- Open updates of the location that may be left out: another one took effect after they were asked,
--- so they may have taken effect right before that.
-use Rattle.std.specs.Prelude.{◌≡◌, ℕ, suc, ◌<◌, ◌-◌, ◌⊎◌, nat_le, nat_lt, if◌then◌else◌, is_some, true, List, [], ◌∷◌, length}
-use Rattle.tatp_tables.specs.Keys.{row_with_number}
+-- Open calls that may be left out: what they set was set again after they were asked, so they may
+-- have taken effect right before that.
+use Rattle.std.specs.Prelude.{◌≡◌, ℕ, ◌<◌, ◌⊎◌, nat_le, if◌then◌else◌, is_some, true, List, [], ◌∷◌, Some, slice_get}
+use Rattle.std.specs.List.{AllByRecursion}
+use Rattle.tatp_tables.specs.Keys.{row_at, row_with_number}
 use Rattle.tatp_tables.specs.Database.{Database}
-use Rattle.tatp_procs.specs.declared.call.Call.TheVariants.{UpdateLocation}
+use Rattle.tatp_procs.specs.declared.call.Call.TheVariants.{UpdateSubscriberData, UpdateLocation}
 use Rattle.tatp_procs.specs.declared.call.Call.{Call}
 use Rattle.tatp_procs.specs.declared.reply.Reply.TheVariants.{Values}
 use Rattle.tatp_history.specs.declared.observed.Observed.{Observed}
 use Rattle.tatp_history.specs.Histories.{MayHaveReply}
-use Rattle.tatp_linearization.specs.AtOnce.{FitsAtOnce}
 
+-- ---- calls that set columns, whatever these held
 -- the call sets the location of a subscriber that is there
 pub record SetsLocation (u : Database) (call : Call) : Type 0 where
   pub number : ℕ
@@ -17,30 +18,65 @@ pub record SetsLocation (u : Database) (call : Call) : Type 0 where
   pub updates : call ≡ UpdateLocation number location
   pub named : is_some (row_with_number u.subscribers number) ≡ true
 
--- ... and may have been answered with success
+-- the call sets bit_1 of a subscriber and data_a of a facility, and both are there
+pub record SetsBoth (u : Database) (call : Call) : Type 0 where
+  pub s_id : ℕ
+  pub bit : ℕ
+  pub sf_type : ℕ
+  pub value : ℕ
+  pub updates : call ≡ UpdateSubscriberData s_id bit sf_type value
+  pub subscriber : is_some (row_at u.subscribers (s_id ∷ [])) ≡ true
+  pub facility : is_some (row_at u.facilities (s_id ∷ sf_type ∷ [])) ≡ true
+
+-- the call does one of these, and may have been answered with success
 pub record IsBlind (u : Database) (x : Observed) : Type 0 where
-  pub sets : SetsLocation u x.call
+  pub sets : SetsLocation u x.call ⊎ SetsBoth u x.call
   pub may : MayHaveReply x.outcome (Values [])
 
--- `left` are the calls without some of the last `many`, of which this holds
+-- ---- what is set again
+-- both calls set the location of one number's subscriber
+pub record SetOneLocation (x z : Call) : Type 0 where
+  pub number : ℕ
+  pub location : ℕ
+  pub other : ℕ
+  pub first : x ≡ UpdateLocation number location
+  pub second : z ≡ UpdateLocation number other
+
+-- both calls set bit_1 of one subscriber and data_a of one facility
+pub record SetOneBoth (x z : Call) : Type 0 where
+  pub s_id : ℕ
+  pub sf_type : ℕ
+  pub bit : ℕ
+  pub value : ℕ
+  pub other_bit : ℕ
+  pub other_value : ℕ
+  pub first : x ≡ UpdateSubscriberData s_id bit sf_type value
+  pub second : z ≡ UpdateSubscriberData s_id other_bit sf_type other_value
+
+-- where it succeeds the first call sets all that the second one does
+abbrev pub Overwrites : Call → Call → Type 0
+Overwrites x z = SetOneLocation x z ⊎ SetOneBoth x z
+
+-- ---- what may be left out
+-- `left` are the calls without some that were asked before this time, and of which this holds
 abbrev pub AreButSome : (Observed → Type 0) → ℕ → List Observed → List Observed → Type 0
-AreButSome Free many [] left = left ≡ []
-AreButSome Free many (x ∷ more) left =
-    ((rest : List Observed) × (left ≡ x ∷ rest) × AreButSome Free many more rest)
-    ⊎ ((length more < many) × Free x × AreButSome Free many more left)
+AreButSome Free before [] left = left ≡ []
+AreButSome Free before (x ∷ more) left =
+    ((rest : List Observed) × (left ≡ x ∷ rest) × AreButSome Free before more rest)
+    ⊎ ((x.asked < before) × Free x × AreButSome Free before more left)
 
-abbrev pub least : ℕ → ℕ → ℕ
-least many size = if nat_le many size then many else size
+-- the earlier of two times
+abbrev pub earlier : ℕ → ℕ → ℕ
+earlier time other = if nat_le time other then time else other
 
--- how many of the last `many` of `size` calls are left without the one at `place`
-abbrev pub without_place : ℕ → ℕ → ℕ → ℕ
-without_place many size place = if nat_le (size - place) many then many - 1 else many
+-- of these calls, those that were asked before the time `first` and may be left out were asked
+-- before the other time, or a call overwrites them
+abbrev pub AreOut : Database → Call → ℕ → ℕ → List Observed → Type 0
+AreOut u x before first calls = AllByRecursion (λ (z : Observed). z.asked < first → IsBlind u z
+    → (z.asked < before) ⊎ Overwrites x z.call) calls
 
--- `left` are the open calls without the reads that fit, and `still` of the last `many` are left
-abbrev pub AreLeftOf : Database → ℕ → List Observed → ℕ → List Observed → Type 0
-AreLeftOf u many [] still left = (still ≡ 0) × (left ≡ [])
-AreLeftOf u many (x ∷ more) still left =
-    (FitsAtOnce u x × AreLeftOf u many more still left)
-    ⊎ ((FitsAtOnce u x → ⊥) × ((rest : List Observed) × (count : ℕ) × (left ≡ x ∷ rest)
-    × AreLeftOf u many more count rest
-    × (still ≡ (if nat_lt (length more) many then suc count else count))))
+-- the time is that of one that a call doesn't overwrite, or the last of all
+abbrev pub IsFirst : Database → Call → ℕ → List Observed → Type 0
+IsFirst u x first calls = (first ≡ 18446744073709551615)
+    ⊎ ((i : ℕ) × (z : Observed) × (slice_get calls i ≡ Some z) × (z.asked ≡ first)
+    × IsBlind u z × (Overwrites x z.call → ⊥))

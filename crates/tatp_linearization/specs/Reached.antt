@@ -8,6 +8,7 @@ use Rattle.tatp_linearization.specs.declared.explanations.Explanations.{Explanat
 use Rattle.tatp_linearization.specs.Possible.{IsPossible}
 use Rattle.tatp_linearization.specs.Held.{AreReady, AreApart}
 use Rattle.tatp_linearization.specs.Covering.{OneStandsFor}
+use Rattle.tatp_linearization.specs.Searched.{IsSearchedFrom, searched_events}
 use Rattle.tatp_linearization.specs.Going.{LeadsOn, OneLeadsOn}
 
 -- each order of the calls of these events and of any more leads on from a configuration for which
@@ -19,10 +20,14 @@ pub record AreKept (u : Database) (past : List Event) (cs : List Held) : Type 0 
   pub ready : AreReady cs
   pub apart : (s : ℕ) × AreApart s cs
 
--- the explanations are these configurations, and there is at least one
+-- the explanations are the configurations to which what is searched leads, and there is at least
+-- one
 pub record AreReached (u : Database) (past : List Event) (explanations : Explanations)
     : Type 0 where
-  pub kept : AreKept u past explanations.configurations.items
+  pub from : Database
+  pub begins : IsSearchedFrom explanations.exact u from
+  pub kept : AreKept from (searched_events explanations.exact from.facilities past)
+      explanations.configurations.items
   pub some : 0 < length explanations.configurations.items
 
 -- the homes of the configurations are of this s_id

@@ -11,8 +11,8 @@ use Rattle.tatp_history.specs.JustInTime.{NoneAskedAt}
 use Rattle.tatp_history.specs.Configurations.{Configuration}
 use Rattle.tatp_linearization.specs.declared.configuration.Configuration.{Configuration as Held}
 use Rattle.tatp_linearization.specs.AtOnce.{TakesWrite}
-use Rattle.tatp_linearization.specs.Overwritten.{IsBlind, AreButSome, without_place}
-use Rattle.tatp_linearization.specs.Covering.{StandsFor, OneStandsFor, Opens, IsApart, AreEachApart, From, FromOne, MayCome, MayFollow, IsStoodOr, AreCovered}
+use Rattle.tatp_linearization.specs.Overwritten.{IsBlind, AreButSome}
+use Rattle.tatp_linearization.specs.Covering.{StandsFor, OneStandsFor, Opens, IsApart, AreEachApart, AreEachLater, From, FromOne, MayCome, MayFollow, IsStoodOr, AreCovered}
 use Rattle.tatp_linearization.specs.Going.{LeadsOn, OneLeadsOn}
 use Rattle.tatp_linearization.specs.declared.kinds.Kind.{Kind}
 use Rattle.tatp_linearization.specs.Kinds.{IsTried}
@@ -21,7 +21,7 @@ use Rattle.tatp_linearization.specs.Kinds.{IsTried}
 abbrev pub IsOtherTime : ℕ → Observed → Type 0
 IsOtherTime asked x = x.asked ≡ asked → ⊥
 
--- the configuration is the one that is held, without some of its updates that were overwritten and
+-- the configuration is the one that is held, without some of its calls that were overwritten and
 -- were not asked at this time
 pub record StandsForBut (asked : ℕ) (c : Held) (d : Configuration) : Type 0 where
   pub rows : d.rows ≡ c.home.tables
@@ -29,7 +29,7 @@ pub record StandsForBut (asked : ℕ) (c : Held) (d : Configuration) : Type 0 wh
       c.opened.items d.opened
 
 -- the configuration is what the open call at a place makes of one for which this stands, but for
--- some of its updates that were overwritten, of which `Extra` holds too
+-- some of its calls that were overwritten, of which `Extra` holds too
 pub record IsThere (Extra : Observed → Type 0) (c : Held) (i : ℕ) (e : Configuration) : Type 0 where
   pub before : Configuration
   pub call : Observed
@@ -37,8 +37,8 @@ pub record IsThere (Extra : Observed → Type 0) (c : Held) (i : ℕ) (e : Confi
   pub rows : before.rows ≡ c.home.tables
   pub takes : TakesWrite before e call left
   pub at : slice_get c.opened.items i ≡ Some call
-  pub opened : AreButSome (λ x. IsBlind c.home.tables x × Extra x)
-      (without_place c.overwritten (length c.opened.items) i) (remove c.opened.items i) left
+  pub opened : AreButSome (λ x. IsBlind c.home.tables x × Extra x) c.overwritten
+      (remove c.opened.items i) left
 
 -- fewer calls are open in the second
 pub record IsFewer (c d : Held) : Type 0 where
@@ -165,5 +165,6 @@ AreFollowed event rest c new =
 pub record FollowSet (Known : List Event → Type 0) (event : Event) (set new : List Held)
     : Type 0 where
   pub sound : (d : Configuration) → OneStandsFor new d → FromOne (MayFollow event) set d
-  pub found : AreEachApart set → (after : Database) (rest : List Event) → Known (event ∷ rest)
+  pub found : AreEachApart set → AreEachLater event set
+      → (after : Database) (rest : List Event) → Known (event ∷ rest)
       → OneLeadsOn after (event ∷ rest) set → OneLeadsOn after rest new

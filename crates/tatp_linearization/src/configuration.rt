@@ -3,13 +3,14 @@ ghost use Rattle.std.specs.Prelude.{◌≡◌, ◌<◌, ◌≤◌, ◌↔◌, Is
 ghost use Rattle.tatp_procs.specs.Arguments.{arguments_accepted};
 ghost use Rattle.tatp_history.specs.JustInTime.{NoneAskedAt};
 ghost use Rattle.tatp_history.specs.Locality.{AreAccepted};
-ghost use Rattle.tatp_linearization.specs.Overwritten.{SetsLocation, least, without_place as count_without};
+ghost use Rattle.tatp_linearization.specs.Overwritten.{SetsLocation, earlier as earlier_time};
 ghost use Rattle.tatp_linearization.specs.Covering.{IsLetGo};
 ghost use Rattle.tatp_linearization.specs.Possible.{AreMoreThan};
 ghost use Rattle.tatp_linearization.specs.Held.{Adds, AreApart, AreReady, Has, IsAsked, IsOldOr, StandFirst, Takes, seen};
 
 use crate::comparing::{are_asked_alike, are_same};
 use crate::covering::may_be_left_out;
+use crate::overwriting::overwritten_before;
 use crate::reading::{needs_no_place, settle};
 use crate::stopped::Stopped;
 use std::alloc::{AllocError, Global};
@@ -23,9 +24,9 @@ use tatp_procs::{Call, Reply};
 pub(crate) struct Configuration {
     pub(crate) home: Home,
     pub(crate) opened: Vec<Observed>,
-    /// How many at the end of the open calls were asked before a location was last set: those of
-    /// them that set the location too may have taken effect right before that.
-    pub(crate) overwritten: usize,
+    /// Open calls that were asked before this time, and set columns whatever these held, may have
+    /// taken effect: another one overwrote them since.
+    pub(crate) overwritten: u64,
 }
 
 /// Whether none of these calls was asked at this time.
@@ -110,11 +111,11 @@ pub(crate) fn add_once(
     Ok(())
 }
 
-/// `many`, but no more than `size`.
-fn at_most(many: usize, size: usize) -> usize
-    ensures { result ≡ least many size }
+/// The earlier of two times.
+fn earlier(time: u64, other: u64) -> u64
+    ensures { result ≡ earlier_time time other }
 {
-    if many <= size { many } else { size }
+    if time <= other { time } else { other }
 }
 
 /// The configuration after a call was asked.
@@ -126,10 +127,10 @@ pub(crate) fn ask(
     requires accepted { arguments_accepted x.now.call ≡ Ok tt }
     ensures asked { IfOk result (IsAsked c.now x.now) }
     ensures overwritten { IfOk result (λ d. d.overwritten
-        ≡ least c.now.overwritten (length c.now.opened.items)) }
+        ≡ earlier_time c.now.overwritten x.now.asked) }
 {
     let mut home = c.home.copy();
-    let overwritten = at_most(c.overwritten, c.opened.len());
+    let overwritten = earlier(c.overwritten, x.asked);
     if needs_no_place(&mut home, x) {
         let opened = Vec::from_slice(alloc, c.opened.as_slice())?;
         return Ok(Configuration {
@@ -146,17 +147,6 @@ pub(crate) fn ask(
         opened,
         overwritten,
     })
-}
-
-/// How many of the last calls of a list of this size are left without the one at the place `i`.
-fn without_place(overwritten: usize, size: usize, i: usize) -> usize
-    requires inside { i < size }
-    ensures { result ≡ count_without overwritten size i }
-{
-    if size - i <= overwritten {
-        return overwritten - 1;
-    }
-    overwritten
 }
 
 /// Whether a call sets the location of the home's subscriber.
@@ -192,14 +182,9 @@ pub(crate) fn take(
     }
     let mut opened = Vec::from_slice(alloc, c.opened.as_slice())?;
     opened.remove(i);
-    let many = without_place(c.overwritten, c.opened.len(), i);
-    let still = settle(&mut home, &mut opened, many);
+    settle(&mut home, &mut opened);
     what_holds_of_every_home(&c.home);
-    let overwritten = if updates_location(&c.home, &x.call) {
-        opened.len()
-    } else {
-        still
-    };
+    let overwritten = overwritten_before(&c.home, opened.as_slice(), &x.call, c.overwritten);
     Ok(Some(Configuration {
         home,
         opened,
@@ -226,7 +211,7 @@ pub(crate) fn let_go(
             return Ok(Some(Configuration {
                 home: c.home.copy(),
                 opened,
-                overwritten: c.overwritten - 1,
+                overwritten: c.overwritten,
             }));
         }
     }

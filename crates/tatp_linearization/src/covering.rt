@@ -1,6 +1,5 @@
-//! Configurations that stand for others: open updates of the location that were overwritten may be
-//! left out.
-ghost use Rattle.std.specs.Prelude.{◌≡◌, ℕ, ◌≤◌, ◌<◌, ◌↔◌, ◌-◌, ◌⊎◌, IsTrue, OnOk, IsErrOf, Some, [], ◌∷◌, false, length, slice_get};
+//! Configurations that stand for others: open calls that were overwritten may be left out.
+ghost use Rattle.std.specs.Prelude.{◌≡◌, ℕ, ◌≤◌, ◌<◌, ◌↔◌, IsTrue, OnOk, IsErrOf, Some, [], ◌∷◌, false, length, slice_get};
 ghost use Rattle.tatp_homes.specs.Changes.{cell};
 ghost use Rattle.tatp_history.specs.declared.observed.Observed.{Observed as Asked};
 ghost use Rattle.tatp_history.specs.Locality.{AreAccepted};
@@ -13,32 +12,18 @@ ghost use Rattle.tatp_linearization.specs.Covering.{AreCovered, Covers, Gains, I
 use crate::comparing::is_same_call;
 use crate::configuration::Configuration;
 use crate::locations::VLR_LOCATION;
+use crate::overwriting::is_blind;
 use crate::stopped::Stopped;
-use tatp_history::Observed;
 use tatp_homes::Home;
-use tatp_procs::{Call, Outputs, Reply};
 
-/// Whether a call sets the location of the home's subscriber, and may have been answered so.
-fn is_blind(home: &Home, x: &Observed) -> bool
-    ensures { IsTrue result ↔ IsBlind home.now.tables x.now }
-{
-    match x.call {
-        Call::UpdateLocation { sub_nbr, .. } => {
-            home.has_number(sub_nbr) && x.outcome.allows(&Reply::Values(Outputs::from_slice(&[])))
-        }
-        _ => false,
-    }
-}
-
-/// Whether the configuration also stands for those without its open call at the place `i`: the call
-/// sets the location, and another one that does so took effect after it was asked.
+/// Whether the configuration also stands for those without its open call at the place `i`: what it
+/// sets was overwritten after it was asked.
 pub(crate) fn may_be_left_out(c: &Configuration, i: usize) -> bool
     requires inside { i < length c.now.opened.items }
-    ensures { IsTrue result ↔ ((length c.now.opened.items - i ≤ c.now.overwritten)
-        × ((x : Asked) → slice_get c.now.opened.items i ≡ Some x
-        → IsBlind c.now.home.tables x)) }
+    ensures { IsTrue result ↔ ((x : Asked) → slice_get c.now.opened.items i ≡ Some x
+        → (x.asked < c.now.overwritten) × IsBlind c.now.home.tables x) }
 {
-    c.opened.len() - i <= c.overwritten && is_blind(&c.home, &c.opened[i])
+    c.opened[i].asked < c.overwritten && is_blind(&c.home, &c.opened[i])
 }
 
 /// Whether the open calls at two places are the same, and what may be left out at the second may be
@@ -51,7 +36,9 @@ fn is_kept(c: &Configuration, i: usize, d: &Configuration, j: usize) -> bool
 {
     j < d.opened.len()
         && is_same_call(&c.opened[i], &d.opened[j])
-        && (d.opened.len() - j > d.overwritten || c.opened.len() - i <= c.overwritten)
+        && (c.opened[i].asked >= d.overwritten
+            || c.opened[i].asked < c.overwritten
+            || !is_blind(&c.home, &c.opened[i]))
 }
 
 /// Whether the open calls of the second configuration may be those of the first without some that
@@ -64,7 +51,7 @@ fn is_asked_within(c: &Configuration, d: &Configuration) -> bool
     'calls: for i in 0..c.opened.len() {
         if j < d.opened.len() && c.opened[i].asked == d.opened[j].asked {
             j += 1;
-        } else if c.opened.len() - i > c.overwritten {
+        } else if c.opened[i].asked >= c.overwritten {
             return false;
         }
     }

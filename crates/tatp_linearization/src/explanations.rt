@@ -2,21 +2,25 @@
 ghost use Rattle.std.specs.Prelude.{◌≡◌, ◌↔◌, ℕ, IsTrue, IfOk, OnOk, OnErr, IsErrOf, Ok, List, [], ◌∷◌, ◌++◌, ◌<◌, length};
 ghost use Rattle.std.specs.List.{AllByRecursion};
 ghost use Rattle.tatp_tables.specs.Database.{Database};
+ghost use Rattle.tatp_procs.specs.Arguments.{arguments_accepted};
 ghost use Rattle.tatp_history.specs.declared.event.Event.{Event};
 ghost use Rattle.tatp_history.specs.Histories.{IsStrictlySerializable};
 ghost use Rattle.tatp_history.specs.Events.{TimesRise, HaveEnds, asked_in};
 ghost use Rattle.tatp_linearization.specs.Possible.{NeedMore};
 ghost use Rattle.tatp_linearization.specs.Held.{IsAcceptedEvent, AreApart, AreReady};
 ghost use Rattle.tatp_linearization.specs.Reached.{AreKept, AreOfSubscriber, AreReached};
+ghost use Rattle.tatp_linearization.specs.Searched.{searched_call as call_searched, searched_events as all_searched};
 
 use crate::ahead::look_ahead;
 use crate::configuration::Configuration;
 use crate::doomed::drop_doomed;
 use crate::following::{after_event, leaves_all};
+use crate::searched::{searched_call, searched_events, searched_home};
 use crate::stopped::Stopped;
 use std::alloc::{AllocError, Global};
 use tatp_history::Event;
 use tatp_homes::Home;
+use tatp_procs::Call;
 
 /// Whether a serial order explains calls.
 #[derive(Clone, Copy, Debug, PartialEq, Eq)]
@@ -36,6 +40,9 @@ pub struct Explanations {
     pub(crate) configurations: Vec<Configuration>,
     /// The most configurations that may be kept.
     pub(crate) most: usize,
+    /// Whether the rows at the end may be asked for. Else data_a is cleared, which no transaction
+    /// reads: all updates of data that set one bit are the same call then.
+    pub(crate) exact: bool,
 }
 
 /// The configurations to which events lead.
@@ -70,21 +77,57 @@ fn after_events(
 
 impl Explanations {
     /// What explains no event: this home alone. At most `most` configurations will be kept.
-    pub fn new(alloc: Global, home: &Home, most: usize) -> Result<Explanations, AllocError>
+    /// `exact` says whether the rows at the end may be asked for.
+    pub fn new(
+        alloc: Global,
+        home: &Home,
+        most: usize,
+        exact: bool,
+    ) -> Result<Explanations, AllocError>
         ensures reached { IfOk result (AreReached home.now.tables []) }
         ensures own { IfOk result (AreOfSubscriber home.now.s_id) }
         ensures most { IfOk result (λ explanations. explanations.most ≡ most) }
+        ensures exact { IfOk result (λ explanations. explanations.exact ≡ exact) }
     {
         let mut configurations = Vec::new(alloc);
         configurations.push(Configuration {
-            home: home.copy(),
+            home: searched_home(exact, home),
             opened: Vec::new(alloc),
             overwritten: 0,
         })?;
         Ok(Explanations {
             configurations,
             most,
+            exact,
         })
+    }
+
+    /// The call as it is searched.
+    pub(crate) fn searched_call(&self, call: &Call) -> Call
+        requires some { 0 < length self.now.configurations.items }
+        ensures searched { (u : Database) (past : List Event) (reached : AreReached u past self.now)
+            → result ≡ call_searched self.now.exact reached.from.facilities call.now }
+        ensures accepted { arguments_accepted call.now ≡ Ok tt
+            → arguments_accepted result ≡ Ok tt }
+    {
+        searched_call(self.exact, &self.configurations[0].home, call)
+    }
+
+    /// The events as they are searched.
+    pub(crate) fn searched(
+        &self,
+        alloc: Global,
+        events: &[Event],
+    ) -> Result<Vec<Event>, AllocError>
+        requires some { 0 < length self.now.configurations.items }
+        ensures searched { IfOk result (λ told. (u : Database) (past : List Event)
+            (reached : AreReached u past self.now) → told.items
+            ≡ all_searched self.now.exact reached.from.facilities events.now) }
+        ensures accepted { IfOk result (λ told. AllByRecursion IsAcceptedEvent events.now
+            → AllByRecursion IsAcceptedEvent told.items) }
+        ensures count { IfOk result (λ told. length told.items ≡ length events.now) }
+    {
+        searched_events(alloc, self.exact, &self.configurations[0].home, events)
     }
 
     /// No configuration is kept any more.
@@ -112,7 +155,13 @@ impl Explanations {
         if events.is_empty() {
             return Ok(Standing::Explained);
         }
-        match after_events(alloc, self.configurations.as_slice(), events, self.most) {
+        let told = self.searched(alloc, events)?;
+        match after_events(
+            alloc,
+            self.configurations.as_slice(),
+            told.as_slice(),
+            self.most,
+        ) {
             Ok(after) => {
                 if after.is_empty() {
                     return Ok(Standing::Unexplained);
@@ -144,8 +193,15 @@ impl Explanations {
         ensures own { (s : ℕ) → AreOfSubscriber s self.old → AreOfSubscriber s self.new }
         ensures same { (result ≡ Ok Standing.Explained → ⊥) → self.new ≡ self.old }
         ensures most { self.new.most ≡ self.old.most }
+        ensures exact { self.new.exact ≡ self.old.exact }
     {
-        match after_events(alloc, self.configurations.as_slice(), events, self.most) {
+        let told = self.searched(alloc, events)?;
+        match after_events(
+            alloc,
+            self.configurations.as_slice(),
+            told.as_slice(),
+            self.most,
+        ) {
             Ok(after) => {
                 if after.is_empty() {
                     return Ok(Standing::Unexplained);

@@ -9,7 +9,7 @@ ghost use Rattle.tatp_linearization.specs.AtOnce.{FollowsAtOnce};
 ghost use Rattle.tatp_linearization.specs.Ahead.{IsSeenAhead, LooksAhead};
 ghost use Rattle.tatp_linearization.specs.Possible.{AreMoreThan};
 ghost use Rattle.tatp_linearization.specs.Held.{AreApart, AreReady, IsAcceptedEvent, seen};
-ghost use Rattle.tatp_linearization.specs.Covering.{From, FromOne, GainsGone, IsApart, IsStoodOr, MayAnswer, MayBeTried, MayCome, MayFollow, OneStandsFor, Opens, StandsFor};
+ghost use Rattle.tatp_linearization.specs.Covering.{From, FromOne, GainsGone, IsApart, IsLater, IsStoodOr, MayAnswer, MayBeTried, MayCome, MayFollow, OneStandsFor, Opens, StandsFor};
 ghost use Rattle.tatp_linearization.specs.Turns.{AreFollowed, AreTriedOut, AreTriedOutAt, FollowSet};
 
 use crate::ahead::Ahead;
@@ -51,8 +51,8 @@ pub(crate) fn leaves_all(set: &[Configuration], event: &Event) -> bool
     true
 }
 
-/// Adds the configuration without a call that ends, where the call is an update that was
-/// overwritten: it has taken effect before that.
+/// Adds the configuration without a call that ends, where the call was overwritten: it has taken
+/// effect before that.
 fn add_gone(
     alloc: Global,
     c: &Configuration,
@@ -138,8 +138,8 @@ fn follow(
         → OneStandsFor after.new.items d) }
     ensures sound { OnOk result ((d : Seen) → OneStandsFor after.new.items d
         → IsStoodOr after.old.items (From (MayFollow event.now) c.now) d) }
-    ensures followed { OnOk result (IsApart c.now → (rest : List Happens)
-        → IsSeenAhead ahead.now (event.now ∷ rest)
+    ensures followed { OnOk result (IsApart c.now → IsLater event.now c.now
+        → (rest : List Happens) → IsSeenAhead ahead.now (event.now ∷ rest)
         → AreTriedOutAt event.now rest after.old.items tried.old.items
         → AreFollowed event.now rest c.now after.new.items) }
     ensures done { OnOk result (IsApart c.now → (rest : List Happens)

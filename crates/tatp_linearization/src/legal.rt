@@ -212,14 +212,16 @@ impl Explanations {
             ⊎ ((reply : Replied) × NeedMore self.now.most u
             (past ++ events_then_with (answered_with x.now at reply) (events_then at events.now))) }
     {
+        let told = self.searched(alloc, events)?;
         let set = self.configurations.as_slice();
-        let calls = calls_of(alloc, set, events)?;
+        let calls = calls_of(alloc, set, told.as_slice())?;
         let rows = match rows_left(alloc, set, calls.as_slice(), most_rows) {
             Ok(rows) => rows,
             Err(Stopped::MoreThanMost) => return Ok(None),
             Err(Stopped::NoMemory) => return Err(AllocError),
         };
-        let replies = replies_on(alloc, rows.as_slice(), &x.call)?;
+        let call = self.searched_call(&x.call);
+        let replies = replies_on(alloc, rows.as_slice(), &call)?;
         let cut = events_by(alloc, events, at)?;
         self.legal_of(alloc, cut.as_slice(), x, at, replies.as_slice())
     }

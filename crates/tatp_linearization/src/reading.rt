@@ -3,8 +3,7 @@ ghost use Rattle.std.specs.Prelude.{◌≡◌, ◌<◌, ◌↔◌, IsTrue, Ok, S
 ghost use Rattle.tatp_history.specs.declared.observed.Observed.{Observed as Asked};
 ghost use Rattle.tatp_procs.specs.Arguments.{arguments_accepted};
 ghost use Rattle.tatp_history.specs.Locality.{AreAccepted};
-ghost use Rattle.tatp_linearization.specs.AtOnce.{FitsAtOnce, IsSettledAt, NeedsNoPlace};
-ghost use Rattle.tatp_linearization.specs.Overwritten.{AreLeftOf};
+ghost use Rattle.tatp_linearization.specs.AtOnce.{AreLeft, FitsAtOnce, IsSettledAt, NeedsNoPlace};
 
 use crate::doomed::has_location;
 use crate::locations::location_seen;
@@ -56,39 +55,31 @@ pub(crate) fn needs_no_place(home: &mut Home, x: &Observed) -> bool
     }
 }
 
-/// Removes an open call, if it changes nothing and its reply fits, and returns whether it did. The
-/// home keeps its rows.
-fn settle_at(home: &mut Home, opened: &mut Vec<Observed>, place: usize) -> bool
+/// Removes an open call, if it changes nothing and its reply fits. The home keeps its rows.
+fn settle_at(home: &mut Home, opened: &mut Vec<Observed>, place: usize)
     requires inside { place < length opened.old.items }
     requires accepted { AreAccepted opened.old.items }
     ensures left { (x : Asked) → slice_get opened.old.items place ≡ Some x
-        → IsSettledAt home.old.tables x
-        (IsTrue result × (opened.new.items ≡ remove opened.old.items place))
-        ((result ≡ false) × (opened.new.items ≡ opened.old.items)) }
+        → IsSettledAt home.old.tables x (opened.new.items ≡ remove opened.old.items place)
+        (opened.new.items ≡ opened.old.items) }
     ensures rows { home.new.tables ≡ home.old.tables }
     ensures own { home.new.s_id ≡ home.old.s_id }
 {
-    if !fits_at_once(home, &opened[place]) {
-        return false;
+    if fits_at_once(home, &opened[place]) {
+        opened.remove(place);
     }
-    opened.remove(place);
-    true
 }
 
-/// Removes the calls that change nothing and whose reply fits from the open calls, and returns how
-/// many of the last `many` are left. The home keeps its rows.
-pub(crate) fn settle(home: &mut Home, opened: &mut Vec<Observed>, many: usize) -> usize
+/// Removes the calls that change nothing and whose reply fits from the open calls. The home keeps
+/// its rows.
+pub(crate) fn settle(home: &mut Home, opened: &mut Vec<Observed>)
     requires accepted { AreAccepted opened.old.items }
-    ensures left { AreLeftOf home.old.tables many opened.old.items result opened.new.items }
+    ensures left { AreLeft home.old.tables opened.old.items opened.new.items }
     ensures rows { home.new.tables ≡ home.old.tables }
     ensures own { home.new.s_id ≡ home.old.s_id }
 {
     let count = opened.len();
-    let mut still = 0;
     'calls: for i in 0..count {
-        if !settle_at(home, opened, count - 1 - i) && i < many {
-            still += 1;
-        }
+        settle_at(home, opened, count - 1 - i);
     }
-    still
 }

@@ -44,8 +44,10 @@ impl Explanations {
             ↔ (other ≡ reply.new)) }
         ensures own { (s : ℕ) → AreOfSubscriber s self.old → AreOfSubscriber s self.new }
         ensures most { self.new.most ≡ self.old.most }
+        ensures exact { self.new.exact ≡ self.old.exact }
     {
-        evaluate(&mut self.configurations[0].home, &x.call, reply);
+        let call = self.searched_call(&x.call);
+        evaluate(&mut self.configurations[0].home, &call, reply);
         x.outcome.allows(reply)
     }
 }

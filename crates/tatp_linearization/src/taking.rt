@@ -35,10 +35,9 @@ fn with_clusters_gone(
     let Configuration {
         home,
         mut opened,
-        ..
+        overwritten,
     } = d;
     let_clusters_go(&c.home, &mut opened, ahead, now);
-    let overwritten = opened.len();
     Some(Configuration {
         home,
         opened,

@@ -1,5 +1,5 @@
 //! Whether calls result in given rows.
-ghost use Rattle.std.specs.Prelude.{◌≡◌, ◌≤◌, ℕ, IsTrue, IfOk, OnOk, IsErrOf, Ok, List, [], length};
+ghost use Rattle.std.specs.Prelude.{◌≡◌, ◌≤◌, ℕ, true, IsTrue, IfOk, OnOk, IsErrOf, Ok, List, [], length};
 ghost use Rattle.std.specs.List.{AllByRecursion};
 ghost use Rattle.tatp_tables.specs.Database.{Database};
 ghost use Rattle.tatp_history.specs.declared.event.Event.{Event};
@@ -134,6 +134,7 @@ impl Explanations {
     pub fn leads_to(&self, alloc: Global, rows: &Home) -> Result<Standing, AllocError>
         requires reached { (u : Database) × (past : List Event) × AreReached u past self.now }
         requires own { AreOfSubscriber rows.now.s_id self.now }
+        requires exact { self.now.exact ≡ true }
         ensures explained { result ≡ Ok Standing.Explained → (u : Database) (past : List Event)
             → AreReached u past self.now → TimesRise past → HaveEnds past
             → IsStrictlySerializableTo u (asked_in past) rows.now.tables }

@@ -1,3 +1,4 @@
 //! What is tested.
 mod forwardings;
+mod overwritten;
 mod to_rows;

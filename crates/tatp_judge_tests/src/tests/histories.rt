@@ -67,7 +67,7 @@ fn verdict(
     requires clean { IsClean rows.now }
     requires short { length lines.now < 100 }
 {
-    let mut judge = Judge::new(alloc, rows, most)?;
+    let mut judge = Judge::new(alloc, rows, most, false)?;
     'lines: for i in 0..lines.len() {
         let line = &lines[i];
         if !is_accepted(line) {
@@ -265,7 +265,7 @@ fn first_undecided(
     requires clean { IsClean rows.now }
     requires short { length lines.now < 100 }
 {
-    let mut judge = Judge::new(alloc, rows, most)?;
+    let mut judge = Judge::new(alloc, rows, most, false)?;
     'lines: for i in 0..lines.len() {
         let line = &lines[i];
         if !is_accepted(line) {

@@ -21,7 +21,7 @@ fn judgement(
 ) -> Result<Judgement, HistoryFault>
     requires { IsClean rows.now }
 {
-    let mut judge = Judge::new(alloc, rows, most)?;
+    let mut judge = Judge::new(alloc, rows, most, false)?;
     let mut lines = LineReader::new(alloc, MAX_INPUT_LIMIT);
     let whole = Part {
         number: 1,

@@ -102,7 +102,7 @@ fn are_explained_with(
     if !are_accepted(events) {
         return Ok(None);
     }
-    let mut explanations = Explanations::new(alloc, home, most)?;
+    let mut explanations = Explanations::new(alloc, home, most, false)?;
     Ok(Some(explanations.follow(alloc, events)?))
 }
 
@@ -294,7 +294,7 @@ fn first(alloc: Global, home: &Home, events: &[Event]) -> Result<Option<First>, 
     if !are_after(events, 0) {
         return Ok(None);
     }
-    let explanations = Explanations::new(alloc, home, 8)?;
+    let explanations = Explanations::new(alloc, home, 8, false)?;
     Ok(Some(explanations.first_unexplained(alloc, events, 0, 9)?))
 }
 
@@ -345,7 +345,7 @@ fn follow(explanations: &mut Explanations, x: &Observed, reply: &mut Reply) -> O
 fn a_call_alone(rt: HostRuntime) -> Result<(), Fail> {
     let alloc = rt.alloc();
     let home = fresh(alloc)?.expect(&rt, "a home");
-    let mut explanations = Explanations::new(alloc, &home, 1)?;
+    let mut explanations = Explanations::new(alloc, &home, 1, false)?;
     let x = Observed {
         asked: 1,
         call: insert(facility(&home)),
@@ -392,7 +392,7 @@ fn legal(
     if !are_accepted(&events) {
         return Ok(None);
     }
-    let explanations = Explanations::new(alloc, home, 8)?;
+    let explanations = Explanations::new(alloc, home, 8, false)?;
     explanations.legal_replies(alloc, &events, &x, 5, 100)
 }
 

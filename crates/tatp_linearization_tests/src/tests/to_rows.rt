@@ -12,7 +12,7 @@ use tatp_procs::Call;
 
 /// Whether an order that explains the events on a home results in these rows of it, where at most
 /// `most` configurations may be kept; `None` where no order explains the events.
-fn leads_with(
+pub(super) fn leads_with(
     alloc: Global,
     home: &Home,
     events: &[Event],
@@ -22,7 +22,7 @@ fn leads_with(
     if events.is_empty() || !are_accepted(events) || home.s_id() != rows.s_id() {
         return Ok(None);
     }
-    let mut explanations = Explanations::new(alloc, home, most)?;
+    let mut explanations = Explanations::new(alloc, home, most, true)?;
     match explanations.follow(alloc, events)? {
         Standing::Explained => Ok(Some(explanations.leads_to(alloc, rows)?)),
         _ => Ok(None),

@@ -12,4 +12,4 @@ close-requires c =
 pub returns : goal.returns
 returns c = if_ok_weaker c.close.result (λ standing closes.
     one_closed c.args.s_id c.args.number standing c.args.windows.now.items c.index_mut.result.now c.close.new.self c.requires.within.0 c.requires.within.1 c.index_mut.ensures.value
-    (record { closes = closes; aside_is = c.close.ensures.aside; waiting_is = c.close.ensures.waiting })) c.close.ensures.closes
+    (record { closes = closes; aside_is = c.close.ensures.aside; waiting_is = c.close.ensures.waiting; exact_is = c.close.ensures.exact })) c.close.ensures.closes

@@ -10,8 +10,11 @@ returns-in_err-judge-clause-faults g c =
     let p = err_from_is_err_and c.from_residual-in_err-judge.result c.from_residual-in_err-judge.ensures.1 in
     rw (p.1, p.2) (rows_refused c.args.plan.now _ _ (g.R.Read.remaining c.args.reader.now) _ c.in_ok-rows.rows _ _ c.new-lines.ensures c.in_ok-rows.ensures.work c.in_err-judge.ensures.refusal)
 
-pub judge_lines-requires : goal.judge_lines-requires
-judge_lines-requires g c = (
+pub judge_lines-requires-clause-exact : goal.judge_lines-requires-clause-exact
+judge_lines-requires-clause-exact g c = c.in_ok-judge.ensures.exact
+
+pub judge_lines-requires-clause-begun : goal.judge_lines-requires-clause-begun
+judge_lines-requires-clause-begun g c = (
   view_asked c.args.plan.now c.in_ok-rows.rows,
   c.args.plan.now.most,
   record {

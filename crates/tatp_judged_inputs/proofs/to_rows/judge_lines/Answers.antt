@@ -1,10 +1,13 @@
 use Rattle.std.specs.Prelude.{ℕ, IfSome}
-use Rattle.std.proofs.Common.{sym, subst}
+use Rattle.std.proofs.Common.{sym, subst, ◌∙◌}
 use Rattle.std.proofs.lemmas.Result.{IfOk-weaker}
 use Rattle.tatp_streams.specs.LineReading.{lines_left}
 use Rattle.tatp_judged_inputs.specs.Views.{IsBegun, View}
 use Rattle.tatp_judged_inputs.specs.Judging.{IsJudgedWith}
 use Rattle.tatp_judged_inputs.proofs.to_rows.judge_lines.Goals as goal
+
+pub judge_to_rows-requires-clause-exact : goal.judge_to_rows-requires-clause-exact
+judge_to_rows-requires-clause-exact g c = c.requires.exact ∙ c.if-final_rows.true
 
 pub returns-in_ok-judge_history-clause-judged : goal.returns-in_ok-judge_history-clause-judged
 returns-in_ok-judge_history-clause-judged g c =

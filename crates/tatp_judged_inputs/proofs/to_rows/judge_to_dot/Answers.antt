@@ -17,21 +17,24 @@ use Rattle.tatp_judged_inputs.proofs.RowsAtEndLaws.{ToDotSoFar, judged_at_dot, j
 use Rattle.tatp_judged_inputs.proofs.to_rows.judge_to_dot.Goals as goal
 
 pub lines-init : goal.lines-init
-lines-init g c = λ u most is.
-    let all = lines_left c.args.lines.now (g.R.Read.remaining c.args.reader.now) in
-    to_dot_starts u most c.args.judge.now (record { opened = c.new-2.result; numbers = c.new-3.result; counts = c.in_ok-counts.counts; part = c.args.part.now }) c.args.lines.now.number all is c.new-3.ensures.items c.new-2.ensures (c.in_ok-counts.ensures u.rows most is.followed)
+lines-init g c = record {
+  exact = refl;
+  told = λ u most is.
+      let all = lines_left c.args.lines.now (g.R.Read.remaining c.args.reader.now) in
+      to_dot_starts u most c.args.judge.now (record { opened = c.new-2.result; numbers = c.new-3.result; counts = c.in_ok-counts.counts; part = c.args.part.now }) c.args.lines.now.number all is c.new-3.ensures.items c.new-2.ensures (c.in_ok-counts.ensures u.rows most is.followed);
+}
 
 pub finish-requires : goal.finish-requires
-finish-requires g c = let q = c.requires in let s = (c.lines.invariant q.0 q.1 q.2).so_far in (q.0.rows, q.1, seen q.0 s.past, s.followed)
+finish-requires g c = let q = c.requires in let s = (c.lines.invariant.told q.0 q.1 q.2).so_far in (q.0.rows, q.1, seen q.0 s.past, s.followed)
 
 pub judgement-requires : goal.judgement-requires
 judgement-requires g c =
     let q = c.requires in
-    let s = (c.lines.invariant q.0 q.1 q.2).so_far in
+    let s = (c.lines.invariant.told q.0 q.1 q.2).so_far in
     (q.0, q.1, s.past, s.numbered, c.in_ok-verdict.ensures.verdict q.0.rows q.1 (seen q.0 s.past) s.followed, λ line s_id e. c.in_ok-verdict.ensures.kept q.0.rows q.1 (seen q.0 s.past) s.followed, s.counted)
 
 pub take-requires : goal.take-requires
-take-requires g c = let q = c.requires in let s = (c.lines.invariant q.0 q.1 q.2).so_far in (q.0, q.1, s.past, s.followed, s.numbered, s.counted)
+take-requires g c = let q = c.requires in let s = (c.lines.invariant.told q.0 q.1 q.2).so_far in (q.0, q.1, s.past, s.followed, s.numbered, s.counted)
 
 pub returns-then-not-branch-clause-faults : goal.returns-then-not-branch-clause-faults
 returns-then-not-branch-clause-faults g c =
@@ -40,7 +43,7 @@ returns-then-not-branch-clause-faults g c =
     let left = lines_left c.lines.lines (g.R.Read.remaining c.lines.reader) in
     let left' = lines_left c.advance.new.self (g.R.Read.remaining c.advance.new.reader) in
     let met = c.in_ok-advance.ensures.end c.if-not-branch.true in
-    refused_without_dot q.0 q.1 c.lines.judge c.lines.reading c.args.lines.now.number c.lines.lines.number (c.number.result + 1) all left left' (c.lines.invariant q.0 q.1 q.2) (ap (λ n. n + 1) (c.number.ensures.number ∙ met.number)) met.left met.none met.within
+    refused_without_dot q.0 q.1 c.lines.judge c.lines.reading c.args.lines.now.number c.lines.lines.number (c.number.result + 1) all left left' (c.lines.invariant.told q.0 q.1 q.2) (ap (λ n. n + 1) (c.number.ensures.number ∙ met.number)) met.left met.none met.within
 
 pub returns-then-is_dot-clause-judged : goal.returns-then-is_dot-clause-judged
 returns-then-is_dot-clause-judged g c =
@@ -51,7 +54,7 @@ returns-then-is_dot-clause-judged g c =
     let advanced = c.in_ok-advance.ensures.line c.if-not-branch.false in
     let judgement = c.in_ok-judgement.field-0 in
     by_all all (λ a. (u : View) (most : ℕ) → IsBegun u most c.args.part.now c.args.judge.now → IsJudgement u most taken (before_dot a.lines) judgement.judged judgement.undecided.items judgement.window) (λ a e. λ u most is.
-    let s = c.lines.invariant u most is in
+    let s = c.lines.invariant.told u most is in
     let text = c.line.result.now in
     let stays = subst (λ t. Stays left (option_map (with_line t) left')) (sym c.line.ensures) advanced.left in
     let on = c.in_ok-verdict.ensures.verdict u.rows most (seen u s.so_far.past) s.so_far.followed in
@@ -65,7 +68,7 @@ returns-then-is_dot-clause-followed g c = λ _ _ u most is.
     let left = lines_left c.lines.lines (g.R.Read.remaining c.lines.reader) in
     let left' = lines_left c.advance.new.self (g.R.Read.remaining c.advance.new.reader) in
     let advanced = c.in_ok-advance.ensures.line c.if-not-branch.false in
-    let s = c.lines.invariant u most is in
+    let s = c.lines.invariant.told u most is in
     let stays = subst (λ t. Stays left (option_map (with_line t) left')) (sym c.line.ensures) advanced.left in (
       s.so_far.past,
       c.in_ok-verdict.ensures.followed u.rows most (seen u s.so_far.past) s.so_far.followed,
@@ -82,14 +85,14 @@ returns-in_err-verdict-2-clause-faults g c =
     let left' = lines_left c.advance.new.self (g.R.Read.remaining c.advance.new.reader) in
     let advanced = c.in_ok-advance.ensures.line c.if-not-branch.false in
     let other = ap is_dot (sym c.line.ensures) ∙ (sym c.is_dot.ensures ∙ c.if-is_dot.false) in
-    rw (p.1, p.2) (refused_to_dot q.0 q.1 c.lines.judge c.lines.reading c.args.lines.now.number c.lines.lines.number c.number-in-lines.result c.advance.new.self.line f all left left' (c.lines.invariant q.0 q.1 q.2) other
+    rw (p.1, p.2) (refused_to_dot q.0 q.1 c.lines.judge c.lines.reading c.args.lines.now.number c.lines.lines.number c.number-in-lines.result c.advance.new.self.line f all left left' (c.lines.invariant.told q.0 q.1 q.2) other
     (c.number-in-lines.ensures.number ∙ advanced.number) advanced.left
     (subst (λ text. (past : List Line) (more : List (List ℕ)) → RefusesHistory (told_by c.lines.reading past c.number-in-lines.result (text ∷ more)) f) c.line-in-lines.ensures c.in_err-verdict-2.ensures.faults))
 
 pub judgement-requires-in-Some : goal.judgement-requires-in-Some
 judgement-requires-in-Some g c =
     let q = c.requires in
-    let s = (c.lines.invariant q.0 q.1 q.2).so_far in
+    let s = (c.lines.invariant.told q.0 q.1 q.2).so_far in
     let verdict = c.in-Some.verdict in
     let d = subst (λ found. IfSome found (λ v. (u : View) (most : ℕ) (past : List Line) → HasFollowed u most past c.lines.judge → IsNumbered u c.lines.reading past → HasCounted u past c.lines.reading.counts → Decides u most past c.number-in-lines.result c.line-in-lines.result.now v c.take.new.judge c.lines.reading c.take.new.self))
     c.in-Some.is c.in_ok-verdict-2.ensures.decided q.0 q.1 s.past s.followed s.numbered s.counted in
@@ -110,7 +113,7 @@ returns-in-Some-clause-judged g c =
     c.in-Some.is c.in_ok-verdict-2.ensures.decided in
     let judgement = c.in_ok-judgement-2.field-0 in
     by_all all (λ a. (u : View) (most : ℕ) → IsBegun u most c.args.part.now c.args.judge.now → IsJudgement u most taken (before_dot a.lines) judgement.judged judgement.undecided.items judgement.window) (λ a e. λ u most is.
-    let s = c.lines.invariant u most is in
+    let s = c.lines.invariant.told u most is in
     let stays = subst (λ t. Stays left (option_map (with_line t) left')) (sym c.line-in-lines.ensures) advanced.left in
     let d = decides u most s.so_far.past s.so_far.followed s.so_far.numbered s.so_far.counted in
     judged_before_dot u most c.lines.judge c.take.new.judge c.lines.reading c.take.new.self taken c.lines.lines.number number text all left left' a verdict judgement.judged judgement.undecided.items judgement.window s e other (c.number-in-lines.ensures.number ∙ advanced.number) stays
@@ -121,7 +124,7 @@ returns-in-Some-clause-judged g c =
 
 pub returns-in-Some-clause-followed : goal.returns-in-Some-clause-followed
 returns-in-Some-clause-followed g c = λ stakes e u most is.
-    let s = (c.lines.invariant u most is).so_far in
+    let s = (c.lines.invariant.told u most is).so_far in
     let verdict = c.in-Some.verdict in
     let decides = subst (λ found. IfSome found (λ v. (u : View) (most : ℕ) (past : List Line) → HasFollowed u most past c.lines.judge → IsNumbered u c.lines.reading past → HasCounted u past c.lines.reading.counts → Decides u most past c.number-in-lines.result c.line-in-lines.result.now v c.take.new.judge c.lines.reading c.take.new.self))
     c.in-Some.is c.in_ok-verdict-2.ensures.decided in
@@ -135,22 +138,31 @@ none_is None h = refl
 none_is (Some verdict) h = absurd (h verdict refl)
 
 pub lines-preserved : goal.lines-preserved
-lines-preserved g c = λ u most is.
-    let taken = c.args.lines.now.number in
-    let all = lines_left c.args.lines.now (g.R.Read.remaining c.args.reader.now) in
-    let left = lines_left c.lines.lines (g.R.Read.remaining c.lines.reader) in
-    let left' = lines_left c.advance.new.self (g.R.Read.remaining c.advance.new.reader) in
-    let advanced = c.in_ok-advance.ensures.line c.if-not-branch.false in
-    let s = c.lines.invariant u most is in
-    let text = c.line-in-lines.result.now in
-    let other = ap is_dot (c.line-in-lines.ensures ∙ sym c.line.ensures) ∙ (sym c.is_dot.ensures ∙ c.if-is_dot.false) in
-    let on = c.in_ok-verdict-2.ensures.goes_on (ap Ok (none_is c.in_ok-verdict-2.field-0 c.in_default.not-Some)) u most s.so_far.past s.so_far.followed s.so_far.numbered s.so_far.counted in
-    let stays = subst (λ t. Stays left (option_map (with_line t) left')) (sym c.line-in-lines.ensures) advanced.left in
-    subst (λ n. ToDotSoFar u most c.take.new.judge c.take.new.self taken n all left') c.number-in-lines.ensures.number
-    (to_dot_goes_on u most c.lines.judge c.take.new.judge c.lines.reading c.take.new.self taken c.lines.lines.number c.number-in-lines.result text all left left' s other (c.number-in-lines.ensures.number ∙ advanced.number) stays on)
+lines-preserved g c = record {
+  exact = c.in_ok-verdict-2.ensures.exact ∙ c.lines.invariant.exact;
+  told = λ u most is.
+      let taken = c.args.lines.now.number in
+      let all = lines_left c.args.lines.now (g.R.Read.remaining c.args.reader.now) in
+      let left = lines_left c.lines.lines (g.R.Read.remaining c.lines.reader) in
+      let left' = lines_left c.advance.new.self (g.R.Read.remaining c.advance.new.reader) in
+      let advanced = c.in_ok-advance.ensures.line c.if-not-branch.false in
+      let s = c.lines.invariant.told u most is in
+      let text = c.line-in-lines.result.now in
+      let other = ap is_dot (c.line-in-lines.ensures ∙ sym c.line.ensures) ∙ (sym c.is_dot.ensures ∙ c.if-is_dot.false) in
+      let on = c.in_ok-verdict-2.ensures.goes_on (ap Ok (none_is c.in_ok-verdict-2.field-0 c.in_default.not-Some)) u most s.so_far.past s.so_far.followed s.so_far.numbered s.so_far.counted in
+      let stays = subst (λ t. Stays left (option_map (with_line t) left')) (sym c.line-in-lines.ensures) advanced.left in
+      subst (λ n. ToDotSoFar u most c.take.new.judge c.take.new.self taken n all left') c.number-in-lines.ensures.number
+      (to_dot_goes_on u most c.lines.judge c.take.new.judge c.lines.reading c.take.new.self taken c.lines.lines.number c.number-in-lines.result text all left left' s other (c.number-in-lines.ensures.number ∙ advanced.number) stays on);
+}
 
 pub returns-then-is_dot-clause-named : goal.returns-then-is_dot-clause-named
 returns-then-is_dot-clause-named g c = ap ids c.in_ok-judgement.ensures.undecided ∙ ids_told c.number-taken.result c.lines.reading.numbers.items (undecided_in c.finish.new.self)
 
 pub returns-in-Some-clause-named : goal.returns-in-Some-clause-named
 returns-in-Some-clause-named g c = ap ids c.in_ok-judgement-2.ensures.undecided ∙ ids_told c.number-taken.result c.take.new.self.numbers.items (undecided_in c.take.new.judge)
+
+pub returns-then-is_dot-clause-exact : goal.returns-then-is_dot-clause-exact
+returns-then-is_dot-clause-exact g c = c.in_ok-verdict.ensures.exact ∙ c.lines.invariant.exact
+
+pub returns-in-Some-clause-exact : goal.returns-in-Some-clause-exact
+returns-in-Some-clause-exact g c = c.in_ok-verdict-2.ensures.exact ∙ c.lines.invariant.exact

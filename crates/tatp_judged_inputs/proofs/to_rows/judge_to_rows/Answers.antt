@@ -19,7 +19,7 @@ use Rattle.tatp_judged_inputs.proofs.to_rows.judge_to_rows.Goals as goal
 pub returns-in_err-rows-in-Legal-clause-faults : goal.returns-in_err-rows-in-Legal-clause-faults
 returns-in_err-rows-in-Legal-clause-faults g c =
     let p = err_from_is_err_and c.from_residual-in_err-rows-in-Legal.result c.from_residual-in_err-rows-in-Legal.ensures.1 in
-    let q = c.requires in
+    let q = c.requires.begun in
     let to = c.in_ok-judgement.ensures.followed c.in-Legal.stakes c.in-Legal.is q.0 q.1 q.2 in
     rw (p.1, p.2) (rows_not_read c.args.lines.now.number c.judge_to_dot.new.lines.number to.0 (lines_left c.args.lines.now (g.R.Read.remaining c.args.reader.now)) (lines_left c.judge_to_dot.new.lines (g.R.Read.remaining c.judge_to_dot.new.reader))
     c.in_err-rows-in-Legal.field-0.0 to.2 c.in_err-rows-in-Legal.ensures.faults)
@@ -27,17 +27,20 @@ returns-in_err-rows-in-Legal-clause-faults g c =
 pub returns-in_err-admit-in-Legal-clause-faults : goal.returns-in_err-admit-in-Legal-clause-faults
 returns-in_err-admit-in-Legal-clause-faults g c =
     let p = err_from_is_err_and c.from_residual-in_err-admit-in-Legal.result c.from_residual-in_err-admit-in-Legal.ensures.1 in
-    let q = c.requires in
+    let q = c.requires.begun in
     let to = c.in_ok-judgement.ensures.followed c.in-Legal.stakes c.in-Legal.is q.0 q.1 q.2 in
     rw (p.1, p.2) (rows_not_admitted c.args.lines.now.number c.judge_to_dot.new.lines.number to.0 (lines_left c.args.lines.now (g.R.Read.remaining c.args.reader.now)) (lines_left c.judge_to_dot.new.lines (g.R.Read.remaining c.judge_to_dot.new.reader))
     c.in_ok-rows-in-Legal.rows c.in_err-admit-in-Legal.field-0.0 to.2 c.in_ok-rows-in-Legal.ensures.rows c.in_err-admit-in-Legal.ensures.refusal)
 
 pub finish_to-requires-clause-part : goal.finish_to-requires-clause-part
-finish_to-requires-clause-part g c = let q = c.requires in q.2.possible
+finish_to-requires-clause-part g c = let q = c.requires.begun in q.2.possible
+
+pub finish_to-requires-clause-exact : goal.finish_to-requires-clause-exact
+finish_to-requires-clause-exact g c = c.in_ok-judgement.ensures.exact ∙ c.requires.exact
 
 pub finish_to-requires-clause-followed : goal.finish_to-requires-clause-followed
 finish_to-requires-clause-followed g c =
-    let q = c.requires in
+    let q = c.requires.begun in
     let to = c.in_ok-judgement.ensures.followed c.in-Legal.stakes c.in-Legal.is q.0 q.1 q.2 in
     (q.0.rows, q.1, seen q.0 to.0, to.1)
 

@@ -22,7 +22,7 @@ calls-preserved c =
           let there = kept.inside in
           let step : c.if-is_kept.j ≡ suc c.calls.j = omega (arith, is) in
           record {
-            within = λ rest. inv.within (within_kept F k.overwritten d.overwritten k.opened.items d.opened.items i c.calls.j kept.call kept.first kept.second kept.last inside kept.inside
+            within = λ rest. inv.within (within_kept F k.overwritten d.overwritten k.opened.items d.opened.items i c.calls.j kept.call kept.first kept.second kept.early
                 (subst (λ n. AreWithin F k.overwritten d.overwritten (drop n k.opened.items) (drop (suc c.calls.j) d.opened.items)) (sym next)
                 (subst (λ n. AreWithin F k.overwritten d.overwritten (drop (c.calls.i + 1) k.opened.items) (drop n d.opened.items)) step rest)));
             inside = omega (arith, is, there);
@@ -30,11 +30,11 @@ calls-preserved c =
           }
       | else-is_kept+else-not-may_be_left_out w ↦
           let is : c.if-is_kept.j ≡ c.calls.j = w.j-is in
-          let gone = w.may_be_left_out.ensures.0 w.if-not-may_be_left_out.false in
           let at = get_some k.opened.items i inside in
+          let gone = w.may_be_left_out.ensures.0 w.if-not-may_be_left_out.false at.0 at.1 in
           let bound = inv.inside in
           record {
-            within = λ rest. inv.within (within_gone F k.overwritten d.overwritten k.opened.items (drop c.calls.j d.opened.items) i at.0 at.1 gone.0 (gone.1 at.0 at.1) inside
+            within = λ rest. inv.within (within_gone F k.overwritten d.overwritten k.opened.items (drop c.calls.j d.opened.items) i at.0 at.1 gone.0 gone.1
                 (subst (λ n. AreWithin F k.overwritten d.overwritten (drop n k.opened.items) (drop c.calls.j d.opened.items)) (sym next)
                 (subst (λ n. AreWithin F k.overwritten d.overwritten (drop (c.calls.i + 1) k.opened.items) (drop n d.opened.items)) is rest)));
             inside = omega (arith, is, bound);

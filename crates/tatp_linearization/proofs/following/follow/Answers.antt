@@ -5,7 +5,7 @@ use Rattle.tatp_history.specs.Configurations.{Configuration}
 use Rattle.tatp_linearization.specs.declared.configuration.Configuration.{Configuration as Held}
 use Rattle.tatp_linearization.specs.Held.{AreApart}
 use Rattle.tatp_linearization.specs.Possible.{AreMoreThan}
-use Rattle.tatp_linearization.specs.Covering.{OneStandsFor, IsApart, From, IsStoodOr, MayFollow, MayBeTried}
+use Rattle.tatp_linearization.specs.Covering.{OneStandsFor, IsApart, IsLater, From, IsStoodOr, MayFollow, MayBeTried}
 use Rattle.tatp_linearization.specs.Ahead.{IsSeenAhead}
 use Rattle.tatp_linearization.specs.Turns.{AreTriedOutAt, AreFollowed}
 use Rattle.tatp_linearization.proofs.CoveringLaws.{asked_followed, asked_sound, same_followed, same_sound, alike_stands, asked_many, covered_many, out_on}
@@ -16,7 +16,7 @@ abbrev Sounds : Held → List Held → List Held → Event → Type 0
 Sounds c old new event = (d : Configuration) → OneStandsFor new d → IsStoodOr old (From (MayFollow event) c) d
 
 abbrev Follows : (List Event → Type 0) → Held → List Held → List Held → List Held → Event → Type 0
-Follows Known c old first new event = IsApart c → (rest : List Event) → Known (event ∷ rest) → AreTriedOutAt event rest old first → AreFollowed event rest c new
+Follows Known c old first new event = IsApart c → IsLater event c → (rest : List Event) → Known (event ∷ rest) → AreTriedOutAt event rest old first → AreFollowed event rest c new
 
 abbrev AreDoneAt : (List Event → Type 0) → Held → List Held → List Held → List Held → List Held → Event → Type 0
 AreDoneAt Known c old first new tried event = IsApart c → (rest : List Event) → Known (event ∷ rest) → AreTriedOutAt event rest old first → AreTriedOutAt event rest new tried
@@ -29,7 +29,7 @@ returns-in_ok-add-in-Asks-clause-sound c =
 pub returns-in_ok-add-in-Asks-clause-followed : goal.returns-in_ok-add-in-Asks-clause-followed
 returns-in_ok-add-in-Asks-clause-followed c =
     subst (Follows (IsSeenAhead c.args.ahead.now) c.args.c.now c.args.after.now.items c.args.tried.now.items c.add.new.set.items) (sym c.in-Asks.is)
-    (λ apart rest coming out. asked_followed c.args.c.now c.in_ok-ask-in-Asks.field-0 c.in-Asks.x rest c.args.after.now.items c.add.new.set.items c.in_ok-ask-in-Asks.ensures.asked c.in_ok-ask-in-Asks.ensures.overwritten c.in_ok-add-in-Asks.ensures.gained)
+    (λ apart later rest coming out. asked_followed c.args.c.now c.in_ok-ask-in-Asks.field-0 c.in-Asks.x rest c.args.after.now.items c.add.new.set.items later c.in_ok-ask-in-Asks.ensures.asked c.in_ok-ask-in-Asks.ensures.overwritten c.in_ok-add-in-Asks.ensures.gained)
 
 pub returns-in_ok-add-in-Asks-clause-done : goal.returns-in_ok-add-in-Asks-clause-done
 returns-in_ok-add-in-Asks-clause-done c =
@@ -54,7 +54,7 @@ returns-in_ok-add-in-Ends-clause-sound c =
 pub returns-in_ok-add-in-Ends-clause-followed : goal.returns-in_ok-add-in-Ends-clause-followed
 returns-in_ok-add-in-Ends-clause-followed c =
     subst (Follows (IsSeenAhead c.args.ahead.now) c.args.c.now c.args.after.now.items c.args.tried.now.items c.add-then-none_asked.new.set.items) (sym c.in-Ends.is)
-    (λ apart rest coming out. same_followed c.args.c.now c.in_ok-copy-in-Ends.field-0 c.in-Ends.asked c.in-Ends.at rest c.args.after.now.items c.add-then-none_asked.new.set.items (c.none_asked.ensures.0 c.if-none_asked.true)
+    (λ apart later rest coming out. same_followed c.args.c.now c.in_ok-copy-in-Ends.field-0 c.in-Ends.asked c.in-Ends.at rest c.args.after.now.items c.add-then-none_asked.new.set.items (c.none_asked.ensures.0 c.if-none_asked.true)
     (alike_stands c.args.c.now c.in_ok-copy-in-Ends.field-0 c.in_ok-copy-in-Ends.ensures.same c.in_ok-copy-in-Ends.ensures.overwritten) c.in_ok-add-in-Ends.ensures.gained)
 
 pub returns-in_ok-add-in-Ends-clause-done : goal.returns-in_ok-add-in-Ends-clause-done
@@ -81,7 +81,7 @@ returns-in_ok-end-in-Ends-clause-sound c =
 
 pub returns-in_ok-end-in-Ends-clause-followed : goal.returns-in_ok-end-in-Ends-clause-followed
 returns-in_ok-end-in-Ends-clause-followed c =
-    subst (Follows (IsSeenAhead c.args.ahead.now) c.args.c.now c.args.after.now.items c.args.tried.now.items c.end.new.after.items) (sym c.in-Ends.is) (λ apart rest. c.in_ok-end-in-Ends.ensures.followed apart c.in-Ends.at rest)
+    subst (Follows (IsSeenAhead c.args.ahead.now) c.args.c.now c.args.after.now.items c.args.tried.now.items c.end.new.after.items) (sym c.in-Ends.is) (λ apart later rest. c.in_ok-end-in-Ends.ensures.followed apart c.in-Ends.at rest)
 
 pub returns-in_ok-end-in-Ends-clause-done : goal.returns-in_ok-end-in-Ends-clause-done
 returns-in_ok-end-in-Ends-clause-done c =

@@ -28,7 +28,7 @@ returns c = λ _ ahead. record {
       let lt = there.1 in
       let law = c.loop-i.invariant there.0 there.2 (omega (arith, lt, c.loop-i-test.false)) there.3 d there.4 d in
       (d, h, follows_may c.args.event.now d d (law.0 refl));
-  found = λ apart to rest known one.
+  found = λ apart later to rest known one.
       let there = stands_get c.args.set.now one.0 one.1 in
       let lt = there.1 in
       let next = event_on to c.args.event.now rest one.0 one.2 in

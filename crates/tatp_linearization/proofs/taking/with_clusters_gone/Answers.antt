@@ -1,4 +1,4 @@
-use Rattle.std.proofs.Common.{◌≡◌, Some, slice_get, ◌∙◌, refl, subst}
+use Rattle.std.proofs.Common.{◌≡◌, Some, slice_get, refl, subst}
 use Rattle.tatp_history.specs.declared.observed.Observed.{Observed}
 use Rattle.tatp_linearization.specs.declared.configuration.Configuration.{Configuration as Held}
 use Rattle.tatp_linearization.specs.Overwritten.{SetsLocation}
@@ -27,6 +27,6 @@ returns c =
     let taken : Takes c.args.c.now c.args.i (Some c.args.d) = c.requires.taken in
     let one : x ≡ taken.0 = same_item c.args.c.now.opened.items c.args.i x taken.0 at taken.1.at in
     let sets : SetsLocation c.args.c.now.home.tables taken.0.call = subst (λ (y : Observed). SetsLocation c.args.c.now.home.tables y.call) one (c.updates_location.ensures.0 c.if-not-updates_location.false) in
-    let e : Held = record { home = c.args.d.home; opened = c.let_clusters_go.new.opened; overwritten = c.len-overwritten.result } in
-    cleared_on c.args.c.now c.args.d e c.args.i taken c.requires.accepted sets refl (c.len-overwritten.ensures ∙ c.let_clusters_go.new.opened.ok.0) c.let_clusters_go.ensures.gone
+    let e : Held = record { home = c.args.d.home; opened = c.let_clusters_go.new.opened; overwritten = c.args.d.overwritten } in
+    cleared_on c.args.c.now c.args.d e c.args.i taken c.requires.accepted sets refl refl c.let_clusters_go.ensures.gone
     c.args.ahead.now c.args.now c.let_clusters_go.ensures.kept

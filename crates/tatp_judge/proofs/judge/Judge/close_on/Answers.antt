@@ -37,9 +37,9 @@ search-requires c =
     let s_id = c.args.s_id in
     let v = c.index.result.now in
     let there = found_at self.windows.items (s_id - 1) v (omega (arith, c.requires.within.0, c.requires.within.1)) c.index.ensures in
-    let mid : Judge = record { directory = self.directory; windows = c.close_in.new.windows; asked = self.asked; number = self.number; undecided = self.undecided } in
+    let mid : Judge = record { directory = self.directory; windows = c.close_in.new.windows; asked = self.asked; number = self.number; undecided = self.undecided; exact = self.exact } in
     let closes = subst (λ standing. AreEach (ClosesAt s_id self.number standing) self.windows.items c.close_in.new.windows.items) c.in-Unexplained.is c.in_ok-close_in.ensures in
-    (q.0, q.1, q.2, unexplained q.0 q.1 q.2 s_id self q.3 q.4 c.requires.within.0 (marked self s_id v false there c.if-index.false) mid refl refl refl c.requires.within.1 closes)
+    (q.0, q.1, q.2, unexplained q.0 q.1 q.2 s_id self q.3 q.4 c.requires.within.0 (marked self s_id v false there c.if-index.false) mid refl refl refl refl c.requires.within.1 closes)
 
 pub returns-in-Explained-clause-followed : goal.returns-in-Explained-clause-followed
 returns-in-Explained-clause-followed c = λ _ u most lines noted ends.
@@ -47,9 +47,9 @@ returns-in-Explained-clause-followed c = λ _ u most lines noted ends.
     let s_id = c.args.s_id in
     let v = c.index.result.now in
     let there = found_at self.windows.items (s_id - 1) v (omega (arith, c.requires.within.0, c.requires.within.1)) c.index.ensures in
-    let mid : Judge = record { directory = self.directory; windows = c.close_in.new.windows; asked = self.asked; number = self.number; undecided = self.undecided } in
+    let mid : Judge = record { directory = self.directory; windows = c.close_in.new.windows; asked = self.asked; number = self.number; undecided = self.undecided; exact = self.exact } in
     let closes = subst (λ standing. AreEach (ClosesAt s_id self.number standing) self.windows.items c.close_in.new.windows.items) c.in-Explained.is c.in_ok-close_in.ensures in
-    goes_on u most lines s_id self noted ends c.requires.within.0 (marked self s_id v false there c.if-index.false) mid refl refl refl refl c.requires.forgets closes
+    goes_on u most lines s_id self noted ends c.requires.within.0 (marked self s_id v false there c.if-index.false) mid refl refl refl refl refl c.requires.forgets closes
 
 pub returns-in-Legal-clause-followed : goal.returns-in-Legal-clause-followed
 returns-in-Legal-clause-followed c = λ _ u most lines noted ends.
@@ -57,10 +57,10 @@ returns-in-Legal-clause-followed c = λ _ u most lines noted ends.
     let s_id = c.args.s_id in
     let v = c.index.result.now in
     let there = found_at self.windows.items (s_id - 1) v (omega (arith, c.requires.within.0, c.requires.within.1)) c.index.ensures in
-    let mid : Judge = record { directory = self.directory; windows = c.close_in.new.windows; asked = self.asked; number = self.number; undecided = self.undecided } in
+    let mid : Judge = record { directory = self.directory; windows = c.close_in.new.windows; asked = self.asked; number = self.number; undecided = self.undecided; exact = self.exact } in
     let closes = subst (λ standing. AreEach (ClosesAt s_id self.number standing) self.windows.items c.close_in.new.windows.items) c.in-Unexplained.is c.in_ok-close_in.ensures in
     let open_one = marked self s_id v false there c.if-index.false in
-    let before = unexplained u most lines s_id self noted ends c.requires.within.0 open_one mid refl refl refl c.requires.within.1 closes in
+    let before = unexplained u most lines s_id self noted ends c.requires.within.0 open_one mid refl refl refl refl c.requires.within.1 closes in
     let then = c.in_ok-verdict-in-Unexplained.ensures in
     let said = then.said u most lines before in
     searched_on u most lines s_id self noted ends c.requires.within.0 open_one mid c.search.new.self refl c.requires.forgets closes then.windows (then.searchable u most lines before)
@@ -72,9 +72,9 @@ returns-in_default-clause-decided c = λ u most lines more noted ends.
     let s_id = c.args.s_id in
     let v = c.index.result.now in
     let there = found_at self.windows.items (s_id - 1) v (omega (arith, c.requires.within.0, c.requires.within.1)) c.index.ensures in
-    let mid : Judge = record { directory = self.directory; windows = c.close_in.new.windows; asked = self.asked; number = self.number; undecided = self.undecided } in
+    let mid : Judge = record { directory = self.directory; windows = c.close_in.new.windows; asked = self.asked; number = self.number; undecided = self.undecided; exact = self.exact } in
     let closes = subst (λ standing. AreEach (ClosesAt s_id self.number standing) self.windows.items c.close_in.new.windows.items) c.in-Unexplained.is c.in_ok-close_in.ensures in
-    let before = unexplained u most lines s_id self noted ends c.requires.within.0 (marked self s_id v false there c.if-index.false) mid refl refl refl c.requires.within.1 closes in
+    let before = unexplained u most lines s_id self noted ends c.requires.within.0 (marked self s_id v false there c.if-index.false) mid refl refl refl refl c.requires.within.1 closes in
     said_stays u most lines more c.search.new.self.undecided.items c.in_ok-verdict-in-Unexplained.verdict c.in_default.not-Legal (c.in_ok-verdict-in-Unexplained.ensures.said u most lines before)
 
 pub returns-in_default-clause-kept : goal.returns-in_default-clause-kept
@@ -83,9 +83,9 @@ returns-in_default-clause-kept c = λ first named e u most lines noted ends.
     let s_id = c.args.s_id in
     let v = c.index.result.now in
     let there = found_at self.windows.items (s_id - 1) v (omega (arith, c.requires.within.0, c.requires.within.1)) c.index.ensures in
-    let mid : Judge = record { directory = self.directory; windows = c.close_in.new.windows; asked = self.asked; number = self.number; undecided = self.undecided } in
+    let mid : Judge = record { directory = self.directory; windows = c.close_in.new.windows; asked = self.asked; number = self.number; undecided = self.undecided; exact = self.exact } in
     let closes = subst (λ standing. AreEach (ClosesAt s_id self.number standing) self.windows.items c.close_in.new.windows.items) c.in-Unexplained.is c.in_ok-close_in.ensures in
-    let before = unexplained u most lines s_id self noted ends c.requires.within.0 (marked self s_id v false there c.if-index.false) mid refl refl refl c.requires.within.1 closes in
+    let before = unexplained u most lines s_id self noted ends c.requires.within.0 (marked self s_id v false there c.if-index.false) mid refl refl refl refl c.requires.within.1 closes in
     record { most = most; illegal = true; s_id = Some s_id; searchable = c.in_ok-verdict-in-Unexplained.ensures.searchable u most lines before }
 
 pub returns-in_ok-set_aside-in-Undecided-clause-followed : goal.returns-in_ok-set_aside-in-Undecided-clause-followed
@@ -94,8 +94,8 @@ returns-in_ok-set_aside-in-Undecided-clause-followed c = λ _ u most lines noted
     let s_id = c.args.s_id in
     let v = c.index.result.now in
     let there = found_at self.windows.items (s_id - 1) v (omega (arith, c.requires.within.0, c.requires.within.1)) c.index.ensures in
-    let mid : Judge = record { directory = self.directory; windows = c.close_in.new.windows; asked = self.asked; number = self.number; undecided = self.undecided } in
+    let mid : Judge = record { directory = self.directory; windows = c.close_in.new.windows; asked = self.asked; number = self.number; undecided = self.undecided; exact = self.exact } in
     let closes = subst (λ standing. AreEach (ClosesAt s_id self.number standing) self.windows.items c.close_in.new.windows.items) c.in-Undecided.is c.in_ok-close_in.ensures in
     let then = c.in_ok-set_aside-in-Undecided.ensures in
-    goes_on_without u most lines s_id self noted ends c.requires.within.0 (marked self s_id v false there c.if-index.false) mid c.set_aside.new.self c.requires.within.1 c.requires.forgets refl refl refl refl closes
-    then.directory then.number then.asked then.undecided then.windows
+    goes_on_without u most lines s_id self noted ends c.requires.within.0 (marked self s_id v false there c.if-index.false) mid c.set_aside.new.self c.requires.within.1 c.requires.forgets refl refl refl refl refl closes
+    then.directory then.number then.exact then.asked then.undecided then.windows

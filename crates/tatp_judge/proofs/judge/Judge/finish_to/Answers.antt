@@ -14,7 +14,7 @@ use Rattle.tatp_judge.specs.Parts.{is_of_part}
 use Rattle.tatp_judge.specs.Searched.{AreHomesOf}
 use Rattle.tatp_judge.specs.Windows.{IsWindowAfter}
 use Rattle.tatp_judge.proofs.AsideLaws.{adds_none, adds_one, adds_same}
-use Rattle.tatp_judge.proofs.FinishingLaws.{LeavesSoFar, all_reached, aside_there, fewer_at_end, more_at_end, none_left_yet, not_reached, not_yet_aside, one_aside_more, one_left_more, one_passed_over, still_legal, window_there}
+use Rattle.tatp_judge.proofs.FinishingLaws.{LeavesSoFar, all_reached, aside_there, exact_there, fewer_at_end, more_at_end, none_left_yet, not_reached, not_yet_aside, one_aside_more, one_left_more, one_passed_over, still_legal, window_there}
 use Rattle.tatp_judge.proofs.PlaceLaws.{found_at, same_at}
 use Rattle.tatp_judge.proofs.PopulationLaws.{homes_of_all}
 use Rattle.tatp_judge.proofs.SearchLaws.{home_at, home_own}
@@ -66,8 +66,8 @@ here : (u : Database) (most : ℕ) (lines : List Line) (after : Database) (homes
 here u most lines after homes i home standing are lt there h =
     subst (λ s. SaysLeft u most s lines (of_subscriber after (suc i)) standing) (home_own after homes i home are there) (subst (λ rows. SaysLeft u most home.s_id lines rows standing) (home_at after homes i home are there) h)
 
-pub leads_to-requires : goal.leads_to-requires
-leads_to-requires c =
+pub leads_to-requires-clause-window : goal.leads_to-requires-clause-window
+leads_to-requires-clause-window c =
     let q = c.requires.followed in
     let u = q.0 in
     let most = q.1 in
@@ -86,6 +86,16 @@ leads_to-requires c =
     let same = same_at ws.items i c.index.result.now c.index_mut.result.now within c.index.ensures c.index_mut.ensures.value in
     let window = window_there u most c.args.part.now lines (database_of r) i c.args.self.now c.homes.self c.index_mut.result.now is so_far within c.index_mut.ensures.value (ap (λ (w : Window). w.aside) (sym same) ∙ c.if-not-index.true) in
     (u, most, lines, subst (λ s. IsWindowAfter u most s lines c.index_mut.result.now) (sym (home_own (database_of r) homes.items i home all.1 there)) window)
+
+pub leads_to-requires-clause-exact : goal.leads_to-requires-clause-exact
+leads_to-requires-clause-exact c =
+    let q = c.requires.followed in
+    let ws = c.homes.self.windows in
+    let i = c.homes.i in
+    let within : i < length ws.items = omega (arith, c.if-i-len.false, c.len-then-has.ensures, ws.ok.0) in
+    let same = same_at ws.items i c.index.result.now c.index_mut.result.now within c.index.ensures c.index_mut.ensures.value in
+    exact_there q.0 q.1 c.args.part.now q.2 (database_of c.args.rows.now) i c.args.self.now c.homes.self c.index_mut.result.now q.3 (c.homes.invariant.2 q.0 q.1 q.2 q.3) within c.index_mut.ensures.value (ap (λ (v : Window). v.aside) (sym same) ∙ c.if-not-index.true)
+    ∙ c.requires.exact
 
 pub returns-in-Unexplained-clause-verdict : goal.returns-in-Unexplained-clause-verdict
 returns-in-Unexplained-clause-verdict c = λ u most lines is.
@@ -148,7 +158,7 @@ homes-preserved c =
           let same = same_at ws.items i w.index.result.now w.index_mut.result.now within w.index.ensures w.index_mut.ensures.value in
           let then = w.in_ok-set_aside-in-Undecided.ensures in
           let new = w.set_aside.new.self in
-          let mid : Judge = record { directory = now.directory; windows = with_item now.windows i w.leads_to.new.self; asked = now.asked; number = now.number; undecided = now.undecided } in (
+          let mid : Judge = record { directory = now.directory; windows = with_item now.windows i w.leads_to.new.self; asked = now.asked; number = now.number; undecided = now.undecided; exact = now.exact } in (
             subst (λ (judge : Judge). AddsAside old judge) (sym w.self-is) (adds_one old now new (i + 1) c.homes.invariant.0 c.homes.invariant.1 then.undecided),
             subst (λ (judge : Judge). judge.number ≡ old.number) (sym w.self-is) (then.number ∙ c.homes.invariant.1),
             λ u most lines is.

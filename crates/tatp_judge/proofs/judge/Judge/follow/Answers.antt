@@ -1,6 +1,7 @@
 use Rattle.std.specs.Prelude.{IfSome}
 use Rattle.std.proofs.Common.{◌≡◌, ◌+◌, ◌≤◌, [], ◌∷◌, ◌++◌, length, None, Option, cond, eqb, refl, sym, ap, ◌∙◌, subst, arith, nat_eq}
 use Rattle.std.proofs.lemmas.Option.{none-some, same_Some}
+use Rattle.std.proofs.lemmas.Result.{on_ok_weaker}
 use Rattle.indexmap.specs.IndexMap.{get}
 use Rattle.tatp_history.specs.HistoryLines.{client_of}
 use Rattle.tatp_judge.specs.declared.asked.Asked.{Asked}
@@ -31,13 +32,13 @@ close-requires-clause-noted c =
     let old = c.args.self.now in
     let number = old.number + 1 in
     let ended : c.swap_remove-ended.result ≡ get nat_eq old.asked (client_of line) = c.swap_remove-ended.ensures.value ∙ ap (get nat_eq old.asked) c.client_of.ensures in
-    let mid : Judge = record { directory = old.directory; windows = old.windows; asked = c.swap_remove-ended.new.self; number = old.number; undecided = old.undecided } in
-    let after : Judge = record { directory = c.note.new.self.directory; windows = c.note.new.self.windows; asked = c.note.new.self.asked; number = number; undecided = c.note.new.self.undecided } in (
+    let mid : Judge = record { directory = old.directory; windows = old.windows; asked = c.swap_remove-ended.new.self; number = old.number; undecided = old.undecided; exact = old.exact } in
+    let after : Judge = record { directory = c.note.new.self.directory; windows = c.note.new.self.windows; asked = c.note.new.self.asked; number = number; undecided = c.note.new.self.undecided; exact = c.note.new.self.exact } in (
       q.0,
       q.1,
       q.2 ++ line ∷ [],
       has_noted q.0 q.1 q.2 line number c.swap_remove-ended.result old mid c.note.new.self after q.3 c.requires.accepted (omega (arith, q.3.noted.read.number_is, q.3.noted.read.number_is, q.4)) refl ended
-          (λ other. c.swap_remove-ended.ensures.updates.0 other ∙ ap (λ k. cond (eqb k other) None (get nat_eq old.asked other)) c.client_of.ensures) refl refl refl (c.in_ok-note.ensures q.0 q.3.noted.read.directory_is) refl refl refl (λ other. refl) refl,
+          (λ other. c.swap_remove-ended.ensures.updates.0 other ∙ ap (λ k. cond (eqb k other) None (get nat_eq old.asked other)) c.client_of.ensures) refl refl refl c.note.ensures.exact (c.in_ok-note.ensures.noted q.0 q.3.noted.read.directory_is) refl refl refl (λ other. refl) refl,
       ends_as q.0 q.2 line number c.in-Some.asked q.3.none (omega (arith, q.3.noted.read.number_is)) (sym (ended_was q.0 q.1 q.2 line c.swap_remove-ended.result old q.3 ended) ∙ c.in-Some.is),
     )
 
@@ -49,7 +50,7 @@ close-requires-clause-within c =
     let number = old.number + 1 in
     let ended : c.swap_remove-ended.result ≡ get nat_eq old.asked (client_of line) = c.swap_remove-ended.ensures.value ∙ ap (get nat_eq old.asked) c.client_of.ensures in
     let within = subst (λ (o : Option Asked). IfSome o (λ asked. IfSome asked.s_id (λ s. (1 ≤ s) × (s ≤ length old.windows.items)))) c.in-Some.is (ends_within q.0 q.1 q.2 line c.swap_remove-ended.result old q.3 ended) in
-    subst (λ n. IfSome c.in-Some.asked.s_id (λ s. (1 ≤ s) × (s ≤ n))) (sym (c.in_ok-note.ensures q.0 q.3.noted.read.directory_is).windows_are.count) within
+    subst (λ n. IfSome c.in-Some.asked.s_id (λ s. (1 ≤ s) × (s ≤ n))) (sym (c.in_ok-note.ensures.noted q.0 q.3.noted.read.directory_is).windows_are.count) within
 
 pub close-requires-clause-forgets : goal.close-requires-clause-forgets
 close-requires-clause-forgets c =
@@ -58,9 +59,9 @@ close-requires-clause-forgets c =
     let old = c.args.self.now in
     let number = old.number + 1 in
     let ended : c.swap_remove-ended.result ≡ get nat_eq old.asked (client_of line) = c.swap_remove-ended.ensures.value ∙ ap (get nat_eq old.asked) c.client_of.ensures in
-    let mid : Judge = record { directory = old.directory; windows = old.windows; asked = c.swap_remove-ended.new.self; number = old.number; undecided = old.undecided } in
-    let after : Judge = record { directory = c.note.new.self.directory; windows = c.note.new.self.windows; asked = c.note.new.self.asked; number = number; undecided = c.note.new.self.undecided } in
-    still_forgets q.0 c.swap_remove-ended.result c.in-Some.asked.s_id number line old mid c.note.new.self after q.3.forgets refl (c.in_ok-note.ensures q.0 q.3.noted.read.directory_is) refl
+    let mid : Judge = record { directory = old.directory; windows = old.windows; asked = c.swap_remove-ended.new.self; number = old.number; undecided = old.undecided; exact = old.exact } in
+    let after : Judge = record { directory = c.note.new.self.directory; windows = c.note.new.self.windows; asked = c.note.new.self.asked; number = number; undecided = c.note.new.self.undecided; exact = c.note.new.self.exact } in
+    still_forgets q.0 c.swap_remove-ended.result c.in-Some.asked.s_id number line old mid c.note.new.self after q.3.forgets refl (c.in_ok-note.ensures.noted q.0 q.3.noted.read.directory_is) refl
     (λ asked e. ap (λ (a : Asked). a.s_id) (same_Some c.in-Some.asked asked (sym c.in-Some.is ∙ e)))
 
 pub returns-in-Some-clause-followed : goal.returns-in-Some-clause-followed
@@ -70,10 +71,10 @@ returns-in-Some-clause-followed c = λ none u most lines is.
     let old = c.args.self.now in
     let number = old.number + 1 in
     let ended : c.swap_remove-ended.result ≡ get nat_eq old.asked (client_of line) = c.swap_remove-ended.ensures.value ∙ ap (get nat_eq old.asked) c.client_of.ensures in
-    let mid : Judge = record { directory = old.directory; windows = old.windows; asked = c.swap_remove-ended.new.self; number = old.number; undecided = old.undecided } in
-    let after : Judge = record { directory = c.note.new.self.directory; windows = c.note.new.self.windows; asked = c.note.new.self.asked; number = number; undecided = c.note.new.self.undecided } in
+    let mid : Judge = record { directory = old.directory; windows = old.windows; asked = c.swap_remove-ended.new.self; number = old.number; undecided = old.undecided; exact = old.exact } in
+    let after : Judge = record { directory = c.note.new.self.directory; windows = c.note.new.self.windows; asked = c.note.new.self.asked; number = number; undecided = c.note.new.self.undecided; exact = c.note.new.self.exact } in
     c.close.ensures.followed none u most (lines ++ line ∷ []) (has_noted u most lines line number c.swap_remove-ended.result old mid c.note.new.self after is c.requires.accepted (omega (arith, is.noted.read.number_is, q.3.noted.read.number_is, q.4)) refl ended
-    (λ other. c.swap_remove-ended.ensures.updates.0 other ∙ ap (λ k. cond (eqb k other) None (get nat_eq old.asked other)) c.client_of.ensures) refl refl refl (c.in_ok-note.ensures u is.noted.read.directory_is) refl refl refl (λ other. refl) refl)
+    (λ other. c.swap_remove-ended.ensures.updates.0 other ∙ ap (λ k. cond (eqb k other) None (get nat_eq old.asked other)) c.client_of.ensures) refl refl refl c.note.ensures.exact (c.in_ok-note.ensures.noted u is.noted.read.directory_is) refl refl refl (λ other. refl) refl)
     (ends_as u lines line number c.in-Some.asked is.none (omega (arith, is.noted.read.number_is)) (sym (ended_was u most lines line c.swap_remove-ended.result old is ended) ∙ c.in-Some.is))
 
 pub returns-in-Some-clause-explained : goal.returns-in-Some-clause-explained
@@ -83,10 +84,10 @@ returns-in-Some-clause-explained c = λ none u most lines is.
     let old = c.args.self.now in
     let number = old.number + 1 in
     let ended : c.swap_remove-ended.result ≡ get nat_eq old.asked (client_of line) = c.swap_remove-ended.ensures.value ∙ ap (get nat_eq old.asked) c.client_of.ensures in
-    let mid : Judge = record { directory = old.directory; windows = old.windows; asked = c.swap_remove-ended.new.self; number = old.number; undecided = old.undecided } in
-    let after : Judge = record { directory = c.note.new.self.directory; windows = c.note.new.self.windows; asked = c.note.new.self.asked; number = number; undecided = c.note.new.self.undecided } in
+    let mid : Judge = record { directory = old.directory; windows = old.windows; asked = c.swap_remove-ended.new.self; number = old.number; undecided = old.undecided; exact = old.exact } in
+    let after : Judge = record { directory = c.note.new.self.directory; windows = c.note.new.self.windows; asked = c.note.new.self.asked; number = number; undecided = c.note.new.self.undecided; exact = c.note.new.self.exact } in
     explained_where_closed u most (lines ++ line ∷ []) c.close.new.self (c.close.ensures.followed none u most (lines ++ line ∷ []) (has_noted u most lines line number c.swap_remove-ended.result old mid c.note.new.self after is c.requires.accepted (omega (arith, is.noted.read.number_is, q.3.noted.read.number_is, q.4)) refl ended
-    (λ other. c.swap_remove-ended.ensures.updates.0 other ∙ ap (λ k. cond (eqb k other) None (get nat_eq old.asked other)) c.client_of.ensures) refl refl refl (c.in_ok-note.ensures u is.noted.read.directory_is) refl refl refl (λ other. refl) refl)
+    (λ other. c.swap_remove-ended.ensures.updates.0 other ∙ ap (λ k. cond (eqb k other) None (get nat_eq old.asked other)) c.client_of.ensures) refl refl refl c.note.ensures.exact (c.in_ok-note.ensures.noted u is.noted.read.directory_is) refl refl refl (λ other. refl) refl)
     (ends_as u lines line number c.in-Some.asked is.none (omega (arith, is.noted.read.number_is)) (sym (ended_was u most lines line c.swap_remove-ended.result old is ended) ∙ c.in-Some.is)))
 
 pub returns-in-Some-clause-decided : goal.returns-in-Some-clause-decided
@@ -96,10 +97,10 @@ returns-in-Some-clause-decided c =
     let old = c.args.self.now in
     let number = old.number + 1 in
     let ended : c.swap_remove-ended.result ≡ get nat_eq old.asked (client_of line) = c.swap_remove-ended.ensures.value ∙ ap (get nat_eq old.asked) c.client_of.ensures in
-    let mid : Judge = record { directory = old.directory; windows = old.windows; asked = c.swap_remove-ended.new.self; number = old.number; undecided = old.undecided } in
-    let after : Judge = record { directory = c.note.new.self.directory; windows = c.note.new.self.windows; asked = c.note.new.self.asked; number = number; undecided = c.note.new.self.undecided } in
+    let mid : Judge = record { directory = old.directory; windows = old.windows; asked = c.swap_remove-ended.new.self; number = old.number; undecided = old.undecided; exact = old.exact } in
+    let after : Judge = record { directory = c.note.new.self.directory; windows = c.note.new.self.windows; asked = c.note.new.self.asked; number = number; undecided = c.note.new.self.undecided; exact = c.note.new.self.exact } in
     if_ok_weaker c.close.result (λ found h. if_some_weaker found (λ verdict k. λ u most lines more is. k u most (lines ++ line ∷ []) more (has_noted u most lines line number c.swap_remove-ended.result old mid c.note.new.self after is c.requires.accepted (omega (arith, is.noted.read.number_is, q.3.noted.read.number_is, q.4)) refl ended
-    (λ other. c.swap_remove-ended.ensures.updates.0 other ∙ ap (λ k. cond (eqb k other) None (get nat_eq old.asked other)) c.client_of.ensures) refl refl refl (c.in_ok-note.ensures u is.noted.read.directory_is) refl refl refl (λ other. refl) refl)
+    (λ other. c.swap_remove-ended.ensures.updates.0 other ∙ ap (λ k. cond (eqb k other) None (get nat_eq old.asked other)) c.client_of.ensures) refl refl refl c.note.ensures.exact (c.in_ok-note.ensures.noted u is.noted.read.directory_is) refl refl refl (λ other. refl) refl)
     (ends_as u lines line number c.in-Some.asked is.none (omega (arith, is.noted.read.number_is)) (sym (ended_was u most lines line c.swap_remove-ended.result old is ended) ∙ c.in-Some.is))) h) c.close.ensures.decided
 
 pub returns-in-None-clause-followed : goal.returns-in-None-clause-followed
@@ -109,12 +110,12 @@ returns-in-None-clause-followed c = λ _ u most lines is.
     let old = c.args.self.now in
     let number = old.number + 1 in
     let ended : c.swap_remove-ended.result ≡ get nat_eq old.asked (client_of line) = c.swap_remove-ended.ensures.value ∙ ap (get nat_eq old.asked) c.client_of.ensures in
-    let mid : Judge = record { directory = old.directory; windows = old.windows; asked = c.swap_remove-ended.new.self; number = old.number; undecided = old.undecided } in
-    let after : Judge = record { directory = c.note.new.self.directory; windows = c.note.new.self.windows; asked = c.note.new.self.asked; number = number; undecided = c.note.new.self.undecided } in
+    let mid : Judge = record { directory = old.directory; windows = old.windows; asked = c.swap_remove-ended.new.self; number = old.number; undecided = old.undecided; exact = old.exact } in
+    let after : Judge = record { directory = c.note.new.self.directory; windows = c.note.new.self.windows; asked = c.note.new.self.asked; number = number; undecided = c.note.new.self.undecided; exact = c.note.new.self.exact } in
     record {
       noted = has_noted u most lines line number c.swap_remove-ended.result old mid c.note.new.self after is c.requires.accepted (omega (arith, is.noted.read.number_is, q.3.noted.read.number_is, q.4)) refl ended
-          (λ other. c.swap_remove-ended.ensures.updates.0 other ∙ ap (λ k. cond (eqb k other) None (get nat_eq old.asked other)) c.client_of.ensures) refl refl refl (c.in_ok-note.ensures u is.noted.read.directory_is) refl refl refl (λ other. refl) refl;
-      forgets = still_forgets u c.swap_remove-ended.result None number line old mid c.note.new.self after is.forgets refl (c.in_ok-note.ensures u is.noted.read.directory_is) refl
+          (λ other. c.swap_remove-ended.ensures.updates.0 other ∙ ap (λ k. cond (eqb k other) None (get nat_eq old.asked other)) c.client_of.ensures) refl refl refl c.note.ensures.exact (c.in_ok-note.ensures.noted u is.noted.read.directory_is) refl refl refl (λ other. refl) refl;
+      forgets = still_forgets u c.swap_remove-ended.result None number line old mid c.note.new.self after is.forgets refl (c.in_ok-note.ensures.noted u is.noted.read.directory_is) refl
           (λ asked e. absurd (none-some asked (sym c.in-None.is ∙ e)));
       none = none_ended u lines line is.none (sym (ended_was u most lines line c.swap_remove-ended.result old is ended) ∙ c.in-None.is);
     }
@@ -126,12 +127,12 @@ returns-in-None-clause-explained c = λ _ u most lines is.
     let old = c.args.self.now in
     let number = old.number + 1 in
     let ended : c.swap_remove-ended.result ≡ get nat_eq old.asked (client_of line) = c.swap_remove-ended.ensures.value ∙ ap (get nat_eq old.asked) c.client_of.ensures in
-    let mid : Judge = record { directory = old.directory; windows = old.windows; asked = c.swap_remove-ended.new.self; number = old.number; undecided = old.undecided } in
-    let after : Judge = record { directory = c.note.new.self.directory; windows = c.note.new.self.windows; asked = c.note.new.self.asked; number = number; undecided = c.note.new.self.undecided } in
+    let mid : Judge = record { directory = old.directory; windows = old.windows; asked = c.swap_remove-ended.new.self; number = old.number; undecided = old.undecided; exact = old.exact } in
+    let after : Judge = record { directory = c.note.new.self.directory; windows = c.note.new.self.windows; asked = c.note.new.self.asked; number = number; undecided = c.note.new.self.undecided; exact = c.note.new.self.exact } in
     explained_where_closed u most (lines ++ line ∷ []) after (record {
       noted = has_noted u most lines line number c.swap_remove-ended.result old mid c.note.new.self after is c.requires.accepted (omega (arith, is.noted.read.number_is, q.3.noted.read.number_is, q.4)) refl ended
-          (λ other. c.swap_remove-ended.ensures.updates.0 other ∙ ap (λ k. cond (eqb k other) None (get nat_eq old.asked other)) c.client_of.ensures) refl refl refl (c.in_ok-note.ensures u is.noted.read.directory_is) refl refl refl (λ other. refl) refl;
-      forgets = still_forgets u c.swap_remove-ended.result None number line old mid c.note.new.self after is.forgets refl (c.in_ok-note.ensures u is.noted.read.directory_is) refl
+          (λ other. c.swap_remove-ended.ensures.updates.0 other ∙ ap (λ k. cond (eqb k other) None (get nat_eq old.asked other)) c.client_of.ensures) refl refl refl c.note.ensures.exact (c.in_ok-note.ensures.noted u is.noted.read.directory_is) refl refl refl (λ other. refl) refl;
+      forgets = still_forgets u c.swap_remove-ended.result None number line old mid c.note.new.self after is.forgets refl (c.in_ok-note.ensures.noted u is.noted.read.directory_is) refl
           (λ asked e. absurd (none-some asked (sym c.in-None.is ∙ e)));
       none = none_ended u lines line is.none (sym (ended_was u most lines line c.swap_remove-ended.result old is ended) ∙ c.in-None.is);
     })
@@ -143,8 +144,11 @@ returns-in-Some-clause-kept c = λ first s_id e u most lines is.
     let old = c.args.self.now in
     let number = old.number + 1 in
     let ended : c.swap_remove-ended.result ≡ get nat_eq old.asked (client_of line) = c.swap_remove-ended.ensures.value ∙ ap (get nat_eq old.asked) c.client_of.ensures in
-    let mid : Judge = record { directory = old.directory; windows = old.windows; asked = c.swap_remove-ended.new.self; number = old.number; undecided = old.undecided } in
-    let after : Judge = record { directory = c.note.new.self.directory; windows = c.note.new.self.windows; asked = c.note.new.self.asked; number = number; undecided = c.note.new.self.undecided } in
+    let mid : Judge = record { directory = old.directory; windows = old.windows; asked = c.swap_remove-ended.new.self; number = old.number; undecided = old.undecided; exact = old.exact } in
+    let after : Judge = record { directory = c.note.new.self.directory; windows = c.note.new.self.windows; asked = c.note.new.self.asked; number = number; undecided = c.note.new.self.undecided; exact = c.note.new.self.exact } in
     c.close.ensures.kept first s_id e u most (lines ++ line ∷ []) (has_noted u most lines line number c.swap_remove-ended.result old mid c.note.new.self after is c.requires.accepted (omega (arith, is.noted.read.number_is, q.3.noted.read.number_is, q.4)) refl ended
-    (λ other. c.swap_remove-ended.ensures.updates.0 other ∙ ap (λ k. cond (eqb k other) None (get nat_eq old.asked other)) c.client_of.ensures) refl refl refl (c.in_ok-note.ensures u is.noted.read.directory_is) refl refl refl (λ other. refl) refl)
+    (λ other. c.swap_remove-ended.ensures.updates.0 other ∙ ap (λ k. cond (eqb k other) None (get nat_eq old.asked other)) c.client_of.ensures) refl refl refl c.note.ensures.exact (c.in_ok-note.ensures.noted u is.noted.read.directory_is) refl refl refl (λ other. refl) refl)
     (ends_as u lines line number c.in-Some.asked is.none (omega (arith, is.noted.read.number_is)) (sym (ended_was u most lines line c.swap_remove-ended.result old is ended) ∙ c.in-Some.is))
+
+pub returns-in-Some-clause-exact : goal.returns-in-Some-clause-exact
+returns-in-Some-clause-exact c = on_ok_weaker c.close.result (λ same. same ∙ c.note.ensures.exact) c.close.ensures.exact

@@ -20,6 +20,7 @@ returns-clause-followed c =
           number_is = refl;
           accepted = tt;
           room = omega arith;
+          exact_are = λ place w h none. c.in_ok-windows.ensures.exact place w h;
         };
         asked_are = c.none_asked.ensures;
         windows_are = λ place w h. inl (c.in_ok-windows.ensures.kept place w h, c.in_ok-windows.ensures.windows u (subst (AreHomesOf u) (sym same) rows.homes_are) place w h);

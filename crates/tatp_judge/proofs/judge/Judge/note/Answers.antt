@@ -15,8 +15,8 @@ ask-requires-clause-directory c =
     let ended = c.in_ok-end.ensures in
     (d.0, subst (λ n. IsDirectoryOf d.0 n c.end.new.self.directory) (sym ended.windows.count) (subst (λ (l : Listing). IsDirectoryOf d.0 (length c.args.self.now.windows.items) l) (sym ended.directory) d.1))
 
-pub returns-in-Ask : goal.returns-in-Ask
-returns-in-Ask c =
+pub returns-in-Ask-clause-noted : goal.returns-in-Ask-clause-noted
+returns-in-Ask-clause-noted c =
     let old = c.args.self.now in
     let ended = c.in_ok-end.ensures in
     let line = c.in-Ask.is in
@@ -27,8 +27,8 @@ returns-in-Ask c =
     (subst (λ (l : Line). AreEach (λ place. EndsCall (asked_on (suc place) c.args.ended.now) c.args.number l) old.windows.items c.end.new.self.windows.items) line ended.windows) (windows u mid)))
     c.ask.ensures.directory c.ask.ensures.undecided c.ask.ensures.asked c.ask.ensures.windows
 
-pub returns-in-End : goal.returns-in-End
-returns-in-End c = λ u d.
+pub returns-in-End-clause-noted : goal.returns-in-End-clause-noted
+returns-in-End-clause-noted c = λ u d.
     let old = c.args.self.now in
     let ended = c.in_ok-end.ensures in
     let line = c.in-End.is in
@@ -38,8 +38,8 @@ returns-in-End c = λ u d.
     (subst (λ (l : Line). AreEach (λ place. EndsCall (asked_on (suc place) c.args.ended.now) c.args.number l) old.windows.items c.end.new.self.windows.items) line ended.windows)
     (asks_nothing u c.args.number here c.end.new.self.windows.items (λ s. refl)))
 
-pub returns-in-Abort : goal.returns-in-Abort
-returns-in-Abort c = λ u d.
+pub returns-in-Abort-clause-noted : goal.returns-in-Abort-clause-noted
+returns-in-Abort-clause-noted c = λ u d.
     let old = c.args.self.now in
     let ended = c.in_ok-end.ensures in
     let line = c.in-Abort.is in
@@ -49,8 +49,8 @@ returns-in-Abort c = λ u d.
     (subst (λ (l : Line). AreEach (λ place. EndsCall (asked_on (suc place) c.args.ended.now) c.args.number l) old.windows.items c.end.new.self.windows.items) line ended.windows)
     (asks_nothing u c.args.number here c.end.new.self.windows.items (λ s. refl)))
 
-pub returns-in-Lost : goal.returns-in-Lost
-returns-in-Lost c = λ u d.
+pub returns-in-Lost-clause-noted : goal.returns-in-Lost-clause-noted
+returns-in-Lost-clause-noted c = λ u d.
     let old = c.args.self.now in
     let ended = c.in_ok-end.ensures in
     let line = c.in-Lost.is in

@@ -82,7 +82,7 @@ windows-preserved c =
       | then-not-index+in_ok-first_at+in-Undecided+in_ok-set_aside-in-Undecided w ↦
           let then = w.in_ok-set_aside-in-Undecided.ensures in
           let new = w.set_aside.new.self in (
-            subst (ReleasesSome old) (sym w.self-is) (releases_more (i + 1) old mid new releases w.set_aside.ensures.directory w.set_aside.ensures.asked w.set_aside.ensures.number then.windows),
+            subst (ReleasesSome old) (sym w.self-is) (releases_more (i + 1) old mid new releases w.set_aside.ensures.directory w.set_aside.ensures.asked w.set_aside.ensures.number w.set_aside.ensures.exact then.windows),
             λ u most lines is.
                 let so_far = c.windows.invariant.1 u most lines is in
                 let for = searched_for u most lines c.args.illegal c.args.s_id w.is_known.result mid i v so_far.searchable at w.if-not-index.true
@@ -90,7 +90,7 @@ windows-preserved c =
                 let many = subst (IsFirstOf u most (suc i) lines) w.in-Undecided.is (w.in_ok-first_at.ensures v at u most lines for so_far.searchable.read.number_is) in
                 subst (λ (j : Judge). SearchedSoFar u most lines c.args.illegal c.args.s_id j (i + 1) c.if-not-index.least c.if-not-index.whose) (sym w.self-is)
                 (record {
-                  searchable = searchable_more u most lines c.args.illegal c.args.s_id i (i + 1) mid new v so_far.searchable next at w.if-not-index.true many w.set_aside.ensures.directory w.set_aside.ensures.number then.undecided then.windows;
+                  searchable = searchable_more u most lines c.args.illegal c.args.s_id i (i + 1) mid new v so_far.searchable next at w.if-not-index.true many w.set_aside.ensures.directory w.set_aside.ensures.number w.set_aside.ensures.exact then.undecided then.windows;
                   least_is = least_moved w.least-is w.whose-is
                       (subst (λ xs. IsLeast u lines xs (i + 1) c.windows.least c.windows.whose) (sym then.undecided) (least_aside u lines mid.undecided.items (record { line = mid.number; s_id = i + 1 }) i c.windows.least c.windows.whose so_far.least_is next));
                 }),
@@ -129,3 +129,9 @@ returns-else-least-number-clause-said c = λ u most lines is.
 
 pub returns-else-least-number-clause-searchable : goal.returns-else-least-number-clause-searchable
 returns-else-least-number-clause-searchable c = λ u most lines is. (c.windows.invariant.1 u most lines is).searchable
+
+pub returns-then-least-number-clause-exact : goal.returns-then-least-number-clause-exact
+returns-then-least-number-clause-exact c = c.windows.invariant.0.exact_is
+
+pub returns-else-least-number-clause-exact : goal.returns-else-least-number-clause-exact
+returns-else-least-number-clause-exact c = c.windows.invariant.0.exact_is

@@ -1,4 +1,5 @@
-use Rattle.std.proofs.Common.{vec_len, sym, ◌∙◌, arith, eqb-true}
+use Rattle.std.proofs.Common.{vec_len, sym, ap, ◌∙◌, arith, eqb-true}
+use Rattle.tatp_linearization.specs.declared.explanations.Explanations.{Explanations}
 use Rattle.tatp_judge.proofs.ClosingLaws.{closed_empty, none_left}
 use Rattle.tatp_judge.proofs.window.Window.close.Goals as goal
 
@@ -12,3 +13,6 @@ returns-then-is_empty-clause-closes c = λ u most s lines is now.
           c.forget.ensures.explanations c.forget.ensures.forgotten (c.forget.ensures.from ∙ now) c.forget.ensures.waiting,
       λ _. c.forget.ensures.forgotten,
     )
+
+pub returns-then-is_empty-clause-exact : goal.returns-then-is_empty-clause-exact
+returns-then-is_empty-clause-exact c = ap (λ (e : Explanations). e.exact) c.forget.ensures.explanations

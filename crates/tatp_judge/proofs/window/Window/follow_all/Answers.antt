@@ -38,3 +38,6 @@ returns-in-Undecided-clause-closes c = λ u most s lines is now.
     many_now u most s lines w is
     (subst (λ es. NeedMore most (of_subscriber u s) (is.before ++ es)) c.as_slice.ensures.value
     (subst (λ m. NeedMore m (of_subscriber u s) (is.before ++ c.as_slice.result.now)) is.most_is (c.in_ok-follow.ensures.undecided (ap Ok c.in-Undecided.is) (of_subscriber u s) is.before is.reached)))
+
+pub returns-in-Explained-clause-exact : goal.returns-in-Explained-clause-exact
+returns-in-Explained-clause-exact c = ap (λ (e : Explanations). e.exact) c.forget.ensures.explanations ∙ c.follow.ensures.exact

@@ -47,3 +47,12 @@ returns-in_ok-keep_only-clause-closes c = λ u most s lines is now.
         before = spent u most s lines w x is here;
       }),
     )
+
+pub returns-then-fits-clause-exact : goal.returns-then-fits-clause-exact
+returns-then-fits-clause-exact c = ap (λ (e : Explanations). e.exact) c.forget.ensures.explanations ∙ c.follow_alone-fits.ensures.exact
+
+pub returns-in_ok-keep_only-clause-exact : goal.returns-in_ok-keep_only-clause-exact
+returns-in_ok-keep_only-clause-exact c = ap (λ (e : Explanations). e.exact) c.keep_only.ensures.explanations ∙ c.follow_alone-fits.ensures.exact
+
+pub returns-in_err-keep_only-clause-exact : goal.returns-in_err-keep_only-clause-exact
+returns-in_err-keep_only-clause-exact c = ap (λ (e : Explanations). e.exact) c.keep_only.ensures.explanations ∙ c.follow_alone-fits.ensures.exact

@@ -9,7 +9,7 @@ use Rattle.tatp_history.specs.Events.{asked_in, AreAfter}
 use Rattle.tatp_linearization.specs.Reached.{AreReached}
 use Rattle.tatp_linearization.specs.Cut.{AreWindow}
 use Rattle.tatp_linearization.proofs.CutLaws.{none_by, asked_by, first_rises}
-use Rattle.tatp_linearization.proofs.FollowLaws.{some_explain}
+use Rattle.tatp_linearization.proofs.SearchedLaws.{reached_explained}
 use Rattle.tatp_linearization.proofs.explanations.Explanations.first_unexplained.Goals as goal
 use Rattle.tatp_linearization.proofs.explanations.Explanations.first_unexplained.Goals.{in-Explained-2, in-Unexplained-2}
 
@@ -29,7 +29,7 @@ halves-init c = record {
   less = c.requires.times;
   nearer = omega arith;
   explains = λ u past reached window. before_it u c.args.from (asked_in past) c.args.events.now c.requires.after
-      (some_explain u past c.args.self.now.configurations.items reached.kept (first_rises past c.args.events.now window.rise) window.own reached.some);
+      (reached_explained c.args.self.now u past reached (first_rises past c.args.events.now window.rise) window.own);
   fails = λ u past reached window. c.in_ok-explain_by.ensures.unexplained (ap Ok c.in-Unexplained.is) u past reached window;
 }
 

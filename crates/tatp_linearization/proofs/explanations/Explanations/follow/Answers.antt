@@ -1,27 +1,66 @@
-use Rattle.std.proofs.Common.{◌<◌, vec_len, ◌++◌, sym, ◌∙◌, subst, arith, eqb-true}
-use Rattle.tatp_linearization.specs.Held.{AreApart}
+use Rattle.std.proofs.Common.{◌≡◌, ◌<◌, vec_len, ◌++◌, length, Err, sym, ap, ◌∙◌, subst, arith, eqb-true}
+use Rattle.std.specs.List.{AllByRecursion}
+use Rattle.tatp_linearization.specs.Held.{AreApart, AreReady, IsAcceptedEvent}
 use Rattle.tatp_linearization.specs.Reached.{AreKept}
-use Rattle.tatp_linearization.proofs.FollowLaws.{none_explains, some_explain, positive}
+use Rattle.tatp_linearization.specs.Searched.{searched_events}
+use Rattle.tatp_linearization.proofs.FollowLaws.{positive}
+use Rattle.tatp_linearization.proofs.SearchedLaws.{kept_on, more_on, searched_explain, searched_fail}
 use Rattle.tatp_linearization.proofs.explanations.Explanations.follow.Goals as goal
+
+pub searched-requires : goal.searched-requires
+searched-requires c = record { some = c.requires.reached.2.some }
+
+pub after_events-requires-clause-some : goal.after_events-requires-clause-some
+after_events-requires-clause-some c =
+    let same : length c.as_slice-2.result.now ≡ length c.args.events.now = ap length c.as_slice-2.ensures.value ∙ c.in_ok-told.ensures.count in
+    omega (arith, same, c.requires.some)
+
+pub after_events-requires-clause-accepted : goal.after_events-requires-clause-accepted
+after_events-requires-clause-accepted c = subst (AllByRecursion IsAcceptedEvent) (sym c.as_slice-2.ensures.value) (c.in_ok-told.ensures.accepted c.requires.accepted)
+
+pub after_events-requires-clause-ready : goal.after_events-requires-clause-ready
+after_events-requires-clause-ready c = subst AreReady (sym c.as_slice.ensures.value) c.requires.reached.2.kept.ready
 
 pub returns-then-is_empty-clause-unexplained : goal.returns-then-is_empty-clause-unexplained
 returns-then-is_empty-clause-unexplained c = λ _ u past reached rise have.
-    none_explains u (past ++ c.args.events.now) c.in-Ok.after.items (c.in-Ok.ensures.kept u past (subst (AreKept u past) (sym c.as_slice.ensures.value) reached.kept)) rise have
-    (sym c.in-Ok.after.ok.0 ∙ eqb-true (vec_len c.in-Ok.after) 0 (sym c.is_empty.ensures ∙ c.if-is_empty.true))
+    let e = c.args.self.now.exact in
+    let v = reached.from in
+    let told : c.as_slice-2.result.now ≡ searched_events e v.facilities c.args.events.now = c.as_slice-2.ensures.value ∙ c.in_ok-told.ensures.searched u past reached in
+    searched_fail e u v reached.begins (past ++ c.args.events.now) c.in-Ok.after.items
+    (kept_on e v past c.args.events.now c.as_slice-2.result.now c.in-Ok.after.items told (c.in-Ok.ensures.kept v (searched_events e v.facilities past) (subst (AreKept v (searched_events e v.facilities past)) (sym c.as_slice.ensures.value) reached.kept)))
+    rise have (sym c.in-Ok.after.ok.0 ∙ eqb-true (vec_len c.in-Ok.after) 0 (sym c.is_empty.ensures ∙ c.if-is_empty.true))
 
 pub returns-else-is_empty-clause-reached : goal.returns-else-is_empty-clause-reached
 returns-else-is_empty-clause-reached c = λ _ u past reached.
+    let e = c.args.self.now.exact in
+    let v = reached.from in
+    let told : c.as_slice-2.result.now ≡ searched_events e v.facilities c.args.events.now = c.as_slice-2.ensures.value ∙ c.in_ok-told.ensures.searched u past reached in
     let some : 0 < vec_len c.in-Ok.after = positive (vec_len c.in-Ok.after) (sym c.is_empty.ensures ∙ c.if-is_empty.false) in
     record {
-      kept = c.in-Ok.ensures.kept u past (subst (AreKept u past) (sym c.as_slice.ensures.value) reached.kept);
+      from = v;
+      begins = reached.begins;
+      kept = kept_on e v past c.args.events.now c.as_slice-2.result.now c.in-Ok.after.items told
+          (c.in-Ok.ensures.kept v (searched_events e v.facilities past) (subst (AreKept v (searched_events e v.facilities past)) (sym c.as_slice.ensures.value) reached.kept));
       some = omega (arith, some, c.in-Ok.after.ok.0);
     }
 
 pub returns-else-is_empty-clause-explained : goal.returns-else-is_empty-clause-explained
 returns-else-is_empty-clause-explained c = λ _ u past reached rise have.
+    let e = c.args.self.now.exact in
+    let v = reached.from in
+    let told : c.as_slice-2.result.now ≡ searched_events e v.facilities c.args.events.now = c.as_slice-2.ensures.value ∙ c.in_ok-told.ensures.searched u past reached in
     let some : 0 < vec_len c.in-Ok.after = positive (vec_len c.in-Ok.after) (sym c.is_empty.ensures ∙ c.if-is_empty.false) in
-    some_explain u (past ++ c.args.events.now) c.in-Ok.after.items (c.in-Ok.ensures.kept u past (subst (AreKept u past) (sym c.as_slice.ensures.value) reached.kept)) rise have
-    (omega (arith, some, c.in-Ok.after.ok.0))
+    searched_explain e u v reached.begins (past ++ c.args.events.now) c.in-Ok.after.items
+    (kept_on e v past c.args.events.now c.as_slice-2.result.now c.in-Ok.after.items told (c.in-Ok.ensures.kept v (searched_events e v.facilities past) (subst (AreKept v (searched_events e v.facilities past)) (sym c.as_slice.ensures.value) reached.kept)))
+    rise have (omega (arith, some, c.in-Ok.after.ok.0))
 
 pub returns-else-is_empty-clause-own : goal.returns-else-is_empty-clause-own
 returns-else-is_empty-clause-own c = λ s apart. c.in-Ok.ensures.apart s (subst (AreApart s) (sym c.as_slice.ensures.value) apart)
+
+pub returns-in-Err-MoreThanMost-clause-undecided : goal.returns-in-Err-MoreThanMost-clause-undecided
+returns-in-Err-MoreThanMost-clause-undecided c = λ _ u past reached.
+    let e = c.args.self.now.exact in
+    let v = reached.from in
+    let told : c.as_slice-2.result.now ≡ searched_events e v.facilities c.args.events.now = c.as_slice-2.ensures.value ∙ c.in_ok-told.ensures.searched u past reached in
+    more_on e u v c.args.self.now.most past c.args.events.now c.as_slice-2.result.now reached.begins told
+    (c.in-Err-MoreThanMost.ensures.many (ap Err c.in-Err-MoreThanMost.field-0-is) v (searched_events e v.facilities past) (subst (AreKept v (searched_events e v.facilities past)) (sym c.as_slice.ensures.value) reached.kept))

@@ -1,4 +1,4 @@
-use Rattle.std.proofs.Common.{◌≡◌, [], Ok, ap, subst, arith}
+use Rattle.std.proofs.Common.{◌≡◌, [], Ok, ap, ◌∙◌, subst, arith}
 use Rattle.tatp_linearization.specs.Held.{AreApart}
 use Rattle.tatp_linearization_tests.proofs.tests.to_rows.leads_with.Goals as goal
 
@@ -9,3 +9,6 @@ pub leads_to-requires-clause-own : goal.leads_to-requires-clause-own
 leads_to-requires-clause-own c =
     let same : c.args.home.now.s_id ≡ c.args.rows.now.s_id = omega (arith, c.if-s_id.false, c.s_id.ensures, c.s_id-else-not-are_accepted.ensures) in
     subst (λ s. AreApart s c.follow.new.self.configurations.items) same (c.in_ok-follow.ensures.own c.args.home.now.s_id c.in_ok-explanations.ensures.own)
+
+pub leads_to-requires-clause-exact : goal.leads_to-requires-clause-exact
+leads_to-requires-clause-exact c = c.in_ok-follow.ensures.exact ∙ c.in_ok-explanations.ensures.exact

@@ -96,6 +96,7 @@ module _ (s t : ℕ) (u : Database) (h : HasBoth s t u) where
 
 -- another one then sets them as it would have done before
 pub both_again : (s t : ℕ) (u : Database) (h : HasBoth s t u) (x y x' y' : ℕ) → transaction (UpdateSubscriberData s x' t y') (both_at s t u h x y) ≡ transaction (UpdateSubscriberData s x' t y') u
+unfolding both_after
 both_again s t u h x y x' y' =
     let r1 : Tuple = with_bit_1 h.row x in
     let f1 : Tuple = with_data_a h.facility y in
@@ -191,8 +192,7 @@ location_step n v u good z sets =
     let column = get_or-set_other r 33 1 sets.0 0 (λ d. omega (arith, d)) in
     let next : IsNumbered n (at u r good.only sets.0) = record { row = new; only = only_replaced r new u.subscribers good.only; number = ap (λ (k : ℕ). k == n) column ∙ good.number } in (
       subst (λ (a : Answer). IsNumbered n a.database) (sym is) next,
-      subst (λ (a : Answer). MayHaveReply z.outcome a.reply) (sym is) sets.2,
-      ap (λ (a : Answer). transaction (UpdateLocation n v) a.database) is ∙ (set_again u r good.only sets.0 (UpdateLocation n v) last).1,
+      (subst (λ (a : Answer). MayHaveReply z.outcome a.reply) (sym is) sets.2, ap (λ (a : Answer). transaction (UpdateLocation n v) a.database) is ∙ (set_again u r good.only sets.0 (UpdateLocation n v) last).1),
     )
 
 -- ---- of bit_1 and data_a
@@ -204,8 +204,7 @@ pub both_step : (s x t y : ℕ) (u : Database) → HasBoth s t u → (z : Observ
 both_step s x t y u good z sets =
     let is : transaction z.call u ≡ replies (both_at s t u good sets.0 sets.1) [] = ap (λ (c : Call). transaction c u) sets.2 ∙ set_both s t u good sets.0 sets.1 in (
       subst (λ (a : Answer). HasBoth s t a.database) (sym is) (both_after s t u good sets.0 sets.1),
-      subst (λ (a : Answer). MayHaveReply z.outcome a.reply) (sym is) sets.3,
-      ap (λ (a : Answer). transaction (UpdateSubscriberData s x t y) a.database) is ∙ both_again s t u good sets.0 sets.1 x y,
+      (subst (λ (a : Answer). MayHaveReply z.outcome a.reply) (sym is) sets.3, ap (λ (a : Answer). transaction (UpdateSubscriberData s x t y) a.database) is ∙ both_again s t u good sets.0 sets.1 x y),
     )
 
 -- ---- the law
@@ -237,7 +236,7 @@ location_law home is n v k xs mid a = chain_from (UpdateLocation n v) (SetsItsLo
                 let found = named_row home.tables.subscribers l.number l.named in
                 let only = only_home home found.0 is (has-found (has_number l.number) home.tables.subscribers found.0 found.1) in (
                   record { row = found.0; only = only; number = subst (λ m. has_number m found.0 ≡ true) one (number_of found.0 home.tables.subscribers l.number only l.named) },
-                  (o.other, (o.second ∙ ap (λ m. UpdateLocation m o.other) number, b.0.may)),
+                  (o.other, o.second ∙ ap (λ m. UpdateLocation m o.other) number, b.0.may),
                 )
             | inr d ↦ let both : UpdateSubscriberData d.s_id d.bit d.sf_type d.value ≡ UpdateLocation o.number o.other = sym d.updates ∙ o.second in absurd cc
           ]
@@ -261,7 +260,7 @@ both_law home is s x t y k xs mid a = chain_from (UpdateSubscriberData s x t y) 
                 let own : d.s_id ≡ s = cc in
                 let own_kind : d.sf_type ≡ t = cc in (
                   subst (λ m. HasBoth s m home.tables) own_kind (subst (λ m. HasBoth m d.sf_type home.tables) own (home_both home is z.call d)),
-                  (o.other_bit, (o.other_value, (o.second ∙ (λ i. UpdateSubscriberData (id i) o.other_bit (kind i) o.other_value), b.0.may))),
+                  (o.other_bit, o.other_value, o.second ∙ (λ i. UpdateSubscriberData (id i) o.other_bit (kind i) o.other_value), b.0.may),
                 )
           ]
     ]

@@ -120,7 +120,7 @@ module _ (c d e : Held) (i : ℕ) (taken : Takes c i (Some d)) (accepted : AreAc
     | inl o ↦
         let same : UpdateLocation sets.number sets.location ≡ UpdateLocation o.number o.location = sym sets.updates ∙ o.first in
         let number : o.number ≡ sets.number = cc in
-        (o.other, (o.second ∙ ap (λ m. UpdateLocation m o.other) number, b.0.may))
+        (o.other, o.second ∙ ap (λ m. UpdateLocation m o.other) number, b.0.may)
     | inr o ↦ let same : UpdateLocation sets.number sets.location ≡ UpdateSubscriberData o.s_id o.bit o.sf_type o.value = sym sets.updates ∙ o.first in absurd cc
   ]
 

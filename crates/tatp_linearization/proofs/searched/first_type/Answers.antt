@@ -23,7 +23,7 @@ returns-then-has_facility-4 c =
     let p : ℕ → Bool = λ t. is_some (row_at c.args.home.now.tables.facilities (c.args.s_id ∷ t ∷ [])) in
     sym (last_is p true (sym c.has_facility.ensures ∙ c.if-has_facility.false) (sym c.has_facility-2.ensures ∙ c.if-has_facility-2.false) (sym c.has_facility-3.ensures ∙ c.if-has_facility-3.false) (sym c.has_facility-4.ensures ∙ c.if-has_facility-4.true))
 
-pub returns-else-has_facility-4 : goal.returns-else-has_facility-4
-returns-else-has_facility-4 c =
+pub returns : goal.returns
+returns c =
     let p : ℕ → Bool = λ t. is_some (row_at c.args.home.now.tables.facilities (c.args.s_id ∷ t ∷ [])) in
     sym (last_is p false (sym c.has_facility.ensures ∙ c.if-has_facility.false) (sym c.has_facility-2.ensures ∙ c.if-has_facility-2.false) (sym c.has_facility-3.ensures ∙ c.if-has_facility-3.false) (sym c.has_facility-4.ensures ∙ c.if-has_facility-4.false))

@@ -45,8 +45,8 @@ returns-then-is_empty-2-clause-unexplained c = λ _ u past reached rise have.
     (kept_on e v past c.args.events.now c.as_slice-2.result.now c.in-Ok.after.items told (c.in-Ok.ensures.kept v (searched_events e v.facilities past) (subst (AreKept v (searched_events e v.facilities past)) (sym c.as_slice.ensures.value) reached.kept)))
     rise have (sym c.in-Ok.after.ok.0 ∙ eqb-true (vec_len c.in-Ok.after) 0 (sym c.is_empty-in-Ok.ensures ∙ c.if-is_empty-2.true))
 
-pub returns-else-is_empty-2-clause-explained : goal.returns-else-is_empty-2-clause-explained
-returns-else-is_empty-2-clause-explained c = λ _ u past reached rise have.
+pub returns-in-Ok-clause-explained : goal.returns-in-Ok-clause-explained
+returns-in-Ok-clause-explained c = λ _ u past reached rise have.
     let e = c.args.self.now.exact in
     let v = reached.from in
     let told : c.as_slice-2.result.now ≡ searched_events e v.facilities c.args.events.now = c.as_slice-2.ensures.value ∙ c.in_ok-told.ensures.searched u past reached in

@@ -30,8 +30,8 @@ returns-then-is_empty-clause-unexplained c = λ _ u past reached rise have.
     (kept_on e v past c.args.events.now c.as_slice-2.result.now c.in-Ok.after.items told (c.in-Ok.ensures.kept v (searched_events e v.facilities past) (subst (AreKept v (searched_events e v.facilities past)) (sym c.as_slice.ensures.value) reached.kept)))
     rise have (sym c.in-Ok.after.ok.0 ∙ eqb-true (vec_len c.in-Ok.after) 0 (sym c.is_empty.ensures ∙ c.if-is_empty.true))
 
-pub returns-else-is_empty-clause-reached : goal.returns-else-is_empty-clause-reached
-returns-else-is_empty-clause-reached c = λ _ u past reached.
+pub returns-in-Ok-clause-reached : goal.returns-in-Ok-clause-reached
+returns-in-Ok-clause-reached c = λ _ u past reached.
     let e = c.args.self.now.exact in
     let v = reached.from in
     let told : c.as_slice-2.result.now ≡ searched_events e v.facilities c.args.events.now = c.as_slice-2.ensures.value ∙ c.in_ok-told.ensures.searched u past reached in
@@ -44,8 +44,8 @@ returns-else-is_empty-clause-reached c = λ _ u past reached.
       some = omega (arith, some, c.in-Ok.after.ok.0);
     }
 
-pub returns-else-is_empty-clause-explained : goal.returns-else-is_empty-clause-explained
-returns-else-is_empty-clause-explained c = λ _ u past reached rise have.
+pub returns-in-Ok-clause-explained : goal.returns-in-Ok-clause-explained
+returns-in-Ok-clause-explained c = λ _ u past reached rise have.
     let e = c.args.self.now.exact in
     let v = reached.from in
     let told : c.as_slice-2.result.now ≡ searched_events e v.facilities c.args.events.now = c.as_slice-2.ensures.value ∙ c.in_ok-told.ensures.searched u past reached in
@@ -54,8 +54,8 @@ returns-else-is_empty-clause-explained c = λ _ u past reached rise have.
     (kept_on e v past c.args.events.now c.as_slice-2.result.now c.in-Ok.after.items told (c.in-Ok.ensures.kept v (searched_events e v.facilities past) (subst (AreKept v (searched_events e v.facilities past)) (sym c.as_slice.ensures.value) reached.kept)))
     rise have (omega (arith, some, c.in-Ok.after.ok.0))
 
-pub returns-else-is_empty-clause-own : goal.returns-else-is_empty-clause-own
-returns-else-is_empty-clause-own c = λ s apart. c.in-Ok.ensures.apart s (subst (AreApart s) (sym c.as_slice.ensures.value) apart)
+pub returns-in-Ok-clause-own : goal.returns-in-Ok-clause-own
+returns-in-Ok-clause-own c = λ s apart. c.in-Ok.ensures.apart s (subst (AreApart s) (sym c.as_slice.ensures.value) apart)
 
 pub returns-in-Err-MoreThanMost-clause-undecided : goal.returns-in-Err-MoreThanMost-clause-undecided
 returns-in-Err-MoreThanMost-clause-undecided c = λ _ u past reached.

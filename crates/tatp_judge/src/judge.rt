@@ -68,12 +68,7 @@ impl Judge {
     /// The judge of a history that begins with these rows. It keeps at most `most` configurations
     /// of one subscriber. `exact` says whether it may be asked for the rows at the end
     /// ([`Judge::finish_to`]). Else it needn't tell apart what they alone tell apart.
-    pub fn new(
-        alloc: Global,
-        rows: &Rows,
-        most: usize,
-        exact: bool,
-    ) -> Result<Judge, AllocError>
+    pub fn new(alloc: Global, rows: &Rows, most: usize, exact: bool) -> Result<Judge, AllocError>
         requires { IsClean rows.now }
         ensures followed { IfOk result (HasFollowed (database_of rows.now) most []) }
         ensures none { IfOk result (λ judge. undecided_in judge ≡ []) }

@@ -171,8 +171,8 @@ need_more_cleared u v events most is h =
       drop n events,
       sym (take-append-drop n events),
       come_more (cleared_configuration others) (IsPossible v (cleared_events others (take n events))) (IsPossible u (take n events))
-      (λ d k. let come = possible_cleared u v (take n events) d is k in (come.from, come.holds, come.is)) most
-      (subst (λ es. AreMoreThan most (IsPossible v es)) first h.3),
+          (λ d k. let come = possible_cleared u v (take n events) d is k in (come.from, come.holds, come.is)) most
+          (subst (λ es. AreMoreThan most (IsPossible v es)) first h.3),
     )
 
 -- ---- windows

@@ -140,7 +140,7 @@ legal_exact explanations u past events x at rows replies legal reached window th
       λ h. subst (IsStrictlySerializable u) asked (sifted.sound reply h u past reached rise have),
       λ s.
           let s' : IsStrictlySerializable v (asked_in (past' ++ events_with (answered_with x' at reply) (events_by at events'))) = subst (λ es. IsStrictlySerializable v (asked_in es)) told_is
-              ((searched_serial e u v reached.begins (past ++ told) rise).0 (subst (IsStrictlySerializable u) (sym asked) s)) in
+          ((searched_serial e u v reached.begins (past ++ told) rise).0 (subst (IsStrictlySerializable u) (sym asked) s)) in
           let on = legal_on_rows v past' events' x' at reply explanations.configurations.items rows window' there' was' reached.kept starts closed (subst (IsStrictlySerializable v) (told_asked past' events' x' at reply window' there' was') s') in
           let here = subst (λ (call : Call). IsListed (transaction call on.0.rows).reply replies) (sym (searched_call_of e fs x)) (listed on.0 on.1) in
           elim (sifted.found reply (subst (λ r. IsListed r replies) (sym on.2) here)) [

@@ -184,8 +184,8 @@ module _ (exact : Bool) (u v : Database) (begins : IsSearchedFrom exact u v) (x 
   alone_searched rise have answered =
       let all = past ++ events_alone x at in
       let law = alone_explained x' at v (searched_events exact v.facilities past) cs c is none kept
-          (subst TimesRise both_are (searched_rises exact v.facilities all rise)) (subst HaveEnds both_are (searched_ends exact v.facilities all have))
-          (subst IsAnswered (sym (searched_outcome exact v.facilities x)) answered) in
+      (subst TimesRise both_are (searched_rises exact v.facilities all rise)) (subst HaveEnds both_are (searched_ends exact v.facilities all have))
+      (subst IsAnswered (sym (searched_outcome exact v.facilities x)) answered) in
       let same = searched_serial exact u v begins all rise in (
         λ may. same.1 (subst (λ es. IsStrictlySerializable v (asked_in es)) (sym both_are) (law.0 (fits_back may))),
         λ s. fits (law.1 (subst (λ es. IsStrictlySerializable v (asked_in es)) both_are (same.0 s))),

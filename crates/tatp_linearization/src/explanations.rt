@@ -114,11 +114,7 @@ impl Explanations {
     }
 
     /// The events as they are searched.
-    pub(crate) fn searched(
-        &self,
-        alloc: Global,
-        events: &[Event],
-    ) -> Result<Vec<Event>, AllocError>
+    pub(crate) fn searched(&self, alloc: Global, events: &[Event]) -> Result<Vec<Event>, AllocError>
         requires some { 0 < length self.now.configurations.items }
         ensures searched { IfOk result (λ told. (u : Database) (past : List Event)
             (reached : AreReached u past self.now) → told.items

@@ -100,7 +100,11 @@ pub(crate) fn searched_call(exact: bool, home: &Home, call: &Call) -> Call
     ensures searched { result ≡ call_searched exact home.now.tables.facilities call.now }
     ensures accepted { arguments_accepted call.now ≡ Ok tt → arguments_accepted result ≡ Ok tt }
 {
-    if exact { *call } else { cleared_call(home, call) }
+    if exact {
+        *call
+    } else {
+        cleared_call(home, call)
+    }
 }
 
 /// The events as they are searched where the subscriber has these facilities.
@@ -142,5 +146,9 @@ pub(crate) fn searched_home(exact: bool, home: &Home) -> Home
     ensures from { IsSearchedFrom exact home.now.tables result.tables }
     ensures own { result.s_id ≡ home.now.s_id }
 {
-    if exact { home.copy() } else { cleared_home(home) }
+    if exact {
+        home.copy()
+    } else {
+        cleared_home(home)
+    }
 }

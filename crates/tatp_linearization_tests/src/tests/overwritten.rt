@@ -1,7 +1,5 @@
 //! Updates of one subscriber's data, of which another one overwrites some.
-use super::forwardings::{
-    EXPLAINED, SUCCESS, UNEXPLAINED, answered, ends, facility, fresh,
-};
+use super::forwardings::{EXPLAINED, SUCCESS, UNEXPLAINED, answered, ends, facility, fresh};
 use super::to_rows::leads_with;
 use std::alloc::Global;
 use std::test::Fail;
@@ -82,6 +80,9 @@ fn data_of_another_facility(rt: HostRuntime) -> Result<(), Fail> {
     let one = with_data(&before, t, 1, 5);
     let there = leads_with(alloc, &before, &events, &both, 8)?;
     let left_out = leads_with(alloc, &before, &events, &one, 8)?;
-    assert_eq!(rt; (t == other, there, left_out), (false, EXPLAINED, UNEXPLAINED));
+    assert_eq!(rt;
+        (t == other, there, left_out),
+        (false, EXPLAINED, UNEXPLAINED)
+    );
     Ok(())
 }

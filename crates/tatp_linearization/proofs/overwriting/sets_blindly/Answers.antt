@@ -16,7 +16,7 @@ pub returns-else-has_sub : goal.returns-else-has_sub
 returns-else-has_sub c =
     let own = c.in-UpdateSubscriberData in
     subst (λ (b : Bool). (b ≡ true) ↔ (SetsLocation c.args.home.now.tables c.args.call.now ⊎ SetsBoth c.args.home.now.tables c.args.call.now)) (sym c.if-has_sub.false)
-        (sets_of c.args.home.now.tables c.args.call.now own.s_id _ own.sf_type _ false (is_some (row_at c.args.home.now.tables.facilities (own.s_id ∷ own.sf_type ∷ []))) own.is (sym c.if-has_sub.false ∙ c.has_sub.ensures) refl)
+    (sets_of c.args.home.now.tables c.args.call.now own.s_id _ own.sf_type _ false (is_some (row_at c.args.home.now.tables.facilities (own.s_id ∷ own.sf_type ∷ []))) own.is (sym c.if-has_sub.false ∙ c.has_sub.ensures) refl)
 
 pub returns-in_default : goal.returns-in_default
 returns-in_default c = sets_none c.args.home.now.tables c.args.call.now c.in_default.not-UpdateLocation c.in_default.not-UpdateSubscriberData

@@ -17,4 +17,5 @@ returns-clause-reached c =
           (kept_none home.tables c.push.new.self.items d is refl c.new.ensures.items);
       some = subst (λ (xs : List Held). 0 < length xs) (sym is) (omega arith);
     }
+
 -- returns-clause-own was proved by the search, by c.copy.ensures; now by c.searched_home.ensures.own

@@ -23,11 +23,11 @@ use Rattle.tatp_linearization.proofs.DoomedLaws.{none_after, misfits}
 abbrev pub IsPast : ℕ → Observed → Observed → Type 0
 IsPast location read z = (sets_location location z.call ≡ false) ⊎ Precedes read z
 
-was_answered : (location : ℕ) (read : Observed) → SawLocation location read → IsAnswered read.outcome
+pub was_answered : (location : ℕ) (read : Observed) → SawLocation location read → IsAnswered read.outcome
 was_answered location read saw = subst IsAnswered (sym saw.answered) tt
 
 -- nobody sets the location before the read
-never : (location : ℕ) (read : Observed) → SawLocation location read → (order : List Observed) (u : Database) → NoneHasLocation location u → AllByRecursion (IsPast location read) order → KeepsRealTime order → IsIn read order → AreAnsweredInOrder u order → ⊥
+pub never : (location : ℕ) (read : Observed) → SawLocation location read → (order : List Observed) (u : Database) → NoneHasLocation location u → AllByRecursion (IsPast location read) order → KeepsRealTime order → IsIn read order → AreAnsweredInOrder u order → ⊥
 never location read saw [] u none past time there runs = absurd there
 never location read saw (z ∷ zs) u none past time there runs = elim there [
   | inl is ↦

@@ -128,12 +128,12 @@ trying_none Known kind c asked old = record {
   distinct = λ h. h;
 }
 
-pub trying_refused : (Known : List Event → Type 0) (kind : Option Kind) (c : Held) (asked : ℕ) (old : Lists) (i : ℕ) (new : Lists) → Trying Known kind c asked old i new → TakesTried Known kind c i None → Trying Known kind c asked old (i + 1) new
+pub trying_refused : (Known : List Event → Type 0) (kind : Option Kind) (c : Held) (asked : ℕ) (old : Lists) (i : ℕ) (new : Lists) → Trying Known kind c asked old i new → TakesTried Known kind asked c i None → Trying Known kind c asked old (i + 1) new
 trying_refused Known kind c asked old i new p none = record {
   grown = p.grown;
   served = λ own at rest after e j known lt there tried on. elim (below_or_is j i lt) [
     | inl k ↦ p.served own at rest after e j known k there tried on
-    | inr is ↦ absurd (none asked after (Ends asked at ∷ rest) e known (there_at c asked j i e is there) tried on)
+    | inr is ↦ absurd (none at rest after e known (there_at c asked j i e is there) tried on)
   ];
   went = p.went;
   ready = p.ready;
@@ -220,9 +220,9 @@ module _ (Known : List Event → Type 0) (kind : Option Kind) (c d : Held) (aske
       }
 
 -- what a call makes where it is of the kind
-pub ahead_tried : (Known : List Event → Type 0) (kind : Option Kind) (c : Held) (i : ℕ) (d : Option Held) → TakesAhead Known c i d → TakesTried Known kind c i d
-ahead_tried Known kind c i (Some d) h = h
-ahead_tried Known kind c i None h = λ asked after events e known there tried on. h asked after events e known there on
+pub ahead_tried : (Known : List Event → Type 0) (kind : Option Kind) (asked : ℕ) (c : Held) (i : ℕ) (d : Option Held) → TakesAhead Known c i d → TakesTried Known kind asked c i d
+ahead_tried Known kind asked c i (Some d) h = h
+ahead_tried Known kind asked c i None h = λ at rest after e known there tried on. h asked after (Ends asked at ∷ rest) e known there on
 
 -- what is of the kind of a call that is tried is tried
 tried_as : (kind : Option Kind) (x y : Call) → kind_of y ≡ kind_of x → IsTried kind x → IsTried kind y

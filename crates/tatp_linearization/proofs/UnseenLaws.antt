@@ -289,7 +289,7 @@ no_success (Aborted at) number u w None answered written h = absurd answered
 no_success Unknown number u w None answered written h = absurd answered
 
 -- an update that was answered succeeds where it has a reply with which it may have ended
-set_success : (x : Observed) (u : Database) → HasSetLocation x → MayHaveReply x.outcome (transaction x.call u).reply
+pub set_success : (x : Observed) (u : Database) → HasSetLocation x → MayHaveReply x.outcome (transaction x.call u).reply
     → (n : ℕ) × (w : ℕ) × (x.call ≡ UpdateLocation n w) × IsSuccess (transaction x.call u).reply
 set_success x u s h =
     let own : MayHaveReply x.outcome (transaction (UpdateLocation s.number s.location) u).reply = subst (λ (call : Call). MayHaveReply x.outcome (transaction call u).reply) s.updates h in

@@ -17,3 +17,4 @@ pub mod Ahead
 pub mod Clusters
 pub mod Kinds
 pub mod Turns
+pub mod Later

@@ -64,13 +64,15 @@ TakesAhead Known c i None =
     (asked : ℕ) (after : Database) (events : List Event) (e : Configuration)
     → Known events → IsThere (IsOtherTime asked) c i e → LeadsOn after events e → ⊥
 
--- the same for a call of the kind, if one is given
-abbrev pub TakesTried : (List Event → Type 0) → Option Kind → Held → ℕ → Option Held → Type 0
-TakesTried Known kind c i (Some d) = TakesOn Known c i d
-TakesTried Known kind c i None =
-    (asked : ℕ) (after : Database) (events : List Event) (e : Configuration)
-    → Known events → (there : IsThere (IsOtherTime asked) c i e) → IsTried kind there.call.call
-    → LeadsOn after events e → ⊥
+-- the same for a call of the kind, if one is given, before the end of the call that was asked at
+-- this time
+abbrev pub TakesTried
+    : (List Event → Type 0) → Option Kind → ℕ → Held → ℕ → Option Held → Type 0
+TakesTried Known kind asked c i (Some d) = TakesOn Known c i d
+TakesTried Known kind asked c i None =
+    (at : ℕ) (rest : List Event) (after : Database) (e : Configuration)
+    → Known (Ends asked at ∷ rest) → (there : IsThere (IsOtherTime asked) c i e)
+    → IsTried kind there.call.call → LeadsOn after (Ends asked at ∷ rest) e → ⊥
 
 -- the call that was asked at this time is of the kind, if one is given
 abbrev pub IsKindAt : ℕ → Held → Option Kind → Type 0

@@ -14,6 +14,7 @@ use crate::ahead::Ahead;
 use crate::configuration::{Configuration, copy, none_asked};
 use crate::covering::{add, is_covered};
 use crate::kinds::{Kind, is_tried, kind_of};
+use crate::later::comes_later;
 use crate::stopped::Stopped;
 use crate::taking::take_ahead;
 use std::alloc::{AllocError, Global};
@@ -59,21 +60,27 @@ fn kind_at(c: &Configuration, asked: u64) -> Option<Kind>
     None
 }
 
-/// The configuration after its open call at the place `i` took effect, if it is of the kind. `None`
-/// means that it isn't, that it can't take effect there, or that no order leads on.
+/// The configuration after its open call at the place `i` took effect, if it is of the kind, before
+/// the end, now, of the one that was asked at the time `asked`. `None` means that it isn't, that it
+/// can't take effect there, or that no order leads on.
 fn take_tried(
     alloc: Global,
     c: &Configuration,
     i: usize,
     kind: Option<Kind>,
+    asked: u64,
     ahead: &Ahead,
     now: u64,
 ) -> Result<Option<Configuration>, AllocError>
     requires inside { i < length c.now.opened.items }
     requires accepted { AreAccepted c.now.opened.items }
-    ensures { IfOk result (TakesTried (LooksAhead ahead.now now) kind c.now i) }
+    ensures { IfOk result (TakesTried (LooksAhead ahead.now now) kind asked c.now i) }
 {
     if !is_tried(kind, &c.opened[i].call) {
+        return Ok(None);
+    }
+    what_holds_of_every_home(&c.home);
+    if comes_later(c, i, asked, ahead, now) {
         return Ok(None);
     }
     take_ahead(alloc, c, i, ahead, now)
@@ -119,7 +126,7 @@ fn try_each(
     what_holds_of_every_home(&c.home);
     let kind = kind_at(c, asked);
     'calls: for i in 0..c.opened.len() {
-        match take_tried(alloc, c, i, kind, ahead, now)? {
+        match take_tried(alloc, c, i, kind, asked, ahead, now)? {
             Some(d) => {
                 if none_asked(&d, asked) {
                     add(answered, d, most)?;

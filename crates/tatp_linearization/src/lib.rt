@@ -13,6 +13,7 @@ mod explanations;
 mod first;
 mod following;
 mod kinds;
+mod later;
 mod legal;
 mod locations;
 mod lost;

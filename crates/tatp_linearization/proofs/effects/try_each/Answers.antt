@@ -26,21 +26,21 @@ calls-preserved c =
     let All : Vec Held Global → Vec Held Global → Vec Held Global → Type 0 = λ a t g. Trying (LooksAhead c.args.ahead.now c.args.now) c.kind_at-kind.result c.args.c.now c.args.asked (record { answered = c.args.answered.now.items; tried = c.args.tried.now.items; going = c.args.going.now.items }) (c.calls.i + 1) (record { answered = a.items; tried = t.items; going = g.items }) in
     elim c.match-branch-2.branch [
       | in-Some+then-none_asked+in_ok-add-in-Some w ↦
-          let taken : TakesOn (LooksAhead c.args.ahead.now c.args.now) c.args.c.now c.calls.i w.in-Some.d = subst (TakesTried (LooksAhead c.args.ahead.now c.args.now) c.kind_at-kind.result c.args.c.now c.calls.i) w.in-Some.is c.in_ok-d.ensures in
+          let taken : TakesOn (LooksAhead c.args.ahead.now c.args.now) c.args.c.now c.calls.i w.in-Some.d = subst (TakesTried (LooksAhead c.args.ahead.now c.args.now) c.kind_at-kind.result c.args.asked c.args.c.now c.calls.i) w.in-Some.is c.in_ok-d.ensures in
           let last : NoneAskedAt c.args.asked w.in-Some.d.opened.items = w.none_asked.ensures.0 w.if-none_asked.true in
           subst (λ (a : Vec Held Global). All a c.match-branch-2.tried c.match-branch-2.going) (sym w.answered-is)
           (subst (λ (t : Vec Held Global). All w.add.new.set t c.match-branch-2.going) (sym w.tried-is)
           (subst (λ (g : Vec Held Global). All w.add.new.set c.calls.tried g) (sym w.going-is)
           (trying_answered K kind k w.in-Some.d asked i old before taken inv w.add.new.set.items last w.in_ok-add-in-Some.ensures.gained w.in_ok-add-in-Some.ensures.ready w.in_ok-add-in-Some.ensures.apart)))
       | in-Some+else-none_asked+in_ok-add_untried-in-Some w ↦
-          let taken : TakesOn (LooksAhead c.args.ahead.now c.args.now) c.args.c.now c.calls.i w.in-Some.d = subst (TakesTried (LooksAhead c.args.ahead.now c.args.now) c.kind_at-kind.result c.args.c.now c.calls.i) w.in-Some.is c.in_ok-d.ensures in
+          let taken : TakesOn (LooksAhead c.args.ahead.now c.args.now) c.args.c.now c.calls.i w.in-Some.d = subst (TakesTried (LooksAhead c.args.ahead.now c.args.now) c.kind_at-kind.result c.args.asked c.args.c.now c.calls.i) w.in-Some.is c.in_ok-d.ensures in
           let other : NoneAskedAt c.args.asked w.in-Some.d.opened.items → ⊥ = λ last. true≢false (sym (w.none_asked.ensures.1 last) ∙ w.if-none_asked.false) in
           subst (λ (a : Vec Held Global). All a c.match-branch-2.tried c.match-branch-2.going) (sym w.answered-is)
           (subst (λ (t : Vec Held Global). All c.calls.answered t c.match-branch-2.going) (sym w.tried-is)
           (subst (λ (g : Vec Held Global). All c.calls.answered w.add_untried.new.tried g) (sym w.going-is)
           (trying_going K kind k w.in-Some.d asked i old before taken inv w.add_untried.new.tried.items w.add_untried.new.going.items other w.in_ok-add_untried-in-Some.ensures.gained w.in_ok-add_untried-in-Some.ensures.goes w.in_ok-add_untried-in-Some.ensures.ready w.in_ok-add_untried-in-Some.ensures.apart)))
       | in-None w ↦
-          let none : TakesTried (LooksAhead c.args.ahead.now c.args.now) c.kind_at-kind.result c.args.c.now c.calls.i None = subst (TakesTried (LooksAhead c.args.ahead.now c.args.now) c.kind_at-kind.result c.args.c.now c.calls.i) w.in-None.is c.in_ok-d.ensures in
+          let none : TakesTried (LooksAhead c.args.ahead.now c.args.now) c.kind_at-kind.result c.args.asked c.args.c.now c.calls.i None = subst (TakesTried (LooksAhead c.args.ahead.now c.args.now) c.kind_at-kind.result c.args.asked c.args.c.now c.calls.i) w.in-None.is c.in_ok-d.ensures in
           subst (λ (a : Vec Held Global). All a c.match-branch-2.tried c.match-branch-2.going) (sym w.answered-is)
           (subst (λ (t : Vec Held Global). All c.calls.answered t c.match-branch-2.going) (sym w.tried-is)
           (subst (λ (g : Vec Held Global). All c.calls.answered c.calls.tried g) (sym w.going-is)
@@ -49,12 +49,12 @@ calls-preserved c =
 
 pub add-requires : goal.add-requires
 add-requires c =
-    let taken : TakesOn (LooksAhead c.args.ahead.now c.args.now) c.args.c.now c.calls.i c.in-Some.d = subst (TakesTried (LooksAhead c.args.ahead.now c.args.now) c.kind_at-kind.result c.args.c.now c.calls.i) c.in-Some.is c.in_ok-d.ensures in
+    let taken : TakesOn (LooksAhead c.args.ahead.now c.args.now) c.args.c.now c.calls.i c.in-Some.d = subst (TakesTried (LooksAhead c.args.ahead.now c.args.now) c.kind_at-kind.result c.args.asked c.args.c.now c.calls.i) c.in-Some.is c.in_ok-d.ensures in
     record { accepted = taken.less.accepted c.requires.accepted }
 
 pub add_untried-requires : goal.add_untried-requires
 add_untried-requires c =
-    let taken : TakesOn (LooksAhead c.args.ahead.now c.args.now) c.args.c.now c.calls.i c.in-Some.d = subst (TakesTried (LooksAhead c.args.ahead.now c.args.now) c.kind_at-kind.result c.args.c.now c.calls.i) c.in-Some.is c.in_ok-d.ensures in
+    let taken : TakesOn (LooksAhead c.args.ahead.now c.args.now) c.args.c.now c.calls.i c.in-Some.d = subst (TakesTried (LooksAhead c.args.ahead.now c.args.now) c.kind_at-kind.result c.args.asked c.args.c.now c.calls.i) c.in-Some.is c.in_ok-d.ensures in
     record { accepted = taken.less.accepted c.requires.accepted }
 
 pub returns-clause-grown : goal.returns-clause-grown
@@ -88,7 +88,7 @@ returns-in_err-add-in-Some-clause-many c =
     let d : Held = c.in-Some.d in
     let old : Lists = record { answered = c.args.answered.now.items; tried = c.args.tried.now.items; going = c.args.going.now.items } in
     let before : Lists = record { answered = c.calls.answered.items; tried = c.calls.tried.items; going = c.calls.going.items } in
-    let taken : TakesOn (LooksAhead c.args.ahead.now c.args.now) c.args.c.now c.calls.i d = subst (TakesTried (LooksAhead c.args.ahead.now c.args.now) c.kind_at-kind.result c.args.c.now c.calls.i) c.in-Some.is c.in_ok-d.ensures in
+    let taken : TakesOn (LooksAhead c.args.ahead.now c.args.now) c.args.c.now c.calls.i d = subst (TakesTried (LooksAhead c.args.ahead.now c.args.now) c.kind_at-kind.result c.args.asked c.args.c.now c.calls.i) c.in-Some.is c.in_ok-d.ensures in
     rw (p.1, p.2) (λ is answered tried.
     let apart : AreApart d.home.s_id c.calls.answered.items = subst (λ s. AreApart s c.calls.answered.items) (sym taken.less.own) (c.calls.invariant.apart answered) in
     inl ((trying_many (LooksAhead c.args.ahead.now c.args.now) c.kind_at-kind.result c.args.most k d c.args.asked c.calls.i old before taken c.calls.invariant).0 (c.in_err-add-in-Some.ensures.many is apart)))
@@ -100,7 +100,7 @@ returns-in_err-add_untried-in-Some-clause-many c =
     let d : Held = c.in-Some.d in
     let old : Lists = record { answered = c.args.answered.now.items; tried = c.args.tried.now.items; going = c.args.going.now.items } in
     let before : Lists = record { answered = c.calls.answered.items; tried = c.calls.tried.items; going = c.calls.going.items } in
-    let taken : TakesOn (LooksAhead c.args.ahead.now c.args.now) c.args.c.now c.calls.i d = subst (TakesTried (LooksAhead c.args.ahead.now c.args.now) c.kind_at-kind.result c.args.c.now c.calls.i) c.in-Some.is c.in_ok-d.ensures in
+    let taken : TakesOn (LooksAhead c.args.ahead.now c.args.now) c.args.c.now c.calls.i d = subst (TakesTried (LooksAhead c.args.ahead.now c.args.now) c.kind_at-kind.result c.args.asked c.args.c.now c.calls.i) c.in-Some.is c.in_ok-d.ensures in
     rw (p.1, p.2) (λ is answered tried.
     let apart : AreApart d.home.s_id c.calls.tried.items = subst (λ s. AreApart s c.calls.tried.items) (sym taken.less.own) (c.calls.invariant.distinct tried) in
     inr ((trying_many (LooksAhead c.args.ahead.now c.args.now) c.kind_at-kind.result c.args.most k d c.args.asked c.calls.i old before taken c.calls.invariant).1 (c.in_err-add_untried-in-Some.ensures.many is apart)))

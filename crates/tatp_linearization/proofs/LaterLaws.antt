@@ -113,7 +113,7 @@ other_gone location x u one wide leaves may = elim leaves [
       let own = set_success x u set.0 may in
       let differs : own.1 ≡ location → ⊥ = λ e. true≢false (sym (eq-eqb own.1 location e) ∙ (ap (sets_location location) (sym own.2) ∙ set.1)) in
       subst (λ (call : Call). NoneHasLocation location (transaction call u).database) (sym own.2)
-          (update_gone location u own.1 (row_with_number u.subscribers own.0) (λ q e. has-found (has_number own.0) u.subscribers q e) one wide differs (subst (λ (call : Call). IsSuccess (transaction call u).reply) own.2 own.3))
+      (update_gone location u own.1 (row_with_number u.subscribers own.0) (λ q e. has-found (has_number own.0) u.subscribers q e) one wide differs (subst (λ (call : Call). IsSuccess (transaction call u).reply) own.2 own.3))
 ]
 
 -- a read of the location is no such call
@@ -191,7 +191,7 @@ later_never c place asked ahead now location home comes at rest after e looks th
     let one : AreOfOne v = one_after x.call there.before.rows (subst AreOfOne (sym there.rows) (one_home c.home home)) in
     let wide : IsWide v = wide_after x.call there.before.rows (subst IsWide (sym there.rows) (wide_home c.home home)) in
     let none : NoneSets location e.opened = left_all (λ (z : Observed). sets_location location z.call ≡ false) v there.left e.opened there.takes.settled
-        (but_all F c.overwritten (λ (z : Observed). sets_location location z.call ≡ false) others there.left there.opened (none_removed location c.opened.items place comes.opened)) in
+    (but_all F c.overwritten (λ (z : Observed). sets_location location z.call ≡ false) others there.left there.opened (none_removed location c.opened.items place comes.opened)) in
     let read = looks.read location comes.seen.read in
     let r = read.0 in
     let sets = looks.sets location r comes.seen.inside comes.seen.later read.1.ended in

@@ -1,6 +1,7 @@
 -- Configurations that one stands for: open calls that were overwritten may be left out.
 use Rattle.std.specs.Prelude.{◌≡◌, ℕ, ◌<◌, ◌≤◌, ◌⊎◌, List, [], ◌∷◌, length, Option, Some, None, slice_get}
 use Rattle.std.specs.List.{AllByRecursion}
+use Rattle.tatp_homes.specs.Changes.{cell}
 use Rattle.tatp_history.specs.declared.event.Event.{Event}
 use Rattle.tatp_history.specs.declared.event.Event.TheVariants.{Asks, Ends}
 use Rattle.tatp_history.specs.declared.observed.Observed.{Observed}
@@ -28,9 +29,17 @@ OneStandsFor (c ∷ cs) d = StandsFor c d ⊎ OneStandsFor cs d
 abbrev pub Covers : Held → Held → Type 0
 Covers c d = (e : Configuration) → StandsFor d e → StandsFor c e
 
+-- the location of the configuration's subscriber
+abbrev pub own_location : Held → Option ℕ
+own_location c = cell c.home.tables 33 (c.home.s_id ∷ 0 ∷ 0 ∷ [])
+
 -- they aren't alike, or less may be left out of the first
 abbrev pub IsOther : Held → Held → Type 0
 IsOther c d = c.home.s_id ≡ d.home.s_id → seen c ≡ seen d → d.overwritten ≤ c.overwritten → ⊥
+
+-- none of these is alike, where no less may be left out of it
+abbrev pub AreOther : List Held → Held → Type 0
+AreOther set d = (i : ℕ) (c : Held) → slice_get set i ≡ Some c → IsOther c d
 
 -- one of these stands for each configuration for which `d` does
 abbrev pub AreCovered : List Held → Held → Type 0

@@ -1,20 +1,18 @@
 //! Configurations that stand for others: open calls that were overwritten may be left out.
-ghost use Rattle.std.specs.Prelude.{◌≡◌, ℕ, ◌≤◌, ◌<◌, ◌↔◌, IsTrue, OnOk, IsErrOf, Some, [], ◌∷◌, false, length, slice_get};
-ghost use Rattle.tatp_homes.specs.Changes.{cell};
+ghost use Rattle.std.specs.Prelude.{◌≡◌, ℕ, ◌≤◌, ◌<◌, ◌↔◌, IsTrue, OnOk, IsErrOf, Some, false, length, slice_get};
 ghost use Rattle.tatp_history.specs.declared.observed.Observed.{Observed as Asked};
 ghost use Rattle.tatp_history.specs.Locality.{AreAccepted};
 ghost use Rattle.tatp_linearization.specs.declared.configuration.Configuration.{Configuration as Held};
 ghost use Rattle.tatp_linearization.specs.Overwritten.{IsBlind};
 ghost use Rattle.tatp_linearization.specs.Possible.{AreMoreThan};
 ghost use Rattle.tatp_linearization.specs.Held.{AreApart, AreReady, seen};
-ghost use Rattle.tatp_linearization.specs.Covering.{AreCovered, Covers, Gains, IsKept, IsOther, IsStoodOr, StandsFor};
+ghost use Rattle.tatp_linearization.specs.Covering.{AreCovered, AreOther, Covers, Gains, IsKept, IsOther, IsStoodOr, StandsFor, own_location};
 
 use crate::comparing::is_same_call;
 use crate::configuration::Configuration;
 use crate::locations::VLR_LOCATION;
 use crate::overwriting::is_blind;
 use crate::stopped::Stopped;
-use tatp_homes::Home;
 
 /// Whether the configuration also stands for those without its open call at the place `i`: what it
 /// sets was overwritten after it was asked.
@@ -76,47 +74,78 @@ fn is_opened_within(c: &Configuration, d: &Configuration) -> bool
     j == d.opened.len()
 }
 
-/// The location of the home's subscriber.
-fn location_of(home: &Home) -> Option<u64>
-    ensures { result ≡ cell home.now.tables 33 (home.now.s_id ∷ 0 ∷ 0 ∷ []) }
+/// The location of the configuration's subscriber.
+fn location_of(c: &Configuration) -> Option<u64>
+    ensures { result ≡ own_location c.now }
 {
-    home.get(VLR_LOCATION, [home.s_id(), 0, 0])
+    c.home.get(VLR_LOCATION, [c.home.s_id(), 0, 0])
 }
 
 /// Whether the first configuration may stand for what the second does, by how many calls are open
-/// and the location alone. That tells most configurations apart, without a look at any call.
-fn is_near(c: &Configuration, d: &Configuration) -> bool
-    ensures { c.now.home.s_id ≡ d.now.home.s_id → seen c.now ≡ seen d.now → IsTrue result }
+/// and the locations of both alone. That tells most configurations apart, without a look at any
+/// call.
+fn is_near(c: &Configuration, here: Option<u64>, d: &Configuration, there: Option<u64>) -> bool
+    ensures { seen c.now ≡ seen d.now → here ≡ there → IsTrue result }
 {
-    d.opened.len() <= c.opened.len() && location_of(&c.home) == location_of(&d.home)
+    d.opened.len() <= c.opened.len() && here == there
 }
 
-/// Whether the first configuration stands for each one for which the second does.
-fn covers(c: &Configuration, d: &Configuration) -> bool
+/// Whether the first configuration, which has the location `here`, stands for each one for which
+/// the second does, which has the location `there`.
+fn covers(c: &Configuration, here: Option<u64>, d: &Configuration, there: Option<u64>) -> bool
     ensures covers { IsTrue result → Covers c.now d.now }
-    ensures other { result ≡ false → IsOther c.now d.now }
+    ensures other { here ≡ own_location c.now → there ≡ own_location d.now → result ≡ false
+        → IsOther c.now d.now }
 {
-    is_near(c, d) && is_asked_within(c, d) && c.home == d.home && is_opened_within(c, d)
+    is_near(c, here, d, there)
+        && is_asked_within(c, d)
+        && c.home == d.home
+        && is_opened_within(c, d)
 }
 
-/// Whether one of these stands for each configuration for which `d` does.
+/// Whether one of these covers `d`: it stands for each configuration for which `d` does.
 pub(crate) fn is_covered(set: &[Configuration], d: &Configuration) -> bool
     ensures covered { IsTrue result → AreCovered set.now d.now }
     ensures other { (i : ℕ) (c : Held) → slice_get set.now i ≡ Some c
         → c.home.s_id ≡ d.now.home.s_id → seen c ≡ seen d.now
         → d.now.overwritten ≤ c.overwritten → IsTrue result }
 {
+    let location = location_of(d);
     for i in 0..set.len() {
-        if covers(&set[i], d) {
+        let c = &set[i];
+        if covers(c, location_of(c), d, location) {
             return true;
         }
     }
     false
 }
 
-/// Adds a configuration, unless one of the set stands for all for which it does, and takes those
-/// out for all of which it stands. `Err` means that the set would have more than `most`, or that
-/// memory was refused.
+/// Adds a configuration that none of the set covers, and takes those out for all of which it
+/// stands. `Err` means that the set would have more than `most`, or that memory was refused.
+pub(crate) fn add_uncovered(
+    set: &mut Vec<Configuration>,
+    d: Configuration,
+    most: usize,
+) -> Result<(), Stopped>
+    requires accepted { AreAccepted d.opened.items }
+    requires other { AreOther set.old.items d }
+    ensures gained { OnOk result (Gains (StandsFor d) (StandsFor d) set.old.items set.new.items) }
+    ensures ready { OnOk result (AreReady set.old.items → AreReady set.new.items) }
+    ensures apart { OnOk result (AreApart d.home.s_id set.old.items
+        → AreApart d.home.s_id set.new.items) }
+    ensures many { IsErrOf result Stopped.MoreThanMost → AreApart d.home.s_id set.old.items
+        → AreMoreThan most (IsStoodOr set.old.items (StandsFor d)) }
+{
+    let location = location_of(&d);
+    set.retain(|c| !covers(&d, location, c, location_of(c)));
+    if set.len() >= most {
+        return Err(Stopped::MoreThanMost);
+    }
+    set.push(d)?;
+    Ok(())
+}
+
+/// Adds a configuration in the same way, unless one of the set covers it.
 pub(crate) fn add(
     set: &mut Vec<Configuration>,
     d: Configuration,
@@ -133,10 +162,5 @@ pub(crate) fn add(
     if is_covered(set.as_slice(), &d) {
         return Ok(());
     }
-    set.retain(|c| !covers(&d, c));
-    if set.len() >= most {
-        return Err(Stopped::MoreThanMost);
-    }
-    set.push(d)?;
-    Ok(())
+    add_uncovered(set, d, most)
 }

@@ -85,14 +85,22 @@ fn is_doomed(c: &Configuration, events: &[Event], from: usize) -> bool
 }
 
 /// Drops configurations from which no order explains the events from a place on, where many are
-/// kept.
-pub(crate) fn drop_doomed(set: &mut Vec<Configuration>, events: &[Event], from: usize)
+/// kept, and the event that was followed is an end: calls took effect there.
+pub(crate) fn drop_doomed(
+    set: &mut Vec<Configuration>,
+    event: &Event,
+    events: &[Event],
+    from: usize,
+)
     ensures kept { (d : Seen) → OneStandsFor set.new.items d → OneStandsFor set.old.items d }
     ensures found { (d : Seen) → OneStandsFor set.old.items d
         → OneStandsFor set.new.items d ⊎ IsDoomed (drop from events.now) d }
     ensures ready { AreReady set.old.items → AreReady set.new.items }
     ensures apart { (s : ℕ) → AreApart s set.old.items → AreApart s set.new.items }
 {
+    if matches!(event, Event::Asks(_)) {
+        return;
+    }
     if set.len() > FEW {
         set.retain(|c| !is_doomed(c, events, from));
     }

@@ -12,7 +12,7 @@ ghost use Rattle.tatp_linearization.specs.Turns.{AreAllServed, AreAnswered, AreS
 
 use crate::ahead::Ahead;
 use crate::configuration::{Configuration, copy, none_asked};
-use crate::covering::{add, is_covered};
+use crate::covering::{add, add_uncovered, is_covered};
 use crate::kinds::{Kind, is_tried, kind_of};
 use crate::later::comes_later;
 use crate::stopped::Stopped;
@@ -42,7 +42,7 @@ fn add_untried(
     if is_covered(tried.as_slice(), &d) {
         return Ok(());
     }
-    add(tried, copy(alloc, &d)?, most)?;
+    add_uncovered(tried, copy(alloc, &d)?, most)?;
     going.push(d)?;
     Ok(())
 }

@@ -69,7 +69,7 @@ fn after_events(
         if !leaves_all(after.as_slice(), event) {
             let next = after_event(alloc, after.as_slice(), event, &ahead, most)?;
             after = next;
-            drop_doomed(&mut after, events, i + 1);
+            drop_doomed(&mut after, event, events, i + 1);
         }
     }
     Ok(after)

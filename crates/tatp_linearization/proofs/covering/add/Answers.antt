@@ -1,26 +1,6 @@
-use Rattle.std.proofs.Common.{◌≡◌, List, Some, slice_get, rules, sym, ◌∙◌, subst, arith, true≢false}
+use Rattle.std.proofs.Common.{◌≡◌, List, Some, slice_get, sym, ◌∙◌, subst, true≢false}
 use Rattle.tatp_linearization.specs.declared.configuration.Configuration.{Configuration as Held}
-use Rattle.tatp_linearization.specs.Covering.{Covers, IsOther}
-use Rattle.tatp_linearization.proofs.CoveringLaws.{retained, pushed_ready, gains_pushed, pushed_apart, pushed_many}
 use Rattle.tatp_linearization.proofs.covering.add.Goals as goal
 
-pub returns-clause-gained : goal.returns-clause-gained
-returns-clause-gained c = gains_pushed c.args.d c.args.set.now.items c.retain.new.self.items
-    (retained _ (Covers c.args.d) (IsOther c.args.d) _ (λ x b g k. (search rules, (search rules, search rules))) c.args.set.now.items c.retain.new.self.items c.retain.ensures.filtered)
-    c.push.new.self.items c.in_ok-push.ensures.items
-
-pub returns-clause-ready : goal.returns-clause-ready
-returns-clause-ready c = λ h. pushed_ready c.retain.new.self.items c.args.d c.push.new.self.items c.in_ok-push.ensures.items
-    ((retained _ (Covers c.args.d) (IsOther c.args.d) _ (λ x b g k. (search rules, (search rules, search rules))) c.args.set.now.items c.retain.new.self.items c.retain.ensures.filtered).ready h) c.requires.accepted
-
-pub returns-clause-apart : goal.returns-clause-apart
-returns-clause-apart c = λ apart. pushed_apart c.args.d c.args.set.now.items c.retain.new.self.items
-    (retained _ (Covers c.args.d) (IsOther c.args.d) _ (λ x b g k. (search rules, (search rules, search rules))) c.args.set.now.items c.retain.new.self.items c.retain.ensures.filtered)
-    (λ i b at own same less. true≢false (sym (c.is_covered.ensures.other i b (subst (λ (cs : List Held). slice_get cs i ≡ Some b) (sym c.as_slice.ensures.value) at) own same less) ∙ c.if-is_covered.false)) apart
-    c.push.new.self.items c.in_ok-push.ensures.items
-
-pub returns-then-len-most-clause-many : goal.returns-then-len-most-clause-many
-returns-then-len-most-clause-many c = λ _ apart. pushed_many c.args.d c.args.set.now.items c.retain.new.self.items
-    (retained _ (Covers c.args.d) (IsOther c.args.d) _ (λ x b g k. (search rules, (search rules, search rules))) c.args.set.now.items c.retain.new.self.items c.retain.ensures.filtered)
-    (λ i b at own same less. true≢false (sym (c.is_covered.ensures.other i b (subst (λ (cs : List Held). slice_get cs i ≡ Some b) (sym c.as_slice.ensures.value) at) own same less) ∙ c.if-is_covered.false)) apart
-    c.args.most (omega (arith, c.if-len-most.true, c.len.ensures, c.retain.new.self.ok.0))
+pub add_uncovered-requires-clause-other : goal.add_uncovered-requires-clause-other
+add_uncovered-requires-clause-other c = λ i b at own same less. true≢false (sym (c.is_covered.ensures.other i b (subst (λ (cs : List Held). slice_get cs i ≡ Some b) (sym c.as_slice.ensures.value) at) own same less) ∙ c.if-is_covered.false)

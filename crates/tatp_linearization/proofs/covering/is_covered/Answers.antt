@@ -13,7 +13,7 @@ loop-i-preserved c =
       | inl before ↦ c.loop-i.invariant k b before there own same less
       | inr is ↦
           let e : b ≡ c.index-set-i.result = same_item c.args.set.now c.loop-i.i b c.index-set-i.result (subst (λ n. slice_get c.args.set.now n ≡ Some b) is there) at in
-          c.covers.ensures.other c.if-covers.false (subst (λ (q : Held). q.home.s_id ≡ c.args.d.now.home.s_id) e own) (subst (λ (q : Held). seen q ≡ seen c.args.d.now) e same)
+          c.covers.ensures.other c.location_of.ensures c.location_of-location.ensures c.if-covers.false (subst (λ (q : Held). q.home.s_id ≡ c.args.d.now.home.s_id) e own) (subst (λ (q : Held). seen q ≡ seen c.args.d.now) e same)
           (subst (λ (q : Held). c.args.d.now.overwritten ≤ q.overwritten) e less)
     ]
 

@@ -19,8 +19,7 @@ abbrev pub NoOtherSets : ℕ → ℕ → List Observed → Type 0
 NoOtherSets location place calls = (k : ℕ) (x : Observed) → slice_get calls k ≡ Some x
     → (k ≡ place → ⊥) → sets_location location x.call ≡ false
 
--- in the window no call sets the location that is asked later, but a read saw it that is asked later
--- and ends in the window
+-- no later call of the window sets the location, but a later read saw it, which ends in the window
 pub record IsSeenLater (ahead : Ahead) (now location : ℕ) : Type 0 where
   pub later : (times_in ahead location).set ≤ now
   pub inside : now < ahead.last

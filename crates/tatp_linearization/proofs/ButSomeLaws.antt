@@ -52,6 +52,19 @@ but_split F Q k m (x ∷ xs) left a = elim a [
       ]
 ]
 
+-- those of two kinds may be left out in turn
+pub but_divide : (F Q : Observed → Type 0) (k : ℕ) (xs left : List Observed) → AreButSome (λ x. F x ⊎ Q x) k xs left → (mid : List Observed) × AreButSome F k xs mid × AreButSome Q k mid left
+but_divide F Q k [] left a = ([], refl, a)
+but_divide F Q k (x ∷ xs) left a = elim a [
+  | inl p ↦ let go = but_divide F Q k xs p.0 p.2 in (x ∷ go.0, inl (go.0, refl, go.1), inl (p.0, p.1, go.2))
+  | inr p ↦
+      let go = but_divide F Q k xs left p.2 in
+      elim p.1 [
+        | inl f ↦ (go.0, inr (p.0, f, go.1), go.2)
+        | inr q ↦ (x ∷ go.0, inl (go.0, refl, go.1), inr (p.0, q, go.2))
+      ]
+]
+
 pub but_in : (F : Observed → Type 0) (k : ℕ) (xs left : List Observed) → AreButSome F k xs left → (z : Observed) → IsIn z left → IsIn z xs
 but_in F k [] left a z h = subst (IsIn z) a h
 but_in F k (x ∷ xs) left a z h = elim a [

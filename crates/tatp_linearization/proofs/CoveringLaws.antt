@@ -19,18 +19,19 @@ use Rattle.tatp_linearization.specs.declared.configuration.Configuration.{Config
 use Rattle.tatp_linearization.specs.AtOnce.{AreLeft, NeedsNoPlace, TakesOne, FollowsAtOnce}
 use Rattle.tatp_linearization.specs.Possible.{AreDistinct, AreMoreThan}
 use Rattle.tatp_linearization.specs.Held.{seen, all_seen, Has, AreReady, AreApart, Takes, IsAsked, IsOldOr}
-use Rattle.tatp_linearization.specs.Overwritten.{IsBlind, Overwrites, AreButSome, earlier}
+use Rattle.tatp_linearization.specs.Overwritten.{IsBlind, Overwrites, IsIdle, IsNeedless, AreButSome, earlier}
 use Rattle.tatp_linearization.specs.Covering.{StandsFor, OneStandsFor, Covers, IsOther, Opens, IsApart, IsLater, From, FromOne, MayCome, MayFollow, MayBeTried, MayAnswer, IsLetGo, IsStoodOr, Gains, GainsGone, IsGone}
 use Rattle.tatp_linearization.specs.Turns.{IsThere, IsOtherTime, StandsForBut, IsFewer, TakesOn, AreTriedOut, AreAnswered, AreFollowed}
 use Rattle.tatp_linearization.proofs.PlaceLaws.{all_get, all_more, all_of_get, all_remove, same_item}
-use Rattle.tatp_linearization.proofs.PossibleLaws.{some_on, one_takes, come_none, more_than}
+use Rattle.tatp_linearization.proofs.PossibleLaws.{some_on, one_takes, come_none, come_on, more_than}
 use Rattle.tatp_linearization.proofs.AtOnceLaws.{one_settled}
 use Rattle.tatp_linearization.proofs.GoingLaws.{event_on, end_on}
 use Rattle.tatp_linearization.proofs.HeldLaws.{has_get, own_more, one_too_many, ready_after}
-use Rattle.tatp_linearization.proofs.ButSomeLaws.{but_none_left_out, but_map, but_by, but_split, but_all, but_chosen, but_put, but_left, left_but, removed_length, removed_none, but_gone, but_back, get_inside, left_apart, removed_apart}
+use Rattle.tatp_linearization.proofs.ButSomeLaws.{but_none_left_out, but_map, but_by, but_split, but_divide, but_all, but_chosen, but_put, but_left, left_but, removed_length, removed_none, but_gone, but_back, get_inside, left_apart, removed_apart}
 use Rattle.tatp_linearization.proofs.SettlingLaws.{left_shorter}
 use Rattle.tatp_linearization.proofs.BlindLaws.{blind_after}
 use Rattle.tatp_linearization.proofs.OverwritingLaws.{overwritten_chain}
+use Rattle.tatp_linearization.proofs.IdleLaws.{idle_comes}
 
 -- ---- those for which one of a list stands
 pub seen_stands : (c : Held) → StandsFor c (seen c)
@@ -228,28 +229,41 @@ module _ (c d : Held) (i : ℕ) (taken : Takes c i (Some d)) (accepted : AreAcce
       (there.takes.rows ∙ (same ∙ sym taken.1.rows), but_map F G (λ x f. (blind_on x f.0, f.1)) c.overwritten d.overwritten taken.1.overwritten.still d.opened.items e.opened opened)
 
   -- each that may be left out then might be so before, or is overwritten by the call
-  abbrev pub IsOut : Observed → Type 0
-  IsOut x = IsBlind c.home.tables x × ((x.asked < c.overwritten) ⊎ Overwrites taken.0.call x.call)
+  abbrev pub IsBefore : Observed → Type 0
+  IsBefore x = IsBlind c.home.tables x × ((x.asked < c.overwritten) ⊎ Overwrites taken.0.call x.call)
 
-  pub out_of : (xs left : List Observed) → AllByRecursion (λ (x : Observed). x.asked < d.overwritten → IsBlind c.home.tables x → (x.asked < c.overwritten) ⊎ Overwrites taken.0.call x.call) xs
-      → AreButSome (IsBlind d.home.tables) d.overwritten xs left → AreButSome IsOut d.overwritten xs left
-  out_of xs left others but = but_by (IsBlind c.home.tables) IsOut d.overwritten d.overwritten xs left (each xs others) (but_map (IsBlind d.home.tables) (IsBlind c.home.tables) blind_back d.overwritten d.overwritten (omega arith) xs left but)
+  -- or changes nothing after it
+  abbrev pub IsAfter : Observed → Type 0
+  IsAfter x = IsBlind (transaction taken.0.call c.home.tables).database x × IsIdle (transaction taken.0.call c.home.tables).database x.call
+
+  pub out_of : (xs left : List Observed) → AllByRecursion (λ (x : Observed). x.asked < d.overwritten → IsBlind c.home.tables x → (x.asked < c.overwritten) ⊎ IsNeedless c.home.tables taken.0.call x.call) xs
+      → AreButSome (IsBlind d.home.tables) d.overwritten xs left → (mid : List Observed) × AreButSome IsBefore d.overwritten xs mid × AreButSome IsAfter d.overwritten mid left
+  out_of xs left others but = but_divide IsBefore IsAfter d.overwritten xs left
+      (but_by (IsBlind c.home.tables) (λ x. IsBefore x ⊎ IsAfter x) d.overwritten d.overwritten xs left (each xs others) (but_map (IsBlind d.home.tables) (IsBlind c.home.tables) blind_back d.overwritten d.overwritten (omega arith) xs left but))
     where
-      each : (zs : List Observed) → AllByRecursion (λ (x : Observed). x.asked < d.overwritten → IsBlind c.home.tables x → (x.asked < c.overwritten) ⊎ Overwrites taken.0.call x.call) zs
-          → AllByRecursion (λ (x : Observed). x.asked < d.overwritten → IsBlind c.home.tables x → (x.asked < d.overwritten) × IsOut x) zs
+      each : (zs : List Observed) → AllByRecursion (λ (x : Observed). x.asked < d.overwritten → IsBlind c.home.tables x → (x.asked < c.overwritten) ⊎ IsNeedless c.home.tables taken.0.call x.call) zs
+          → AllByRecursion (λ (x : Observed). x.asked < d.overwritten → IsBlind c.home.tables x → (x.asked < d.overwritten) × (IsBefore x ⊎ IsAfter x)) zs
       each [] h = tt
-      each (z ∷ zs) h = ((λ lt b. (lt, (b, h.0 lt b))), each zs h.1)
+      each (z ∷ zs) h = (
+        (λ lt b. (
+          lt,
+          elim (h.0 lt b) [
+            | inl early ↦ inl (b, inl early)
+            | inr needless ↦ elim needless [ inl o ↦ inl (b, inr o) | inr idle ↦ inr ((blind_after c.home taken.0.call taken.1.home call_accepted z).0 b, idle) ]
+          ],
+        )),
+        each zs h.1,
+      )
 
   -- and back: those that the call overwrites take effect right before it
-  pub taken_from : (e : Configuration) → StandsFor d e → From MayCome c e
-  taken_from e stands =
+  taken_before : (e : Configuration) → e.rows ≡ d.home.tables → AreButSome IsBefore d.overwritten d.opened.items e.opened → From MayCome c e
+  taken_before e rows but =
       let u : Database = c.home.tables in
       let x = taken.0 in
       let v : Database = (transaction x.call u).database in
       let k : ℕ = d.overwritten in
-      let but = out_of d.opened.items e.opened taken.1.overwritten.others stands.opened in
-      let left = left_but v IsOut k (remove c.opened.items i) d.opened.items e.opened taken.1.settled but in
-      let put = but_put IsOut k c.opened.items i x left.0 taken.1.at left.1 in
+      let left = left_but v IsBefore k (remove c.opened.items i) d.opened.items e.opened taken.1.settled but in
+      let put = but_put IsBefore k c.opened.items i x left.0 taken.1.at left.1 in
       let both = but_split (IsBlind u) (λ z. Overwrites x.call z.call) c.overwritten k c.opened.items put.0 put.1 in
       let chain = overwritten_chain c.home taken.1.home x.call k both.0 put.0 both.2 in
       let w = chain.0 in
@@ -263,11 +277,25 @@ module _ (c d : Held) (i : ℕ) (taken : Takes c i (Some d)) (accepted : AreAcce
           chosen = put.2;
           writes = taken.1.writes;
           may = subst (λ (a : Answer). MayHaveReply x.outcome a.reply) (sym same) taken.1.may;
-          rows = stands.rows ∙ (taken.1.rows ∙ ap (λ (a : Answer). a.database) (sym same));
+          rows = rows ∙ (taken.1.rows ∙ ap (λ (a : Answer). a.database) (sym same));
           settled = subst (λ (a : Answer). AreLeft a.database left.0 e.opened) (sym same) left.2;
         },
       ) in
       (before, record { rows = refl; opened = both.1 }, record { calls = some_on before mid e chain.1 (one_takes mid e one); settled = λ _. one_settled mid e one })
+
+  -- and those that change nothing then right after it
+  pub taken_after : (k : ℕ) (mid : List Observed) (e : Configuration) → e.rows ≡ d.home.tables → AreButSome IsAfter k mid e.opened → From MayCome c (record { rows = (transaction taken.0.call c.home.tables).database; opened = mid }) → From MayCome c e
+  taken_after k mid e rows but first =
+      let v : Database = (transaction taken.0.call c.home.tables).database in
+      let q : Configuration = record { rows = v; opened = mid } in
+      let is : e.rows ≡ v = rows ∙ taken.1.rows in
+      let idle : MayCome q e = subst (λ w. MayCome q (record { rows = w; opened = e.opened })) (sym is) (idle_comes v k mid e.opened but) in
+      (first.0, first.1, come_on first.0 q e first.2 idle)
+
+  pub taken_from : (e : Configuration) → StandsFor d e → From MayCome c e
+  taken_from e stands =
+      let out = out_of d.opened.items e.opened taken.1.overwritten.others stands.opened in
+      taken_after d.overwritten out.0 e stands.rows out.2 (taken_before (record { rows = (transaction taken.0.call c.home.tables).database; opened = out.0 }) (sym taken.1.rows) out.1)
 
   pub taken_fewer : IsFewer c d
   taken_fewer =

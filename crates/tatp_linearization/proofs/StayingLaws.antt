@@ -5,7 +5,7 @@ use Rattle.tatp_tables.specs.Database.{Database}
 use Rattle.tatp_procs.specs.declared.call.Call.{Call}
 use Rattle.tatp_procs.specs.declared.call.Call.TheVariants.{UpdateSubscriberData, UpdateLocation}
 use Rattle.tatp_history.specs.declared.observed.Observed.{Observed}
-use Rattle.tatp_linearization.specs.Overwritten.{SetsLocation, SetsBoth, IsBlind, Overwrites, AreOut}
+use Rattle.tatp_linearization.specs.Overwritten.{SetsLocation, SetsBoth, IsBlind, Overwrites, IsNeedless, AreOut}
 use Rattle.tatp_linearization.proofs.PlaceLaws.{all_more, take_more}
 
 -- ---- blind calls
@@ -107,14 +107,14 @@ module _ (u : Database) (x : Call) (before : ℕ) where
   out_earlier first lower le [] h = tt
   out_earlier first lower le (z ∷ zs) h = ((λ lt b. h.0 (omega (arith, lt, le)) b), out_earlier first lower le zs h.1)
 
-  out_more : (first : ℕ) (xs : List Observed) (i : ℕ) (z : Observed) → slice_get xs i ≡ Some z → (z.asked < first → IsBlind u z → (z.asked < before) ⊎ Overwrites x z.call) → AreOut u x before first (take i xs) → AreOut u x before first (take (i + 1) xs)
+  out_more : (first : ℕ) (xs : List Observed) (i : ℕ) (z : Observed) → slice_get xs i ≡ Some z → (z.asked < first → IsBlind u z → (z.asked < before) ⊎ IsNeedless u x z.call) → AreOut u x before first (take i xs) → AreOut u x before first (take (i + 1) xs)
   out_more first xs i z at own all = subst (AreOut u x before first) (sym (take_more xs i z at))
-      (all_more (λ (y : Observed). y.asked < first → IsBlind u y → (y.asked < before) ⊎ Overwrites x y.call) (take i xs) z all own)
+      (all_more (λ (y : Observed). y.asked < first → IsBlind u y → (y.asked < before) ⊎ IsNeedless u x y.call) (take i xs) z all own)
 
   -- one call more, which goes with an earlier time
   pub out_lower : (xs : List Observed) (i : ℕ) (z : Observed) (first : ℕ) → slice_get xs i ≡ Some z → z.asked < first → AreOut u x before first (take i xs) → AreOut u x before z.asked (take (i + 1) xs)
   out_lower xs i z first at lt all = out_more z.asked xs i z at (λ self b. absurd (omega (arith, self))) (out_earlier first z.asked (omega (arith, lt)) (take i xs) all)
 
   -- one call more, which may be left out
-  pub out_same : (xs : List Observed) (i : ℕ) (z : Observed) (first : ℕ) → slice_get xs i ≡ Some z → (z.asked < first → IsBlind u z → (z.asked < before) ⊎ Overwrites x z.call) → AreOut u x before first (take i xs) → AreOut u x before first (take (i + 1) xs)
+  pub out_same : (xs : List Observed) (i : ℕ) (z : Observed) (first : ℕ) → slice_get xs i ≡ Some z → (z.asked < first → IsBlind u z → (z.asked < before) ⊎ IsNeedless u x z.call) → AreOut u x before first (take i xs) → AreOut u x before first (take (i + 1) xs)
   out_same xs i z first at own all = out_more first xs i z at own all

@@ -19,7 +19,7 @@ use Rattle.tatp_linearization.specs.declared.ahead.Ahead.{Ahead}
 use Rattle.tatp_linearization.specs.declared.configuration.Configuration.{Configuration as Held}
 use Rattle.tatp_linearization.specs.AtOnce.{FitsAtOnce, AreLeft, TakesOne}
 use Rattle.tatp_linearization.specs.Possible.{CallsTakeEffect}
-use Rattle.tatp_linearization.specs.Overwritten.{SetsLocation, IsBlind, Overwrites, AreButSome}
+use Rattle.tatp_linearization.specs.Overwritten.{SetsLocation, IsBlind, Overwrites, IsNeedless, AreButSome}
 use Rattle.tatp_linearization.specs.Held.{Takes}
 use Rattle.tatp_linearization.specs.Covering.{StandsFor, From, MayCome}
 use Rattle.tatp_linearization.specs.Going.{LeadsOn}
@@ -33,7 +33,7 @@ use Rattle.tatp_linearization.proofs.BlindLaws.{named_row, number_of}
 use Rattle.tatp_linearization.proofs.OverwritingLaws.{AreOverwrittenBy, IsNumbered, SetsItsLocation, location_step, chain}
 use Rattle.tatp_linearization.proofs.ButSomeLaws.{but_map, but_in, but_all, but_filter, but_split, but_chooses, left_but}
 use Rattle.tatp_linearization.proofs.ClusterLaws.{open_filter, loses_apart, calls_all, calls_fewer, calls_one}
-use Rattle.tatp_linearization.proofs.CoveringLaws.{taken_there, taken_fewer, IsOut, out_of}
+use Rattle.tatp_linearization.proofs.CoveringLaws.{taken_there, taken_fewer, IsBefore, taken_after, out_of}
 use Rattle.tatp_linearization.proofs.DoomedLaws.{stays, no_update}
 use Rattle.tatp_linearization.proofs.LostLaws.{none_lost}
 use Rattle.tatp_linearization.proofs.PlaceLaws.{chooses_at}
@@ -125,20 +125,17 @@ module _ (c d e : Held) (i : ℕ) (taken : Takes c i (Some d)) (accepted : AreAc
   ]
 
   -- they may take effect before it, and what it overwrites in between
-  pub cleared_from : (q : Configuration) → StandsFor e q → From MayCome c q
-  cleared_from q stands =
+  cleared_before : (q : Configuration) → q.rows ≡ (transaction taken.0.call c.home.tables).database → AreButSome (IsBefore c d i taken accepted) d.overwritten e.opened.items q.opened → From MayCome c q
+  cleared_before q rows but =
       let u : Database = c.home.tables in
       let x = taken.0 in
       let v : Database = (transaction x.call u).database in
       let m : Database = gone.0 in
       let go = gone.1 in
       let k : ℕ = d.overwritten in
-      let O : Observed → Type 0 = IsOut c d i taken accepted in
+      let O : Observed → Type 0 = IsBefore c d i taken accepted in
       let others = remove c.opened.items i in
       let put = calls_put v x go.many (record { rows = u; opened = d.opened.items }) (record { rows = m; opened = e.opened.items }) go.effects c.opened.items others (chooses_at c.opened.items i x taken.1.at) taken.1.settled in
-      let stood : AreButSome (IsBlind d.home.tables) d.overwritten e.opened.items q.opened = subst (λ n. AreButSome (IsBlind d.home.tables) n e.opened.items q.opened) over (subst (λ (h : SubscriberRows). AreButSome (IsBlind h.tables) e.overwritten e.opened.items q.opened) home stands.opened) in
-      let known = calls_all (λ (z : Observed). z.asked < d.overwritten → IsBlind u z → (z.asked < c.overwritten) ⊎ Overwrites x.call z.call) go.many (record { rows = u; opened = d.opened.items }) (record { rows = m; opened = e.opened.items }) go.effects taken.1.overwritten.others in
-      let but = out_of c d i taken accepted e.opened.items q.opened known stood in
       let mid = left_but v O k put.1 e.opened.items q.opened put.4 but in
       let back = but_chooses O k put.0 x put.1 put.3 mid.0 mid.1 in
       let both = but_split (IsBlind u) (λ z. Overwrites x.call z.call) c.overwritten k put.0 back.0 back.1 in
@@ -153,7 +150,6 @@ module _ (c d e : Held) (i : ℕ) (taken : Takes c i (Some d)) (accepted : AreAc
       (but_map (AreOverwrittenBy u x.call) (SetsItsLocation sets.number) overwritten_here k k (omega arith) both.0 back.0 both.2) in
       let w = ran.0 in
       let same : transaction x.call w ≡ transaction x.call u = subst (λ (f : Call). transaction f w ≡ transaction f m) (sym sets.updates) ran.2 ∙ alike.1 in
-      let rows : q.rows ≡ v = stands.rows ∙ (ap (λ (h : SubscriberRows). h.tables) home ∙ taken.1.rows) in
       let b : Configuration = record { rows = w; opened = back.0 } in
       let last : TakesOne b q = (
         x,
@@ -169,6 +165,18 @@ module _ (c d e : Held) (i : ℕ) (taken : Takes c i (Some d)) (accepted : AreAc
       let first : Configuration = record { rows = u; opened = start.0 } in
       let cleared : Configuration = record { rows = m; opened = both.0 } in
       (first, record { rows = refl; opened = start.1 }, record { calls = some_on first cleared q start.2 (some_on cleared b q ran.1 (one_takes b q last)); settled = λ _. one_settled b q last })
+
+  -- and those that change nothing after it right then
+  pub cleared_from : (q : Configuration) → StandsFor e q → From MayCome c q
+  cleared_from q stands =
+      let u : Database = c.home.tables in
+      let x = taken.0 in
+      let go = gone.1 in
+      let m : Database = gone.0 in
+      let stood : AreButSome (IsBlind d.home.tables) d.overwritten e.opened.items q.opened = subst (λ n. AreButSome (IsBlind d.home.tables) n e.opened.items q.opened) over (subst (λ (h : SubscriberRows). AreButSome (IsBlind h.tables) e.overwritten e.opened.items q.opened) home stands.opened) in
+      let known = calls_all (λ (z : Observed). z.asked < d.overwritten → IsBlind u z → (z.asked < c.overwritten) ⊎ IsNeedless u x.call z.call) go.many (record { rows = u; opened = d.opened.items }) (record { rows = m; opened = e.opened.items }) go.effects taken.1.overwritten.others in
+      let out = out_of c d i taken accepted e.opened.items q.opened known stood in
+      taken_after c d i taken accepted d.overwritten out.0 q (stands.rows ∙ ap (λ (h : SubscriberRows). h.tables) home) out.2 (cleared_before (record { rows = (transaction x.call u).database; opened = out.0 }) refl out.1)
 
   module _ (ahead : Ahead) (now : ℕ) (loses : AreAskedApart d.opened.items → LosesNone ahead now d.opened.items e.opened.items) where
     cleared_fewer : IsFewer c e

@@ -49,7 +49,7 @@ pub record IsAsked (c : Held) (x : Observed) (d : Held) : Type 0 where
   pub own : d.home.s_id ≡ c.home.s_id
 
 -- ---- one call takes effect
--- what might be left out before may be so then, and beside that only what the call overwrites
+-- what might be left out before may be so then, and beside that only what the call makes needless
 pub record AreOverwritten (c d : Held) (x : Observed) : Type 0 where
   pub still : c.overwritten ≤ d.overwritten
   pub others : AreOut c.home.tables x.call c.overwritten d.overwritten d.opened.items

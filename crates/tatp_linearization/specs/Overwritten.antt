@@ -7,6 +7,7 @@ use Rattle.tatp_tables.specs.Database.{Database}
 use Rattle.tatp_procs.specs.declared.call.Call.TheVariants.{UpdateSubscriberData, UpdateLocation}
 use Rattle.tatp_procs.specs.declared.call.Call.{Call}
 use Rattle.tatp_procs.specs.declared.reply.Reply.TheVariants.{Values}
+use Rattle.tatp_procs.specs.Transactions.{transaction}
 use Rattle.tatp_history.specs.declared.observed.Observed.{Observed}
 use Rattle.tatp_history.specs.Histories.{MayHaveReply}
 
@@ -57,6 +58,16 @@ pub record SetOneBoth (x z : Call) : Type 0 where
 abbrev pub Overwrites : Call → Call → Type 0
 Overwrites x z = SetOneLocation x z ⊎ SetOneBoth x z
 
+-- on these rows the call changes nothing
+abbrev pub IsIdle : Database → Call → Type 0
+IsIdle u call = (transaction call u).database ≡ u
+
+-- where the first call takes effect on these rows the second may have done so at that time without
+-- being seen: right before, since the first sets all that it does, or right after, since it changes
+-- nothing then
+abbrev pub IsNeedless : Database → Call → Call → Type 0
+IsNeedless u x z = Overwrites x z ⊎ IsIdle (transaction x u).database z
+
 -- ---- what may be left out
 -- `left` are the calls without some that were asked before this time, and of which this holds
 abbrev pub AreButSome : (Observed → Type 0) → ℕ → List Observed → List Observed → Type 0
@@ -70,10 +81,10 @@ abbrev pub earlier : ℕ → ℕ → ℕ
 earlier time other = if nat_le time other then time else other
 
 -- of these calls, those that were asked before the time `first` and may be left out were asked
--- before the other time, or a call overwrites them
+-- before the other time, or a call that takes effect makes them needless
 abbrev pub AreOut : Database → Call → ℕ → ℕ → List Observed → Type 0
 AreOut u x before first calls = AllByRecursion (λ (z : Observed). z.asked < first → IsBlind u z
-    → (z.asked < before) ⊎ Overwrites x z.call) calls
+    → (z.asked < before) ⊎ IsNeedless u x z.call) calls
 
 -- the time is that of one that a call doesn't overwrite, or the last of all
 abbrev pub IsFirst : Database → Call → ℕ → List Observed → Type 0

@@ -184,7 +184,7 @@ pub(crate) fn take(
     opened.remove(i);
     settle(&mut home, &mut opened);
     what_holds_of_every_home(&c.home);
-    let overwritten = overwritten_before(&c.home, opened.as_slice(), &x.call, c.overwritten);
+    let overwritten = overwritten_before(&c.home, &home, opened.as_slice(), &x.call, c.overwritten);
     Ok(Some(Configuration {
         home,
         opened,

@@ -1,12 +1,19 @@
 //! Calls that set columns, whatever these held, and calls that set them again.
-ghost use Rattle.std.specs.Prelude.{◌≡◌, ℕ, ◌≤◌, ◌<◌, ◌↔◌, ◌⊎◌, IsTrue, [], false};
+ghost use Rattle.std.specs.Prelude.{◌≡◌, ℕ, ◌≤◌, ◌<◌, ◌↔◌, ◌⊎◌, IsTrue, Ok, [], false};
 ghost use Rattle.tatp_procs.specs.declared.reply.Reply.TheVariants.{Values};
+ghost use Rattle.tatp_procs.specs.Arguments.{arguments_accepted};
+ghost use Rattle.tatp_procs.specs.Transactions.{transaction};
 ghost use Rattle.tatp_history.specs.Histories.{MayHaveReply};
-ghost use Rattle.tatp_linearization.specs.Overwritten.{AreOut, IsBlind, IsFirst, Overwrites, SetsBoth, SetsLocation};
+ghost use Rattle.tatp_history.specs.Locality.{AreAccepted};
+ghost use Rattle.tatp_linearization.specs.Overwritten.{AreOut, IsBlind, IsFirst, IsIdle, IsNeedless, Overwrites, SetsBoth, SetsLocation};
 
+use tatp_evaluation::evaluate;
 use tatp_history::Observed;
 use tatp_homes::Home;
 use tatp_procs::{Call, Outputs, Reply};
+
+/// The column of a Subscriber row.
+const BIT_1: u8 = 2;
 
 /// Whether a call may have been answered as a write that succeeds.
 fn may_succeed(x: &Observed) -> bool
@@ -70,28 +77,67 @@ fn overwrites(x: &Call, z: &Call) -> bool
     }
 }
 
-/// Whether a call may not be left out on account of another one that takes effect.
-fn stays(home: &Home, z: &Observed, x: &Call) -> bool
+/// Whether a call that updates data changes nothing: it is made on a copy where the bit is the same.
+fn is_idle(home: &Home, call: &Call) -> bool
+    requires accepted { arguments_accepted call.now ≡ Ok tt }
+    ensures { IsTrue result → IsIdle home.now.tables call.now }
+{
+    match *call {
+        Call::UpdateSubscriberData { s_id, bit_1, .. } => {
+            if home.get(BIT_1, [s_id, 0, 0]) != Some(bit_1) {
+                return false;
+            }
+            let mut after = home.copy();
+            evaluate(&mut after, call, &mut Reply::Refused);
+            after == *home
+        }
+        _ => false,
+    }
+}
+
+/// Whether a call may not be left out on account of another one that takes effect, and results in
+/// the home `after`.
+fn stays(home: &Home, after: &Home, z: &Observed, x: &Call) -> bool
+    requires rows { after.now.tables ≡ (transaction x.now home.now.tables).database }
+    requires accepted { arguments_accepted z.now.call ≡ Ok tt }
     ensures stays { IsTrue result → IsBlind home.now.tables z.now
         × (Overwrites x.now z.now.call → ⊥) }
-    ensures goes { result ≡ false → IsBlind home.now.tables z.now → Overwrites x.now z.now.call }
+    ensures goes { result ≡ false → IsBlind home.now.tables z.now
+        → IsNeedless home.now.tables x.now z.now.call }
 {
-    is_blind(home, z) && !overwrites(x, &z.call)
+    if !is_blind(home, z) {
+        return false;
+    }
+    if overwrites(x, &z.call) {
+        return false;
+    }
+    !is_idle(after, &z.call)
 }
 
 /// Whether such a call was asked from one time on and before another.
-fn stays_within(home: &Home, z: &Observed, x: &Call, from: u64, to: u64) -> bool
+fn stays_within(home: &Home, after: &Home, z: &Observed, x: &Call, from: u64, to: u64) -> bool
+    requires rows { after.now.tables ≡ (transaction x.now home.now.tables).database }
+    requires accepted { arguments_accepted z.now.call ≡ Ok tt }
     ensures stays { IsTrue result → (from ≤ z.now.asked) × (z.now.asked < to)
         × IsBlind home.now.tables z.now × (Overwrites x.now z.now.call → ⊥) }
     ensures goes { result ≡ false → z.now.asked < to → IsBlind home.now.tables z.now
-        → (z.now.asked < from) ⊎ Overwrites x.now z.now.call }
+        → (z.now.asked < from) ⊎ IsNeedless home.now.tables x.now z.now.call }
 {
-    from <= z.asked && z.asked < to && stays(home, z, x)
+    from <= z.asked && z.asked < to && stays(home, after, z, x)
 }
 
-/// The time before which calls may be left out once a call has taken effect: that at which the
-/// first was asked that might not be left out before, and that the call doesn't overwrite.
-pub(crate) fn overwritten_before(home: &Home, opened: &[Observed], x: &Call, before: u64) -> u64
+/// The time before which calls may be left out once a call has taken effect, and resulted in the
+/// home `after`: that at which the first was asked that might not be left out before, and isn't
+/// needless.
+pub(crate) fn overwritten_before(
+    home: &Home,
+    after: &Home,
+    opened: &[Observed],
+    x: &Call,
+    before: u64,
+) -> u64
+    requires rows { after.now.tables ≡ (transaction x.now home.now.tables).database }
+    requires accepted { AreAccepted opened.now }
     ensures still { before ≤ result }
     ensures others { AreOut home.now.tables x.now before result opened.now }
     ensures first { IsFirst home.now.tables x.now result opened.now }
@@ -99,7 +145,7 @@ pub(crate) fn overwritten_before(home: &Home, opened: &[Observed], x: &Call, bef
     let mut first = u64::MAX;
     'calls: for i in 0..opened.len() {
         let z = &opened[i];
-        if stays_within(home, z, x, before, first) {
+        if stays_within(home, after, z, x, before, first) {
             first = z.asked;
         }
     }

@@ -1,12 +1,15 @@
-use Rattle.std.proofs.Common.{◌≡◌, Some, slice_get, remove, sym, ap, ◌∙◌, subst, true≢false}
+use Rattle.std.proofs.Common.{◌≡◌, Ok, Some, slice_get, remove, sym, ap, ◌∙◌, subst, true≢false}
 use Rattle.tatp_homes.specs.Home.{SubscriberRows}
 use Rattle.tatp_history.specs.declared.observed.Observed.{Observed}
 use Rattle.tatp_history.specs.Histories.{MayHaveReply}
+use Rattle.tatp_history.specs.Locality.{AreAccepted}
+use Rattle.tatp_procs.specs.Arguments.{arguments_accepted}
 use Rattle.tatp_procs.specs.Transactions.{transaction}
 use Rattle.tatp_history.specs.Changes.{changes_nothing}
 use Rattle.tatp_linearization.specs.AtOnce.{AreLeft}
 use Rattle.tatp_linearization.specs.Overwritten.{AreOut}
-use Rattle.tatp_linearization.proofs.PlaceLaws.{get_at, same_item}
+use Rattle.tatp_linearization.proofs.PlaceLaws.{all_remove, get_at, same_item}
+use Rattle.tatp_linearization.proofs.SettlingLaws.{left_all}
 use Rattle.tatp_linearization.proofs.configuration.take.Goals as goal
 
 pub returns : goal.returns
@@ -35,6 +38,13 @@ returns c =
         };
       },
     )
+
+pub overwritten_before-overwritten-requires-clause-accepted : goal.overwritten_before-overwritten-requires-clause-accepted
+overwritten_before-overwritten-requires-clause-accepted c =
+    let accepts : Observed → Type 0 = λ (z : Observed). arguments_accepted z.call ≡ Ok tt in
+    let others = c.remove.ensures.items ∙ ap (λ xs. remove xs c.args.i) (c.in_ok-opened.ensures.items ∙ c.as_slice.ensures.value) in
+    subst AreAccepted (sym c.as_slice-2.ensures.value) (left_all accepts c.evaluate.new.home.tables c.remove.new.self.items c.settle.new.opened.items c.settle.ensures.left
+    (subst AreAccepted (sym others) (all_remove accepts c.args.c.now.opened.items c.args.i c.requires.accepted)))
 
 pub returns-then-changes_nothing : goal.returns-then-changes_nothing
 returns-then-changes_nothing c = λ y there writes may.

@@ -1,9 +1,11 @@
 //! Updates of one subscriber's data, of which another one overwrites some.
 use super::forwardings::{EXPLAINED, SUCCESS, UNEXPLAINED, answered, ends, facility, fresh};
 use super::to_rows::leads_with;
-use std::alloc::Global;
+use rand_pcg::Pcg64;
+use std::alloc::{AllocError, Global};
 use std::test::Fail;
-use tatp_homes::Home;
+use tatp_homes::{Home, homes};
+use tatp_population::generate;
 use tatp_procs::Call;
 
 /// Columns of a Subscriber row and of a Special_Facility row.
@@ -26,6 +28,13 @@ fn with_data(home: &Home, sf_type: u64, bit_1: u64, data_a: u64) -> Home {
     let _ = rows.put(BIT_1, [1, 0, 0], bit_1);
     let _ = rows.put(DATA_A, [1, sf_type, 0], data_a);
     rows
+}
+
+/// A home of subscriber 1 with several facilities.
+fn with_facilities(alloc: Global) -> Result<Option<Home>, AllocError> {
+    let rows = generate(alloc, 1, &mut Pcg64::new(9, 0))?;
+    let mut all = homes(alloc, &rows)?;
+    Ok(all.pop())
 }
 
 /// The last facility of subscriber 1.
@@ -66,7 +75,7 @@ fn updates_that_may_be_left_out(rt: HostRuntime) -> Result<(), Fail> {
 #[test]
 fn data_of_another_facility(rt: HostRuntime) -> Result<(), Fail> {
     let alloc = rt.alloc();
-    let home = fresh(alloc)?.expect(&rt, "a home");
+    let home = with_facilities(alloc)?.expect(&rt, "a home");
     let t = facility(&home);
     let other = last_facility(&home);
     let before = with_data(&home, other, 0, 3);

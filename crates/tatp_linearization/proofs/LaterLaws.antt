@@ -1,5 +1,5 @@
--- An update of the location can't take effect before a call that leaves another one, where a later read saw its own.
-use Rattle.std.proofs.Common.{◌≡◌, ℕ, zero, suc, ◌<◌, ◌⊎◌, true, false, cond, List, [], ◌∷◌, length, Option, Some, None, slice_get, slice_index, get_or, set, remove, refl, sym, ◌∙◌, ap, subst, arith, true≢false, eq-eqb, inl, inr}
+-- An update of the location can't take effect where the location that it replaces is lost, nor before a call that leaves another one, where a later read saw its own.
+use Rattle.std.proofs.Common.{◌≡◌, ℕ, zero, suc, ◌<◌, ◌⊎◌, true, false, cond, is_some, List, [], ◌∷◌, length, Option, Some, None, slice_get, slice_index, get_or, set, remove, refl, sym, ◌∙◌, ap, subst, arith, true≢false, eq-eqb, inl, inr}
 use Rattle.std.specs.List.{AllByRecursion}
 use Rattle.std.proofs.lemmas.List.{length-set}
 use Rattle.std.proofs.lemmas.Option.{get_or_from_slice_get}
@@ -33,19 +33,19 @@ use Rattle.tatp_history.proofs.OrderLaws.{all_map, in_all}
 use Rattle.tatp_linearization.specs.declared.ahead.Ahead.{Ahead}
 use Rattle.tatp_linearization.specs.declared.configuration.Configuration.{Configuration as Held}
 use Rattle.tatp_linearization.specs.AtOnce.{FitsAtOnce, AreLeft}
-use Rattle.tatp_linearization.specs.Overwritten.{IsBlind}
+use Rattle.tatp_linearization.specs.Overwritten.{IsBlind, SetsLocation}
 use Rattle.tatp_linearization.specs.Doomed.{NoneHasLocation, sets_location, SawLocation, NoneSets}
 use Rattle.tatp_linearization.specs.Unseen.{location_in, HasSetLocation, SawOther, AreOfOne}
-use Rattle.tatp_linearization.specs.Ahead.{LooksAhead}
+use Rattle.tatp_linearization.specs.Ahead.{LooksAhead, Loses}
 use Rattle.tatp_linearization.specs.Going.{LeadsOn}
 use Rattle.tatp_linearization.specs.Turns.{IsOtherTime, IsThere}
 use Rattle.tatp_linearization.specs.Later.{LeavesOther, NoOtherSets, ComesLater}
 use Rattle.tatp_linearization.proofs.AheadLaws.{saw_location}
 use Rattle.tatp_linearization.proofs.BlindLaws.{only_replaced}
 use Rattle.tatp_linearization.proofs.ButSomeLaws.{but_all}
-use Rattle.tatp_linearization.proofs.DoomedLaws.{inserts_for_keep, deletes_for_keep, row_read, stays}
+use Rattle.tatp_linearization.proofs.DoomedLaws.{inserts_for_keep, deletes_for_keep, row_read, misfits, no_update, stays}
 use Rattle.tatp_linearization.proofs.LostLaws.{IsPast, was_answered, never, none_lost}
-use Rattle.tatp_linearization.proofs.PlaceLaws.{all_of_get, chooses_at}
+use Rattle.tatp_linearization.proofs.PlaceLaws.{all_get, all_of_get, all_remove, chooses_at}
 use Rattle.tatp_linearization.proofs.SettlingLaws.{left_all}
 use Rattle.tatp_linearization.proofs.UnseenLaws.{one_only, one_home, one_after, set_success}
 
@@ -207,4 +207,44 @@ later_never c place asked ahead now location home comes at rest after e looks th
             | inr q ↦ in_all (IsPast location r) z (asked_in events) sets q
           ]) on.order.0 order.made)
           order.real_time (order.all y (inl still) (answered_at y.outcome at ended)) (order.all r (inr read.1.there) (was_answered location r read.1.saw)) order.replies
+    ]
+
+-- ---- a location that is lost
+named_success : (u : Database) (w : ℕ) (row : Option Tuple) → is_some row ≡ true → IsSuccess (updates_location u w row).reply
+named_success u w None named = absurd (true≢false (sym named))
+named_success u w (Some row) named = tt
+
+pub lost_never : (c : Held) (place : ℕ) (ahead : Ahead) (now location : ℕ) → IsHome c.home → Loses ahead now c place location
+    → (asked : ℕ) (after : Database) (events : List Event) (e : Configuration) → LooksAhead ahead now events → IsThere (IsOtherTime asked) c place e → LeadsOn after events e → ⊥
+lost_never c place ahead now location home loses asked after events e looks there on =
+    let F : Observed → Type 0 = λ z. IsBlind c.home.tables z × IsOtherTime asked z in
+    let x = there.call in
+    let others = remove c.opened.items place in
+    let u : Database = there.before.rows in
+    let v : Database = (transaction x.call u).database in
+    let sets : SetsLocation u x.call = subst (λ w. SetsLocation w x.call) (sym there.rows) (loses.updates x there.at) in
+    let own : sets_location location x.call ≡ false = all_get (λ (z : Observed). sets_location location z.call ≡ false) c.opened.items place x loses.opened there.at in
+    let differs : sets.location ≡ location → ⊥ = λ is. true≢false (sym (eq-eqb sets.location location is) ∙ (ap (sets_location location) (sym sets.updates) ∙ own)) in
+    let gone : NoneHasLocation location v = subst (λ (call : Call). NoneHasLocation location (transaction call u).database) (sym sets.updates)
+    (update_gone location u sets.location (row_with_number u.subscribers sets.number) (λ q h. has-found (has_number sets.number) u.subscribers q h) (subst AreOfOne (sym there.rows) (one_home c.home home)) (subst IsWide (sym there.rows) (wide_home c.home home))
+    differs (named_success u sets.location (row_with_number u.subscribers sets.number) sets.named)) in
+    let rows : NoneHasLocation location e.rows = subst (NoneHasLocation location) (sym there.takes.rows) gone in
+    let none : NoneSets location e.opened = left_all (λ (z : Observed). sets_location location z.call ≡ false) v there.left e.opened there.takes.settled
+    (but_all F c.overwritten (λ (z : Observed). sets_location location z.call ≡ false) others there.left there.opened (all_remove (λ (z : Observed). sets_location location z.call ≡ false) c.opened.items place loses.opened)) in
+    elim loses.read [
+      | inl lt ↦
+          let read = looks.read location lt in
+          none_lost (λ w. w ≡ after) location e.rows events e.opened rows none read.0 (looks.sets location read.0 loses.inside loses.later read.1.ended) (inr read.1.there) read.1.saw on.order
+      | inr read ↦
+          let y = read.0 in
+          let saw = read.2 in
+          let in_others : IsIn y others = elim (in_cases c.opened.items x others (chooses_at c.opened.items place x there.at) y read.1) [
+            | inl is ↦ let both : GetSubscriberData saw.s_id ≡ UpdateLocation sets.number sets.location = sym saw.reads ∙ (ap (λ (z : Observed). z.call) is ∙ sets.updates) in absurd cc
+            | inr k ↦ k
+          ] in
+          let in_left : IsIn y there.left = stays F c.overwritten others there.left there.opened y (λ f. no_update c.home.tables y saw.s_id saw.reads f.0) in_others in
+          elim (fits_or_left v there.left e.opened there.takes.settled y in_left) [
+            | inl fits ↦ misfits location y v saw gone fits
+            | inr still ↦ none_lost (λ w. w ≡ after) location e.rows events e.opened rows none y (looks.sets location y loses.inside loses.later read.3) (inl still) saw on.order
+          ]
     ]

@@ -26,7 +26,7 @@ use Rattle.tatp_linearization.specs.Going.{LeadsOn}
 use Rattle.tatp_linearization.specs.Turns.{IsOtherTime, IsThere, IsFewer, TakesOn}
 use Rattle.tatp_linearization.specs.Doomed.{sets_location, NoneHasLocation}
 use Rattle.tatp_linearization.specs.Unseen.{AreOfOne}
-use Rattle.tatp_linearization.specs.Ahead.{LooksAhead, IsLost}
+use Rattle.tatp_linearization.specs.Ahead.{LooksAhead}
 use Rattle.tatp_linearization.specs.Clusters.{GoFirst, LosesNone}
 use Rattle.tatp_linearization.proofs.AtOnceLaws.{one_settled}
 use Rattle.tatp_linearization.proofs.BlindLaws.{named_row, number_of}
@@ -221,20 +221,3 @@ module _ (c d e : Held) (i : ℕ) (taken : Takes c i (Some d)) (accepted : AreAc
           );
       less = cleared_fewer;
     }
-
--- ---- a location that is lost
-pub none_on : (c d : Held) (i : ℕ) → Takes c i (Some d) → AreAccepted c.opened.items → (ahead : Ahead) (now location : ℕ) → IsLost ahead now d location
-    → (asked : ℕ) (after : Database) (events : List Event) (q : Configuration) → LooksAhead ahead now events → IsThere (IsOtherTime asked) c i q → LeadsOn after events q → ⊥
-none_on c d i taken accepted ahead now location lost asked after events q looks there on =
-    let k = taken_there c d i taken accepted (IsOtherTime asked) q there in
-    let F : Observed → Type 0 = λ z. IsBlind d.home.tables z × IsOtherTime asked z in
-    let opened = but_all F d.overwritten (λ (z : Observed). sets_location location z.call ≡ false) d.opened.items q.opened k.1 lost.opened in
-    let rows = subst (λ u. NoneHasLocation location u) (sym k.0) lost.rows in
-    elim lost.read [
-      | inl lt ↦
-          let x = looks.read location lt in
-          none_lost (λ v. v ≡ after) location q.rows events q.opened rows opened x.0 (looks.sets location x.0 lost.inside lost.later x.1.ended) (inr x.1.there) x.1.saw on.order
-      | inr x ↦
-          let there_still : IsIn x.0 q.opened = stays F d.overwritten d.opened.items q.opened k.1 x.0 (λ f. no_update d.home.tables x.0 x.2.s_id x.2.reads f.0) x.1 in
-          none_lost (λ v. v ≡ after) location q.rows events q.opened rows opened x.0 (looks.sets location x.0 lost.inside lost.later x.3) (inl there_still) x.2 on.order
-    ]

@@ -1,6 +1,6 @@
 -- What a search knows in advance of the events that it follows: the last times at which calls of a
 -- window are asked that saw or set a location.
-use Rattle.std.specs.Prelude.{◌≡◌, ℕ, ◌<◌, ◌≤◌, ◌⊎◌, true, nat_eq, List, [], ◌∷◌, ◌++◌, Option, Some, None}
+use Rattle.std.specs.Prelude.{◌≡◌, ℕ, ◌<◌, ◌≤◌, ◌⊎◌, true, nat_eq, List, [], ◌∷◌, ◌++◌, Option, Some, None, slice_get}
 use Rattle.std.specs.List.{AllByRecursion}
 use Rattle.indexmap.specs.IndexMap.{get}
 use Rattle.tatp_history.specs.declared.event.Event.{Event}
@@ -14,7 +14,8 @@ use Rattle.tatp_linearization.specs.declared.configuration.Configuration.{Config
 use Rattle.tatp_linearization.specs.declared.ahead.Ahead.{Ahead}
 use Rattle.tatp_linearization.specs.declared.ahead.Times.{Times}
 use Rattle.tatp_linearization.specs.declared.ahead.LastRead.{LastRead}
-use Rattle.tatp_linearization.specs.Doomed.{sets_location, SawLocation, NoneHasLocation, NoneSets}
+use Rattle.tatp_linearization.specs.Overwritten.{SetsLocation}
+use Rattle.tatp_linearization.specs.Doomed.{sets_location, SawLocation, NoneSets}
 use Rattle.tatp_linearization.specs.Unseen.{location_in, HasSetLocation, IsReplacedBy, SawAfter, SetAfter}
 
 -- ---- what is kept of a location
@@ -149,10 +150,12 @@ IsSeenAhead ahead (Asks x ∷ rest) = Unit {0}
 IsSeenAhead ahead (Ends asked at ∷ rest) = LooksAhead ahead at (Ends asked at ∷ rest)
 
 -- ---- a location that is lost
--- the configuration doesn't have the location, and no open or later call of the window sets it;
--- but a read that is open or still to be asked saw it, and ends in the window
-pub record IsLost (ahead : Ahead) (now : ℕ) (c : Held) (location : ℕ) : Type 0 where
-  pub rows : NoneHasLocation location c.home.tables
+-- once the open call at a place took effect the subscriber has another location than this, which
+-- no open or later call of the window sets; but a read that is open or still to be asked saw it,
+-- and ends in the window
+pub record Loses (ahead : Ahead) (now : ℕ) (c : Held) (place location : ℕ) : Type 0 where
+  pub updates : (x : Observed) → slice_get c.opened.items place ≡ Some x
+      → SetsLocation c.home.tables x.call
   pub opened : NoneSets location c.opened.items
   pub later : (times_in ahead location).set ≤ now
   pub inside : now < ahead.last

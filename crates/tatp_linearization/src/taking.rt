@@ -4,33 +4,30 @@ ghost use Rattle.tatp_history.specs.declared.observed.Observed.{Observed as Aske
 ghost use Rattle.tatp_history.specs.Locality.{AreAccepted};
 ghost use Rattle.tatp_linearization.specs.Ahead.{LooksAhead};
 ghost use Rattle.tatp_linearization.specs.Held.{Takes};
-ghost use Rattle.tatp_linearization.specs.Turns.{TakesAhead};
+ghost use Rattle.tatp_linearization.specs.Turns.{TakesAhead, TakesOn};
 
 use crate::ahead::Ahead;
 use crate::clusters::let_clusters_go;
 use crate::configuration::{Configuration, take, updates_location};
-use crate::lost::is_lost;
+use crate::lost::loses_location;
 use std::alloc::{AllocError, Global};
+use tatp_homes::what_holds_of_every_home;
 
-/// The configuration that an open call made of one, without the clusters that may go then; `None`
-/// where no order leads on from it.
+/// The configuration that an open call made of one, without the clusters that may go then.
 fn with_clusters_gone(
     c: &Configuration,
     i: usize,
     d: Configuration,
     ahead: &Ahead,
     now: u64,
-) -> Option<Configuration>
+) -> Configuration
     requires inside { i < length c.now.opened.items }
     requires accepted { AreAccepted c.now.opened.items }
     requires taken { Takes c.now i (Some d) }
-    ensures { TakesAhead (LooksAhead ahead.now now) c.now i result }
+    ensures { TakesOn (LooksAhead ahead.now now) c.now i result }
 {
     if !updates_location(&c.home, &c.opened[i].call) {
-        return Some(d);
-    }
-    if is_lost(&c.home, &d, ahead, now) {
-        return None;
+        return d;
     }
     let Configuration {
         home,
@@ -38,11 +35,11 @@ fn with_clusters_gone(
         overwritten,
     } = d;
     let_clusters_go(&c.home, &mut opened, ahead, now);
-    Some(Configuration {
+    Configuration {
         home,
         opened,
         overwritten,
-    })
+    }
 }
 
 /// The configuration after its open call at the place `i` took effect, at the time of the event
@@ -58,8 +55,12 @@ pub(crate) fn take_ahead(
     requires accepted { AreAccepted c.now.opened.items }
     ensures { IfOk result (TakesAhead (LooksAhead ahead.now now) c.now i) }
 {
+    what_holds_of_every_home(&c.home);
+    if loses_location(c, i, ahead, now) {
+        return Ok(None);
+    }
     match take(alloc, c, i)? {
-        Some(d) => Ok(with_clusters_gone(c, i, d, ahead, now)),
+        Some(d) => Ok(Some(with_clusters_gone(c, i, d, ahead, now))),
         None => Ok(None),
     }
 }

@@ -6,16 +6,11 @@ use Rattle.tatp_linearization.specs.Held.{Takes}
 use Rattle.tatp_linearization.specs.Ahead.{LooksAhead}
 use Rattle.tatp_linearization.proofs.PlaceLaws.{get_at, same_item}
 use Rattle.tatp_linearization.proofs.CoveringLaws.{taken_on, taken_fewer}
-use Rattle.tatp_linearization.proofs.TakingLaws.{cleared_on, none_on}
+use Rattle.tatp_linearization.proofs.TakingLaws.{cleared_on}
 use Rattle.tatp_linearization.proofs.taking.with_clusters_gone.Goals as goal
 
 pub returns-then-not-updates_location : goal.returns-then-not-updates_location
 returns-then-not-updates_location c = taken_on c.args.c.now c.args.d c.args.i c.requires.taken c.requires.accepted (LooksAhead c.args.ahead.now c.args.now)
-
-pub returns-then-is_lost : goal.returns-then-is_lost
-returns-then-is_lost c =
-    let lost = c.is_lost.ensures c.if-is_lost.true in
-    none_on c.args.c.now c.args.d c.args.i c.requires.taken c.requires.accepted c.args.ahead.now c.args.now lost.0 lost.1
 
 pub let_clusters_go-requires : goal.let_clusters_go-requires
 let_clusters_go-requires c = record { accepted = (taken_fewer c.args.c.now c.args.d c.args.i c.requires.taken c.requires.accepted).accepted c.requires.accepted }

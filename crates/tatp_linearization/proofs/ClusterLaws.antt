@@ -29,7 +29,7 @@ use Rattle.tatp_linearization.specs.Possible.{CallsTakeEffect}
 use Rattle.tatp_linearization.specs.Overwritten.{SetsLocation}
 use Rattle.tatp_linearization.specs.Unseen.{location_in, is_location, sees, NoneSaw, AreOfOne}
 use Rattle.tatp_linearization.specs.Ahead.{LooksAhead}
-use Rattle.tatp_linearization.specs.Clusters.{IsUnread, SeersFit, GoesWith, GoTo, KeepOrders, LosesNone}
+use Rattle.tatp_linearization.specs.Clusters.{IsUnread, ReadsOfLocationFit, GoesWith, DropsCalls, KeepOrders, LosesNone}
 use Rattle.tatp_linearization.proofs.AheadLaws.{saw_location}
 use Rattle.tatp_linearization.proofs.BlindLaws.{set_again}
 use Rattle.tatp_linearization.proofs.UnseenLaws.{one_only, one_after, all_others, without_unseen}
@@ -112,7 +112,7 @@ abbrev pub unseeing : ℕ → Observed → Bool
 unseeing location z = not (sees location z)
 
 -- they take effect
-seers_take : (v : Database) (location : ℕ) (before xs : List Observed) → SeersFit location v xs → SomeTakeEffect (record { rows = v; opened = before ++ xs }) (record { rows = v; opened = before ++ filter (unseeing location) xs })
+seers_take : (v : Database) (location : ℕ) (before xs : List Observed) → ReadsOfLocationFit location v xs → SomeTakeEffect (record { rows = v; opened = before ++ xs }) (record { rows = v; opened = before ++ filter (unseeing location) xs })
 seers_take v location before [] fit = (0, refl)
 seers_take v location before (x ∷ xs) fit = elim (sees location x) as (λ b. sees location x ≡ b → SomeTakeEffect (record { rows = v; opened = before ++ x ∷ xs }) (record { rows = v; opened = before ++ cond (not b) (x ∷ filter (unseeing location) xs) (filter (unseeing location) xs) })) [
   | true ↦ λ e. let f : FitsAtOnce v x = fit.0 e in
@@ -147,7 +147,7 @@ set_alike u n location one call sets = elim (row_with_number u.subscribers n) as
 ] refl
 
 module _ (u : Database) (opened : List Observed) (place location : ℕ) (x : Observed) (v : Database) (left : List Observed) (goes : GoesWith u opened place location x v left) where
-  pub gone_to : (n : ℕ) → x.call ≡ UpdateLocation n location → AreOfOne u → GoTo u opened v left
+  pub gone_to : (n : ℕ) → x.call ≡ UpdateLocation n location → AreOfOne u → DropsCalls u opened v left
   gone_to n updates one =
       let others = remove opened place in
       let first : SomeTakeEffect (record { rows = u; opened = opened }) (record { rows = v; opened = others })
@@ -209,13 +209,13 @@ gone_loses ahead now u opened place location x v left goes unread apart =
     }
 
 -- ---- one after another
-pub go_none : (u : Database) (opened : List Observed) → GoTo u opened u opened
+pub go_none : (u : Database) (opened : List Observed) → DropsCalls u opened u opened
 go_none u opened = record { many = 0; effects = refl; alike = λ call sets. (sets, refl) }
 
-pub go_same : (u v : Database) (opened left : List Observed) → v ≡ u → left ≡ opened → GoTo u opened v left
-go_same u v opened left rows same = subst (λ w. GoTo u opened w left) (sym rows) (subst (GoTo u opened u) (sym same) (go_none u opened))
+pub go_same : (u v : Database) (opened left : List Observed) → v ≡ u → left ≡ opened → DropsCalls u opened v left
+go_same u v opened left rows same = subst (λ w. DropsCalls u opened w left) (sym rows) (subst (DropsCalls u opened u) (sym same) (go_none u opened))
 
-pub go_on_to : (u v w : Database) (xs ys zs : List Observed) → GoTo u xs v ys → GoTo v ys w zs → GoTo u xs w zs
+pub go_on_to : (u v w : Database) (xs ys zs : List Observed) → DropsCalls u xs v ys → DropsCalls v ys w zs → DropsCalls u xs w zs
 go_on_to u v w xs ys zs first second =
     let all = some_on (record { rows = u; opened = xs }) (record { rows = v; opened = ys }) (record { rows = w; opened = zs }) (first.many, first.effects) (second.many, second.effects) in
     record {

@@ -20,7 +20,7 @@ use Rattle.tatp_linearization.specs.AtOnce.{AreLeft, NeedsNoPlace, TakesOne, Fol
 use Rattle.tatp_linearization.specs.Possible.{AreDistinct, AreMoreThan}
 use Rattle.tatp_linearization.specs.Held.{seen, all_seen, Has, AreReady, AreApart, Takes, IsAsked, IsOldOr}
 use Rattle.tatp_linearization.specs.Overwritten.{IsBlind, Overwrites, IsIdle, IsNeedless, AreButSome, earlier}
-use Rattle.tatp_linearization.specs.Covering.{StandsFor, OneStandsFor, Covers, IsOther, Opens, IsApart, IsLater, From, FromOne, MayCome, MayFollow, MayBeTried, MayAnswer, IsLetGo, IsStoodOr, Gains, GainsGone, IsGone}
+use Rattle.tatp_linearization.specs.Covering.{StandsFor, OneStandsFor, Covers, IsOther, Opens, IsApart, IsLater, From, FromOne, MayCome, MayFollow, MayBeTried, MayAnswer, IsLetGo, IsRepresentedOr, Gains, GainsGone, IsGone}
 use Rattle.tatp_linearization.specs.Turns.{IsThere, IsOtherTime, StandsForBut, IsFewer, TakesOn, AreTriedOut, AreAnswered, AreFollowed}
 use Rattle.tatp_linearization.proofs.PlaceLaws.{all_get, all_more, all_of_get, all_remove, same_item}
 use Rattle.tatp_linearization.proofs.PossibleLaws.{some_on, one_takes, come_none, come_on, more_than}
@@ -187,8 +187,8 @@ module _ (d : Held) (old mid : List Held) (r : AreRetained (Covers d) (IsOther d
     pub pushed_apart : (new : List Held) → new ≡ mid ++ d ∷ [] → AreApart d.home.s_id new
     pushed_apart new pushed = subst (AreApart d.home.s_id) (sym pushed) (own_more d.home.s_id mid d (r.apart d.home.s_id apart) refl not_there)
 
-    pub pushed_many : (most : ℕ) → most ≤ length mid → AreMoreThan most (IsStoodOr old (StandsFor d))
-    pushed_many most full = more_than most (IsOldOr mid (λ e. e ≡ seen d)) (IsStoodOr old (StandsFor d)) (λ e h. elim h [
+    pub pushed_many : (most : ℕ) → most ≤ length mid → AreMoreThan most (IsRepresentedOr old (StandsFor d))
+    pushed_many most full = more_than most (IsOldOr mid (λ e. e ≡ seen d)) (IsRepresentedOr old (StandsFor d)) (λ e h. elim h [
       | inl k ↦ inl (r.kept e (has_stands mid e k))
       | inr k ↦ inr (subst (StandsFor d) (sym k) (seen_stands d))
     ]) (one_too_many most d.home.s_id mid d full (r.apart d.home.s_id apart) not_there)
@@ -406,7 +406,7 @@ pub same_followed : (c d : Held) (asked at : ℕ) (rest : List Event) (old new :
 same_followed c d asked at rest old new none same gains = λ to e stands on. (e, gains.found e ((same e).1 stands), end_on to asked at rest e (none_of c asked none e stands) on)
 
 pub same_sound : (c d : Held) (asked at : ℕ) (old new : List Held) → NoneAskedAt asked c.opened.items → ((e : Configuration) → StandsFor d e ↔ StandsFor c e) → Gains (StandsFor d) (StandsFor d) old new
-    → (e : Configuration) → OneStandsFor new e → IsStoodOr old (From (MayFollow (Ends asked at)) c) e
+    → (e : Configuration) → OneStandsFor new e → IsRepresentedOr old (From (MayFollow (Ends asked at)) c) e
 same_sound c d asked at old new none same gains = λ e h. elim (gains.sound e h) [
   | inl k ↦ inl k
   | inr k ↦ let own = (same e).0 k in inr (e, own, (come_none e, none_of c asked none e own))
@@ -419,11 +419,11 @@ asked_followed c d x rest old new later asked over gains = λ to b stands on.
     (next.0, gains.found next.0 (asked_stands c d x asked over later next.0 (b, stands, next.1)), next.2)
 
 pub asked_sound : (c d : Held) (x : Observed) (old new : List Held) → IsAsked c x d → d.overwritten ≡ earlier c.overwritten x.asked → Gains (StandsFor d) (StandsFor d) old new
-    → (e : Configuration) → OneStandsFor new e → IsStoodOr old (From (MayFollow (Asks x)) c) e
+    → (e : Configuration) → OneStandsFor new e → IsRepresentedOr old (From (MayFollow (Asks x)) c) e
 asked_sound c d x old new asked over gains = λ e h. elim (gains.sound e h) [ inl k ↦ inl k | inr k ↦ inr (asked_from c d x asked over e k) ]
 
-pub asked_many : (most : ℕ) (c d : Held) (x : Observed) (old : List Held) → IsAsked c x d → d.overwritten ≡ earlier c.overwritten x.asked → AreMoreThan most (IsStoodOr old (StandsFor d)) → AreMoreThan most (IsStoodOr old (From (MayBeTried (Asks x)) c))
-asked_many most c d x old asked over many = more_than most (IsStoodOr old (StandsFor d)) (IsStoodOr old (From (MayBeTried (Asks x)) c)) (λ e h. elim h [
+pub asked_many : (most : ℕ) (c d : Held) (x : Observed) (old : List Held) → IsAsked c x d → d.overwritten ≡ earlier c.overwritten x.asked → AreMoreThan most (IsRepresentedOr old (StandsFor d)) → AreMoreThan most (IsRepresentedOr old (From (MayBeTried (Asks x)) c))
+asked_many most c d x old asked over many = more_than most (IsRepresentedOr old (StandsFor d)) (IsRepresentedOr old (From (MayBeTried (Asks x)) c)) (λ e h. elim h [
   | inl k ↦ inl k
   | inr k ↦ inr (asked_from c d x asked over e k)
 ]) many
@@ -452,18 +452,18 @@ gone_followed c asked at rest old mid new apart gone kept answered = λ to e sta
   | inr some ↦ answered to e stands (λ none. in_all (λ (w : Observed). w.asked ≡ asked → ⊥) some.0 e.opened none some.1 some.2) on
 ]
 
-pub gone_sound : (c : Held) (asked : ℕ) (old mid new : List Held) → GainsGone asked c old mid → ((e : Configuration) → OneStandsFor new e → IsStoodOr mid (From (MayAnswer asked) c) e)
-    → (e : Configuration) → OneStandsFor new e → IsStoodOr old (From (MayAnswer asked) c) e
+pub gone_sound : (c : Held) (asked : ℕ) (old mid new : List Held) → GainsGone asked c old mid → ((e : Configuration) → OneStandsFor new e → IsRepresentedOr mid (From (MayAnswer asked) c) e)
+    → (e : Configuration) → OneStandsFor new e → IsRepresentedOr old (From (MayAnswer asked) c) e
 gone_sound c asked old mid new gone sound = λ e h. elim (sound e h) [ inl k ↦ gone.sound e k | inr k ↦ inr k ]
 
-pub taken_many : (most : ℕ) (c : Held) (asked : ℕ) (old mid : List Held) → GainsGone asked c old mid → AreMoreThan most (IsStoodOr mid (From MayCome c)) → AreMoreThan most (IsStoodOr old (From MayCome c))
-taken_many most c asked old mid gains many = more_than most (IsStoodOr mid (From MayCome c)) (IsStoodOr old (From MayCome c)) (λ e h. elim h [
+pub taken_many : (most : ℕ) (c : Held) (asked : ℕ) (old mid : List Held) → GainsGone asked c old mid → AreMoreThan most (IsRepresentedOr mid (From MayCome c)) → AreMoreThan most (IsRepresentedOr old (From MayCome c))
+taken_many most c asked old mid gains many = more_than most (IsRepresentedOr mid (From MayCome c)) (IsRepresentedOr old (From MayCome c)) (λ e h. elim h [
   | inl k ↦ elim (gains.sound e k) [ inl q ↦ inl q | inr q ↦ inr (q.0, q.1, q.2.0) ]
   | inr k ↦ inr k
 ]) many
 
-pub covered_many : (most : ℕ) (c d : Held) (old : List Held) → Covers c d → AreMoreThan most (IsStoodOr old (StandsFor d)) → AreMoreThan most (IsStoodOr old (From MayCome c))
-covered_many most c d old covers many = more_than most (IsStoodOr old (StandsFor d)) (IsStoodOr old (From MayCome c)) (λ e h. elim h [
+pub covered_many : (most : ℕ) (c d : Held) (old : List Held) → Covers c d → AreMoreThan most (IsRepresentedOr old (StandsFor d)) → AreMoreThan most (IsRepresentedOr old (From MayCome c))
+covered_many most c d old covers many = more_than most (IsRepresentedOr old (StandsFor d)) (IsRepresentedOr old (From MayCome c)) (λ e h. elim h [
   | inl k ↦ inl k
   | inr k ↦ inr (e, covers e k, come_none e)
 ]) many

@@ -11,7 +11,7 @@ use Rattle.tatp_linearization.specs.AtOnce.{TakesOne, FollowsAtOnce}
 use Rattle.tatp_linearization.specs.Possible.{AreMoreThan}
 use Rattle.tatp_linearization.specs.Held.{Has, AreReady, AreApart, Takes}
 use Rattle.tatp_linearization.specs.Overwritten.{IsBlind}
-use Rattle.tatp_linearization.specs.Covering.{StandsFor, OneStandsFor, IsApart, From, FromOne, MayCome, MayFollow, MayBeTried, IsStoodOr, Gains, AreEachApart, IsLater, AreEachLater}
+use Rattle.tatp_linearization.specs.Covering.{StandsFor, OneStandsFor, IsApart, From, FromOne, MayCome, MayFollow, MayBeTried, IsRepresentedOr, Gains, AreEachApart, IsLater, AreEachLater}
 use Rattle.tatp_linearization.specs.Turns.{IsThere, AreTriedOutAt, AreFollowed, FollowSet}
 use Rattle.tatp_linearization.proofs.PlaceLaws.{all_get, same_item, below_or_is}
 use Rattle.tatp_linearization.proofs.PossibleLaws.{come_none, until_takes, more_than}
@@ -56,14 +56,14 @@ gathering_more May Has set old i c before new p at gains readies aparts = record
 }
 
 pub gathering_many : (most : ℕ) (May Tried Has : Held → Configuration → Type 0) → ((c : Held) (d : Configuration) → May c d → Tried c d) → (set old : List Held) (i : ℕ) (c : Held) (before : List Held) → Gathering May Has set old i before → slice_get set i ≡ Some c
-    → AreMoreThan most (IsStoodOr before (Tried c)) → AreMoreThan most (IsStoodOr old (λ d. (j : ℕ) × (b : Held) × (slice_get set j ≡ Some b) × Tried b d))
-gathering_many most May Tried Has f set old i c before p at many = more_than most (IsStoodOr before (Tried c)) (IsStoodOr old (λ d. (j : ℕ) × (b : Held) × (slice_get set j ≡ Some b) × Tried b d)) (λ e h. elim h [
+    → AreMoreThan most (IsRepresentedOr before (Tried c)) → AreMoreThan most (IsRepresentedOr old (λ d. (j : ℕ) × (b : Held) × (slice_get set j ≡ Some b) × Tried b d))
+gathering_many most May Tried Has f set old i c before p at many = more_than most (IsRepresentedOr before (Tried c)) (IsRepresentedOr old (λ d. (j : ℕ) × (b : Held) × (slice_get set j ≡ Some b) × Tried b d)) (λ e h. elim h [
   | inl k ↦ elim (p.sound e k) [ inl q ↦ inl q | inr q ↦ inr (q.0, q.1, q.2, f q.1 e q.3) ]
   | inr k ↦ inr (i, c, at, k)
 ]) many
 
-pub none_and : (most : ℕ) (R : Configuration → Configuration → Type 0) (set : List Held) → AreMoreThan most (IsStoodOr [] (λ d. (j : ℕ) × (b : Held) × (slice_get set j ≡ Some b) × From R b d)) → AreMoreThan most (FromOne R set)
-none_and most R set many = more_than most (IsStoodOr [] (λ d. (j : ℕ) × (b : Held) × (slice_get set j ≡ Some b) × From R b d)) (FromOne R set) (λ e h. elim h [
+pub none_and : (most : ℕ) (R : Configuration → Configuration → Type 0) (set : List Held) → AreMoreThan most (IsRepresentedOr [] (λ d. (j : ℕ) × (b : Held) × (slice_get set j ≡ Some b) × From R b d)) → AreMoreThan most (FromOne R set)
+none_and most R set many = more_than most (IsRepresentedOr [] (λ d. (j : ℕ) × (b : Held) × (slice_get set j ≡ Some b) × From R b d)) (FromOne R set) (λ e h. elim h [
   | inl k ↦ absurd k
   | inr k ↦ from_one R set k.0 k.1 e k.2 k.3
 ]) many
@@ -94,9 +94,9 @@ sharing_none Known event set after tried is none = record {
     nothing (Ends asked at) rest = λ d h. let k : OneStandsFor [] d = subst (λ cs. OneStandsFor cs d) none h in absurd k
 
 pub sharing_more : (Known : List Event → Type 0) (event : Event) (set : List Held) (i : ℕ) (c : Held) (before after first tried : List Held) → slice_get set i ≡ Some c → Sharing Known event set i before first
-    → ((d : Configuration) → OneStandsFor before d → OneStandsFor after d) → ((d : Configuration) → OneStandsFor after d → IsStoodOr before (From (MayFollow event) c) d)
+    → ((d : Configuration) → OneStandsFor before d → OneStandsFor after d) → ((d : Configuration) → OneStandsFor after d → IsRepresentedOr before (From (MayFollow event) c) d)
     → (IsApart c → IsLater event c → (rest : List Event) → Known (event ∷ rest) → AreTriedOutAt event rest before first → AreFollowed event rest c after)
-    → (IsApart c → (rest : List Event) → Known (event ∷ rest) → AreTriedOutAt event rest before first → AreTriedOutAt event rest after tried) → ((d : Configuration) → OneStandsFor tried d → IsStoodOr first (From (MayBeTried event) c) d)
+    → (IsApart c → (rest : List Event) → Known (event ∷ rest) → AreTriedOutAt event rest before first → AreTriedOutAt event rest after tried) → ((d : Configuration) → OneStandsFor tried d → IsRepresentedOr first (From (MayBeTried event) c) d)
     → (AreReady before → AreReady after) → (AreApart c.home.s_id before → AreApart c.home.s_id after) → (AreApart c.home.s_id first → AreApart c.home.s_id tried) → Sharing Known event set (i + 1) after tried
 sharing_more Known event set i c before after first tried there p kept sound followed done tries readies aparts distincts = record {
   sound = λ d h. elim (sound d h) [ inl k ↦ p.sound d k | inr k ↦ from_one (MayFollow event) set i c d there k ];
@@ -124,15 +124,15 @@ sharing_all Known event set i after tried p le = record {
 
 -- too much of what was tried
 pub sharing_many : (Known : List Event → Type 0) (most : ℕ) (event : Event) (set : List Held) (i : ℕ) (c : Held) (after tried : List Held) → slice_get set i ≡ Some c → Sharing Known event set i after tried
-    → AreMoreThan most (IsStoodOr after (From (MayBeTried event) c)) ⊎ AreMoreThan most (IsStoodOr tried (From (MayBeTried event) c)) → AreMoreThan most (FromOne (MayBeTried event) set)
+    → AreMoreThan most (IsRepresentedOr after (From (MayBeTried event) c)) ⊎ AreMoreThan most (IsRepresentedOr tried (From (MayBeTried event) c)) → AreMoreThan most (FromOne (MayBeTried event) set)
 sharing_many Known most event set i c after tried at p many =
     let own : (e : Configuration) → From (MayBeTried event) c e → FromOne (MayBeTried event) set e = λ e h. from_one (MayBeTried event) set i c e at h in
     elim many [
-      | inl k ↦ more_than most (IsStoodOr after (From (MayBeTried event) c)) (FromOne (MayBeTried event) set) (λ e h. elim h [
+      | inl k ↦ more_than most (IsRepresentedOr after (From (MayBeTried event) c)) (FromOne (MayBeTried event) set) (λ e h. elim h [
         | inl q ↦ let r = p.sound e q in (r.0, r.1, may_tried event r.0 e r.2)
         | inr q ↦ own e q
       ]) k
-      | inr k ↦ more_than most (IsStoodOr tried (From (MayBeTried event) c)) (FromOne (MayBeTried event) set) (λ e h. elim h [
+      | inr k ↦ more_than most (IsRepresentedOr tried (From (MayBeTried event) c)) (FromOne (MayBeTried event) set) (λ e h. elim h [
         | inl q ↦ p.tries e q
         | inr q ↦ own e q
       ]) k
@@ -155,7 +155,7 @@ Anything x = Unit {0}
 
 pub record Taking (c : Held) (old : List Held) (i : ℕ) (new : List Held) : Type 0 where
   pub kept : (d : Configuration) → OneStandsFor old d → OneStandsFor new d
-  pub sound : (d : Configuration) → OneStandsFor new d → IsStoodOr old (From MayCome c) d
+  pub sound : (d : Configuration) → OneStandsFor new d → IsRepresentedOr old (From MayCome c) d
   pub found : (d : Configuration) (j : ℕ) → j < i → IsThere Anything c j d → OneStandsFor new d
   pub ready : AreReady old → AreReady new
   pub apart : AreApart c.home.s_id old → AreApart c.home.s_id new
@@ -201,8 +201,8 @@ taking_all c old i new p le = record {
       p.found d there.0 (omega (arith, lt, le)) there.2;
 }
 
-pub taking_many : (most : ℕ) (c d : Held) (old : List Held) (i : ℕ) (before : List Held) → Takes c i (Some d) → AreAccepted c.opened.items → Taking c old i before → AreMoreThan most (IsStoodOr before (StandsFor d)) → AreMoreThan most (IsStoodOr old (From MayCome c))
-taking_many most c d old i before taken accepted p many = more_than most (IsStoodOr before (StandsFor d)) (IsStoodOr old (From MayCome c)) (λ e h. elim h [
+pub taking_many : (most : ℕ) (c d : Held) (old : List Held) (i : ℕ) (before : List Held) → Takes c i (Some d) → AreAccepted c.opened.items → Taking c old i before → AreMoreThan most (IsRepresentedOr before (StandsFor d)) → AreMoreThan most (IsRepresentedOr old (From MayCome c))
+taking_many most c d old i before taken accepted p many = more_than most (IsRepresentedOr before (StandsFor d)) (IsRepresentedOr old (From MayCome c)) (λ e h. elim h [
   | inl k ↦ p.sound e k
   | inr k ↦ inr (taken_from c d i taken accepted e k)
 ]) many

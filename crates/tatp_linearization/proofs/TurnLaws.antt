@@ -21,9 +21,9 @@ use Rattle.tatp_linearization.specs.AtOnce.{TakesOne}
 use Rattle.tatp_linearization.specs.Possible.{AreMoreThan}
 use Rattle.tatp_linearization.specs.Held.{AreReady, AreApart, TakeMany}
 use Rattle.tatp_linearization.specs.Overwritten.{IsBlind, AreButSome}
-use Rattle.tatp_linearization.specs.Covering.{StandsFor, OneStandsFor, Opens, IsApart, AreEachApart, From, FromOne, MayCome, MayAnswer, IsStoodOr, Gains, AreOf}
+use Rattle.tatp_linearization.specs.Covering.{StandsFor, OneStandsFor, Opens, IsApart, AreEachApart, From, FromOne, MayCome, MayAnswer, IsRepresentedOr, Gains, AreOf}
 use Rattle.tatp_linearization.specs.Going.{LeadsOn, OneLeadsOn}
-use Rattle.tatp_linearization.specs.Turns.{IsOtherTime, IsThere, IsFewer, TakesOn, TakesAhead, TakesTried, IsKindAt, Lists, LeadsFurther, IsServed, AreServed, AreAllServed, AreTriedOut, Grow, WentFrom, WentFromOne, GoesOn, AreAnswered}
+use Rattle.tatp_linearization.specs.Turns.{IsOtherTime, IsThere, IsFewer, TakesOn, TakesAhead, TakesTried, IsKindAt, Lists, LeadsFurther, IsServed, AreServed, AreAllServed, AreTriedOut, Grow, WentFrom, WentFromOne, IsTriedNext, AreAnswered}
 use Rattle.tatp_linearization.proofs.PossibleLaws.{more_than, come_on}
 use Rattle.tatp_linearization.proofs.PlaceLaws.{all_get, all_of_get, below_or_is, same_item}
 use Rattle.tatp_linearization.proofs.AtOnceLaws.{one_shorter}
@@ -173,11 +173,11 @@ module _ (Known : List Event → Type 0) (kind : Option Kind) (c d : Held) (aske
         distinct = p.distinct;
       }
 
-  pub trying_going : (tried going : List Held) → (NoneAskedAt asked d.opened.items → ⊥) → Gains (StandsFor d) (StandsFor d) before.tried tried → GoesOn d before.tried before.going going
+  pub trying_going : (tried going : List Held) → (NoneAskedAt asked d.opened.items → ⊥) → Gains (StandsFor d) (StandsFor d) before.tried tried → IsTriedNext d before.tried before.going going
       → (AreReady before.tried → AreReady tried) → (AreApart d.home.s_id before.tried → AreApart d.home.s_id tried) → Trying Known kind c asked old (i + 1) (record { answered = before.answered; tried = tried; going = going })
   trying_going tried going some gains goes readies aparts =
       let new : Lists = record { answered = before.answered; tried = tried; going = going } in
-      let went : (e : Configuration) → (OneStandsFor before.going e → OneStandsFor going e) × ((OneStandsFor going e → IsStoodOr before.going (StandsFor d) e) × (StandsFor d e → OneStandsFor before.tried e ⊎ OneStandsFor going e))
+      let went : (e : Configuration) → (OneStandsFor before.going e → OneStandsFor going e) × ((OneStandsFor going e → IsRepresentedOr before.going (StandsFor d) e) × (StandsFor d e → OneStandsFor before.tried e ⊎ OneStandsFor going e))
       = λ e. elim goes [
         | inl k ↦ ((λ h. subst (λ cs. OneStandsFor cs e) (sym k.0) h), ((λ h. inl (subst (λ cs. OneStandsFor cs e) k.0 h)), (λ h. inl (k.1 e h))))
         | inr k ↦ (
@@ -246,14 +246,14 @@ trying_all Known kind c asked old i new p le home accepted kind_is apart at rest
 
 -- what was too much
 pub trying_many : (Known : List Event → Type 0) (kind : Option Kind) (most : ℕ) (c d : Held) (asked i : ℕ) (old before : Lists) → TakesOn Known c i d → Trying Known kind c asked old i before
-    → (AreMoreThan most (IsStoodOr before.answered (StandsFor d)) → AreMoreThan most (IsStoodOr old.answered (From MayCome c)))
-    × (AreMoreThan most (IsStoodOr before.tried (StandsFor d)) → AreMoreThan most (IsStoodOr old.tried (From MayCome c)))
+    → (AreMoreThan most (IsRepresentedOr before.answered (StandsFor d)) → AreMoreThan most (IsRepresentedOr old.answered (From MayCome c)))
+    × (AreMoreThan most (IsRepresentedOr before.tried (StandsFor d)) → AreMoreThan most (IsRepresentedOr old.tried (From MayCome c)))
 trying_many Known kind most c d asked i old before taken p = (
-  more_than most (IsStoodOr before.answered (StandsFor d)) (IsStoodOr old.answered (From MayCome c)) (λ e h. elim h [
+  more_than most (IsRepresentedOr before.answered (StandsFor d)) (IsRepresentedOr old.answered (From MayCome c)) (λ e h. elim h [
     | inl k ↦ elim (p.grown.answered e k) [ inl q ↦ inl q | inr q ↦ inr q.0 ]
     | inr k ↦ inr (taken.sound e k)
   ]),
-  more_than most (IsStoodOr before.tried (StandsFor d)) (IsStoodOr old.tried (From MayCome c)) (λ e h. elim h [
+  more_than most (IsRepresentedOr before.tried (StandsFor d)) (IsRepresentedOr old.tried (From MayCome c)) (λ e h. elim h [
     | inl k ↦ p.grown.tried e k
     | inr k ↦ inr (taken.sound e k)
   ]),
@@ -318,14 +318,14 @@ trying_all_went Known set asked answered tried i new p = λ k d at. elim (p.went
 ]
 
 pub trying_all_many : (Known : List Event → Type 0) (most : ℕ) (set : List Held) (asked : ℕ) (old : Lists) (i : ℕ) (c : Held) (before : Lists) → slice_get set i ≡ Some c → TryingAll Known set asked old i before
-    → AreMoreThan most (IsStoodOr before.answered (From MayCome c)) ⊎ AreMoreThan most (IsStoodOr before.tried (From MayCome c))
-    → AreMoreThan most (IsStoodOr old.answered (FromOne MayCome set)) ⊎ AreMoreThan most (IsStoodOr old.tried (FromOne MayCome set))
+    → AreMoreThan most (IsRepresentedOr before.answered (From MayCome c)) ⊎ AreMoreThan most (IsRepresentedOr before.tried (From MayCome c))
+    → AreMoreThan most (IsRepresentedOr old.answered (FromOne MayCome set)) ⊎ AreMoreThan most (IsRepresentedOr old.tried (FromOne MayCome set))
 trying_all_many Known most set asked old i c before at p many = elim many [
-  | inl k ↦ inl (more_than most (IsStoodOr before.answered (From MayCome c)) (IsStoodOr old.answered (FromOne MayCome set)) (λ e h. elim h [
+  | inl k ↦ inl (more_than most (IsRepresentedOr before.answered (From MayCome c)) (IsRepresentedOr old.answered (FromOne MayCome set)) (λ e h. elim h [
     | inl q ↦ elim (p.grown.answered e q) [ inl r ↦ inl r | inr r ↦ inr r.0 ]
     | inr q ↦ inr (from_one MayCome set i c e at q)
   ]) k)
-  | inr k ↦ inr (more_than most (IsStoodOr before.tried (From MayCome c)) (IsStoodOr old.tried (FromOne MayCome set)) (λ e h. elim h [
+  | inr k ↦ inr (more_than most (IsRepresentedOr before.tried (From MayCome c)) (IsRepresentedOr old.tried (FromOne MayCome set)) (λ e h. elim h [
     | inl q ↦ p.grown.tried e q
     | inr q ↦ inr (from_one MayCome set i c e at q)
   ]) k)
@@ -355,8 +355,8 @@ less_taken c n b d p q =
 
 pub record Turned (Known : List Event → Type 0) (old first : List Held) (c : Held) (asked i : ℕ) (answered tried going : List Held) : Type 0 where
   pub kept : (d : Configuration) → OneStandsFor old d → OneStandsFor answered d
-  pub answers : (d : Configuration) → OneStandsFor answered d → IsStoodOr old (λ e. From MayCome c e × NoneAskedAt asked e.opened) d
-  pub tries : (d : Configuration) → OneStandsFor tried d → IsStoodOr first (From MayCome c) d
+  pub answers : (d : Configuration) → OneStandsFor answered d → IsRepresentedOr old (λ e. From MayCome c e × NoneAskedAt asked e.opened) d
+  pub tries : (d : Configuration) → OneStandsFor tried d → IsRepresentedOr first (From MayCome c) d
   pub goes : (d : Configuration) → OneStandsFor going d → From MayCome c d
   pub own : IsApart c → (at : ℕ) (rest : List Event) → Known (Ends asked at ∷ rest) → AreServed asked at rest c answered tried
   pub done : IsApart c → (at : ℕ) (rest : List Event) → Known (Ends asked at ∷ rest) → AreTriedOut asked at rest old first → (d : Configuration) → OneStandsFor tried d → Opens asked d
@@ -458,19 +458,19 @@ module _ (Known : List Event → Type 0) (old first : List Held) (c : Held) (ask
   turned_answered apart at rest known out after d stands opens on =
       tried_answered asked at rest answered tried (turned_out apart at rest known out) after (length d.opened) (p.own apart at rest known d stands opens after on)
 
-  pub turned_sound : (d : Configuration) → OneStandsFor answered d → IsStoodOr old (From (MayAnswer asked) c) d
+  pub turned_sound : (d : Configuration) → OneStandsFor answered d → IsRepresentedOr old (From (MayAnswer asked) c) d
   turned_sound d h = elim (p.answers d h) [ inl k ↦ inl k | inr k ↦ inr (k.0.0, k.0.1, (k.0.2, k.1)) ]
 
 pub turned_many : (Known : List Event → Type 0) (most : ℕ) (old first : List Held) (c : Held) (asked i : ℕ) (answered tried going : List Held) → Turned Known old first c asked i answered tried going
-    → AreMoreThan most (IsStoodOr answered (FromOne MayCome going)) ⊎ AreMoreThan most (IsStoodOr tried (FromOne MayCome going)) → AreMoreThan most (IsStoodOr old (From MayCome c)) ⊎ AreMoreThan most (IsStoodOr first (From MayCome c))
+    → AreMoreThan most (IsRepresentedOr answered (FromOne MayCome going)) ⊎ AreMoreThan most (IsRepresentedOr tried (FromOne MayCome going)) → AreMoreThan most (IsRepresentedOr old (From MayCome c)) ⊎ AreMoreThan most (IsRepresentedOr first (From MayCome c))
 turned_many Known most old first c asked i answered tried going p many =
     let goes : (d : Configuration) → FromOne MayCome going d → From MayCome c d = λ d h. let before = p.goes h.0 h.1 in (before.0, before.1, come_on before.0 h.0 d before.2 h.2) in
     elim many [
-      | inl k ↦ inl (more_than most (IsStoodOr answered (FromOne MayCome going)) (IsStoodOr old (From MayCome c)) (λ e h. elim h [
+      | inl k ↦ inl (more_than most (IsRepresentedOr answered (FromOne MayCome going)) (IsRepresentedOr old (From MayCome c)) (λ e h. elim h [
         | inl q ↦ elim (p.answers e q) [ inl r ↦ inl r | inr r ↦ inr r.0 ]
         | inr q ↦ inr (goes e q)
       ]) k)
-      | inr k ↦ inr (more_than most (IsStoodOr tried (FromOne MayCome going)) (IsStoodOr first (From MayCome c)) (λ e h. elim h [
+      | inr k ↦ inr (more_than most (IsRepresentedOr tried (FromOne MayCome going)) (IsRepresentedOr first (From MayCome c)) (λ e h. elim h [
         | inl q ↦ p.tries e q
         | inr q ↦ inr (goes e q)
       ]) k)

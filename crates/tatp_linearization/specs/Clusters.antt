@@ -34,8 +34,8 @@ pub record IsUnread (ahead : Ahead) (now : ℕ) (x : Observed) (location : ℕ) 
   pub unread : (times_in ahead location).read ≤ now
 
 -- the reads that saw the location fit these rows
-abbrev pub SeersFit : ℕ → Database → List Observed → Type 0
-SeersFit location u calls =
+abbrev pub ReadsOfLocationFit : ℕ → Database → List Observed → Type 0
+ReadsOfLocationFit location u calls =
     AllByRecursion (λ (x : Observed). sees location x ≡ true → FitsAtOnce u x) calls
 
 -- `left` are the open calls and `v` the rows after the update at a place took effect, and then the
@@ -45,13 +45,13 @@ pub record GoesWith (u : Database) (opened : List Observed) (place location : �
   pub at : slice_get opened place ≡ Some x
   pub may : MayHaveReply x.outcome (transaction x.call u).reply
   pub rows : v ≡ (transaction x.call u).database
-  pub fit : SeersFit location v opened
+  pub fit : ReadsOfLocationFit location v opened
   pub others : left ≡ filter (λ z. not (sees location z)) (remove opened place)
 
 -- ---- what is left
 -- some of the open calls took effect, and an update of the location then does what it would have
 -- done before
-pub record GoTo (u : Database) (opened : List Observed) (v : Database) (left : List Observed)
+pub record DropsCalls (u : Database) (opened : List Observed) (v : Database) (left : List Observed)
     : Type 0 where
   pub many : ℕ
   pub effects : CallsTakeEffect many
@@ -60,7 +60,7 @@ pub record GoTo (u : Database) (opened : List Observed) (v : Database) (left : L
       → SetsLocation v call × (transaction call v ≡ transaction call u)
 
 abbrev pub GoFirst : Database → List Observed → List Observed → Type 0
-GoFirst u opened left = (v : Database) × GoTo u opened v left
+GoFirst u opened left = (v : Database) × DropsCalls u opened v left
 
 -- of one subscriber: where some of the calls have an order to rows, so have those that pass it
 abbrev pub KeepOrders : List Event → List Observed → (Observed → Bool) → Type 0

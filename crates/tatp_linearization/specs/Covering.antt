@@ -114,14 +114,14 @@ MayBeTried (Ends asked at) c d = MayCome c d
 
 -- ---- lists of them
 -- one of the old list stands for the configuration, or this holds of it
-abbrev pub IsStoodOr : List Held → (Configuration → Type 0) → Configuration → Type 0
-IsStoodOr old Holds d = OneStandsFor old d ⊎ Holds d
+abbrev pub IsRepresentedOr : List Held → (Configuration → Type 0) → Configuration → Type 0
+IsRepresentedOr old Holds d = OneStandsFor old d ⊎ Holds d
 
 -- the new list stands for all for which the old one does, and for each of which `Has` holds; for
 -- no others but some of which `May` holds
 pub record Gains (May Has : Configuration → Type 0) (old new : List Held) : Type 0 where
   pub kept : (d : Configuration) → OneStandsFor old d → OneStandsFor new d
-  pub sound : (d : Configuration) → OneStandsFor new d → IsStoodOr old May d
+  pub sound : (d : Configuration) → OneStandsFor new d → IsRepresentedOr old May d
   pub found : (d : Configuration) → Has d → OneStandsFor new d
 
 -- the homes are of this s_id

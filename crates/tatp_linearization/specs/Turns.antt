@@ -12,7 +12,7 @@ use Rattle.tatp_history.specs.Configurations.{Configuration}
 use Rattle.tatp_linearization.specs.declared.configuration.Configuration.{Configuration as Held}
 use Rattle.tatp_linearization.specs.AtOnce.{TakesWrite}
 use Rattle.tatp_linearization.specs.Overwritten.{IsBlind, AreButSome}
-use Rattle.tatp_linearization.specs.Covering.{StandsFor, OneStandsFor, Opens, IsApart, AreEachApart, AreEachLater, From, FromOne, MayCome, MayFollow, IsStoodOr, AreCovered}
+use Rattle.tatp_linearization.specs.Covering.{StandsFor, OneStandsFor, Opens, IsApart, AreEachApart, AreEachLater, From, FromOne, MayCome, MayFollow, IsRepresentedOr, AreCovered}
 use Rattle.tatp_linearization.specs.Going.{LeadsOn, OneLeadsOn}
 use Rattle.tatp_linearization.specs.declared.kinds.Kind.{Kind}
 use Rattle.tatp_linearization.specs.Kinds.{IsTried}
@@ -129,9 +129,9 @@ pub record Grow (Holds : Configuration → Type 0) (asked : ℕ) (old new : List
   pub tries : (d : Configuration) → OneStandsFor old.tried d → OneStandsFor new.tried d
   pub goes : (d : Configuration) → OneStandsFor old.going d → OneStandsFor new.going d
   pub answered : (d : Configuration) → OneStandsFor new.answered d
-      → IsStoodOr old.answered (λ e. Holds e × NoneAskedAt asked e.opened) d
-  pub tried : (d : Configuration) → OneStandsFor new.tried d → IsStoodOr old.tried Holds d
-  pub went : (d : Configuration) → OneStandsFor new.going d → IsStoodOr old.going Holds d
+      → IsRepresentedOr old.answered (λ e. Holds e × NoneAskedAt asked e.opened) d
+  pub tried : (d : Configuration) → OneStandsFor new.tried d → IsRepresentedOr old.tried Holds d
+  pub went : (d : Configuration) → OneStandsFor new.going d → IsRepresentedOr old.going Holds d
   pub next : (d : Configuration) → OneStandsFor new.tried d
       → OneStandsFor old.tried d ⊎ OneStandsFor new.going d
 
@@ -146,8 +146,8 @@ WentFromOne set new = (k : ℕ) (d : Held) → slice_get new k ≡ Some d
     → (j : ℕ) × (c : Held) × (slice_get set j ≡ Some c) × IsFewer c d
 
 -- it is to be tried in the next turn, unless others that were tried stand for all for which it does
-abbrev pub GoesOn : Held → List Held → List Held → List Held → Type 0
-GoesOn d tried old new = ((new ≡ old) × AreCovered tried d) ⊎ (new ≡ old ++ d ∷ [])
+abbrev pub IsTriedNext : Held → List Held → List Held → List Held → Type 0
+IsTriedNext d tried old new = ((new ≡ old) × AreCovered tried d) ⊎ (new ≡ old ++ d ∷ [])
 
 -- ---- at an event
 -- each order that leads on over the end of the call, where it is open, leads on from the new list

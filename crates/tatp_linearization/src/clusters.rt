@@ -4,7 +4,7 @@ ghost use Rattle.std.specs.Prelude.{◌≡◌, ◌<◌, ◌⊎◌, ◌↔◌, Is
 ghost use Rattle.tatp_history.specs.declared.observed.Observed.{Observed as Asked};
 ghost use Rattle.tatp_history.specs.Histories.{AreAskedApart};
 ghost use Rattle.tatp_history.specs.Locality.{AreAccepted};
-ghost use Rattle.tatp_linearization.specs.Clusters.{GoFirst, GoTo, GoesWith, IsUnread, LosesNone, SeersFit};
+ghost use Rattle.tatp_linearization.specs.Clusters.{GoFirst, DropsCalls, GoesWith, IsUnread, LosesNone, ReadsOfLocationFit};
 
 use crate::ahead::{Ahead, is_replaced_after, times_of};
 use crate::locations::sees;
@@ -33,9 +33,9 @@ fn unread_location(x: &Observed, ahead: &Ahead, now: u64) -> Option<u64>
 }
 
 /// Whether the open reads that saw the location fit the home. It keeps its rows.
-fn seers_fit(home: &mut Home, opened: &[Observed], location: u64) -> bool
+fn reads_of_location_fit(home: &mut Home, opened: &[Observed], location: u64) -> bool
     requires accepted { AreAccepted opened.now }
-    ensures fit { IsTrue result → SeersFit location home.old.tables opened.now }
+    ensures fit { IsTrue result → ReadsOfLocationFit location home.old.tables opened.now }
     ensures rows { home.new.tables ≡ home.old.tables }
     ensures own { home.new.s_id ≡ home.old.s_id }
 {
@@ -60,7 +60,9 @@ fn let_go_with(home: &mut Home, opened: &mut Vec<Observed>, place: usize, locati
     let mut after = home.copy();
     let mut reply = Reply::Refused;
     evaluate(&mut after, &x.call, &mut reply);
-    if !x.outcome.allows(&reply) || !seers_fit(&mut after, opened.as_slice(), location) {
+    if !x.outcome.allows(&reply)
+        || !reads_of_location_fit(&mut after, opened.as_slice(), location)
+    {
         return;
     }
     opened.remove(place);
@@ -73,7 +75,7 @@ fn let_go_with(home: &mut Home, opened: &mut Vec<Observed>, place: usize, locati
 fn let_go_at(home: &mut Home, opened: &mut Vec<Observed>, place: usize, ahead: &Ahead, now: u64)
     requires inside { place < length opened.old.items }
     requires accepted { AreAccepted opened.old.items }
-    ensures gone { GoTo home.old.tables opened.old.items home.new.tables opened.new.items }
+    ensures gone { DropsCalls home.old.tables opened.old.items home.new.tables opened.new.items }
     ensures kept { AreAskedApart opened.old.items
         → LosesNone ahead.now now opened.old.items opened.new.items }
 {

@@ -6,7 +6,7 @@ ghost use Rattle.tatp_linearization.specs.declared.configuration.Configuration.{
 ghost use Rattle.tatp_linearization.specs.Overwritten.{IsBlind};
 ghost use Rattle.tatp_linearization.specs.Possible.{AreMoreThan};
 ghost use Rattle.tatp_linearization.specs.Held.{AreApart, AreReady, seen};
-ghost use Rattle.tatp_linearization.specs.Covering.{AreCovered, AreOther, Covers, Gains, IsKept, IsOther, IsStoodOr, StandsFor, own_location};
+ghost use Rattle.tatp_linearization.specs.Covering.{AreCovered, AreOther, Covers, Gains, IsKept, IsOther, IsRepresentedOr, StandsFor, own_location};
 
 use crate::comparing::is_same_call;
 use crate::configuration::Configuration;
@@ -134,7 +134,7 @@ pub(crate) fn add_uncovered(
     ensures apart { OnOk result (AreApart d.home.s_id set.old.items
         → AreApart d.home.s_id set.new.items) }
     ensures many { IsErrOf result Stopped.MoreThanMost → AreApart d.home.s_id set.old.items
-        → AreMoreThan most (IsStoodOr set.old.items (StandsFor d)) }
+        → AreMoreThan most (IsRepresentedOr set.old.items (StandsFor d)) }
 {
     let location = location_of(&d);
     set.retain(|c| !covers(&d, location, c, location_of(c)));
@@ -157,7 +157,7 @@ pub(crate) fn add(
     ensures apart { OnOk result (AreApart d.home.s_id set.old.items
         → AreApart d.home.s_id set.new.items) }
     ensures many { IsErrOf result Stopped.MoreThanMost → AreApart d.home.s_id set.old.items
-        → AreMoreThan most (IsStoodOr set.old.items (StandsFor d)) }
+        → AreMoreThan most (IsRepresentedOr set.old.items (StandsFor d)) }
 {
     if is_covered(set.as_slice(), &d) {
         return Ok(());

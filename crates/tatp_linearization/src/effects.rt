@@ -7,8 +7,8 @@ ghost use Rattle.tatp_history.specs.Locality.{AreAccepted};
 ghost use Rattle.tatp_linearization.specs.Possible.{AreMoreThan};
 ghost use Rattle.tatp_linearization.specs.Ahead.{LooksAhead};
 ghost use Rattle.tatp_linearization.specs.Held.{AreApart, AreReady};
-ghost use Rattle.tatp_linearization.specs.Covering.{AreEachApart, AreOf, From, FromOne, Gains, IsApart, IsStoodOr, MayAnswer, MayCome, OneStandsFor, StandsFor};
-ghost use Rattle.tatp_linearization.specs.Turns.{AreAllServed, AreAnswered, AreServed, AreTriedOut, GoesOn, Grow, IsKindAt, TakesTried, WentFrom, WentFromOne};
+ghost use Rattle.tatp_linearization.specs.Covering.{AreEachApart, AreOf, From, FromOne, Gains, IsApart, IsRepresentedOr, MayAnswer, MayCome, OneStandsFor, StandsFor};
+ghost use Rattle.tatp_linearization.specs.Turns.{AreAllServed, AreAnswered, AreServed, AreTriedOut, IsTriedNext, Grow, IsKindAt, TakesTried, WentFrom, WentFromOne};
 
 use crate::ahead::Ahead;
 use crate::configuration::{Configuration, copy, none_asked};
@@ -32,12 +32,12 @@ fn add_untried(
     requires accepted { AreAccepted d.opened.items }
     ensures gained { OnOk result (Gains (StandsFor d) (StandsFor d)
         tried.old.items tried.new.items) }
-    ensures goes { OnOk result (GoesOn d tried.old.items going.old.items going.new.items) }
+    ensures goes { OnOk result (IsTriedNext d tried.old.items going.old.items going.new.items) }
     ensures ready { OnOk result (AreReady tried.old.items → AreReady tried.new.items) }
     ensures apart { OnOk result (AreApart d.home.s_id tried.old.items
         → AreApart d.home.s_id tried.new.items) }
     ensures many { IsErrOf result Stopped.MoreThanMost → AreApart d.home.s_id tried.old.items
-        → AreMoreThan most (IsStoodOr tried.old.items (StandsFor d)) }
+        → AreMoreThan most (IsRepresentedOr tried.old.items (StandsFor d)) }
 {
     if is_covered(tried.as_slice(), &d) {
         return Ok(());
@@ -120,8 +120,8 @@ fn try_each(
     ensures went { OnOk result (WentFrom c.now going.old.items going.new.items) }
     ensures many { IsErrOf result Stopped.MoreThanMost
         → AreApart c.now.home.s_id answered.old.items → AreApart c.now.home.s_id tried.old.items
-        → AreMoreThan most (IsStoodOr answered.old.items (From MayCome c.now))
-        ⊎ AreMoreThan most (IsStoodOr tried.old.items (From MayCome c.now)) }
+        → AreMoreThan most (IsRepresentedOr answered.old.items (From MayCome c.now))
+        ⊎ AreMoreThan most (IsRepresentedOr tried.old.items (From MayCome c.now)) }
 {
     what_holds_of_every_home(&c.home);
     let kind = kind_at(c, asked);
@@ -171,8 +171,8 @@ fn try_all(
     ensures went { IfOk result (λ going. WentFromOne set.now going.items) }
     ensures many { IsErrOf result Stopped.MoreThanMost → (s : ℕ) → AreOf s set.now
         → AreApart s answered.old.items → AreApart s tried.old.items
-        → AreMoreThan most (IsStoodOr answered.old.items (FromOne MayCome set.now))
-        ⊎ AreMoreThan most (IsStoodOr tried.old.items (FromOne MayCome set.now)) }
+        → AreMoreThan most (IsRepresentedOr answered.old.items (FromOne MayCome set.now))
+        ⊎ AreMoreThan most (IsRepresentedOr tried.old.items (FromOne MayCome set.now)) }
 {
     let mut going = Vec::new(alloc);
     'configurations: for i in 0..set.len() {
@@ -200,7 +200,7 @@ pub(crate) fn take_effect(
     ensures kept { OnOk result ((d : Seen) → OneStandsFor answered.old.items d
         → OneStandsFor answered.new.items d) }
     ensures sound { OnOk result ((d : Seen) → OneStandsFor answered.new.items d
-        → IsStoodOr answered.old.items (From (MayAnswer asked) c.now) d) }
+        → IsRepresentedOr answered.old.items (From (MayAnswer asked) c.now) d) }
     ensures answered { OnOk result (IsApart c.now → (at : ℕ) (rest : List Happens)
         → LooksAhead ahead.now now (Ends asked at ∷ rest)
         → AreTriedOut asked at rest answered.old.items tried.old.items
@@ -210,7 +210,7 @@ pub(crate) fn take_effect(
         → AreTriedOut asked at rest answered.old.items tried.old.items
         → AreTriedOut asked at rest answered.new.items tried.new.items) }
     ensures tried { OnOk result ((d : Seen) → OneStandsFor tried.new.items d
-        → IsStoodOr tried.old.items (From MayCome c.now) d) }
+        → IsRepresentedOr tried.old.items (From MayCome c.now) d) }
     ensures ready { OnOk result (AreReady answered.old.items → AreReady answered.new.items) }
     ensures apart { OnOk result (AreApart c.now.home.s_id answered.old.items
         → AreApart c.now.home.s_id answered.new.items) }
@@ -218,8 +218,8 @@ pub(crate) fn take_effect(
         → AreApart c.now.home.s_id tried.new.items) }
     ensures many { IsErrOf result Stopped.MoreThanMost
         → AreApart c.now.home.s_id answered.old.items → AreApart c.now.home.s_id tried.old.items
-        → AreMoreThan most (IsStoodOr answered.old.items (From MayCome c.now))
-        ⊎ AreMoreThan most (IsStoodOr tried.old.items (From MayCome c.now)) }
+        → AreMoreThan most (IsRepresentedOr answered.old.items (From MayCome c.now))
+        ⊎ AreMoreThan most (IsRepresentedOr tried.old.items (From MayCome c.now)) }
 {
     let mut going = Vec::new(alloc);
     try_each(

@@ -9,7 +9,7 @@ ghost use Rattle.tatp_linearization.specs.AtOnce.{FollowsAtOnce};
 ghost use Rattle.tatp_linearization.specs.Ahead.{IsSeenAhead, LooksAhead};
 ghost use Rattle.tatp_linearization.specs.Possible.{AreMoreThan};
 ghost use Rattle.tatp_linearization.specs.Held.{AreApart, AreReady, IsAcceptedEvent, seen};
-ghost use Rattle.tatp_linearization.specs.Covering.{From, FromOne, GainsGone, IsApart, IsLater, IsStoodOr, MayAnswer, MayBeTried, MayCome, MayFollow, OneStandsFor, Opens, StandsFor};
+ghost use Rattle.tatp_linearization.specs.Covering.{From, FromOne, GainsGone, IsApart, IsLater, IsRepresentedOr, MayAnswer, MayBeTried, MayCome, MayFollow, OneStandsFor, Opens, StandsFor};
 ghost use Rattle.tatp_linearization.specs.Turns.{AreFollowed, AreTriedOut, AreTriedOutAt, FollowSet};
 
 use crate::ahead::Ahead;
@@ -67,7 +67,7 @@ fn add_gone(
     ensures apart { OnOk result (AreApart c.now.home.s_id after.old.items
         → AreApart c.now.home.s_id after.new.items) }
     ensures many { IsErrOf result Stopped.MoreThanMost → AreApart c.now.home.s_id after.old.items
-        → AreMoreThan most (IsStoodOr after.old.items (From MayCome c.now)) }
+        → AreMoreThan most (IsRepresentedOr after.old.items (From MayCome c.now)) }
 {
     match let_go(alloc, c, asked)? {
         Some(d) => {
@@ -96,7 +96,7 @@ fn end(
     ensures kept { OnOk result ((d : Seen) → OneStandsFor after.old.items d
         → OneStandsFor after.new.items d) }
     ensures sound { OnOk result ((d : Seen) → OneStandsFor after.new.items d
-        → IsStoodOr after.old.items (From (MayAnswer asked) c.now) d) }
+        → IsRepresentedOr after.old.items (From (MayAnswer asked) c.now) d) }
     ensures followed { OnOk result (IsApart c.now → (at : ℕ) (rest : List Happens)
         → LooksAhead ahead.now now (Ends asked at ∷ rest)
         → AreTriedOut asked at rest after.old.items tried.old.items
@@ -106,7 +106,7 @@ fn end(
         → AreTriedOut asked at rest after.old.items tried.old.items
         → AreTriedOut asked at rest after.new.items tried.new.items) }
     ensures tried { OnOk result ((d : Seen) → OneStandsFor tried.new.items d
-        → IsStoodOr tried.old.items (From MayCome c.now) d) }
+        → IsRepresentedOr tried.old.items (From MayCome c.now) d) }
     ensures ready { OnOk result (AreReady after.old.items → AreReady after.new.items) }
     ensures apart { OnOk result (AreApart c.now.home.s_id after.old.items
         → AreApart c.now.home.s_id after.new.items) }
@@ -114,8 +114,8 @@ fn end(
         → AreApart c.now.home.s_id tried.new.items) }
     ensures many { IsErrOf result Stopped.MoreThanMost → AreApart c.now.home.s_id after.old.items
         → AreApart c.now.home.s_id tried.old.items
-        → AreMoreThan most (IsStoodOr after.old.items (From MayCome c.now))
-        ⊎ AreMoreThan most (IsStoodOr tried.old.items (From MayCome c.now)) }
+        → AreMoreThan most (IsRepresentedOr after.old.items (From MayCome c.now))
+        ⊎ AreMoreThan most (IsRepresentedOr tried.old.items (From MayCome c.now)) }
 {
     add_gone(alloc, c, asked, most, after)?;
     take_effect(alloc, c, asked, ahead, now, most, after, tried)?;
@@ -137,7 +137,7 @@ fn follow(
     ensures kept { OnOk result ((d : Seen) → OneStandsFor after.old.items d
         → OneStandsFor after.new.items d) }
     ensures sound { OnOk result ((d : Seen) → OneStandsFor after.new.items d
-        → IsStoodOr after.old.items (From (MayFollow event.now) c.now) d) }
+        → IsRepresentedOr after.old.items (From (MayFollow event.now) c.now) d) }
     ensures followed { OnOk result (IsApart c.now → IsLater event.now c.now
         → (rest : List Happens) → IsSeenAhead ahead.now (event.now ∷ rest)
         → AreTriedOutAt event.now rest after.old.items tried.old.items
@@ -147,7 +147,7 @@ fn follow(
         → AreTriedOutAt event.now rest after.old.items tried.old.items
         → AreTriedOutAt event.now rest after.new.items tried.new.items) }
     ensures tried { OnOk result ((d : Seen) → OneStandsFor tried.new.items d
-        → IsStoodOr tried.old.items (From (MayBeTried event.now) c.now) d) }
+        → IsRepresentedOr tried.old.items (From (MayBeTried event.now) c.now) d) }
     ensures ready { OnOk result (AreReady after.old.items → AreReady after.new.items) }
     ensures apart { OnOk result (AreApart c.now.home.s_id after.old.items
         → AreApart c.now.home.s_id after.new.items) }
@@ -155,8 +155,8 @@ fn follow(
         → AreApart c.now.home.s_id tried.new.items) }
     ensures many { IsErrOf result Stopped.MoreThanMost → AreApart c.now.home.s_id after.old.items
         → AreApart c.now.home.s_id tried.old.items
-        → AreMoreThan most (IsStoodOr after.old.items (From (MayBeTried event.now) c.now))
-        ⊎ AreMoreThan most (IsStoodOr tried.old.items (From (MayBeTried event.now) c.now)) }
+        → AreMoreThan most (IsRepresentedOr after.old.items (From (MayBeTried event.now) c.now))
+        ⊎ AreMoreThan most (IsRepresentedOr tried.old.items (From (MayBeTried event.now) c.now)) }
 {
     match event {
         Event::Asks(x) => {

@@ -77,7 +77,7 @@ fn overwrites(x: &Call, z: &Call) -> bool
     }
 }
 
-/// Whether a call that updates data changes nothing: it is made on a copy where the bit is the same.
+/// Whether a call that updates data changes nothing: where the bit is the same, it is made on a copy.
 fn is_idle(home: &Home, call: &Call) -> bool
     requires accepted { arguments_accepted call.now ≡ Ok tt }
     ensures { IsTrue result → IsIdle home.now.tables call.now }

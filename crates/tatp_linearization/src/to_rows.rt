@@ -11,7 +11,7 @@ ghost use Rattle.tatp_linearization.specs.declared.configuration.Configuration.{
 ghost use Rattle.tatp_linearization.specs.AtOnce.{TakesOne};
 ghost use Rattle.tatp_linearization.specs.Possible.{AreMoreThan, NeedMore};
 ghost use Rattle.tatp_linearization.specs.Held.{AreApart, AreReady, TakeSome};
-ghost use Rattle.tatp_linearization.specs.Covering.{From, FromOne, Gains, IsStoodOr, MayCome, OneStandsFor};
+ghost use Rattle.tatp_linearization.specs.Covering.{From, FromOne, Gains, IsRepresentedOr, MayCome, OneStandsFor};
 ghost use Rattle.tatp_linearization.specs.Reached.{AreOfSubscriber, AreReached};
 
 use crate::configuration::{Configuration, take};
@@ -35,7 +35,7 @@ fn add_taken(
     ensures apart { OnOk result (AreApart c.now.home.s_id after.old.items
         → AreApart c.now.home.s_id after.new.items) }
     ensures many { IsErrOf result Stopped.MoreThanMost → AreApart c.now.home.s_id after.old.items
-        → AreMoreThan most (IsStoodOr after.old.items (From MayCome c.now)) }
+        → AreMoreThan most (IsRepresentedOr after.old.items (From MayCome c.now)) }
 {
     'calls: for i in 0..c.opened.len() {
         match take(alloc, c, i)? {

@@ -5,7 +5,7 @@ use Rattle.tatp_history.specs.declared.observed.Observed.{Observed}
 use Rattle.tatp_history.specs.Histories.{MayHaveReply}
 use Rattle.tatp_procs.specs.Transactions.{transaction}
 use Rattle.tatp_linearization.specs.Unseen.{sees}
-use Rattle.tatp_linearization.specs.Clusters.{SeersFit}
+use Rattle.tatp_linearization.specs.Clusters.{ReadsOfLocationFit}
 use Rattle.tatp_linearization.proofs.PlaceLaws.{get_at}
 use Rattle.tatp_linearization.proofs.clusters.let_go_with.Goals as goal
 
@@ -23,9 +23,9 @@ returns c =
       record {
         at = at;
         may = subst (MayHaveReply x.outcome) reply (c.allows.ensures.0 c.if-not-allows.false);
-        rows = c.seers_fit.ensures.rows ∙ rows;
-        fit = subst (λ v. SeersFit c.args.location v c.args.opened.now.items) (sym c.seers_fit.ensures.rows)
-            (subst (λ xs. SeersFit c.args.location c.evaluate.new.home.tables xs) c.as_slice.ensures.value (c.seers_fit.ensures.fit c.if-not-seers_fit.false));
+        rows = c.reads_of_location_fit.ensures.rows ∙ rows;
+        fit = subst (λ v. ReadsOfLocationFit c.args.location v c.args.opened.now.items) (sym c.reads_of_location_fit.ensures.rows)
+            (subst (λ xs. ReadsOfLocationFit c.args.location c.evaluate.new.home.tables xs) c.as_slice.ensures.value (c.reads_of_location_fit.ensures.fit c.if-not-reads_of_location_fit.false));
         others = others ∙ ap (filter test) c.remove.ensures.items;
       },
     )

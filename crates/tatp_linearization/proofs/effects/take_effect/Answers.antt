@@ -5,7 +5,7 @@ use Rattle.tatp_history.specs.declared.event.Event.TheVariants.{Ends}
 use Rattle.tatp_linearization.specs.declared.stopped.Stopped.TheVariants.{MoreThanMost}
 use Rattle.tatp_linearization.specs.declared.configuration.Configuration.{Configuration as Held}
 use Rattle.tatp_linearization.specs.Held.{AreReady, AreApart}
-use Rattle.tatp_linearization.specs.Covering.{From, FromOne, MayCome, IsStoodOr, AreEachApart, AreOf}
+use Rattle.tatp_linearization.specs.Covering.{From, FromOne, MayCome, IsRepresentedOr, AreEachApart, AreOf}
 use Rattle.tatp_linearization.specs.Ahead.{LooksAhead}
 use Rattle.tatp_linearization.specs.Turns.{Lists, Grow, AreAllServed, WentFrom, WentFromOne}
 use Rattle.tatp_linearization.specs.Possible.{AreMoreThan}
@@ -57,7 +57,7 @@ returns-in_err-next-clause-many c =
     let e : c.in_err-next.field-0.0 ≡ MoreThanMost = cc in
     let own = less_own k (c.turns.i + 1) going inv.less in
     let many = subst (λ (set : List Held). (t : ℕ) → AreOf t set → AreApart t c.turns.answered.items → AreApart t c.turns.tried.items
-    → AreMoreThan c.args.most (IsStoodOr c.turns.answered.items (FromOne MayCome set)) ⊎ AreMoreThan c.args.most (IsStoodOr c.turns.tried.items (FromOne MayCome set))) c.as_slice.ensures.value (c.in_err-next.ensures.many (ap Err e)) in
+    → AreMoreThan c.args.most (IsRepresentedOr c.turns.answered.items (FromOne MayCome set)) ⊎ AreMoreThan c.args.most (IsRepresentedOr c.turns.tried.items (FromOne MayCome set))) c.as_slice.ensures.value (c.in_err-next.ensures.many (ap Err e)) in
     turned_many (LooksAhead c.args.ahead.now c.args.now) c.args.most c.args.answered.now.items c.args.tried.now.items k c.args.asked c.turns.i c.turns.answered.items c.turns.tried.items going inv (many s own (inv.apart apart) (inv.distinct distinct)))
 
 pub returns-clause-kept : goal.returns-clause-kept

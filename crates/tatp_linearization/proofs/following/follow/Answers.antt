@@ -5,7 +5,7 @@ use Rattle.tatp_history.specs.Configurations.{Configuration}
 use Rattle.tatp_linearization.specs.declared.configuration.Configuration.{Configuration as Held}
 use Rattle.tatp_linearization.specs.Held.{AreApart}
 use Rattle.tatp_linearization.specs.Possible.{AreMoreThan}
-use Rattle.tatp_linearization.specs.Covering.{OneStandsFor, IsApart, IsLater, From, IsStoodOr, MayFollow, MayBeTried}
+use Rattle.tatp_linearization.specs.Covering.{OneStandsFor, IsApart, IsLater, From, IsRepresentedOr, MayFollow, MayBeTried}
 use Rattle.tatp_linearization.specs.Ahead.{IsSeenAhead}
 use Rattle.tatp_linearization.specs.Turns.{AreTriedOutAt, AreFollowed}
 use Rattle.tatp_linearization.proofs.CoveringLaws.{asked_followed, asked_sound, same_followed, same_sound, alike_stands, asked_many, covered_many, out_on}
@@ -13,7 +13,7 @@ use Rattle.tatp_linearization.proofs.following.follow.Goals as goal
 
 -- what the clauses say, of any event
 abbrev Sounds : Held → List Held → List Held → Event → Type 0
-Sounds c old new event = (d : Configuration) → OneStandsFor new d → IsStoodOr old (From (MayFollow event) c) d
+Sounds c old new event = (d : Configuration) → OneStandsFor new d → IsRepresentedOr old (From (MayFollow event) c) d
 
 abbrev Follows : (List Event → Type 0) → Held → List Held → List Held → List Held → Event → Type 0
 Follows Known c old first new event = IsApart c → IsLater event c → (rest : List Event) → Known (event ∷ rest) → AreTriedOutAt event rest old first → AreFollowed event rest c new
@@ -40,7 +40,7 @@ returns-in_err-add-in-Asks-clause-many c =
     let p = err_from_is_err_and c.from_residual-in_err-add-in-Asks.result c.from_residual-in_err-add-in-Asks.ensures.1 in
     let old = c.args.after.now.items in
     rw (p.1, p.2) (λ is apart distinct. inl (
-    subst (λ (v : Event). AreMoreThan c.args.most (IsStoodOr old (From (MayBeTried v) c.args.c.now))) (sym c.in-Asks.is)
+    subst (λ (v : Event). AreMoreThan c.args.most (IsRepresentedOr old (From (MayBeTried v) c.args.c.now))) (sym c.in-Asks.is)
     (asked_many c.args.most c.args.c.now c.in_ok-ask-in-Asks.field-0 c.in-Asks.x old c.in_ok-ask-in-Asks.ensures.asked c.in_ok-ask-in-Asks.ensures.overwritten
     (c.in_err-add-in-Asks.ensures.many is (subst (λ s. AreApart s old) (sym c.in_ok-ask-in-Asks.ensures.asked.own) apart)))))
 
@@ -67,7 +67,7 @@ returns-in_err-add-in-Ends-clause-many c =
     let p = err_from_is_err_and c.from_residual-in_err-add-in-Ends.result c.from_residual-in_err-add-in-Ends.ensures.1 in
     let old = c.args.after.now.items in
     rw (p.1, p.2) (λ is apart distinct. inl (
-    subst (λ (v : Event). AreMoreThan c.args.most (IsStoodOr old (From (MayBeTried v) c.args.c.now))) (sym c.in-Ends.is)
+    subst (λ (v : Event). AreMoreThan c.args.most (IsRepresentedOr old (From (MayBeTried v) c.args.c.now))) (sym c.in-Ends.is)
     (covered_many c.args.most c.args.c.now c.in_ok-copy-in-Ends.field-0 old (λ e. (alike_stands c.args.c.now c.in_ok-copy-in-Ends.field-0 c.in_ok-copy-in-Ends.ensures.same c.in_ok-copy-in-Ends.ensures.overwritten e).0)
     (c.in_err-add-in-Ends.ensures.many is (subst (λ s. AreApart s old) (sym c.in_ok-copy-in-Ends.ensures.own) apart)))))
 
@@ -91,7 +91,7 @@ pub returns-in_ok-end-in-Ends-clause-tried : goal.returns-in_ok-end-in-Ends-clau
 returns-in_ok-end-in-Ends-clause-tried c =
     let first = c.args.tried.now.items in
     let tried = c.end.new.tried.items in
-    subst (λ (v : Event). (d : Configuration) → OneStandsFor tried d → IsStoodOr first (From (MayBeTried v) c.args.c.now) d) (sym c.in-Ends.is) c.in_ok-end-in-Ends.ensures.tried
+    subst (λ (v : Event). (d : Configuration) → OneStandsFor tried d → IsRepresentedOr first (From (MayBeTried v) c.args.c.now) d) (sym c.in-Ends.is) c.in_ok-end-in-Ends.ensures.tried
 
 pub returns-in_err-end-in-Ends-clause-many : goal.returns-in_err-end-in-Ends-clause-many
 returns-in_err-end-in-Ends-clause-many c =
@@ -99,4 +99,4 @@ returns-in_err-end-in-Ends-clause-many c =
     let old = c.args.after.now.items in
     let first = c.args.tried.now.items in
     rw (p.1, p.2) (λ is apart distinct.
-    subst (λ (v : Event). AreMoreThan c.args.most (IsStoodOr old (From (MayBeTried v) c.args.c.now)) ⊎ AreMoreThan c.args.most (IsStoodOr first (From (MayBeTried v) c.args.c.now))) (sym c.in-Ends.is) (c.in_err-end-in-Ends.ensures.many is apart distinct))
+    subst (λ (v : Event). AreMoreThan c.args.most (IsRepresentedOr old (From (MayBeTried v) c.args.c.now)) ⊎ AreMoreThan c.args.most (IsRepresentedOr first (From (MayBeTried v) c.args.c.now))) (sym c.in-Ends.is) (c.in_err-end-in-Ends.ensures.many is apart distinct))

@@ -1,5 +1,5 @@
 //! Configurations of the search.
-ghost use Rattle.std.specs.Prelude.{◌≡◌, ◌<◌, ◌≤◌, ◌↔◌, IsTrue, IfOk, OnOk, IsErrOf, length, Ok};
+ghost use Rattle.std.specs.Prelude.{◌≡◌, ◌<◌, ◌≤◌, ◌↔◌, IsTrue, IfOk, OnOk, IsErrOf, length, remove, Ok};
 ghost use Rattle.tatp_procs.specs.Arguments.{arguments_accepted};
 ghost use Rattle.tatp_history.specs.JustInTime.{NoneAskedAt};
 ghost use Rattle.tatp_history.specs.Locality.{AreAccepted};
@@ -159,6 +159,17 @@ pub(crate) fn updates_location(home: &Home, call: &Call) -> bool
     }
 }
 
+/// These calls without the one at a place.
+fn others(alloc: Global, calls: &[Observed], place: usize) -> Result<Vec<Observed>, AllocError>
+    requires inside { place < length calls.now }
+    ensures { IfOk result (λ left. left.items ≡ remove calls.now place) }
+{
+    let mut left = Vec::with_capacity(alloc, calls.len())?;
+    left.extend_from_slice(&calls[..place])?;
+    left.extend_from_slice(&calls[place + 1..])?;
+    Ok(left)
+}
+
 /// The configuration after its open call at the place `i` took effect. `None` means that this call
 /// changes nothing, or that it can't have ended with the reply that it has there.
 pub(crate) fn take(
@@ -180,8 +191,7 @@ pub(crate) fn take(
     if !x.outcome.allows(&reply) {
         return Ok(None);
     }
-    let mut opened = Vec::from_slice(alloc, c.opened.as_slice())?;
-    opened.remove(i);
+    let mut opened = others(alloc, c.opened.as_slice(), i)?;
     settle(&mut home, &mut opened);
     what_holds_of_every_home(&c.home);
     let overwritten = overwritten_before(&c.home, &home, opened.as_slice(), &x.call, c.overwritten);
@@ -206,8 +216,7 @@ pub(crate) fn let_go(
             if !may_be_left_out(c, i) {
                 return Ok(None);
             }
-            let mut opened = Vec::from_slice(alloc, c.opened.as_slice())?;
-            opened.remove(i);
+            let opened = others(alloc, c.opened.as_slice(), i)?;
             return Ok(Some(Configuration {
                 home: c.home.copy(),
                 opened,

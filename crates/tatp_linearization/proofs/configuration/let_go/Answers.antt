@@ -26,9 +26,9 @@ returns-then-index-asked c =
     let x : Observed = c.index.result.now in
     let at : slice_get c.args.c.now.opened.items c.loop-i.i ≡ Some x = get_at c.args.c.now.opened.items c.loop-i.i x (omega (arith, c.loop-i-test.true, c.len-i-end.ensures, c.args.c.now.opened.ok.0)) c.index.ensures in
     let left = c.may_be_left_out.ensures.0 c.if-not-may_be_left_out.false x at in
-    let d : Held = record { home = c.copy.result; opened = c.remove.new.self; overwritten = c.args.c.now.overwritten } in
+    let d : Held = record { home = c.copy.result; opened = c.in_ok-opened.opened; overwritten = c.args.c.now.overwritten } in
     gone_some c.args.asked c.args.c.now d c.loop-i.i x at c.if-index-asked.true left.0 left.1 c.copy.ensures
-    (c.remove.ensures.items ∙ ap (λ xs. remove xs c.loop-i.i) (c.in_ok-opened.ensures.items ∙ c.as_slice.ensures.value)) refl
+    (c.in_ok-opened.ensures ∙ ap (λ xs. remove xs c.loop-i.i) c.as_slice.ensures.value) refl
 
 pub loop-i-preserved : goal.loop-i-preserved
 loop-i-preserved c =

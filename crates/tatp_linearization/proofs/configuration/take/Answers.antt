@@ -19,7 +19,7 @@ returns c =
     let at : slice_get c.args.c.now.opened.items c.args.i ≡ Some x = get_at _ _ _ c.requires.inside c.index-x.ensures in
     let rows : c.evaluate.new.home.tables ≡ (transaction x.call c.args.c.now.home.tables).database = c.evaluate.ensures.rows ∙ ap (λ (h : SubscriberRows). (transaction x.call h.tables).database) c.copy-home.ensures in
     let reply = c.evaluate.ensures.reply ∙ ap (λ (h : SubscriberRows). (transaction x.call h.tables).reply) c.copy-home.ensures in
-    let others = c.remove.ensures.items ∙ ap (λ xs. remove xs c.args.i) (c.in_ok-opened.ensures.items ∙ c.as_slice.ensures.value) in
+    let others = c.in_ok-opened.ensures ∙ ap (λ xs. remove xs c.args.i) c.as_slice.ensures.value in
     let left = c.settle.new.opened.items in
     let settled : AreLeft (transaction x.call c.args.c.now.home.tables).database (remove c.args.c.now.opened.items c.args.i) left
     = subst (λ u. AreLeft u (remove c.args.c.now.opened.items c.args.i) left) rows (subst (λ xs. AreLeft c.evaluate.new.home.tables xs left) others c.settle.ensures.left) in (
@@ -42,8 +42,8 @@ returns c =
 pub overwritten_before-overwritten-requires-clause-accepted : goal.overwritten_before-overwritten-requires-clause-accepted
 overwritten_before-overwritten-requires-clause-accepted c =
     let accepts : Observed → Type 0 = λ (z : Observed). arguments_accepted z.call ≡ Ok tt in
-    let others = c.remove.ensures.items ∙ ap (λ xs. remove xs c.args.i) (c.in_ok-opened.ensures.items ∙ c.as_slice.ensures.value) in
-    subst AreAccepted (sym c.as_slice-2.ensures.value) (left_all accepts c.evaluate.new.home.tables c.remove.new.self.items c.settle.new.opened.items c.settle.ensures.left
+    let others = c.in_ok-opened.ensures ∙ ap (λ xs. remove xs c.args.i) c.as_slice.ensures.value in
+    subst AreAccepted (sym c.as_slice-2.ensures.value) (left_all accepts c.evaluate.new.home.tables c.in_ok-opened.opened.items c.settle.new.opened.items c.settle.ensures.left
     (subst AreAccepted (sym others) (all_remove accepts c.args.c.now.opened.items c.args.i c.requires.accepted)))
 
 pub returns-then-changes_nothing : goal.returns-then-changes_nothing

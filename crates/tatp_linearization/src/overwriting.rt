@@ -77,7 +77,7 @@ fn overwrites(x: &Call, z: &Call) -> bool
     }
 }
 
-/// Whether a call that updates data changes nothing: where the bit is the same, it is made on a copy.
+/// Whether a call that updates data changes nothing: it is tried on a copy, if the bit is the same.
 fn is_idle(home: &Home, call: &Call) -> bool
     requires accepted { arguments_accepted call.now ≡ Ok tt }
     ensures { IsTrue result → IsIdle home.now.tables call.now }

@@ -206,3 +206,20 @@ def window(rows, texts, subscriber):
     lines = list(lines_on(rows, texts, subscriber))
     quiet = max([number for number, _, count in lines[:-1] if count == 0], default=0)
     return [number for number, is_own, _ in lines if is_own and number > quiet]
+
+
+def lines_of_part(rows, texts, part, count):
+    """A history's lines as they are read for one of its parts, those of other parts as comments. Where a client asks a
+    call of another part, the one of this part that it had open is lost."""
+    opened = set()
+    for text in texts:
+        word, client, *_ = text.split(" ") + [""]
+        if word == "ask":
+            subscriber = rows.subscriber_of(read_call(text.split(" ", 2)[2]))
+            if part != (1 if subscriber is None else subscriber % count + 1):
+                word = "lost"
+                text = "lost " + client
+        if word != "ask" and client not in opened:
+            text = "#"
+        (opened.add if word == "ask" else opened.discard)(client)
+        yield text

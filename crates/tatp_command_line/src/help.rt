@@ -160,7 +160,7 @@ Examples:
 
 /// Below the options of `bench`.
 pub(crate) const BENCH: &str = "\
-Nothing is read. Each partition has an executor, up to four clients share a thread, and two more
+Nothing is read. Each partition has an executor, the clients have up to seven threads, and two more
 threads move ranges of subscribers and stop machines. When all have ended, the logs, the replies
 that clients received and the rows are settled. Prints three lines: SETTLED, how many calls were
 completed and how many were refused memory; MIX and how many calls there were of each of the seven

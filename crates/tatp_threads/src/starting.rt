@@ -1,8 +1,8 @@
 //! Starts the threads of a run, and waits for their ends.
 ghost use denote.Param.Send.{IsSend};
-ghost use Rattle.std.specs.Prelude.{◌≡◌, ◌≤◌, length, vec_len};
+ghost use Rattle.std.specs.Prelude.{◌≡◌, ◌≤◌, ◌*◌, ◌⊎◌, length, vec_len};
 ghost use Rattle.tatp_threads.specs.Seats.{AreExecutors, AreClients};
-ghost use Rattle.tatp_threads.specs.declared.starting.TheConstants.{MOST_CLIENTS_A_THREAD};
+ghost use Rattle.tatp_threads.specs.declared.starting.TheConstants.{CLIENT_THREADS};
 
 use crate::admission::{Arities, Port};
 use crate::client::ask_calls;
@@ -23,8 +23,9 @@ use tatp_workers::{Gate, Message};
 /// processor, if there are enough, and leaves it there as long as the executor doesn't sleep.
 const ALONE: u64 = 20;
 
-/// The most clients that share a thread.
-const MOST_CLIENTS_A_THREAD: usize = 4;
+/// How many threads the clients have at least, if there are as many clients. They have fewer than
+/// twice as many.
+const CLIENT_THREADS: usize = 4;
 
 /// Runs all threads to their ends: the executors until all clients, the mover and the debugger have
 /// ended. Each inbox then gets Quit, by the ends in `quit`. Whether each thread could be started;
@@ -76,9 +77,9 @@ pub(crate) fn run_threads<R: Threads + Wait + Sync, G: Gate + Sync, A: Arities +
 /// that not all processors are busy with clients that wait for an answer.
 fn clients_a_thread(clients: usize) -> usize
     ensures some { 1 ≤ result }
-    ensures few { result ≤ MOST_CLIENTS_A_THREAD }
+    ensures few { (result ≡ 1) ⊎ (result * CLIENT_THREADS ≤ clients) }
 {
-    (clients / MOST_CLIENTS_A_THREAD).clamp(1, MOST_CLIENTS_A_THREAD)
+    (clients / CLIENT_THREADS).max(1)
 }
 
 /// Runs the clients, the mover and the debugger to their ends. They begin together, when all are

@@ -9,12 +9,12 @@ use Rattle.std.proofs.lemmas.List.{map-append}
 use Rattle.tatp_limits.specs.declared.limits.TheConstants.{MAX_SUBSCRIBERS}
 use Rattle.rand_core.specs.Stream.{Stream}
 use Rattle.tatp_encoding.specs.Modules.{ModuleState}
-use Rattle.tatp_procs.specs.declared.ask.Ask.{Ask}
-use Rattle.tatp_procs.specs.declared.ask.Ask.TheVariants.{Txn}
-use Rattle.tatp_procs.specs.declared.call.Call.{Call}
-use Rattle.tatp_procs.specs.declared.call.Call.TheVariants.{GetSubscriberData, GetNewDestination, GetAccessData, UpdateSubscriberData, UpdateLocation, InsertCallForwarding, DeleteCallForwarding}
-use Rattle.tatp_procs.specs.declared.domains.BadArgument.{BadArgument as Bad}
-use Rattle.tatp_procs.specs.Arguments.{arguments_accepted}
+use Rattle.tatp_calls.specs.declared.ask.Ask.{Ask}
+use Rattle.tatp_calls.specs.declared.ask.Ask.TheVariants.{Txn}
+use Rattle.tatp_calls.specs.declared.call.Call.{Call}
+use Rattle.tatp_calls.specs.declared.call.Call.TheVariants.{GetSubscriberData, GetNewDestination, GetAccessData, UpdateSubscriberData, UpdateLocation, InsertCallForwarding, DeleteCallForwarding}
+use Rattle.tatp_calls.specs.declared.domains.BadArgument.{BadArgument as Bad}
+use Rattle.tatp_calls.specs.Arguments.{arguments_accepted}
 use Rattle.tatp_procs.specs.Standard.{standard_module}
 use Rattle.tatp_tasks.specs.declared.distribution.Distribution.{Distribution}
 use Rattle.tatp_tasks.specs.declared.distribution.Distribution.TheVariants.{Skewed, Uniform}
@@ -22,7 +22,7 @@ use Rattle.tatp_driver.specs.DrawnCall.{drawn_subscriber, drawn_call}
 use Rattle.tatp_driver.specs.DrawnCalls.{next_calls}
 use Rattle.tatp_driver.specs.DrawnWords.{next_words}
 use Rattle.tatp_driver.proofs.DrawnCallLaws.{call_on_accepted}
-use Rattle.tatp_procs.specs.Asked.{has_procedure, bad_argument}
+use Rattle.tatp_calls.specs.Asked.{has_procedure, bad_argument}
 use Rattle.tatp_logs.specs.Lists.{lists_of}
 use Rattle.tatp_settle.specs.Runs.{joined}
 use Rattle.tatp_threads.specs.declared.refusal.RunRefusal.{RunRefusal}

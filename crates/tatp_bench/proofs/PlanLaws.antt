@@ -8,8 +8,8 @@ use Rattle.tatp_limits.specs.declared.limits.TheConstants.{MAX_BENCH_CALLS, MAX_
 use Rattle.rand_core.specs.Stream.{next_u64}
 use Rattle.tatp_tables.specs.Clean.{IsClean}
 use Rattle.tatp_tables.specs.declared.row.Rows.{Rows}
-use Rattle.tatp_procs.specs.declared.ask.Ask.{Ask}
-use Rattle.tatp_procs.specs.declared.ask.Ask.TheVariants.{Txn}
+use Rattle.tatp_calls.specs.declared.ask.Ask.{Ask}
+use Rattle.tatp_calls.specs.declared.ask.Ask.TheVariants.{Txn}
 use Rattle.tatp_procs.specs.Standard.{standard_module}
 use Rattle.tatp_population.proofs.PopulatedLaws.{populated}
 use Rattle.tatp_driver.specs.DrawnCalls.{next_calls}

@@ -2,7 +2,7 @@
 use Rattle.std.specs.Prelude.{◌≡◌, ◌⊎◌, ℕ, ◌+◌, ◌*◌, List, Option, Vec}
 use Rattle.std.proofs.Common.{sym, subst, refl, ap, ◌∙◌, inl, inr}
 use Rattle.std.specs.declared.alloc.Global.{Global}
-use Rattle.tatp_procs.specs.declared.ask.Ask.{Ask}
+use Rattle.tatp_calls.specs.declared.ask.Ask.{Ask}
 use Rattle.tatp_logs.specs.Receipts.{ReceiptsState}
 use Rattle.tatp_run_history.specs.ClientLines.{all_lines}
 use Rattle.tatp_run_history.specs.Telling.{TellsMerged, TellsClients}

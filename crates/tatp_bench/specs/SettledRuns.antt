@@ -4,7 +4,7 @@
 use Rattle.std.specs.Prelude.{ℕ, List, All, Vec}
 use Rattle.std.specs.declared.alloc.Global.{Global}
 use Rattle.tatp_tables.specs.declared.row.Rows.{Rows}
-use Rattle.tatp_procs.specs.declared.ask.Ask.{Ask}
+use Rattle.tatp_calls.specs.declared.ask.Ask.{Ask}
 use Rattle.tatp_settle.specs.declared.cause.Unsettled.{Unsettled as Cause}
 use Rattle.tatp_settle.specs.declared.settled.Settled.{Settled}
 use Rattle.tatp_settle.specs.declared.refusals.GatherError.{GatherError}

@@ -13,8 +13,9 @@ use crate::{BenchFault, BenchPlan, Progress, SettledRun, Work, run_work, settle_
 use std::alloc::Global;
 use std::sync::Wait;
 use std::thread::Threads;
+use tatp_calls::Ask;
 use tatp_logs::Receipts;
-use tatp_procs::{Ask, standard};
+use tatp_procs::standard;
 use tatp_settle::Settled;
 use tatp_tables::Rows;
 use tatp_threads::RunPlan;

@@ -1,8 +1,8 @@
 //! The clients' lists of a run are freed.
 use std::alloc::Global;
 use std::thread::{Threads, for_each_mut};
+use tatp_calls::Ask;
 use tatp_logs::Receipts;
-use tatp_procs::Ask;
 
 /// By how many threads the lists are freed, where they can be made: the system takes back one page
 /// after another, and most of a run's are of these lists.

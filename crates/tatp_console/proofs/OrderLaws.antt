@@ -1,10 +1,10 @@
 -- Lines are answered as their calls are, one after another.
 use Rattle.std.proofs.Common.{◌≡◌, ℕ, ◌∙◌, refl, sym, ap, ap₂, Bool, true, false, List, [], ◌∷◌, ◌++◌, length, Option, Some, None, Result, Ok, Err, append_assoc}
 use Rattle.tatp_tables.specs.Database.{Database, database_of}
-use Rattle.tatp_procs.specs.declared.call.Call.{Call}
-use Rattle.tatp_procs.specs.declared.domains.BadArgument.{BadArgument}
-use Rattle.tatp_procs.specs.Arguments.{arguments_accepted}
-use Rattle.tatp_procs.specs.Order.{in_order}
+use Rattle.tatp_calls.specs.declared.call.Call.{Call}
+use Rattle.tatp_calls.specs.declared.domains.BadArgument.{BadArgument}
+use Rattle.tatp_calls.specs.Arguments.{arguments_accepted}
+use Rattle.tatp_calls.specs.Order.{in_order}
 use Rattle.tatp_console.specs.RowsWritten.{rows_if_asked}
 use Rattle.tatp_console.specs.AnsweredCalls.{call_before, line_before, calls_of, call_told, line_told, told, marks_after}
 use Rattle.tatp_inputs.specs.Work.{Work}

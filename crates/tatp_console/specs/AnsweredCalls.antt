@@ -1,11 +1,11 @@
 -- The calls among lines, and what is written for the lines by the replies to these calls.
 use Rattle.std.specs.Prelude.{ℕ, Bool, true, false, List, [], ◌∷◌, ◌++◌, Option, Some, None, Result, Ok, Err}
-use Rattle.tatp_procs.specs.declared.ask.Ask.TheVariants.{Txn}
-use Rattle.tatp_procs.specs.declared.call.Call.{Call}
-use Rattle.tatp_procs.specs.declared.domains.BadArgument.{BadArgument}
-use Rattle.tatp_procs.specs.declared.reply.Reply.{Reply}
-use Rattle.tatp_procs.specs.Arguments.{arguments_accepted}
-use Rattle.tatp_procs.specs.ReplyText.{reply_text}
+use Rattle.tatp_calls.specs.declared.ask.Ask.TheVariants.{Txn}
+use Rattle.tatp_calls.specs.declared.call.Call.{Call}
+use Rattle.tatp_calls.specs.declared.domains.BadArgument.{BadArgument}
+use Rattle.tatp_calls.specs.declared.reply.Reply.{Reply}
+use Rattle.tatp_calls.specs.Arguments.{arguments_accepted}
+use Rattle.tatp_calls.specs.ReplyText.{reply_text}
 use Rattle.tatp_console.specs.Served.{call_in, no_call_text, bad_argument_text, no_memory_text, first_mark, later_marks}
 
 -- ---- the calls

@@ -7,7 +7,7 @@ use Rattle.tatp_partition.specs.declared.refusal.SiteRefusal.TheVariants.{NotHer
 use Rattle.tatp_partition.specs.Sites.{SiteState, home_here}
 use Rattle.tatp_debug.specs.declared.snapshot.Snapshot.{Snapshot}
 use Rattle.tatp_debug.specs.Printing.{snapshot_text}
-use Rattle.tatp_debug.specs.Snapshots.{Looks}
+use Rattle.tatp_partition.specs.Looking.{Looks}
 use Rattle.tatp_events.specs.declared.refusal.Refusal.TheVariants.{NoPartition, Site}
 use Rattle.tatp_dispatch.specs.Worlds.{WorldState}
 use Rattle.tatp_trace_lines.specs.AnswerText.{refused_text}

@@ -6,13 +6,13 @@ use Rattle.std.specs.Str.{is_utf8}
 use Rattle.tatp_limits.specs.declared.limits.TheConstants.{MAX_SUBSCRIBERS}
 use Rattle.tatp_tables.specs.Database.{Database, database_of}
 use Rattle.tatp_tables.specs.Clean.{IsClean}
-use Rattle.tatp_procs.specs.declared.call.Call.{Call}
-use Rattle.tatp_procs.specs.declared.ask.Ask.TheVariants.{Txn}
-use Rattle.tatp_procs.specs.declared.domains.BadArgument.{BadArgument}
-use Rattle.tatp_procs.specs.Arguments.{arguments_accepted}
-use Rattle.tatp_procs.specs.CallText.{call_of_line}
-use Rattle.tatp_procs.specs.ReplyText.{reply_text}
-use Rattle.tatp_procs.specs.Transactions.{transaction}
+use Rattle.tatp_calls.specs.declared.call.Call.{Call}
+use Rattle.tatp_calls.specs.declared.ask.Ask.TheVariants.{Txn}
+use Rattle.tatp_calls.specs.declared.domains.BadArgument.{BadArgument}
+use Rattle.tatp_calls.specs.Arguments.{arguments_accepted}
+use Rattle.tatp_calls.specs.CallText.{call_of_line}
+use Rattle.tatp_calls.specs.ReplyText.{reply_text}
+use Rattle.tatp_calls.specs.Transactions.{transaction}
 use Rattle.tatp_inputs.specs.Work.{Work}
 use Rattle.tatp_console.specs.RowsWritten.{rows_if_asked}
 

@@ -1,8 +1,8 @@
 //! The command `call`: a reply to each line, and then the rows, where they are asked for.
 ghost use Rattle.std.specs.Prelude.{◌≡◌, ◌≤◌, true, false, Result, length, IfErr, OnOk, IfSome};
 ghost use Rattle.std.specs.String.{string_bytes};
-ghost use Rattle.tatp_procs.specs.declared.ask.Ask.TheVariants.{Txn};
-ghost use Rattle.tatp_procs.specs.declared.reply.Reply.{Reply};
+ghost use Rattle.tatp_calls.specs.declared.ask.Ask.TheVariants.{Txn};
+ghost use Rattle.tatp_calls.specs.declared.reply.Reply.{Reply};
 ghost use Rattle.tatp_events.specs.declared.refusal.Refusal.{Refusal};
 ghost use Rattle.tatp_dispatch.specs.Calling.{MakesCall};
 ghost use Rattle.tatp_dispatch.specs.Shown.{set_back};
@@ -19,9 +19,9 @@ use crate::renewal::let_calls_go;
 use crate::rows::write_rows;
 use std::alloc::{AllocError, Global};
 use std::io::{Read, Write};
+use tatp_calls::{Ask, Call, push_reply, read_call};
 use tatp_dispatch::World;
 use tatp_limits::MAX_PARTITIONS;
-use tatp_procs::{Ask, Call, push_reply, read_call};
 use tatp_streams::{StreamFault, text_of};
 use tatp_tasks::{Population, Procedures, Setup};
 

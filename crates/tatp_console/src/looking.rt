@@ -6,7 +6,6 @@ ghost use Rattle.tatp_partition.specs.Sites.{home_here};
 ghost use Rattle.tatp_trace_lines.specs.AnswerText.{refused_text};
 
 use std::alloc::{AllocError, Global};
-use tatp_debug::{home_rows, look};
 use tatp_dispatch::World;
 use tatp_events::Refusal;
 use tatp_partition::Site;
@@ -25,7 +24,7 @@ pub fn look_text(alloc: Global, world: &World<'_>, partition: u64) -> Result<Str
 fn seen_text(alloc: Global, site: &Site<'_>) -> Result<String, AllocError>
     ensures { IfOk result (λ text. TellsSeen site.now (string_bytes text)) }
 {
-    match look(site) {
+    match site.look() {
         Ok(snapshot) => format!(in alloc; "{snapshot}\n"),
         Err(refusal) => refused_line(alloc, Refusal::Site(refusal)),
     }
@@ -49,7 +48,7 @@ pub fn home_lines(
 fn found_text(alloc: Global, site: &Site<'_>, s_id: u64) -> Result<String, AllocError>
     ensures { IfOk result (λ text. string_bytes text ≡ found_text (home_here site.now s_id)) }
 {
-    match home_rows(site, s_id) {
+    match site.home_rows(s_id) {
         Ok(home) => home_text(alloc, home),
         Err(refusal) => refused_line(alloc, Refusal::Site(refusal)),
     }

@@ -11,7 +11,6 @@ ghost use Rattle.tatp_console.specs.RowsWritten.{rows_told};
 
 use std::alloc::Global;
 use std::io::Write;
-use tatp_debug::home_rows;
 use tatp_dispatch::World;
 use tatp_homes::Home;
 use tatp_limits::MAX_PARTITIONS;
@@ -45,7 +44,7 @@ fn home_in<'w>(world: &'w World<'_>, s_id: u64) -> Option<&'w Home>
         let Some(site) = world.site(p) else {
             return None;
         };
-        if let Ok(home) = home_rows(site, s_id) {
+        if let Ok(home) = site.home_rows(s_id) {
             return Some(home);
         }
     }

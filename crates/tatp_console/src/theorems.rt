@@ -1,7 +1,7 @@
 //! Laws of the definitions, for their readers. Nothing runs here: a clause is the law.
 ghost use Rattle.std.specs.Prelude.{◌≡◌, ℕ, ◌++◌, ◌∷◌, [], Bool, List, length};
 ghost use Rattle.tatp_tables.specs.Database.{Database, database_of};
-ghost use Rattle.tatp_procs.specs.Order.{in_order};
+ghost use Rattle.tatp_calls.specs.Order.{in_order};
 ghost use Rattle.tatp_events.specs.Answers.{Answered};
 ghost use Rattle.tatp_dispatch.specs.Runs.{Runs};
 ghost use Rattle.tatp_dispatch.specs.Serving.{IsWorld};

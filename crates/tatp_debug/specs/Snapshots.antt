@@ -1,14 +1,11 @@
 -- What a snapshot shows of a running call.
-use Rattle.std.specs.Prelude.{◌≡◌, ℕ, List, [], ◌∷◌, None, IsSomeAnd, Result, Ok, Err, slice_get}
+use Rattle.std.specs.Prelude.{◌≡◌, ℕ, List, [], ◌∷◌, IsSomeAnd, slice_get}
 use Rattle.std.specs.Option.{option_map_or}
 use Rattle.tatp_instr.specs.declared.instr.Instr.{Instr}
 use Rattle.tatp_instr.specs.Instrs.{text_of}
 use Rattle.tatp_encoding.specs.Modules.{Procedure, ModuleState}
 use Rattle.tatp_machine.specs.Calls.{Frame}
 use Rattle.tatp_machine.specs.Instructions.{value}
-use Rattle.tatp_partition.specs.Sites.{SiteState, RunningCall}
-use Rattle.tatp_partition.specs.declared.refusal.SiteRefusal.{SiteRefusal}
-use Rattle.tatp_partition.specs.declared.refusal.SiteRefusal.TheVariants.{NotRunning}
 use Rattle.tatp_debug.specs.declared.snapshot.Snapshot.{Snapshot}
 
 -- the name of a procedure of a module
@@ -39,9 +36,3 @@ pub record IsSnapshot (modul : ModuleState) (q : Frame) (snapshot : Snapshot) : 
   pub steps_made : snapshot.steps_made ≡ q.steps
   pub writes_made : snapshot.writes_made ≡ q.writes
   pub line : IsSomeAnd (slice_get q.code q.pc) (λ (i : Instr). snapshot.line.bytes ≡ text_of i)
-
--- what looking at a site answers: a snapshot of the call that runs; that none runs
-abbrev pub Looks : SiteState → Result Snapshot SiteRefusal → Type 0
-Looks s (Ok snapshot) =
-    IsSomeAnd s.running (λ (r : RunningCall). IsSnapshot s.modul r.call.frame snapshot)
-Looks s (Err refusal) = (refusal ≡ NotRunning) × (s.running ≡ None)

@@ -1,9 +1,9 @@
-//! What a debugger sees of a site: its running call's state, and the homes that are there.
+//! What a debugger sees of a running call.
 #![tactic(auto)]
 
-mod looking;
 mod printing;
 mod snapshot;
+mod taking;
 
-pub use looking::{home_rows, look};
 pub use snapshot::{CurrentKeys, Snapshot};
+pub use taking::snapshot_of;

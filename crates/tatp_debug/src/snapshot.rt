@@ -1,8 +1,8 @@
 //! Snapshots of running calls.
 use arrayvec::ArrayString;
+use tatp_calls::Outputs;
 use tatp_instr::Line;
 use tatp_limits::{MAX_NAME_BYTES, REGISTERS};
-use tatp_procs::Outputs;
 
 /// The keys of a call's current rows, table by table: three parts, 0 in those that the table's key
 /// lacks; or none.

@@ -3,10 +3,10 @@ use Rattle.std.proofs.Common.{◌≡◌, ◌≢◌, ◌==◌, ℕ, zero, suc, fa
 use Rattle.std.proofs.lemmas.Bool.{false_from_ne_true, eqb-true}
 use Rattle.std.proofs.lemmas.List.{append-nil, take-replicate}
 use Rattle.std.proofs.lemmas.List.Sums.{fold-append}
-use Rattle.tatp_procs.specs.declared.ask.Ask.{Ask}
-use Rattle.tatp_procs.specs.declared.entry.Entry.{Entry}
-use Rattle.tatp_procs.specs.declared.reply.Reply.{Reply}
-use Rattle.tatp_procs.specs.declared.reply.Reply.TheVariants.{Refused}
+use Rattle.tatp_calls.specs.declared.ask.Ask.{Ask}
+use Rattle.tatp_calls.specs.declared.entry.Entry.{Entry}
+use Rattle.tatp_calls.specs.declared.reply.Reply.{Reply}
+use Rattle.tatp_calls.specs.declared.reply.Reply.TheVariants.{Refused}
 use Rattle.tatp_partition.specs.declared.item.Completion.{Completion}
 use Rattle.tatp_partition.specs.declared.refusal.SiteRefusal.TheVariants.{Running}
 use Rattle.tatp_partition.specs.Sites.{RunningCall}

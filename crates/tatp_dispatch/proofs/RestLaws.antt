@@ -17,11 +17,11 @@ use Rattle.tatp_numbers.specs.declared.key.Key.{Key}
 use Rattle.tatp_numbers.specs.declared.key.Key.TheVariants.{Id, Number}
 use Rattle.tatp_numbers.specs.Homes.{s_id_of, home_of_key}
 use Rattle.tatp_numbers.specs.Listing.{answer}
-use Rattle.tatp_procs.specs.declared.ask.Ask.{Ask}
-use Rattle.tatp_procs.specs.declared.entry.Entry.{Entry}
-use Rattle.tatp_procs.specs.declared.domains.BadArgument.{BadArgument as Bad}
-use Rattle.tatp_procs.specs.declared.reply.Reply.{Reply}
-use Rattle.tatp_procs.specs.Asked.{key_asked, has_procedure, bad_argument}
+use Rattle.tatp_calls.specs.declared.ask.Ask.{Ask}
+use Rattle.tatp_calls.specs.declared.entry.Entry.{Entry}
+use Rattle.tatp_calls.specs.declared.domains.BadArgument.{BadArgument as Bad}
+use Rattle.tatp_calls.specs.declared.reply.Reply.{Reply}
+use Rattle.tatp_calls.specs.Asked.{key_asked, has_procedure, bad_argument}
 use Rattle.tatp_procs.proofs.LocalityLaws.{id_names, number_names, named_at_home}
 use Rattle.tatp_extents.specs.Extents.{ExtentState, extent_of, last_stamp_of}
 use Rattle.tatp_extents.specs.Opening.{extent_count, opened_extents}

@@ -4,7 +4,7 @@ use Rattle.std.specs.Option.{option_map, option_map_or}
 use Rattle.std.proofs.Math.ListN.{set}
 use Rattle.std.proofs.lemmas.Bool.{eqb-true, false_from_ne_true}
 use Rattle.tatp_tables.specs.Database.{Database}
-use Rattle.tatp_procs.specs.declared.entry.Entry.{Entry}
+use Rattle.tatp_calls.specs.declared.entry.Entry.{Entry}
 use Rattle.tatp_logs.specs.Logs.{last_stamp_from}
 use Rattle.tatp_extents.specs.Extents.{ExtentState, extent_of, last_stamp_of, with_home_at, with_entry, as_mixed}
 use Rattle.tatp_partition.specs.declared.item.Item.{Item}

@@ -2,7 +2,7 @@
 -- What each event answers and changes. At a site it is the site's own relation.
 use Rattle.std.specs.Prelude.{◌≡◌, ℕ, ◌<◌, length, Bool, List, [], ◌∷◌, ◌++◌, Option, Some, None, Ok, Err, slice_get, slice_set, remove}
 use Rattle.tatp_numbers.specs.Listing.{answer}
-use Rattle.tatp_procs.specs.declared.ask.Ask.{Ask}
+use Rattle.tatp_calls.specs.declared.ask.Ask.{Ask}
 use Rattle.tatp_extents.specs.Extents.{ExtentState}
 use Rattle.tatp_extents.specs.Chapters.{ChapterState}
 use Rattle.tatp_partition.specs.declared.item.Item.{Item}
@@ -10,7 +10,7 @@ use Rattle.tatp_partition.specs.declared.item.Completion.{Completion}
 use Rattle.tatp_partition.specs.declared.item.Offer.TheVariants.{Began as Did_begin}
 use Rattle.tatp_partition.specs.declared.item.Stepped.TheVariants.{Moved as Did_move, Ended as Did_end}
 use Rattle.tatp_partition.specs.declared.refusal.SiteRefusal.TheVariants.{NotHere}
-use Rattle.tatp_procs.specs.Asked.{key_asked}
+use Rattle.tatp_calls.specs.Asked.{key_asked}
 use Rattle.tatp_partition.specs.Checkpointing.{Checkpoints}
 use Rattle.tatp_partition.specs.Moving.{LandedState, Takes, Gives}
 use Rattle.tatp_partition.specs.Running.{Begins, Advances}

@@ -1,8 +1,8 @@
 -- The system of one client, in which nothing moves and nothing is stopped.
 use Rattle.std.specs.Prelude.{◌≡◌, ℕ, ◌≤◌, false, List, [], ◌∷◌, Option, None, Some, IfErr, Result, Err, slice_get}
 use Rattle.std.specs.Option.{option_map_or}
-use Rattle.tatp_procs.specs.declared.domains.BadArgument.{BadArgument as Bad}
-use Rattle.tatp_procs.specs.declared.reply.Reply.{Reply}
+use Rattle.tatp_calls.specs.declared.domains.BadArgument.{BadArgument as Bad}
+use Rattle.tatp_calls.specs.declared.reply.Reply.{Reply}
 use Rattle.tatp_events.specs.declared.refusal.Refusal.{Refusal}
 use Rattle.tatp_events.specs.declared.refusal.Refusal.TheVariants.{BadArgument, NoMemory}
 use Rattle.tatp_extents.specs.Extents.{ExtentState, last_stamp_of}

@@ -4,9 +4,9 @@ use Rattle.std.proofs.Common.{refl, arith}
 use Rattle.std.proofs.lemmas.Bool.Decides.{nat_tests}
 use Rattle.tatp_lines.specs.Numbers.{is_between}
 use Rattle.tatp_tables.specs.Domains.{is_in_domain}
-use Rattle.tatp_procs.specs.declared.call.Call.{Call}
-use Rattle.tatp_procs.specs.Arguments.{accepted, first_bad, arguments_accepted}
-use Rattle.tatp_procs.specs.Calls.{key_of_call}
+use Rattle.tatp_calls.specs.declared.call.Call.{Call}
+use Rattle.tatp_calls.specs.Arguments.{accepted, first_bad, arguments_accepted}
+use Rattle.tatp_calls.specs.Calls.{key_of_call}
 use Rattle.tatp_driver.specs.DrawnCall.{place_in_mix, call_on, NamesOneOf}
 
 -- ---- what holds of each of two calls holds of the chosen one

@@ -2,7 +2,7 @@
 -- says it in words.
 use Rattle.std.specs.Prelude.{ℕ, zero, suc, List, [], ◌∷◌, ◌++◌}
 use Rattle.rand_core.specs.Stream.{Stream}
-use Rattle.tatp_procs.specs.declared.call.Call.{Call}
+use Rattle.tatp_calls.specs.declared.call.Call.{Call}
 use Rattle.tatp_tasks.specs.declared.distribution.Distribution.{Distribution}
 use Rattle.tatp_driver.specs.DrawnCall.{drawn_call}
 use Rattle.tatp_driver.specs.DrawnWords.{next_words}

@@ -1,11 +1,11 @@
 //! A call from seven random words.
 ghost use Rattle.std.specs.Prelude.{◌≡◌, ◌≤◌, Ok};
-ghost use Rattle.tatp_procs.specs.Arguments.{arguments_accepted};
-ghost use Rattle.tatp_procs.specs.Calls.{key_of_call};
+ghost use Rattle.tatp_calls.specs.Arguments.{arguments_accepted};
+ghost use Rattle.tatp_calls.specs.Calls.{key_of_call};
 ghost use Rattle.tatp_driver.specs.DrawnCall.{call_on, drawn_call, drawn_subscriber, NamesOneOf};
 
+use tatp_calls::Call;
 use tatp_limits::MAX_SUBSCRIBERS;
-use tatp_procs::Call;
 use tatp_tasks::Distribution;
 
 /// The call that seven words make, by the benchmark's mix, on one of the subscribers 1 to

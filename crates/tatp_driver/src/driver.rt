@@ -1,7 +1,7 @@
 //! The calls of one client, one after another.
 ghost use Rattle.std.specs.Prelude.{◌≡◌, ◌≤◌, Ok};
-ghost use Rattle.tatp_procs.specs.Arguments.{arguments_accepted};
-ghost use Rattle.tatp_procs.specs.Calls.{key_of_call};
+ghost use Rattle.tatp_calls.specs.Arguments.{arguments_accepted};
+ghost use Rattle.tatp_calls.specs.Calls.{key_of_call};
 ghost use Rattle.tatp_driver.specs.DrawnCall.{drawn_call, NamesOneOf};
 ghost use Rattle.tatp_driver.specs.DrawnWords.{next_words, words_of, client_generator};
 
@@ -9,8 +9,8 @@ use crate::call_of;
 use rand_core::Rng;
 use rand_pcg::Pcg64;
 use std::marker::Model;
+use tatp_calls::Call;
 use tatp_limits::MAX_SUBSCRIBERS;
-use tatp_procs::Call;
 use tatp_tasks::Distribution;
 
 /// Draws the calls of one client. It takes no memory.

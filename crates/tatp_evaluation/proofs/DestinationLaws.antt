@@ -12,7 +12,7 @@ use Rattle.tatp_tables.specs.Database.{Database}
 use Rattle.tatp_tables.specs.declared.table.Table.TheVariants.{CallForwarding}
 use Rattle.tatp_tables.proofs.KeyLaws.{key_is, row_at-key}
 use Rattle.tatp_homes.proofs.UndoLaws.{are_in_domain-at}
-use Rattle.tatp_procs.specs.Transactions.{start_time_of, end_time_of, numberx_of, is_active, destinations}
+use Rattle.tatp_calls.specs.Transactions.{start_time_of, end_time_of, numberx_of, is_active, destinations}
 use Rattle.tatp_procs.specs.Consistent.{IsConsistent}
 use Rattle.tatp_procs.proofs.HomeRowLaws.{forwarding_key_parts, row_length}
 use Rattle.tatp_procs.proofs.DestinationLaws.{nothing_passes}

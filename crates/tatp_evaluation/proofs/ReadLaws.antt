@@ -10,8 +10,8 @@ use Rattle.tatp_tables.specs.declared.table.Table.TheVariants.{Subscriber, Acces
 use Rattle.tatp_tables.proofs.KeyLaws.{row_at-has}
 use Rattle.tatp_homes.specs.Changes.{cell}
 use Rattle.tatp_homes.proofs.StoredLaws.{AreFirst, first_all}
-use Rattle.tatp_procs.specs.declared.reply.Reply.TheVariants.{Values}
-use Rattle.tatp_procs.specs.Transactions.{reads, get_subscriber_data, get_access_data}
+use Rattle.tatp_calls.specs.declared.reply.Reply.TheVariants.{Values}
+use Rattle.tatp_calls.specs.Transactions.{reads, get_subscriber_data, get_access_data}
 use Rattle.tatp_procs.specs.Consistent.{IsConsistent}
 use Rattle.tatp_procs.proofs.HomeRowLaws.{row_length}
 

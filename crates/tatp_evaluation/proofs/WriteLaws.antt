@@ -13,9 +13,9 @@ use Rattle.tatp_homes.specs.Home.{SubscriberRows, IsHome}
 use Rattle.tatp_homes.specs.Changes.{put_rows, put_tables, insert_answer_at, insert_answer, insert_rows_at, insert_tables, delete_answer_at, delete_answer, delete_tables}
 use Rattle.tatp_homes.specs.declared.refusal.Refusal.{Refusal}
 use Rattle.tatp_numbers.specs.Homes.{s_id_of}
-use Rattle.tatp_procs.specs.declared.reply.Reply.{Reply}
-use Rattle.tatp_procs.specs.declared.reply.Reply.TheVariants.{Values, Failed}
-use Rattle.tatp_procs.specs.Transactions.{updates_location, updates_both, inserts_under, inserts_for, deletes, deletes_for, update_location, update_subscriber_data, insert_call_forwarding, delete_call_forwarding}
+use Rattle.tatp_calls.specs.declared.reply.Reply.{Reply}
+use Rattle.tatp_calls.specs.declared.reply.Reply.TheVariants.{Values, Failed}
+use Rattle.tatp_calls.specs.Transactions.{updates_location, updates_both, inserts_under, inserts_for, deletes, deletes_for, update_location, update_subscriber_data, insert_call_forwarding, delete_call_forwarding}
 use Rattle.tatp_procs.specs.Consistent.{IsConsistent}
 use Rattle.tatp_procs.proofs.ConsistentLaws.{IsConsistent-home}
 use Rattle.tatp_procs.proofs.ForwardingLaws.{s_id_fits, row_fits}

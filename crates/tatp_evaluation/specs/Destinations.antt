@@ -1,7 +1,7 @@
 -- The number of one forwarding of a facility.
 use Rattle.std.specs.Prelude.{ℕ, ◌&&◌, nat_lt, nat_le, Option, Some, None, if◌then◌else◌}
 use Rattle.tatp_tables.specs.Tuples.{Tuple}
-use Rattle.tatp_procs.specs.Transactions.{end_time_of, numberx_of}
+use Rattle.tatp_calls.specs.Transactions.{end_time_of, numberx_of}
 
 -- the number of a forwarding with this start time, if there is one and it is in time
 abbrev pub number_in_time : ℕ → ℕ → ℕ → Option Tuple → Option ℕ

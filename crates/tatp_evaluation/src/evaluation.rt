@@ -1,14 +1,14 @@
 //! A transaction on the home of its subscriber.
 ghost use Rattle.std.specs.Prelude.{◌≡◌, Ok};
-ghost use Rattle.tatp_procs.specs.Arguments.{arguments_accepted};
-ghost use Rattle.tatp_procs.specs.Transactions.{transaction};
+ghost use Rattle.tatp_calls.specs.Arguments.{arguments_accepted};
+ghost use Rattle.tatp_calls.specs.Transactions.{transaction};
 
 use crate::reads::{get_access_data, get_new_destination, get_subscriber_data};
 use crate::writes::{
     delete_call_forwarding, insert_call_forwarding, update_location, update_subscriber_data,
 };
+use tatp_calls::{Call, Reply};
 use tatp_homes::Home;
-use tatp_procs::{Call, Reply};
 
 /// Makes a transaction on a home: the reply takes the place of the one that is lent. It takes no
 /// memory, and runs no procedure.

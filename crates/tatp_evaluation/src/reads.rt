@@ -4,13 +4,13 @@ ghost use Rattle.std.specs.Option.{option_to_list};
 ghost use Rattle.tatp_homes.specs.Changes.{cell};
 ghost use Rattle.tatp_tables.specs.Database.{Database};
 ghost use Rattle.tatp_tables.specs.Keys.{row_at};
-ghost use Rattle.tatp_procs.specs.Transactions.{get_subscriber_data, get_new_destination, get_access_data, some_of};
+ghost use Rattle.tatp_calls.specs.Transactions.{get_subscriber_data, get_new_destination, get_access_data, some_of};
 ghost use Rattle.tatp_evaluation.specs.Destinations.{number_in_time};
 
 use arrayvec::ArrayVec;
+use tatp_calls::Reply;
 use tatp_homes::{Home, what_holds_of_every_home};
-use tatp_machine::End;
-use tatp_procs::Reply;
+use tatp_instr::End;
 
 /// The columns of a Subscriber row.
 const SUBSCRIBER_COLUMNS: usize = 34;

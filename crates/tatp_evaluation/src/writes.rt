@@ -1,12 +1,12 @@
 //! The transactions that write.
 ghost use Rattle.std.specs.Prelude.{◌≡◌, ◌∷◌, true, slice_index};
 ghost use Rattle.tatp_tables.specs.Domains.{is_in_domain};
-ghost use Rattle.tatp_procs.specs.Transactions.{update_subscriber_data, update_location, insert_call_forwarding, delete_call_forwarding};
+ghost use Rattle.tatp_calls.specs.Transactions.{update_subscriber_data, update_location, insert_call_forwarding, delete_call_forwarding};
 ghost use Rattle.tatp_evaluation.specs.Failures.{insert_failure};
 
+use tatp_calls::Reply;
 use tatp_homes::{Home, Refusal, what_holds_of_every_home};
-use tatp_machine::End;
-use tatp_procs::Reply;
+use tatp_instr::End;
 
 const BIT_1: u8 = 2;
 

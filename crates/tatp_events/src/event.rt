@@ -1,6 +1,6 @@
 //! Events, and what is answered.
 
-use tatp_procs::{Ask, Reply};
+use tatp_calls::{Ask, Reply};
 
 /// What may happen.
 #[derive(Clone, Copy, Debug)]

@@ -5,8 +5,8 @@ ghost use Rattle.tatp_events.specs.RefusalText.{refusal_text};
 
 use std::error::Error;
 use std::fmt;
+use tatp_calls::BadArgument;
 use tatp_partition::SiteRefusal;
-use tatp_procs::BadArgument;
 
 /// Why an event is refused. Its text is its number and its name, and for 26 the argument's place.
 #[derive(Clone, Copy, Debug, PartialEq, Eq)]

@@ -7,8 +7,8 @@ use Rattle.std.proofs.lemmas.Bool.Decides.{nat_tests}
 use Rattle.std.proofs.lemmas.List.Elements.{All-push}
 use Rattle.tatp_limits.specs.declared.limits.TheConstants.{EXTENT_SUBSCRIBERS}
 use Rattle.tatp_homes.specs.Home.{SubscriberRows}
-use Rattle.tatp_procs.specs.declared.entry.Entry.{Entry}
-use Rattle.tatp_procs.specs.Transactions.{transaction}
+use Rattle.tatp_calls.specs.declared.entry.Entry.{Entry}
+use Rattle.tatp_calls.specs.Transactions.{transaction}
 use Rattle.tatp_extents.specs.Histories.{with_tables, Records, Leads, StampsRise}
 use Rattle.tatp_logs.specs.Logs.{last_stamp_from}
 use Rattle.tatp_extents.specs.Extents.{ExtentState, AreHomesOfExtent, IsExtent, LiesIn, s_ids, home_among, home_at, first_subscriber, place_in, with_home_at, with_entry, as_mixed}

@@ -5,8 +5,8 @@ use Rattle.std.specs.Option.{option_map, option_to_list}
 use Rattle.std.specs.Coded.{Coded, code_by, coded×, coded_ℕ, coded_list}
 use Rattle.tatp_limits.specs.declared.limits.TheConstants.{MAX_EXTENT_CHAPTERS}
 use Rattle.tatp_homes.specs.Home.{SubscriberRows, subscriber_rows_code}
-use Rattle.tatp_procs.specs.declared.entry.Entry.{Entry}
-use Rattle.tatp_procs.specs.contracts.entry.Entry as entry
+use Rattle.tatp_calls.specs.declared.entry.Entry.{Entry}
+use Rattle.tatp_calls.specs.contracts.entry.Entry as entry
 use Rattle.tatp_extents.specs.declared.chapter.CheckpointError.{CheckpointError}
 use Rattle.tatp_extents.specs.declared.chapter.CheckpointError.TheVariants.{LogEnded, ChapterCountFull, NoMemory}
 use Rattle.tatp_extents.specs.Histories.{Leads, StampsRise, IsHistory}

@@ -5,8 +5,8 @@ use Rattle.std.specs.Option.{option_map_or}
 use Rattle.std.specs.Coded.{Coded, code_by, coded×, coded_ℕ, coded_bool, coded_list}
 use Rattle.tatp_limits.specs.declared.limits.TheConstants.{EXTENT_SUBSCRIBERS}
 use Rattle.tatp_homes.specs.Home.{SubscriberRows, subscriber_rows_code}
-use Rattle.tatp_procs.specs.declared.entry.Entry.{Entry}
-use Rattle.tatp_procs.specs.contracts.entry.Entry as entry
+use Rattle.tatp_calls.specs.declared.entry.Entry.{Entry}
+use Rattle.tatp_calls.specs.contracts.entry.Entry as entry
 use Rattle.tatp_logs.specs.Logs.{last_stamp_from}
 use Rattle.tatp_extents.specs.Histories.{IsHistory}
 

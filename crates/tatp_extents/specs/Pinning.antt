@@ -2,7 +2,7 @@
 use Rattle.std.specs.Prelude.{◌≡◌, ℕ, ◌<◌, false, IsSomeAnd, refl}
 use Rattle.std.specs.Coded.{Coded, code_by, coded×, coded_ℕ}
 use Rattle.tatp_homes.specs.Home.{SubscriberRows}
-use Rattle.tatp_procs.specs.declared.entry.Entry.{Entry}
+use Rattle.tatp_calls.specs.declared.entry.Entry.{Entry}
 use Rattle.tatp_extents.specs.Histories.{Records}
 use Rattle.tatp_extents.specs.Extents.{ExtentState, extent_state_code, IsExtent, LiesIn, place_in, home_at, with_home_at, last_stamp_of}
 

@@ -7,9 +7,9 @@ use crate::chapter::ChapterParts;
 use crate::{Chapter, CheckpointError, HomelessParts, SharedHomes};
 use std::alloc::{AllocError, Global};
 use std::marker::Model;
+use tatp_calls::Entry;
 use tatp_limits::MAX_EXTENT_CHAPTERS;
 use tatp_logs::Log;
-use tatp_procs::Entry;
 
 /// The log of the calls without a home, which counts as extent 0.
 #[derive(Debug, Drop)]

@@ -12,8 +12,8 @@ use crate::homes::add_rows;
 use crate::{Extent, ExtentParts};
 use std::alloc::AllocError;
 use std::marker::Model;
+use tatp_calls::Entry;
 use tatp_homes::Home;
-use tatp_procs::Entry;
 use tatp_tables::Rows;
 
 /// An extent while a call runs on the home of one of its subscribers. All its other homes are what

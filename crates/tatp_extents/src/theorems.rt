@@ -8,7 +8,7 @@ ghost use Rattle.tatp_tables.specs.Clean.{IsClean};
 ghost use Rattle.tatp_tables.specs.declared.table.Table.{Table};
 ghost use Rattle.tatp_tables.specs.declared.row.Rows.{Rows};
 ghost use Rattle.tatp_extents.specs.Extents.{ExtentState, IsExtent, LiesIn, extent_of, home_at, with_home_at};
-ghost use Rattle.tatp_procs.specs.declared.entry.Entry.{Entry};
+ghost use Rattle.tatp_calls.specs.declared.entry.Entry.{Entry};
 ghost use Rattle.tatp_extents.specs.Histories.{Leads, StampsRise};
 ghost use Rattle.tatp_extents.specs.HomelessLog.{RecordsHomeless};
 ghost use Rattle.tatp_extents.specs.Chapters.{ChapterState, Joins, EachLeads, EachRises, entries_joined, chapters_listed, homes_due_from};

@@ -9,9 +9,9 @@ use Rattle.tatp_tables.specs.Database.{Database}
 use Rattle.tatp_tables.proofs.KeyLaws.{UniqueIn, UniqueIn-replace_row, key_is, has_key-alike, row_at-has}
 use Rattle.tatp_numbers.specs.declared.key.Key.TheVariants.{Number}
 use Rattle.tatp_numbers.specs.Homes.{home_of_key}
-use Rattle.tatp_procs.specs.declared.call.Call.{Call}
-use Rattle.tatp_procs.specs.declared.call.Call.TheVariants.{GetSubscriberData, GetNewDestination, GetAccessData, UpdateSubscriberData, UpdateLocation, InsertCallForwarding, DeleteCallForwarding}
-use Rattle.tatp_procs.specs.Transactions.{Answer, transaction, replies, reads, is_active, start_time_of, end_time_of, numberx_of, destinations, some_of, with_bit_1, with_data_a, updates_both, updates_location, inserts_under, inserts_for, deletes, deletes_for}
+use Rattle.tatp_calls.specs.declared.call.Call.{Call}
+use Rattle.tatp_calls.specs.declared.call.Call.TheVariants.{GetSubscriberData, GetNewDestination, GetAccessData, UpdateSubscriberData, UpdateLocation, InsertCallForwarding, DeleteCallForwarding}
+use Rattle.tatp_calls.specs.Transactions.{Answer, transaction, replies, reads, is_active, start_time_of, end_time_of, numberx_of, destinations, some_of, with_bit_1, with_data_a, updates_both, updates_location, inserts_under, inserts_for, deletes, deletes_for}
 use Rattle.tatp_history.specs.Cleared.{first_type, bit_alone, cleared_call, without_data_a, with_facilities, AreCleared, IsCleared}
 use Rattle.tatp_history.proofs.ChangeLaws.{reading_leaves}
 use Rattle.tatp_history.proofs.ReplacedLaws.{replaced_itself, told_same}

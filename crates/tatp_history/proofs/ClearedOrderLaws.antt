@@ -3,7 +3,7 @@ use Rattle.std.proofs.Common.{◌≡◌, ◌↔◌, List, [], ◌∷◌, map, re
 use Rattle.std.specs.List.{AllByRecursion}
 use Rattle.tatp_tables.specs.Tuples.{Tuples}
 use Rattle.tatp_tables.specs.Database.{Database}
-use Rattle.tatp_procs.specs.Transactions.{Answer, transaction}
+use Rattle.tatp_calls.specs.Transactions.{Answer, transaction}
 use Rattle.tatp_history.specs.declared.observed.Observed.{Observed}
 use Rattle.tatp_history.specs.Histories.{IsIn, IsAnswered, Precedes, AreAskedApart, KeepsRealTime, MayHaveReply, AreAnsweredInOrder, IsSerialOrder, IsStrictlySerializable}
 use Rattle.tatp_history.specs.Cleared.{cleared, cleared_calls, with_facilities, AreCleared, IsCleared}

@@ -8,7 +8,7 @@ use Rattle.tatp_tables.specs.declared.table.Table.TheVariants.{Subscriber, Acces
 use Rattle.tatp_tables.proofs.TupleLaws.{same_tuples}
 use Rattle.tatp_homes.specs.Home.{AreRows}
 use Rattle.tatp_homes.proofs.SubscriberLaws.{has-rows_with_s_id}
-use Rattle.tatp_procs.specs.Transactions.{transaction}
+use Rattle.tatp_calls.specs.Transactions.{transaction}
 use Rattle.tatp_procs.specs.Consistent.{IsConsistent}
 use Rattle.tatp_procs.proofs.ConsistentAfterLaws.{consistent_after}
 use Rattle.tatp_history.specs.declared.observed.Observed.{Observed}

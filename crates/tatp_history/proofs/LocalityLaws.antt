@@ -3,8 +3,8 @@
 use Rattle.std.proofs.Common.{◌≡◌, ◌≢◌, ℕ, zero, suc, ◌+◌, ◌<◌, ◌≤◌, Bool, true, false, ◌==◌, nat_lt, List, [], ◌∷◌, map, filter, Option, Some, None, Ok, refl, sym, ◌∙◌, ap, subst, arith, le_refl, lt_of_lt_of_le, eqb-true, eq-eqb, ne_eqb, ltb-true, ltb-false, true≢false}
 use Rattle.std.specs.List.{AllByRecursion}
 use Rattle.tatp_tables.specs.Database.{Database, of_subscriber}
-use Rattle.tatp_procs.specs.declared.reply.Reply.TheVariants.{Failed}
-use Rattle.tatp_procs.specs.Arguments.{arguments_accepted}
+use Rattle.tatp_calls.specs.declared.reply.Reply.TheVariants.{Failed}
+use Rattle.tatp_calls.specs.Arguments.{arguments_accepted}
 use Rattle.tatp_procs.specs.Consistent.{IsConsistent}
 use Rattle.tatp_history.specs.declared.observed.Outcome.{Outcome}
 use Rattle.tatp_history.specs.declared.observed.Observed.{Observed}

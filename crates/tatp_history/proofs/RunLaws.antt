@@ -5,11 +5,11 @@ use Rattle.tatp_tables.specs.Database.{Database, of_subscriber}
 use Rattle.tatp_homes.proofs.SubscriberLaws.{of_subscriber-with_subscriber, of_subscriber-with_other}
 use Rattle.tatp_numbers.specs.declared.key.Key.{Key}
 use Rattle.tatp_numbers.specs.Homes.{home_of_key}
-use Rattle.tatp_procs.specs.declared.call.Call.{Call}
-use Rattle.tatp_procs.specs.declared.reply.Reply.TheVariants.{Failed}
-use Rattle.tatp_procs.specs.Arguments.{arguments_accepted}
-use Rattle.tatp_procs.specs.Calls.{key_of_call}
-use Rattle.tatp_procs.specs.Transactions.{Answer, transaction}
+use Rattle.tatp_calls.specs.declared.call.Call.{Call}
+use Rattle.tatp_calls.specs.declared.reply.Reply.TheVariants.{Failed}
+use Rattle.tatp_calls.specs.Arguments.{arguments_accepted}
+use Rattle.tatp_calls.specs.Calls.{key_of_call}
+use Rattle.tatp_calls.specs.Transactions.{Answer, transaction}
 use Rattle.tatp_procs.specs.Consistent.{IsConsistent}
 use Rattle.tatp_procs.proofs.ConsistentAfterLaws.{consistent_after, keys_after}
 use Rattle.tatp_procs.proofs.LocalityLaws.{transactions_are_local, rows_stay_own, fails_without_home}

@@ -4,9 +4,9 @@
 use Rattle.std.specs.Prelude.{◌≡◌, ℕ, ◌<◌, ◌⊎◌, List, [], ◌∷◌, map}
 use Rattle.std.specs.List.{AllZip, AllByRecursion}
 use Rattle.tatp_tables.specs.Database.{Database}
-use Rattle.tatp_procs.specs.declared.reply.Reply.{Reply}
-use Rattle.tatp_procs.specs.declared.reply.Reply.TheVariants.{Values, Failed, Trapped, Refused}
-use Rattle.tatp_procs.specs.Order.{in_order}
+use Rattle.tatp_calls.specs.declared.reply.Reply.{Reply}
+use Rattle.tatp_calls.specs.declared.reply.Reply.TheVariants.{Values, Failed, Trapped, Refused}
+use Rattle.tatp_calls.specs.Order.{in_order}
 use Rattle.tatp_history.specs.declared.observed.Recorded.{Recorded}
 use Rattle.tatp_history.specs.declared.observed.Recorded.TheVariants.{Exactly, Success, Failure}
 use Rattle.tatp_history.specs.declared.observed.Outcome.{Outcome}

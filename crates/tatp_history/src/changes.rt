@@ -3,7 +3,7 @@ ghost use Rattle.std.specs.Prelude.{◌≡◌};
 ghost use Rattle.tatp_history.specs.Changes.{changes_nothing, has_failed, only_reads as reads, records_failure};
 
 use crate::{Observed, Outcome, Recorded};
-use tatp_procs::{Call, Reply};
+use tatp_calls::{Call, Reply};
 
 /// Whether a call only reads.
 pub fn only_reads(call: &Call) -> bool

@@ -1,7 +1,7 @@
 //! The lines of a history.
 
 use crate::Recorded;
-use tatp_procs::Call;
+use tatp_calls::Call;
 
 /// What the driver of a client wrote about its calls, in the order of time. It writes that the
 /// client asks before it sends the call, and how the call ended once the client knows that.

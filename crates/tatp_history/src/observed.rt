@@ -2,7 +2,7 @@
 ghost use Rattle.std.specs.Prelude.{◌↔◌, IsTrue};
 ghost use Rattle.tatp_history.specs.Histories.{MayHaveReply, IsAsRecorded};
 
-use tatp_procs::{Call, Reply};
+use tatp_calls::{Call, Reply};
 
 /// What a client recorded of a reply.
 #[derive(Clone, Copy, Debug, PartialEq, Eq)]

@@ -2,10 +2,10 @@
 ghost use Rattle.std.specs.Prelude.{◌≡◌, ◌↔◌, ℕ, suc, true, List, [], ◌++◌, length};
 ghost use Rattle.tatp_tables.specs.Database.{Database, of_subscriber};
 ghost use Rattle.tatp_homes.specs.Home.{SubscriberRows, IsHome};
-ghost use Rattle.tatp_procs.specs.declared.call.Call.{Call};
-ghost use Rattle.tatp_procs.specs.declared.reply.Reply.{Reply};
-ghost use Rattle.tatp_procs.specs.Order.{in_order};
-ghost use Rattle.tatp_procs.specs.Transactions.{transaction};
+ghost use Rattle.tatp_calls.specs.declared.call.Call.{Call};
+ghost use Rattle.tatp_calls.specs.declared.reply.Reply.{Reply};
+ghost use Rattle.tatp_calls.specs.Order.{in_order};
+ghost use Rattle.tatp_calls.specs.Transactions.{transaction};
 ghost use Rattle.tatp_procs.specs.Consistent.{IsConsistent};
 ghost use Rattle.tatp_history.specs.declared.event.Event.{Event};
 ghost use Rattle.tatp_history.specs.declared.line.Line.{Line};

@@ -3,10 +3,10 @@ use Rattle.std.proofs.Common.{◌≡◌, ℕ, ◌<◌, ◌^◌, ◌∙◌, sym, 
 use Rattle.std.proofs.lemmas.Option.{none-some, option_and_then_some}
 use Rattle.std.specs.List.{All, list_all}
 use Rattle.std.specs.Option.{option_map, option_and_then}
-use Rattle.tatp_procs.specs.declared.call.Call.{Call}
-use Rattle.tatp_procs.specs.Calls.{arguments_of}
-use Rattle.tatp_procs.specs.CallText.{call_of_line, call_text, is_printable_call}
-use Rattle.tatp_procs.proofs.CallTextLaws.{call_of_line-call_text, call_text_of_read}
+use Rattle.tatp_calls.specs.declared.call.Call.{Call}
+use Rattle.tatp_calls.specs.Calls.{arguments_of}
+use Rattle.tatp_calls.specs.CallText.{call_of_line, call_text, is_printable_call}
+use Rattle.tatp_calls.proofs.CallTextLaws.{call_of_line-call_text, call_text_of_read}
 use Rattle.tatp_history.specs.declared.observed.Recorded.{Recorded}
 use Rattle.tatp_history.specs.declared.line.Line.{Line}
 use Rattle.tatp_history.specs.declared.line.Line.TheVariants.{Ask, End, Abort, Lost}

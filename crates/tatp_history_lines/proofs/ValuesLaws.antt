@@ -22,7 +22,7 @@ use Rattle.tatp_texts.specs.Text.{fields_of, form_of, is_decimal, value_in, valu
 use Rattle.tatp_texts.proofs.FieldLaws.{is_space}
 use Rattle.tatp_texts.proofs.NumberLaws.{exact_test_parts}
 use Rattle.tatp_texts.proofs.ValueLaws.{HasNoSpace, value_of-value_text, value_text-value_of}
-use Rattle.tatp_procs.specs.ValuesText.{values_text}
+use Rattle.tatp_calls.specs.ValuesText.{values_text}
 use Rattle.tatp_history_lines.specs.ReplyValues.{if_outside, or_else, printed_value_of, values_within}
 use Rattle.tatp_history_lines.proofs.WordLaws.{option_map_some, number_no_space}
 

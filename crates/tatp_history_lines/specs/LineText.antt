@@ -1,10 +1,10 @@
 -- The text of a line: docs/FORMATS.md.
 use Rattle.std.specs.Prelude.{◌≡◌, ℕ, ◌<◌, ◌^◌, true, List, [], ◌∷◌, ◌++◌, Some, codes, decimal}
-use Rattle.tatp_procs.specs.declared.call.Call.{Call}
-use Rattle.tatp_procs.specs.declared.reply.Reply.{Reply}
-use Rattle.tatp_procs.specs.declared.reply.Reply.TheVariants.{Values, Failed, Trapped, Refused}
-use Rattle.tatp_procs.specs.Calls.{arguments_of}
-use Rattle.tatp_procs.specs.CallText.{call_text, is_printable_call}
+use Rattle.tatp_calls.specs.declared.call.Call.{Call}
+use Rattle.tatp_calls.specs.declared.reply.Reply.{Reply}
+use Rattle.tatp_calls.specs.declared.reply.Reply.TheVariants.{Values, Failed, Trapped, Refused}
+use Rattle.tatp_calls.specs.Calls.{arguments_of}
+use Rattle.tatp_calls.specs.CallText.{call_text, is_printable_call}
 use Rattle.tatp_history.specs.declared.observed.Recorded.{Recorded}
 use Rattle.tatp_history.specs.declared.observed.Recorded.TheVariants.{Exactly, Success, Failure}
 use Rattle.tatp_history.specs.declared.line.Line.{Line}

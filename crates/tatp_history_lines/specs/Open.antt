@@ -1,7 +1,7 @@
 -- The calls that clients have open.
 use Rattle.std.specs.Prelude.{ℕ, ◌==◌, nat_eq, if◌then◌else◌, Option, Some, None}
 use Rattle.indexmap.specs.IndexMap.{get}
-use Rattle.tatp_procs.specs.declared.call.Call.{Call}
+use Rattle.tatp_calls.specs.declared.call.Call.{Call}
 use Rattle.tatp_history.specs.declared.line.Line.{Line}
 use Rattle.tatp_history.specs.declared.line.Line.TheVariants.{Ask, End, Abort, Lost}
 use Rattle.tatp_history_lines.specs.declared.open_calls.OpenCalls.{OpenCalls}

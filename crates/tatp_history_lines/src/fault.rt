@@ -1,6 +1,6 @@
 //! Why a text is no line of a history.
 
-use tatp_procs::BadArgument;
+use tatp_calls::BadArgument;
 
 /// Why a text is no line of a history.
 #[derive(Clone, Copy, Debug, PartialEq, Eq)]

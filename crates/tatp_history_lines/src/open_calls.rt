@@ -9,8 +9,8 @@ use crate::recordings::read_recorded;
 use crate::words::{read_short_number, split_word};
 use indexmap::IndexMap;
 use std::alloc::{AllocError, Global};
+use tatp_calls::{Call, args_ok};
 use tatp_history::Line;
-use tatp_procs::{Call, args_ok};
 
 /// The call that each client has open, if it has one.
 #[derive(Drop)]

@@ -3,8 +3,8 @@ ghost use Rattle.std.specs.Prelude.{◌≡◌};
 ghost use Rattle.tatp_history_lines.specs.Lines.{is_passed_over, ask_of};
 
 use crate::words::{read_short_number, split_word};
+use tatp_calls::read_call;
 use tatp_history::Line;
-use tatp_procs::read_call;
 
 /// Whether it is a comment, or empty.
 pub(crate) fn is_passed_over(text: &str) -> bool

@@ -4,8 +4,8 @@ ghost use Rattle.tatp_history_lines.specs.Recordings.{failure_of, success_of, re
 
 use crate::values::{has_values, read_values};
 use crate::words::read_short_number;
+use tatp_calls::{Call, Outputs, Reply};
 use tatp_history::Recorded;
-use tatp_procs::{Call, Outputs, Reply};
 use tatp_texts::Fields;
 
 /// The reply to a call that a text records: that of which it is the line, or any success or

@@ -2,13 +2,13 @@
 ghost use Rattle.std.specs.Prelude.{◌≡◌, ◌+◌, ◌<◌, ◌≤◌, slice_get, replicate, None, Some, IfSome, MatchOption};
 ghost use Rattle.std.specs.List.{range_with_len};
 ghost use Rattle.tatp_limits.specs.declared.limits.TheConstants.{MAX_OUTPUTS};
-ghost use Rattle.tatp_procs.specs.ReplyText.{answer_columns};
+ghost use Rattle.tatp_calls.specs.ReplyText.{answer_columns};
 ghost use Rattle.tatp_history_lines.specs.ReplyValues.{printed_value_of, values_within, has_values};
 
 use arrayvec::ArrayVec;
+use tatp_calls::Call;
 use tatp_limits::MAX_OUTPUTS;
 use tatp_lines::read_number;
-use tatp_procs::Call;
 use tatp_tables::in_domain;
 use tatp_texts::{Fields, read_value};
 

@@ -2,12 +2,14 @@
 #![tactic(auto)]
 
 mod book;
+mod ending;
 mod instr;
 mod printing;
 mod registers;
 mod version;
 
 pub use book::{BOOK, OpRow, Shape, Word, operands, row_named};
+pub use ending::{End, Trap};
 pub use instr::{Instr, Parts};
 pub use printing::{Line, text};
 pub use registers::{KeyRegisters, Register, Registers, RowRegisters};

@@ -4,7 +4,7 @@ use Rattle.std.proofs.lemmas.Bool.{cases_lt, false≢true}
 use Rattle.std.proofs.lemmas.List.{length-append, length-set, length-replicate, get_or-replicate, take_all}
 use Rattle.std.proofs.lemmas.Option.{none-some, same_Some}
 use Rattle.tatp_tables.specs.Database.{Database}
-use Rattle.tatp_procs.specs.declared.call.Call.{Call}
+use Rattle.tatp_calls.specs.declared.call.Call.{Call}
 use Rattle.tatp_history.specs.declared.line.Line.{Line}
 use Rattle.tatp_history.specs.declared.line.Line.TheVariants.{Ask}
 use Rattle.tatp_history.specs.HistoryLines.{client_of, end_at}

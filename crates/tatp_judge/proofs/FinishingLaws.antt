@@ -20,9 +20,9 @@ use Rattle.tatp_numbers.specs.Homes.{s_id_of, home_of_key}
 use Rattle.tatp_numbers.specs.Listing.{Listing, answer}
 use Rattle.tatp_numbers.proofs.FindLaws.{none_found, s_id_found, PassesOnce-counted}
 use Rattle.tatp_numbers.proofs.IdLaws.{clean_ids, no_other_id}
-use Rattle.tatp_procs.specs.Arguments.{arguments_accepted}
+use Rattle.tatp_calls.specs.Arguments.{arguments_accepted}
 use Rattle.tatp_procs.specs.Consistent.{IsConsistent}
-use Rattle.tatp_procs.specs.Transactions.{transaction}
+use Rattle.tatp_calls.specs.Transactions.{transaction}
 use Rattle.tatp_procs.proofs.ConsistentAfterLaws.{consistent_after, keys_after}
 use Rattle.tatp_procs.proofs.ConsistentLaws.{IsConsistent-clean, IsConsistent-home}
 use Rattle.tatp_procs.proofs.HomeRowLaws.{AreHome-of_subscriber, row_at-own}

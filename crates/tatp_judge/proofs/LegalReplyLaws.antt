@@ -5,8 +5,8 @@ use Rattle.std.proofs.lemmas.Bool.{cases_lt}
 use Rattle.std.proofs.lemmas.List.{take_all}
 use Rattle.std.proofs.lemmas.Option.{none-some, same_Some}
 use Rattle.tatp_tables.specs.Database.{Database, of_subscriber}
-use Rattle.tatp_procs.specs.declared.call.Call.{Call}
-use Rattle.tatp_procs.specs.declared.reply.Reply.{Reply}
+use Rattle.tatp_calls.specs.declared.call.Call.{Call}
+use Rattle.tatp_calls.specs.declared.reply.Reply.{Reply}
 use Rattle.tatp_history.specs.declared.line.Line.{Line}
 use Rattle.tatp_history.specs.declared.event.Event.{Event}
 use Rattle.tatp_history.specs.declared.event.Event.TheVariants.{Asks, Ends}

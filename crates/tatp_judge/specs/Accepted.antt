@@ -1,6 +1,6 @@
 -- Lines whose calls have arguments in their domains.
 use Rattle.std.specs.Prelude.{◌≡◌, Ok}
-use Rattle.tatp_procs.specs.Arguments.{arguments_accepted}
+use Rattle.tatp_calls.specs.Arguments.{arguments_accepted}
 use Rattle.tatp_history.specs.declared.line.Line.{Line}
 use Rattle.tatp_history.specs.declared.line.Line.TheVariants.{Ask, End, Abort, Lost}
 

@@ -2,7 +2,7 @@
 -- What was at stake in a history: how many calls it has, how they ended, and how many met others.
 use Rattle.std.specs.Prelude.{◌≡◌, ℕ, ◌-◌, ◌≤◌, ◌⊎◌, Bool, true, false, List, length, take, filter, slice_get, Some, None}
 use Rattle.tatp_tables.specs.Database.{Database}
-use Rattle.tatp_procs.specs.declared.call.Call.{Call}
+use Rattle.tatp_calls.specs.declared.call.Call.{Call}
 use Rattle.tatp_history.specs.declared.line.Line.{Line}
 use Rattle.tatp_history.specs.declared.line.Line.TheVariants.{Ask}
 use Rattle.tatp_history.specs.declared.observed.Outcome.{Outcome}

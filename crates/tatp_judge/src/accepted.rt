@@ -2,8 +2,8 @@
 ghost use Rattle.std.specs.Prelude.{◌↔◌, IsTrue};
 ghost use Rattle.tatp_judge.specs.Accepted.{IsAcceptedLine};
 
+use tatp_calls::args_ok;
 use tatp_history::Line;
-use tatp_procs::args_ok;
 
 /// Whether the arguments of the call that a line asks, if it asks one, are in their domains.
 pub fn is_accepted(line: &Line) -> bool

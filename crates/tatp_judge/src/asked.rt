@@ -7,8 +7,8 @@ ghost use Rattle.tatp_judge.specs.Population.{IsDirectoryOf};
 
 use indexmap::IndexMap;
 use std::alloc::Global;
+use tatp_calls::Call;
 use tatp_numbers::Directory;
-use tatp_procs::Call;
 
 /// An open call.
 #[derive(Clone, Copy, Debug)]

@@ -1,7 +1,7 @@
 //! Whether a window's calls are explained, and up to which line.
 ghost use Rattle.std.specs.Prelude.{◌≡◌, ◌⊎◌, ℕ, ◌<◌, [], ◌∷◌, IfOk, IfSome, OnOk, Ok, List, length};
 ghost use Rattle.tatp_tables.specs.Database.{Database};
-ghost use Rattle.tatp_procs.specs.Arguments.{arguments_accepted};
+ghost use Rattle.tatp_calls.specs.Arguments.{arguments_accepted};
 ghost use Rattle.tatp_history.specs.declared.line.Line.{Line as ALine};
 ghost use Rattle.tatp_linearization.specs.Single.{IsSingle, events_alone};
 ghost use Rattle.tatp_judge.specs.Steps.{Closes};
@@ -10,9 +10,9 @@ ghost use Rattle.tatp_judge.specs.Windows.{IsForgotten, IsWindowAfter, IsFirstOf
 use crate::legal::OnlyReply;
 use crate::window::Window;
 use std::alloc::{AllocError, Global};
+use tatp_calls::Reply;
 use tatp_history::{Event, Observed};
 use tatp_linearization::{First, Standing};
-use tatp_procs::Reply;
 
 /// The call, where the events are its ask and, in the line of this number, its answer.
 fn alone(events: &[Event], number: u64) -> Option<Observed>

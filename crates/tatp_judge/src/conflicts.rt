@@ -11,8 +11,8 @@ use crate::asked::{Asked, subscriber_of};
 use crate::judge::Judge;
 use crate::outcome::client_of;
 use std::alloc::{AllocError, Global};
+use tatp_calls::Call;
 use tatp_history::{Line, only_reads};
-use tatp_procs::Call;
 
 /// How many calls of a history met another one, where one of the two writes.
 #[derive(Drop)]

@@ -24,10 +24,10 @@ use crate::window::Window;
 use crate::windows::{ask_in, end_in, windows_of};
 use indexmap::IndexMap;
 use std::alloc::{AllocError, Global};
+use tatp_calls::Call;
 use tatp_history::{Line, Observed, Outcome, only_reads};
 use tatp_homes::homes;
 use tatp_numbers::Directory;
-use tatp_procs::Call;
 use tatp_tables::Rows;
 
 /// What is said of a history, but for the calls on subscribers that are set aside.

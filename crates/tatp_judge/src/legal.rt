@@ -13,8 +13,8 @@ ghost use Rattle.tatp_judge.specs.Windows.{IsSpent, IsWindowAfter};
 use crate::judge::Judge;
 use crate::window::Window;
 use std::alloc::{AllocError, Global};
+use tatp_calls::{Call, Reply};
 use tatp_history::{Event, Observed, Outcome};
-use tatp_procs::{Call, Reply};
 
 /// How many events are searched for replies at most. Each of the rows that a window's calls may
 /// result in can have a reply of its own, with which all events of the window are searched again.

@@ -5,8 +5,8 @@ ghost use Rattle.tatp_history.specs.HistoryLines.{client_of, end_at};
 ghost use Rattle.tatp_history.specs.Locality.{FailsWithout};
 ghost use Rattle.tatp_judge.specs.NextLine.{ends_of, number_of_last};
 
+use tatp_calls::Reply;
 use tatp_history::{Line, Outcome};
-use tatp_procs::Reply;
 
 /// Whose line it is.
 pub(crate) fn client_of(line: &Line) -> u64

@@ -13,8 +13,8 @@ use crate::asked::{Asked, subscriber_of};
 use crate::conflicts::Conflicts;
 use crate::judge::Judge;
 use std::alloc::{AllocError, Global};
+use tatp_calls::Call;
 use tatp_history::Line;
-use tatp_procs::Call;
 
 /// How many calls a history has, how they ended, and how many met others.
 #[derive(Clone, Copy, Debug, PartialEq, Eq)]

@@ -3,9 +3,9 @@ use Rattle.std.specs.Prelude.{◌≡◌, ℕ, ◌+◌, List, [], ◌∷◌, ◌+
 use Rattle.std.specs.Str.{is_utf8}
 use Rattle.std.proofs.Common.{refl, sym, ap, subst, ◌∙◌, append_assoc, length, length-append, cond, Bool, true, false, arith}
 use Rattle.std.proofs.lemmas.List.{append-nil}
-use Rattle.tatp_procs.specs.declared.call.Call.{Call}
-use Rattle.tatp_procs.specs.declared.domains.BadArgument.{BadArgument as Bad}
-use Rattle.tatp_procs.specs.Arguments.{arguments_accepted}
+use Rattle.tatp_calls.specs.declared.call.Call.{Call}
+use Rattle.tatp_calls.specs.declared.domains.BadArgument.{BadArgument as Bad}
+use Rattle.tatp_calls.specs.Arguments.{arguments_accepted}
 use Rattle.tatp_streams.specs.LineReading.{LinesLeft, IsWithinLimit, Relates, Stays, with_line}
 use Rattle.tatp_streams.proofs.LineReadingLaws.{relates_all, relates_end, relates_from_start, relates_line}
 use Rattle.std.specs.Option.{option_map}

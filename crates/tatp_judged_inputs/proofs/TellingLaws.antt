@@ -4,9 +4,9 @@ use Rattle.std.specs.List.{All}
 use Rattle.std.specs.Option.{IfSome}
 use Rattle.std.proofs.lemmas.List.{append-nil, take_all, take_more}
 use Rattle.tatp_history.specs.declared.line.Line.{Line}
-use Rattle.tatp_procs.specs.declared.ask.Ask.{Ask}
-use Rattle.tatp_procs.specs.declared.ask.Ask.TheVariants.{Txn}
-use Rattle.tatp_procs.specs.declared.reply.Reply.{Reply}
+use Rattle.tatp_calls.specs.declared.ask.Ask.{Ask}
+use Rattle.tatp_calls.specs.declared.ask.Ask.TheVariants.{Txn}
+use Rattle.tatp_calls.specs.declared.reply.Reply.{Reply}
 use Rattle.tatp_judge.specs.declared.legal.LegalReplies.{LegalReplies}
 use Rattle.tatp_judge.specs.declared.aside.Undecided.{Undecided}
 use Rattle.tatp_judge.specs.declared.judge.Judge.{Judge}

@@ -8,10 +8,10 @@ use Rattle.tatp_tables.specs.declared.row.Rows.{Rows}
 use Rattle.tatp_extents.specs.Opening.{RefusesRows}
 use Rattle.tatp_streams.specs.Writing.{LeavesText}
 use Rattle.tatp_streams.specs.declared.fault.StreamFault.TheVariants.{WriteFault}
-use Rattle.tatp_procs.specs.declared.ask.Ask.{Ask}
-use Rattle.tatp_procs.specs.declared.ask.Ask.TheVariants.{Txn}
-use Rattle.tatp_procs.specs.declared.reply.Reply.{Reply}
-use Rattle.tatp_procs.specs.ReplyText.{reply_text}
+use Rattle.tatp_calls.specs.declared.ask.Ask.{Ask}
+use Rattle.tatp_calls.specs.declared.ask.Ask.TheVariants.{Txn}
+use Rattle.tatp_calls.specs.declared.reply.Reply.{Reply}
+use Rattle.tatp_calls.specs.ReplyText.{reply_text}
 use Rattle.tatp_judge.specs.declared.aside.Undecided.{Undecided}
 use Rattle.tatp_judge.specs.declared.legal.LegalReplies.{LegalReplies}
 use Rattle.tatp_tasks.specs.declared.judging.JudgePlan.{JudgePlan}

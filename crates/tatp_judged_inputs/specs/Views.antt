@@ -2,8 +2,8 @@
 -- made of the lines of the part (`seen`).
 use Rattle.std.specs.Prelude.{◌≡◌, ℕ, List, [], Option}
 use Rattle.tatp_tables.specs.Database.{Database}
-use Rattle.tatp_procs.specs.declared.call.Call.{Call}
-use Rattle.tatp_procs.specs.declared.reply.Reply.{Reply}
+use Rattle.tatp_calls.specs.declared.call.Call.{Call}
+use Rattle.tatp_calls.specs.declared.reply.Reply.{Reply}
 use Rattle.tatp_history.specs.declared.line.Line.{Line}
 use Rattle.tatp_judge.specs.declared.aside.Undecided.{Undecided}
 use Rattle.tatp_judge.specs.declared.finishing.FinalVerdict.{FinalVerdict}

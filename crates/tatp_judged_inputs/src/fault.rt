@@ -6,9 +6,9 @@ ghost use Rattle.tatp_judged_inputs.specs.Judging.{input_fault, history_fault};
 
 use crate::HistoryFault;
 use std::alloc::AllocError;
+use tatp_calls::BadArgument;
 use tatp_extents::OpenError;
 use tatp_inputs::InputFault;
-use tatp_procs::BadArgument;
 use tatp_streams::StreamFault;
 use thiserror::Error;
 

@@ -4,7 +4,7 @@ ghost use Rattle.tatp_streams.specs.declared.fault.StreamFault.TheVariants.{NoMe
 ghost use Rattle.tatp_judged_inputs.specs.declared.history_fault.HistoryFault.TheVariants.{Stream};
 
 use std::alloc::{AllocError, AllocFailed};
-use tatp_procs::BadArgument;
+use tatp_calls::BadArgument;
 use tatp_streams::StreamFault;
 
 /// Why an input is no history.

@@ -5,8 +5,8 @@ ghost use Rattle.tatp_judged_inputs.specs.Judging.{legal_lines, could_line, coul
 
 use crate::command::push_number_line;
 use std::alloc::AllocError;
+use tatp_calls::{Ask, Reply, push_reply};
 use tatp_judge::LegalReplies;
-use tatp_procs::{Ask, Reply, push_reply};
 
 /// The most replies that are reported.
 const MOST_TOLD: usize = 8;

@@ -2,7 +2,7 @@
 use Rattle.std.proofs.Common.{◌≡◌, ℕ, zero, suc, ◌≤◌, ◌⊎◌, true, false, List, [], ◌∷◌, length, refl, sym, ◌∙◌, subst, arith, true≢false, inl, inr}
 use Rattle.std.specs.List.{AllByRecursion}
 use Rattle.tatp_tables.specs.Database.{Database}
-use Rattle.tatp_procs.specs.Transactions.{transaction}
+use Rattle.tatp_calls.specs.Transactions.{transaction}
 use Rattle.tatp_history.specs.declared.event.Event.{Event}
 use Rattle.tatp_history.specs.declared.event.Event.TheVariants.{Asks, Ends}
 use Rattle.tatp_history.specs.declared.observed.Outcome.{Outcome}

@@ -12,9 +12,9 @@ use Rattle.tatp_tables.proofs.TupleLaws.{same_tuples, same_itself, same_is, has-
 use Rattle.tatp_homes.specs.Home.{SubscriberRows, IsHome}
 use Rattle.tatp_numbers.specs.declared.key.Key.TheVariants.{Id, Number}
 use Rattle.tatp_numbers.specs.Homes.{s_id_of}
-use Rattle.tatp_procs.specs.Arguments.{arguments_accepted}
-use Rattle.tatp_procs.specs.declared.call.Call.{Call}
-use Rattle.tatp_procs.specs.Transactions.{replies, transaction, updates_location, with_vlr_location}
+use Rattle.tatp_calls.specs.Arguments.{arguments_accepted}
+use Rattle.tatp_calls.specs.declared.call.Call.{Call}
+use Rattle.tatp_calls.specs.Transactions.{replies, transaction, updates_location, with_vlr_location}
 use Rattle.tatp_procs.proofs.ConsistentLaws.{IsConsistent-home}
 use Rattle.tatp_procs.proofs.ConsistentAfterLaws.{keys_after}
 use Rattle.tatp_history.specs.declared.observed.Observed.{Observed}

@@ -4,8 +4,8 @@ use Rattle.std.specs.List.{AllByRecursion, items_where_true}
 use Rattle.std.specs.List.Retain.{IsFiltered, ReturnsInTurn}
 use Rattle.tatp_tables.specs.Database.{Database}
 use Rattle.tatp_homes.specs.Home.{SubscriberRows}
-use Rattle.tatp_procs.specs.Transactions.{Answer, transaction}
-use Rattle.tatp_procs.specs.Arguments.{arguments_accepted}
+use Rattle.tatp_calls.specs.Transactions.{Answer, transaction}
+use Rattle.tatp_calls.specs.Arguments.{arguments_accepted}
 use Rattle.tatp_history.specs.declared.observed.Observed.{Observed}
 use Rattle.tatp_history.specs.Histories.{MayHaveReply}
 use Rattle.tatp_history.specs.Locality.{AreAccepted}

@@ -5,11 +5,11 @@ use Rattle.std.specs.Cmp.Lexicographic.{pointwise, bytes_decides}
 use Rattle.std.proofs.Common.{refl, sym, ap, ◌∙◌, true≢false, inl, inr}
 use Rattle.std.proofs.lemmas.Bool.Decides.{Decides-eqb}
 use Rattle.tatp_tables.specs.Database.{Database}
-use Rattle.tatp_machine.specs.declared.progress.Trap.{Trap}
-use Rattle.tatp_machine.specs.declared.progress.Trap.TheVariants.{NoCurrent, Domain, Budget, Output, Writes}
-use Rattle.tatp_procs.specs.declared.reply.Reply.{Reply}
-use Rattle.tatp_procs.specs.declared.reply.Reply.TheVariants.{Values, Failed, Trapped, Refused}
-use Rattle.tatp_procs.specs.Transactions.{transaction}
+use Rattle.tatp_instr.specs.declared.ending.Trap.{Trap}
+use Rattle.tatp_instr.specs.declared.ending.Trap.TheVariants.{NoCurrent, Domain, Budget, Output, Writes}
+use Rattle.tatp_calls.specs.declared.reply.Reply.{Reply}
+use Rattle.tatp_calls.specs.declared.reply.Reply.TheVariants.{Values, Failed, Trapped, Refused}
+use Rattle.tatp_calls.specs.Transactions.{transaction}
 use Rattle.tatp_history.specs.declared.observed.Recorded.{Recorded}
 use Rattle.tatp_history.specs.declared.observed.Recorded.TheVariants.{Exactly, Success, Failure}
 use Rattle.tatp_history.specs.declared.observed.Outcome.{Outcome}

@@ -7,8 +7,8 @@ use Rattle.tatp_tables.specs.Database.{Database}
 use Rattle.tatp_tables.specs.declared.table.Table.TheVariants.{SpecialFacility}
 use Rattle.tatp_tables.proofs.KeyLaws.{key_is, has_key-alike, row_at-has}
 use Rattle.tatp_procs.specs.Consistent.{IsConsistent}
-use Rattle.tatp_procs.specs.declared.call.Call.TheVariants.{UpdateSubscriberData}
-use Rattle.tatp_procs.specs.Transactions.{transaction, updates_both, is_active}
+use Rattle.tatp_calls.specs.declared.call.Call.TheVariants.{UpdateSubscriberData}
+use Rattle.tatp_calls.specs.Transactions.{transaction, updates_both, is_active}
 use Rattle.tatp_history.proofs.ReplacedLaws.{told_same}
 
 -- ---- facilities

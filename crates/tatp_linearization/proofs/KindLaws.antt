@@ -5,11 +5,11 @@ use Rattle.tatp_tables.specs.Keys.{has_key, row_at, row_with_number}
 use Rattle.tatp_tables.specs.Database.{Database}
 use Rattle.tatp_numbers.specs.declared.key.Key.TheVariants.{Number}
 use Rattle.tatp_numbers.specs.Homes.{home_of_key}
-use Rattle.tatp_procs.specs.declared.call.Call.{Call}
-use Rattle.tatp_procs.specs.declared.call.Call.TheVariants.{GetSubscriberData, GetNewDestination, GetAccessData, UpdateSubscriberData, UpdateLocation, InsertCallForwarding, DeleteCallForwarding}
-use Rattle.tatp_procs.specs.Arguments.{arguments_accepted}
+use Rattle.tatp_calls.specs.declared.call.Call.{Call}
+use Rattle.tatp_calls.specs.declared.call.Call.TheVariants.{GetSubscriberData, GetNewDestination, GetAccessData, UpdateSubscriberData, UpdateLocation, InsertCallForwarding, DeleteCallForwarding}
+use Rattle.tatp_calls.specs.Arguments.{arguments_accepted}
 use Rattle.tatp_procs.specs.Consistent.{IsConsistent}
-use Rattle.tatp_procs.specs.Transactions.{Answer, transaction, reads, start_time_of, end_time_of, numberx_of, destinations, some_of, updates_both, updates_location, inserts_under, inserts_for, deletes, deletes_for}
+use Rattle.tatp_calls.specs.Transactions.{Answer, transaction, reads, start_time_of, end_time_of, numberx_of, destinations, some_of, updates_both, updates_location, inserts_under, inserts_for, deletes, deletes_for}
 use Rattle.tatp_procs.proofs.ConsistentAfterLaws.{keys_after}
 use Rattle.tatp_history.proofs.ChangeLaws.{reading_leaves}
 use Rattle.tatp_linearization.specs.declared.kinds.Kind.{Kind}

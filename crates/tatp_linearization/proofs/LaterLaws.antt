@@ -12,10 +12,10 @@ use Rattle.tatp_homes.specs.Home.{SubscriberRows, IsHome}
 use Rattle.tatp_homes.proofs.UndoLaws.{is_row-length}
 use Rattle.tatp_numbers.specs.declared.key.Key.TheVariants.{Number}
 use Rattle.tatp_numbers.specs.Homes.{home_of_key}
-use Rattle.tatp_procs.specs.declared.call.Call.{Call}
-use Rattle.tatp_procs.specs.declared.call.Call.TheVariants.{GetSubscriberData, GetNewDestination, GetAccessData, UpdateSubscriberData, UpdateLocation, InsertCallForwarding, DeleteCallForwarding}
-use Rattle.tatp_procs.specs.declared.reply.Reply.TheVariants.{Values}
-use Rattle.tatp_procs.specs.Transactions.{transaction, updates_both, updates_location, with_bit_1, with_vlr_location}
+use Rattle.tatp_calls.specs.declared.call.Call.{Call}
+use Rattle.tatp_calls.specs.declared.call.Call.TheVariants.{GetSubscriberData, GetNewDestination, GetAccessData, UpdateSubscriberData, UpdateLocation, InsertCallForwarding, DeleteCallForwarding}
+use Rattle.tatp_calls.specs.declared.reply.Reply.TheVariants.{Values}
+use Rattle.tatp_calls.specs.Transactions.{transaction, updates_both, updates_location, with_bit_1, with_vlr_location}
 use Rattle.tatp_history.specs.declared.event.Event.{Event}
 use Rattle.tatp_history.specs.declared.event.Event.TheVariants.{Ends}
 use Rattle.tatp_history.specs.declared.observed.Recorded.TheVariants.{Exactly}

@@ -9,10 +9,10 @@ use Rattle.tatp_tables.proofs.FindLaws.{found_in}
 use Rattle.tatp_tables.proofs.KeyLaws.{key_is, has_key-alike, has-found, row_at-has, row_at-key, each-insert_row, has-from_remove_row, has-inserted, has-insert_row_there, has-remove_row_other, gone}
 use Rattle.tatp_tables.proofs.TupleLaws.{same_is, same_tuples}
 use Rattle.tatp_homes.specs.Home.{SubscriberRows, IsHome}
-use Rattle.tatp_procs.specs.declared.call.Call.{Call}
-use Rattle.tatp_procs.specs.declared.call.Call.TheVariants.{GetSubscriberData, GetNewDestination, GetAccessData, UpdateSubscriberData, UpdateLocation, InsertCallForwarding, DeleteCallForwarding}
-use Rattle.tatp_procs.specs.declared.reply.Reply.TheVariants.{Values}
-use Rattle.tatp_procs.specs.Transactions.{Answer, replies, transaction, updates_both, with_bit_1, with_data_a, with_vlr_location}
+use Rattle.tatp_calls.specs.declared.call.Call.{Call}
+use Rattle.tatp_calls.specs.declared.call.Call.TheVariants.{GetSubscriberData, GetNewDestination, GetAccessData, UpdateSubscriberData, UpdateLocation, InsertCallForwarding, DeleteCallForwarding}
+use Rattle.tatp_calls.specs.declared.reply.Reply.TheVariants.{Values}
+use Rattle.tatp_calls.specs.Transactions.{Answer, replies, transaction, updates_both, with_bit_1, with_data_a, with_vlr_location}
 use Rattle.tatp_history.specs.declared.observed.Observed.{Observed}
 use Rattle.tatp_history.specs.Histories.{MayHaveReply}
 use Rattle.tatp_history.specs.Configurations.{Configuration}

@@ -5,8 +5,8 @@ use Rattle.tatp_tables.specs.Keys.{row_at}
 use Rattle.tatp_tables.specs.Database.{Database}
 use Rattle.tatp_homes.specs.Home.{SubscriberRows, IsHome}
 use Rattle.tatp_homes.specs.Changes.{put_tables}
-use Rattle.tatp_procs.specs.declared.call.Call.{Call}
-use Rattle.tatp_procs.specs.declared.call.Call.TheVariants.{GetSubscriberData, GetNewDestination, GetAccessData, UpdateSubscriberData, UpdateLocation, InsertCallForwarding, DeleteCallForwarding}
+use Rattle.tatp_calls.specs.declared.call.Call.{Call}
+use Rattle.tatp_calls.specs.declared.call.Call.TheVariants.{GetSubscriberData, GetNewDestination, GetAccessData, UpdateSubscriberData, UpdateLocation, InsertCallForwarding, DeleteCallForwarding}
 use Rattle.tatp_history.specs.Cleared.{first_type, bit_alone, cleared_call, cleared_at, IsCleared}
 use Rattle.tatp_history.proofs.ClearedHomeLaws.{home_cleared}
 

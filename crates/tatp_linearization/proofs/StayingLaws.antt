@@ -2,8 +2,8 @@
 use Rattle.std.proofs.Common.{◌≡◌, ℕ, ◌+◌, ◌<◌, ◌≤◌, ◌==◌, ◌⊎◌, ◌↔◌, Bool, ◌&&◌, true, false, is_some, eq-eqb, eqb-true, List, [], ◌∷◌, take, Some, slice_get, refl, sym, ap, ◌∙◌, subst, true≢false, arith, inl, inr}
 use Rattle.tatp_tables.specs.Keys.{row_at, row_with_number}
 use Rattle.tatp_tables.specs.Database.{Database}
-use Rattle.tatp_procs.specs.declared.call.Call.{Call}
-use Rattle.tatp_procs.specs.declared.call.Call.TheVariants.{UpdateSubscriberData, UpdateLocation}
+use Rattle.tatp_calls.specs.declared.call.Call.{Call}
+use Rattle.tatp_calls.specs.declared.call.Call.TheVariants.{UpdateSubscriberData, UpdateLocation}
 use Rattle.tatp_history.specs.declared.observed.Observed.{Observed}
 use Rattle.tatp_linearization.specs.Overwritten.{SetsLocation, SetsBoth, IsBlind, Overwrites, IsNeedless, AreOut}
 use Rattle.tatp_linearization.proofs.PlaceLaws.{all_more, take_more}

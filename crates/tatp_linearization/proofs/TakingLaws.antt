@@ -4,10 +4,10 @@ use Rattle.tatp_tables.specs.Keys.{has_number}
 use Rattle.tatp_tables.specs.Database.{Database}
 use Rattle.tatp_tables.proofs.KeyLaws.{has-found}
 use Rattle.tatp_homes.specs.Home.{SubscriberRows}
-use Rattle.tatp_procs.specs.Arguments.{arguments_accepted}
-use Rattle.tatp_procs.specs.declared.call.Call.{Call}
-use Rattle.tatp_procs.specs.declared.call.Call.TheVariants.{UpdateSubscriberData, UpdateLocation}
-use Rattle.tatp_procs.specs.Transactions.{Answer, transaction}
+use Rattle.tatp_calls.specs.Arguments.{arguments_accepted}
+use Rattle.tatp_calls.specs.declared.call.Call.{Call}
+use Rattle.tatp_calls.specs.declared.call.Call.TheVariants.{UpdateSubscriberData, UpdateLocation}
+use Rattle.tatp_calls.specs.Transactions.{Answer, transaction}
 use Rattle.tatp_history.specs.declared.event.Event.{Event}
 use Rattle.tatp_history.specs.declared.observed.Observed.{Observed}
 use Rattle.tatp_history.specs.Histories.{IsIn, MayHaveReply, AreAskedApart}

@@ -7,8 +7,8 @@ use Rattle.tatp_history.specs.declared.event.Event.TheVariants.{Ends}
 use Rattle.tatp_history.specs.declared.observed.Observed.{Observed}
 use Rattle.tatp_history.specs.Locality.{AreAccepted}
 use Rattle.tatp_homes.specs.Home.{IsHome}
-use Rattle.tatp_procs.specs.declared.call.Call.{Call}
-use Rattle.tatp_procs.specs.Arguments.{arguments_accepted}
+use Rattle.tatp_calls.specs.declared.call.Call.{Call}
+use Rattle.tatp_calls.specs.Arguments.{arguments_accepted}
 use Rattle.tatp_procs.specs.Consistent.{IsConsistent}
 use Rattle.tatp_procs.proofs.ConsistentLaws.{IsConsistent-home}
 use Rattle.tatp_linearization.specs.declared.kinds.Kind.{Kind}

@@ -13,10 +13,10 @@ use Rattle.tatp_tables.proofs.KeyLaws.{key_is, row_at-has, has-found}
 use Rattle.tatp_homes.specs.Home.{SubscriberRows, IsHome}
 use Rattle.tatp_numbers.specs.declared.key.Key.TheVariants.{Number}
 use Rattle.tatp_numbers.specs.Homes.{s_id_of, home_of_key}
-use Rattle.tatp_procs.specs.declared.call.Call.{Call}
-use Rattle.tatp_procs.specs.declared.call.Call.TheVariants.{GetSubscriberData, GetNewDestination, GetAccessData, UpdateSubscriberData, UpdateLocation, InsertCallForwarding, DeleteCallForwarding}
-use Rattle.tatp_procs.specs.declared.reply.Reply.TheVariants.{Values}
-use Rattle.tatp_procs.specs.Transactions.{Answer, transaction, reads, destinations, some_of, updates_both, updates_location, with_bit_1, with_data_a, with_vlr_location, inserts_under, inserts_for, deletes, deletes_for}
+use Rattle.tatp_calls.specs.declared.call.Call.{Call}
+use Rattle.tatp_calls.specs.declared.call.Call.TheVariants.{GetSubscriberData, GetNewDestination, GetAccessData, UpdateSubscriberData, UpdateLocation, InsertCallForwarding, DeleteCallForwarding}
+use Rattle.tatp_calls.specs.declared.reply.Reply.TheVariants.{Values}
+use Rattle.tatp_calls.specs.Transactions.{Answer, transaction, reads, destinations, some_of, updates_both, updates_location, with_bit_1, with_data_a, with_vlr_location, inserts_under, inserts_for, deletes, deletes_for}
 use Rattle.tatp_history.specs.declared.event.Event.{Event}
 use Rattle.tatp_history.specs.declared.observed.Recorded.TheVariants.{Exactly, Success, Failure}
 use Rattle.tatp_history.specs.declared.observed.Outcome.{Outcome}

@@ -1,8 +1,8 @@
 -- Calls of three kinds: no call writes what a call of another kind reads or writes. So before a
 -- call is answered only calls of its kind need take effect.
 use Rattle.std.specs.Prelude.{◌≡◌, Option, Some, None}
-use Rattle.tatp_procs.specs.declared.call.Call.{Call}
-use Rattle.tatp_procs.specs.declared.call.Call.TheVariants.{GetSubscriberData, GetNewDestination, GetAccessData, UpdateSubscriberData, UpdateLocation, InsertCallForwarding, DeleteCallForwarding}
+use Rattle.tatp_calls.specs.declared.call.Call.{Call}
+use Rattle.tatp_calls.specs.declared.call.Call.TheVariants.{GetSubscriberData, GetNewDestination, GetAccessData, UpdateSubscriberData, UpdateLocation, InsertCallForwarding, DeleteCallForwarding}
 use Rattle.tatp_linearization.specs.declared.kinds.Kind.{Kind}
 use Rattle.tatp_linearization.specs.declared.kinds.Kind.TheVariants.{Columns, Accesses, Forwardings}
 

@@ -1,6 +1,6 @@
 -- One configuration with no open call.
 use Rattle.std.specs.Prelude.{◌≡◌, ℕ, List, [], ◌∷◌}
-use Rattle.tatp_procs.specs.declared.reply.Reply.{Reply}
+use Rattle.tatp_calls.specs.declared.reply.Reply.{Reply}
 use Rattle.tatp_history.specs.declared.event.Event.{Event}
 use Rattle.tatp_history.specs.declared.event.Event.TheVariants.{Asks, Ends}
 use Rattle.tatp_history.specs.declared.observed.Recorded.TheVariants.{Exactly}

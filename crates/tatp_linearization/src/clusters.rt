@@ -9,10 +9,10 @@ ghost use Rattle.tatp_linearization.specs.Clusters.{GoFirst, DropsCalls, GoesWit
 use crate::ahead::{Ahead, is_replaced_after, times_of};
 use crate::locations::sees;
 use crate::reading::fits_at_once;
+use tatp_calls::{Call, Reply};
 use tatp_evaluation::evaluate;
 use tatp_history::{Observed, Outcome};
 use tatp_homes::{Home, what_holds_of_every_home};
-use tatp_procs::{Call, Reply};
 
 /// The location that an open call sets, if it is replaced, and no read sees it later.
 fn unread_location(x: &Observed, ahead: &Ahead, now: u64) -> Option<u64>

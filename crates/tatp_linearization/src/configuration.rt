@@ -1,6 +1,6 @@
 //! Configurations of the search.
 ghost use Rattle.std.specs.Prelude.{◌≡◌, ◌<◌, ◌≤◌, ◌↔◌, IsTrue, IfOk, OnOk, IsErrOf, length, remove, Ok};
-ghost use Rattle.tatp_procs.specs.Arguments.{arguments_accepted};
+ghost use Rattle.tatp_calls.specs.Arguments.{arguments_accepted};
 ghost use Rattle.tatp_history.specs.JustInTime.{NoneAskedAt};
 ghost use Rattle.tatp_history.specs.Locality.{AreAccepted};
 ghost use Rattle.tatp_linearization.specs.Overwritten.{SetsLocation, earlier as earlier_time};
@@ -14,10 +14,10 @@ use crate::overwriting::overwritten_before;
 use crate::reading::{needs_no_place, settle};
 use crate::stopped::Stopped;
 use std::alloc::{AllocError, Global};
+use tatp_calls::{Call, Reply};
 use tatp_evaluation::evaluate;
 use tatp_history::Observed;
 use tatp_homes::{Home, what_holds_of_every_home};
-use tatp_procs::{Call, Reply};
 
 /// A home, and the open calls that have not taken effect, of which the last asked comes first.
 #[derive(Drop)]

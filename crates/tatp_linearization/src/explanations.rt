@@ -2,7 +2,7 @@
 ghost use Rattle.std.specs.Prelude.{◌≡◌, ◌↔◌, ℕ, IsTrue, IfOk, OnOk, OnErr, IsErrOf, Ok, List, [], ◌∷◌, ◌++◌, ◌<◌, length};
 ghost use Rattle.std.specs.List.{AllByRecursion};
 ghost use Rattle.tatp_tables.specs.Database.{Database};
-ghost use Rattle.tatp_procs.specs.Arguments.{arguments_accepted};
+ghost use Rattle.tatp_calls.specs.Arguments.{arguments_accepted};
 ghost use Rattle.tatp_history.specs.declared.event.Event.{Event};
 ghost use Rattle.tatp_history.specs.Histories.{IsStrictlySerializable};
 ghost use Rattle.tatp_history.specs.Events.{TimesRise, HaveEnds, asked_in};
@@ -18,9 +18,9 @@ use crate::following::{after_event, leaves_all};
 use crate::searched::{searched_call, searched_events, searched_home};
 use crate::stopped::Stopped;
 use std::alloc::{AllocError, Global};
+use tatp_calls::Call;
 use tatp_history::Event;
 use tatp_homes::Home;
-use tatp_procs::Call;
 
 /// Whether a serial order explains calls.
 #[derive(Clone, Copy, Debug, PartialEq, Eq)]

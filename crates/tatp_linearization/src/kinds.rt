@@ -2,7 +2,7 @@
 ghost use Rattle.std.specs.Prelude.{◌≡◌, ◌↔◌, IsTrue};
 ghost use Rattle.tatp_linearization.specs.Kinds.{IsTried, kind_of as kind_then};
 
-use tatp_procs::Call;
+use tatp_calls::Call;
 
 /// The rows of which a call reads or writes what may change.
 #[derive(Clone, Copy, PartialEq, Eq)]

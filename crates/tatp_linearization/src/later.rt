@@ -8,8 +8,8 @@ ghost use Rattle.tatp_linearization.specs.Later.{ComesLater, IsSeenLater, Leaves
 use crate::ahead::{Ahead, times_of};
 use crate::configuration::Configuration;
 use crate::locations::{has_set_location, location_seen, sets_location};
+use tatp_calls::Call;
 use tatp_history::Observed;
-use tatp_procs::Call;
 
 /// Whether the subscriber has another location than this right after the call took effect.
 fn leaves_other(x: &Observed, location: u64) -> bool

@@ -2,9 +2,9 @@
 ghost use Rattle.std.specs.Prelude.{◌≡◌, ◌↔◌, ◌⊎◌, IsTrue, IfOk, IfSome, OnOk, Ok, Some, None, List, ◌∷◌, [], ◌++◌};
 ghost use Rattle.std.specs.List.{AllByRecursion};
 ghost use Rattle.tatp_tables.specs.Database.{Database};
-ghost use Rattle.tatp_procs.specs.declared.reply.Reply.{Reply as Replied};
-ghost use Rattle.tatp_procs.specs.Arguments.{arguments_accepted};
-ghost use Rattle.tatp_procs.specs.Transactions.{transaction};
+ghost use Rattle.tatp_calls.specs.declared.reply.Reply.{Reply as Replied};
+ghost use Rattle.tatp_calls.specs.Arguments.{arguments_accepted};
+ghost use Rattle.tatp_calls.specs.Transactions.{transaction};
 ghost use Rattle.tatp_history.specs.declared.event.Event.{Event};
 ghost use Rattle.tatp_history.specs.Histories.{IsIn, IsStrictlySerializable};
 ghost use Rattle.tatp_history.specs.Prefixes.{calls_by};
@@ -24,9 +24,9 @@ use crate::explanations::{Explanations, Standing};
 use crate::rows::{calls_of, rows_left};
 use crate::stopped::Stopped;
 use std::alloc::{AllocError, Global};
+use tatp_calls::{Call, Reply};
 use tatp_evaluation::evaluate;
 use tatp_history::{Event, Observed, Outcome, Recorded};
-use tatp_procs::{Call, Reply};
 
 fn is_same(x: &Reply, y: &Reply) -> bool
     ensures { IsTrue result ↔ (x.now ≡ y.now) }

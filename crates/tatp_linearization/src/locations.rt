@@ -3,8 +3,8 @@ ghost use Rattle.std.specs.Prelude.{◌≡◌, ◌↔◌, IsTrue};
 ghost use Rattle.tatp_linearization.specs.Doomed.{sets_location as sets};
 ghost use Rattle.tatp_linearization.specs.Unseen.{HasSetLocation, location_answered, location_in, location_of as location_then, sees as has_seen};
 
+use tatp_calls::{Call, Reply};
 use tatp_history::{Observed, Outcome, Recorded};
-use tatp_procs::{Call, Reply};
 
 /// The column of a Subscriber row.
 pub(crate) const VLR_LOCATION: u8 = 33;

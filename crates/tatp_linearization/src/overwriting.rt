@@ -1,16 +1,16 @@
 //! Calls that set columns, whatever these held, and calls that set them again.
 ghost use Rattle.std.specs.Prelude.{◌≡◌, ℕ, ◌≤◌, ◌<◌, ◌↔◌, ◌⊎◌, IsTrue, Ok, [], false};
-ghost use Rattle.tatp_procs.specs.declared.reply.Reply.TheVariants.{Values};
-ghost use Rattle.tatp_procs.specs.Arguments.{arguments_accepted};
-ghost use Rattle.tatp_procs.specs.Transactions.{transaction};
+ghost use Rattle.tatp_calls.specs.declared.reply.Reply.TheVariants.{Values};
+ghost use Rattle.tatp_calls.specs.Arguments.{arguments_accepted};
+ghost use Rattle.tatp_calls.specs.Transactions.{transaction};
 ghost use Rattle.tatp_history.specs.Histories.{MayHaveReply};
 ghost use Rattle.tatp_history.specs.Locality.{AreAccepted};
 ghost use Rattle.tatp_linearization.specs.Overwritten.{AreOut, IsBlind, IsFirst, IsIdle, IsNeedless, Overwrites, SetsBoth, SetsLocation};
 
+use tatp_calls::{Call, Outputs, Reply};
 use tatp_evaluation::evaluate;
 use tatp_history::Observed;
 use tatp_homes::Home;
-use tatp_procs::{Call, Outputs, Reply};
 
 /// The column of a Subscriber row.
 const BIT_1: u8 = 2;

@@ -1,16 +1,16 @@
 //! Calls that change nothing, and take effect at once.
 ghost use Rattle.std.specs.Prelude.{◌≡◌, ◌<◌, ◌↔◌, IsTrue, Ok, Some, false, length, remove, slice_get};
 ghost use Rattle.tatp_history.specs.declared.observed.Observed.{Observed as Asked};
-ghost use Rattle.tatp_procs.specs.Arguments.{arguments_accepted};
+ghost use Rattle.tatp_calls.specs.Arguments.{arguments_accepted};
 ghost use Rattle.tatp_history.specs.Locality.{AreAccepted};
 ghost use Rattle.tatp_linearization.specs.AtOnce.{AreLeft, FitsAtOnce, IsSettledAt, NeedsNoPlace};
 
 use crate::doomed::has_location;
 use crate::locations::location_seen;
+use tatp_calls::Reply;
 use tatp_evaluation::evaluate;
 use tatp_history::{Observed, Outcome, only_reads};
 use tatp_homes::Home;
-use tatp_procs::Reply;
 
 /// Whether a read may fit the home, by the location that it saw alone.
 fn may_fit(home: &Home, x: &Observed) -> bool

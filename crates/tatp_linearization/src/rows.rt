@@ -1,7 +1,7 @@
 //! Rows that may result from calls, in any order, each any number of times.
 ghost use Rattle.std.specs.Prelude.{◌≡◌, ℕ, ◌<◌, ◌≤◌, OnOk, IfOk, IsErrOf, List, ◌∷◌, [], ◌++◌, length, slice_get, Ok, Some};
-ghost use Rattle.tatp_procs.specs.declared.call.Call.{Call as Asked};
-ghost use Rattle.tatp_procs.specs.Arguments.{arguments_accepted};
+ghost use Rattle.tatp_calls.specs.declared.call.Call.{Call as Asked};
+ghost use Rattle.tatp_calls.specs.Arguments.{arguments_accepted};
 ghost use Rattle.tatp_history.specs.Configurations.{Configuration as Seen};
 ghost use Rattle.tatp_history.specs.Events.{asked_in};
 ghost use Rattle.tatp_linearization.specs.declared.configuration.Configuration.{Configuration as Held};
@@ -13,9 +13,9 @@ ghost use Rattle.tatp_linearization.specs.Leaving.{AreAcceptedCalls, AreClosed, 
 use crate::configuration::{Configuration, add_once};
 use crate::stopped::Stopped;
 use std::alloc::{AllocError, Global};
+use tatp_calls::{Call, Reply};
 use tatp_evaluation::evaluate;
 use tatp_history::{Event, Observed};
-use tatp_procs::{Call, Reply};
 
 /// Adds the calls of these, in their order.
 fn add_calls(calls: &mut Vec<Call>, opened: &[Observed]) -> Result<(), AllocError>

@@ -1,14 +1,14 @@
 //! What is searched in the place of what clients saw: unless the rows at the end may be asked for,
 //! the history with data_a cleared.
 ghost use Rattle.std.specs.Prelude.{◌≡◌, false, IfOk, Ok};
-ghost use Rattle.tatp_procs.specs.Arguments.{arguments_accepted};
+ghost use Rattle.tatp_calls.specs.Arguments.{arguments_accepted};
 ghost use Rattle.tatp_history.specs.Cleared.{bit_alone as alone, cleared_call as call_cleared, cleared_event as event_cleared, cleared_events as all_cleared, first_type as first_of};
 ghost use Rattle.tatp_linearization.specs.Searched.{IsSearchedFrom, searched_call as call_searched, searched_events as all_searched};
 
 use std::alloc::{AllocError, Global};
+use tatp_calls::Call;
 use tatp_history::{Event, Observed};
 use tatp_homes::{Home, what_holds_of_every_home};
-use tatp_procs::Call;
 
 /// The column of a Special_Facility row that no transaction reads.
 const DATA_A: u8 = 44;

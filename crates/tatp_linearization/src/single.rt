@@ -1,8 +1,8 @@
 //! Calls that overlap no other.
 ghost use Rattle.std.specs.Prelude.{◌≡◌, ◌↔◌, ℕ, IsTrue, Ok, List, ◌++◌};
 ghost use Rattle.tatp_tables.specs.Database.{Database};
-ghost use Rattle.tatp_procs.specs.declared.reply.Reply.{Reply as Replied};
-ghost use Rattle.tatp_procs.specs.Arguments.{arguments_accepted};
+ghost use Rattle.tatp_calls.specs.declared.reply.Reply.{Reply as Replied};
+ghost use Rattle.tatp_calls.specs.Arguments.{arguments_accepted};
 ghost use Rattle.tatp_history.specs.declared.event.Event.{Event};
 ghost use Rattle.tatp_history.specs.Histories.{IsStrictlySerializable, MayHaveReply};
 ghost use Rattle.tatp_history.specs.Events.{TimesRise, HaveEnds, asked_in};
@@ -10,9 +10,9 @@ ghost use Rattle.tatp_linearization.specs.Reached.{AreOfSubscriber, AreReached};
 ghost use Rattle.tatp_linearization.specs.Single.{IsSingle, answered_with, events_alone};
 
 use crate::explanations::Explanations;
+use tatp_calls::Reply;
 use tatp_evaluation::evaluate;
 use tatp_history::Observed;
-use tatp_procs::Reply;
 
 impl Explanations {
     /// Whether just one configuration is kept, with no call open.

@@ -6,7 +6,7 @@ use Rattle.std.proofs.lemmas.Grind.{flat_map-append}
 use Rattle.std.proofs.lemmas.List.Concat.{flat_map-cons}
 use Rattle.std.specs.Io.KnownBytes.{Appends}
 use Rattle.rand_core.specs.Stream.{Stream}
-use Rattle.tatp_procs.specs.declared.call.Call.{Call}
+use Rattle.tatp_calls.specs.declared.call.Call.{Call}
 use Rattle.tatp_streams.specs.Writing.{AppendsFront, KeepsOrAppends}
 use Rattle.tatp_tasks.specs.declared.distribution.Distribution.{Distribution}
 use Rattle.tatp_driver.specs.DrawnCall.{drawn_call}

@@ -1,8 +1,8 @@
 -- What the command `calls` writes: docs/FORMATS.md, "Calls from random words".
 use Rattle.std.specs.Prelude.{ℕ, List, [], ◌∷◌, ◌++◌}
 use Rattle.std.specs.List.{flat_map}
-use Rattle.tatp_procs.specs.declared.call.Call.{Call}
-use Rattle.tatp_procs.specs.CallText.{call_text}
+use Rattle.tatp_calls.specs.declared.call.Call.{Call}
+use Rattle.tatp_calls.specs.CallText.{call_text}
 use Rattle.tatp_driver.specs.DrawnCalls.{next_calls}
 use Rattle.tatp_driver.specs.DrawnWords.{words_of, client_generator}
 use Rattle.tatp_tasks.specs.declared.load.CallsPlan.{CallsPlan}

@@ -4,7 +4,7 @@ ghost use Rattle.std.specs.String.{string_bytes};
 ghost use Rattle.tatp_load.specs.Calls.{line_of};
 
 use std::alloc::AllocError;
-use tatp_procs::{Call, push_call};
+use tatp_calls::{Call, push_call};
 
 /// Appends a call as a line, with its line feed. `Err` means that memory was refused.
 pub fn push_call_line(text: &mut String, call: &Call) -> Result<(), AllocError>

@@ -1,6 +1,6 @@
 -- One more completed call is kept.
 use Rattle.std.proofs.Common.{◌≡◌, ℕ, List, ◌++◌, append_assoc, ◌∙◌, ap}
-use Rattle.tatp_procs.specs.declared.ask.Ask.{Ask}
+use Rattle.tatp_calls.specs.declared.ask.Ask.{Ask}
 use Rattle.tatp_logs.specs.declared.completed_call.CompletedCall.{CompletedCall}
 use Rattle.tatp_logs.specs.declared.kept_ask.KeptAsk.{KeptAsk}
 use Rattle.tatp_logs.specs.KeptAsks.{HasArgumentsIn, ask_in}

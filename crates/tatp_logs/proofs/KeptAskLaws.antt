@@ -1,6 +1,6 @@
 -- What was asked, where the arguments stand in a list, is the same where it is longer.
 use Rattle.std.proofs.Common.{◌≡◌, ℕ, List, ◌++◌, refl, ap}
-use Rattle.tatp_procs.specs.declared.ask.Ask.TheVariants as ask
+use Rattle.tatp_calls.specs.declared.ask.Ask.TheVariants as ask
 use Rattle.tatp_logs.specs.declared.kept_ask.KeptAsk.{KeptAsk}
 use Rattle.tatp_logs.specs.declared.kept_ask.KeptAsk.TheVariants.{Txn, Raw}
 use Rattle.tatp_logs.specs.KeptAsks.{HasArgumentsIn, ask_in}

@@ -1,6 +1,6 @@
 -- One more receipt is kept.
 use Rattle.std.proofs.Common.{◌≡◌, ℕ, ◌+◌, ◌≤◌, List, ◌++◌, refl, ap, arith}
-use Rattle.tatp_procs.specs.declared.reply.Reply.{Reply}
+use Rattle.tatp_calls.specs.declared.reply.Reply.{Reply}
 use Rattle.tatp_limits.specs.declared.limits.TheConstants.{MAX_OUTPUTS}
 use Rattle.tatp_logs.specs.KeptReplies.{room_in}
 use Rattle.tatp_logs.specs.declared.receipt.Receipt.TheVariants as receipt

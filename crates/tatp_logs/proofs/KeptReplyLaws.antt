@@ -1,6 +1,6 @@
 -- Replies whose outputs stand in a list are the same where it is longer.
 use Rattle.std.proofs.Common.{◌≡◌, ℕ, List, ◌++◌, refl, ap}
-use Rattle.tatp_procs.specs.declared.reply.Reply.TheVariants as reply
+use Rattle.tatp_calls.specs.declared.reply.Reply.TheVariants as reply
 use Rattle.tatp_logs.specs.declared.kept_reply.KeptReply.{KeptReply}
 use Rattle.tatp_logs.specs.declared.kept_reply.KeptReply.TheVariants.{Values, Failed, Trapped, Refused}
 use Rattle.tatp_logs.specs.KeptReplies.{StandsIn, reply_in}

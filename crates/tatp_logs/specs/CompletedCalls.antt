@@ -3,7 +3,7 @@ use Rattle.std.specs.Prelude.{ℕ, ◌+◌, ◌-◌, ◌/◌, List, All, map, mi
 use Rattle.std.specs.Vec.{vec_capacity}
 use Rattle.std.specs.declared.alloc.Global.{Global}
 use Rattle.tatp_limits.specs.declared.limits.TheConstants.{MAX_ARGUMENTS, MAX_OUTPUTS}
-use Rattle.tatp_procs.specs.declared.entry.Entry.{Entry}
+use Rattle.tatp_calls.specs.declared.entry.Entry.{Entry}
 use Rattle.tatp_logs.specs.KeptReplies.{StandsIn, reply_in}
 use Rattle.tatp_logs.specs.declared.completed_call.CompletedCall.{CompletedCall}
 use Rattle.tatp_logs.specs.Completions.{CompletionsState}

@@ -1,8 +1,8 @@
 -- Completed calls, as contracts see them.
 use Rattle.std.specs.Prelude.{ℕ, List, refl}
 use Rattle.std.specs.Coded.{Coded, code_by, coded×, coded_ℕ, coded_list}
-use Rattle.tatp_procs.specs.declared.entry.Entry.{Entry}
-use Rattle.tatp_procs.specs.contracts.entry.Entry as entry
+use Rattle.tatp_calls.specs.declared.entry.Entry.{Entry}
+use Rattle.tatp_calls.specs.contracts.entry.Entry as entry
 
 -- what contracts see of completed calls: those, and for how many more memory is reserved
 pub record CompletionsState : Type 0 where

@@ -1,8 +1,8 @@
 -- What was asked, as it is kept: the arguments of a call that is no transaction are in one list.
 use Rattle.std.specs.Prelude.{ℕ, ◌+◌, ◌≤◌, List, length, slice_range}
 use Rattle.tatp_limits.specs.declared.limits.TheConstants.{MAX_ARGUMENTS}
-use Rattle.tatp_procs.specs.declared.ask.Ask.{Ask}
-use Rattle.tatp_procs.specs.declared.ask.Ask.TheVariants as ask
+use Rattle.tatp_calls.specs.declared.ask.Ask.{Ask}
+use Rattle.tatp_calls.specs.declared.ask.Ask.TheVariants as ask
 use Rattle.tatp_logs.specs.declared.kept_ask.KeptAsk.{KeptAsk}
 use Rattle.tatp_logs.specs.declared.kept_ask.KeptAsk.TheVariants.{Txn, Raw}
 

@@ -1,8 +1,8 @@
 -- Replies as they are kept: their outputs are in one list.
 use Rattle.std.specs.Prelude.{ℕ, ◌+◌, ◌/◌, ◌≤◌, List, length, min, slice_range}
 use Rattle.tatp_limits.specs.declared.limits.TheConstants.{MAX_OUTPUTS}
-use Rattle.tatp_procs.specs.declared.reply.Reply.{Reply}
-use Rattle.tatp_procs.specs.declared.reply.Reply.TheVariants as reply
+use Rattle.tatp_calls.specs.declared.reply.Reply.{Reply}
+use Rattle.tatp_calls.specs.declared.reply.Reply.TheVariants as reply
 use Rattle.tatp_logs.specs.declared.kept_reply.KeptReply.{KeptReply}
 use Rattle.tatp_logs.specs.declared.kept_reply.KeptReply.TheVariants.{Values, Failed, Trapped, Refused}
 

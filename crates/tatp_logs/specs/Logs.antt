@@ -2,12 +2,12 @@
 use Rattle.std.specs.Prelude.{◌≡◌, ℕ, ◌-◌, List, Option, Some, None, length, slice_get, refl}
 use Rattle.std.specs.Option.{option_map_or}
 use Rattle.std.specs.Coded.{Coded, code_by, coded×, coded_ℕ, coded_list}
-use Rattle.tatp_procs.specs.declared.ask.Ask.{Ask}
-use Rattle.tatp_procs.specs.declared.ask.Ask.TheVariants.{Txn}
-use Rattle.tatp_procs.specs.declared.call.Call.{Call}
-use Rattle.tatp_procs.specs.declared.entry.Entry.{Entry}
-use Rattle.tatp_procs.specs.contracts.entry.Entry as entry
-use Rattle.tatp_procs.specs.declared.reply.Reply.{Reply}
+use Rattle.tatp_calls.specs.declared.ask.Ask.{Ask}
+use Rattle.tatp_calls.specs.declared.ask.Ask.TheVariants.{Txn}
+use Rattle.tatp_calls.specs.declared.call.Call.{Call}
+use Rattle.tatp_calls.specs.declared.entry.Entry.{Entry}
+use Rattle.tatp_calls.specs.contracts.entry.Entry as entry
+use Rattle.tatp_calls.specs.declared.reply.Reply.{Reply}
 
 -- what contracts see of a log: the last stamp before it, its entries, and for how many more there
 -- is capacity

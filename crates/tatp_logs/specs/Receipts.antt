@@ -1,7 +1,7 @@
 -- Receipts, as contracts see them.
 use Rattle.std.specs.Prelude.{◌≡◌, ℕ, List, map, refl}
 use Rattle.std.specs.Coded.{Coded, code_by, coded×, coded_ℕ, coded_list}
-use Rattle.tatp_procs.specs.Replies.{reply_seen}
+use Rattle.tatp_calls.specs.Replies.{reply_seen}
 use Rattle.tatp_logs.specs.declared.receipt.Receipt.{Receipt}
 use Rattle.tatp_logs.specs.declared.receipt.Receipt.TheVariants.{Done, Refused}
 use Rattle.tatp_logs.specs.contracts.receipt.Receipt as receipt

@@ -1,15 +1,15 @@
 //! The completed calls, kept with as many arguments and outputs as each has.
 ghost use Rattle.std.specs.Prelude.{◌≡◌, ◌+◌, ◌<◌, ◌≤◌, [], ◌∷◌, ◌++◌, List, OnOk, length, slice_get};
-ghost use Rattle.tatp_procs.specs.declared.entry.Entry.{Entry};
-ghost use Rattle.tatp_procs.specs.Replies.{reply_seen};
+ghost use Rattle.tatp_calls.specs.declared.entry.Entry.{Entry};
+ghost use Rattle.tatp_calls.specs.Replies.{reply_seen};
 
 use crate::completed_call::CompletedCall;
 use crate::kept_ask::KeptAsk;
 use crate::kept_reply::KeptReply;
 use std::alloc::{AllocError, Global};
 use std::marker::Model;
+use tatp_calls::{Entry, Reply, ReplyRef};
 use tatp_limits::{MAX_ARGUMENTS, MAX_OUTPUTS};
-use tatp_procs::{Entry, Reply, ReplyRef};
 
 /// The most values of a call, its outputs and its arguments.
 const MOST_VALUES: usize = MAX_OUTPUTS + MAX_ARGUMENTS;

@@ -3,9 +3,9 @@ ghost use Rattle.std.specs.Prelude.{◌≡◌, ◌+◌, ◌≤◌, ◌++◌, ℕ
 ghost use Rattle.std.specs.Vec.{vec_capacity};
 ghost use Rattle.tatp_logs.specs.KeptAsks.{HasArgumentsIn, ask_in};
 
+use tatp_calls::{Ask, Call, Raw};
 use tatp_limits::MAX_ARGUMENTS;
 use tatp_numbers::Key;
-use tatp_procs::{Ask, Call, Raw};
 
 /// What was asked, where the arguments of a call that is no transaction are in a list of the
 /// values of many. A [`Raw`] of its own has places for eight.

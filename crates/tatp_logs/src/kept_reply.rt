@@ -1,12 +1,12 @@
 //! Replies as lists of many keep them: with as many outputs as each has.
 ghost use Rattle.std.specs.Prelude.{◌≡◌, ◌+◌, ◌≤◌, ◌↔◌, ◌++◌, ℕ, List, IsTrue, vec_len};
 ghost use Rattle.std.specs.Vec.{vec_capacity};
-ghost use Rattle.tatp_procs.specs.Replies.{reply_seen};
+ghost use Rattle.tatp_calls.specs.Replies.{reply_seen};
 ghost use Rattle.tatp_logs.specs.KeptReplies.{StandsIn, reply_in};
 
+use tatp_calls::{Outputs, Reply, ReplyRef};
+use tatp_instr::Trap;
 use tatp_limits::MAX_OUTPUTS;
-use tatp_machine::Trap;
-use tatp_procs::{Outputs, Reply, ReplyRef};
 
 /// A reply whose outputs are in a list of the outputs of many. A [`Reply`] of its own has space
 /// for the most outputs that there may be.

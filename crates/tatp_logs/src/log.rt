@@ -1,7 +1,7 @@
 //! Logs: completed transactions, kept with as many outputs as each has.
 ghost use Rattle.std.specs.Prelude.{◌≡◌, ◌+◌, ◌<◌, ◌≤◌, ◌↔◌, IsTrue, Some, [], ◌∷◌, ◌++◌, ◌==◌, IfOk, OnOk, length, slice_get, vec_len};
 ghost use Rattle.std.specs.Vec.{vec_capacity};
-ghost use Rattle.tatp_procs.specs.Replies.{reply_seen};
+ghost use Rattle.tatp_calls.specs.Replies.{reply_seen};
 ghost use Rattle.tatp_logs.specs.Logs.{last_stamp_from};
 ghost use Rattle.tatp_logs.specs.Logs.{AsksTransaction, HasSaid, IsOfCall};
 ghost use Rattle.tatp_logs.specs.KeptReplies.{StandsIn};
@@ -11,8 +11,8 @@ use crate::kept_reply::KeptReply;
 use std::alloc::{AllocError, Global};
 use std::marker::Model;
 use std::mem;
+use tatp_calls::{Ask, Call, Entry, ReplyRef};
 use tatp_limits::MAX_OUTPUTS;
-use tatp_procs::{Ask, Call, Entry, ReplyRef};
 
 /// How many outputs a call has, where memory for many is reserved: one of the mix has 13 on
 /// average.

@@ -1,5 +1,5 @@
 //! What clients get.
-use tatp_procs::{Reply, ReplyRef};
+use tatp_calls::{Reply, ReplyRef};
 
 /// What a client got for one of its calls.
 #[derive(Clone, Copy, Debug, PartialEq, Eq)]

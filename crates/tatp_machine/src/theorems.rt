@@ -8,7 +8,7 @@ ghost use Rattle.tatp_machine.specs.Calls.{CallState};
 ghost use Rattle.tatp_machine.specs.Lines.{Line, Ends};
 ghost use Rattle.tatp_machine.specs.Runs.{Outcome, EndsAfter, LinesLead, Alone, most_steps};
 ghost use Rattle.tatp_machine.specs.VersionOne.{AloneByTable};
-ghost use Rattle.tatp_machine.specs.declared.progress.End.{End};
+ghost use Rattle.tatp_instr.specs.declared.ending.End.{End};
 
 /// A call that runs alone has one outcome. Where its module keeps the loader's rules it has an
 /// outcome, after fewer lines than it may make steps.

@@ -5,7 +5,7 @@ use Rattle.std.proofs.lemmas.Bool.{false≢true}
 use Rattle.tatp_limits.specs.declared.limits.TheConstants.{MAX_STEPS}
 use Rattle.tatp_tables.specs.Database.{Database}
 use Rattle.tatp_homes.specs.Home.{SubscriberRows}
-use Rattle.tatp_machine.specs.declared.progress.End.{End}
+use Rattle.tatp_instr.specs.declared.ending.End.{End}
 use Rattle.tatp_machine.specs.declared.progress.Progress.{Progress}
 use Rattle.tatp_machine.specs.declared.progress.Progress.TheVariants.{Running, Ended}
 use Rattle.tatp_machine.specs.Machines.{MachineState}

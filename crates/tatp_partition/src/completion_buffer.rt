@@ -6,9 +6,9 @@ ghost use Rattle.tatp_partition.specs.Runners.{entry_by};
 
 use crate::{Completion, Item};
 use std::marker::Model;
+use tatp_calls::{Ask, Call, Entry, Reply};
+use tatp_instr::End;
 use tatp_limits::MAX_OUTPUTS;
-use tatp_machine::End;
-use tatp_procs::{Ask, Call, Entry, Reply};
 
 /// A buffer for the completion of a call that ends, which is written field by field. Contracts see
 /// the completion, if one is there.

@@ -11,10 +11,10 @@ use Rattle.tatp_tables.specs.declared.table.Table.TheVariants.{Subscriber, CallF
 use Rattle.tatp_tables.proofs.KeyLaws.{has-found, row_at-has}
 use Rattle.tatp_numbers.specs.declared.key.Key.{Key}
 use Rattle.tatp_numbers.specs.Homes.{s_id_of, home_of_key}
-use Rattle.tatp_procs.specs.declared.call.Call.{Call}
-use Rattle.tatp_procs.specs.declared.call.Call.TheVariants.{GetSubscriberData, GetNewDestination, GetAccessData, UpdateSubscriberData, UpdateLocation, InsertCallForwarding, DeleteCallForwarding}
-use Rattle.tatp_procs.specs.Arguments.{arguments_accepted, fits_of}
-use Rattle.tatp_procs.specs.Transactions.{reads, some_of, destinations, updates_both, updates_location, inserts_under, inserts_for, deletes, deletes_for, transaction}
+use Rattle.tatp_calls.specs.declared.call.Call.{Call}
+use Rattle.tatp_calls.specs.declared.call.Call.TheVariants.{GetSubscriberData, GetNewDestination, GetAccessData, UpdateSubscriberData, UpdateLocation, InsertCallForwarding, DeleteCallForwarding}
+use Rattle.tatp_calls.specs.Arguments.{arguments_accepted, fits_of}
+use Rattle.tatp_calls.specs.Transactions.{reads, some_of, destinations, updates_both, updates_location, inserts_under, inserts_for, deletes, deletes_for, transaction}
 use Rattle.tatp_procs.specs.Consistent.{IsConsistent}
 use Rattle.tatp_procs.proofs.HomeRowLaws.{row_length}
 use Rattle.tatp_procs.proofs.ForwardingLaws.{s_id_fits, row_fits}

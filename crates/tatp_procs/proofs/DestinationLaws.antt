@@ -15,9 +15,9 @@ use Rattle.tatp_tables.specs.declared.table.Table.TheVariants.{SpecialFacility, 
 use Rattle.tatp_tables.proofs.KeyLaws.{key_is, row_at-key, row_at-has}
 use Rattle.tatp_homes.proofs.UndoLaws.{are_in_domain-at}
 use Rattle.tatp_numbers.specs.Homes.{s_id_of}
-use Rattle.tatp_procs.specs.declared.call.Call.TheVariants.{GetNewDestination}
+use Rattle.tatp_calls.specs.declared.call.Call.TheVariants.{GetNewDestination}
 use Rattle.tatp_procs.specs.Standard.{standard_module}
-use Rattle.tatp_procs.specs.Transactions.{start_time_of, end_time_of, numberx_of, is_active, destinations, some_of}
+use Rattle.tatp_calls.specs.Transactions.{start_time_of, end_time_of, numberx_of, is_active, destinations, some_of}
 use Rattle.tatp_procs.specs.Consistent.{IsConsistent}
 use Rattle.tatp_procs.specs.Performs.{Performs}
 use Rattle.tatp_procs.proofs.HomeRowLaws.{row_at-own, no_child, key_parts, forwarding_key_parts, home_found, row_length}

@@ -6,11 +6,11 @@ use Rattle.tatp_instr.specs.declared.version.Version.TheVariants.{Two}
 use Rattle.tatp_tables.specs.Tuples.{Tuple}
 use Rattle.tatp_tables.specs.Keys.{row_at}
 use Rattle.tatp_tables.specs.Database.{Database, no_tables}
-use Rattle.tatp_machine.specs.declared.progress.End.TheVariants.{Done, Failed}
+use Rattle.tatp_instr.specs.declared.ending.End.TheVariants.{Done, Failed}
 use Rattle.tatp_machine.specs.Calls.{Frame, code_of, entered}
 use Rattle.tatp_machine.proofs.HomelessLaws.{nothing_at}
 use Rattle.tatp_procs.specs.Standard.{standard_module}
-use Rattle.tatp_procs.specs.Transactions.{end_time_of, numberx_of}
+use Rattle.tatp_calls.specs.Transactions.{end_time_of, numberx_of}
 use Rattle.tatp_procs.proofs.RunLaws.{Ending, Over, run, run_homeless}
 
 -- ---- where it stops early

@@ -18,7 +18,7 @@ use Rattle.tatp_homes.proofs.ChangeLaws.{IsHome-put, IsHome-insert, IsHome-delet
 use Rattle.tatp_machine.specs.Calls.{Frame, key_in}
 use Rattle.tatp_machine.specs.Instructions.{Turn, Goes_on, Stops, Nothing_next, value, got, put, put_current, inserted, deleted, delete_current, five_values, act, act_at, limit, unless_stopped, step_at, turn}
 use Rattle.tatp_machine.specs.VersionOne.{turn_by_table}
-use Rattle.tatp_machine.specs.declared.progress.Trap.{Trap}
+use Rattle.tatp_instr.specs.declared.ending.Trap.{Trap}
 
 -- PUT is on no fixed column
 abbrev pub puts_free : Instr → Bool

@@ -5,8 +5,8 @@ use Rattle.std.proofs.Common.{refl, sym, ap, subst, ◌∙◌}
 use Rattle.tatp_tables.specs.Database.{Database, no_tables, of_subscriber, with_subscriber}
 use Rattle.tatp_homes.proofs.SubscriberLaws.{of_subscriber-with_subscriber, with_subscriber-of_subscriber, with_subscriber-with_subscriber}
 use Rattle.tatp_homes.proofs.ChangeLaws.{IsHome-none}
-use Rattle.tatp_machine.specs.declared.progress.End.{End}
-use Rattle.tatp_machine.specs.declared.progress.End.TheVariants.{Done, Failed, Trapped}
+use Rattle.tatp_instr.specs.declared.ending.End.{End}
+use Rattle.tatp_instr.specs.declared.ending.End.TheVariants.{Done, Failed, Trapped}
 use Rattle.tatp_machine.specs.Calls.{Frame, CallState}
 use Rattle.tatp_machine.specs.Instructions.{Goes_on, Stops, Nothing_next, turn}
 use Rattle.tatp_machine.specs.Lines.{left_by, rows_of_home, with_home_rows}

@@ -15,10 +15,10 @@ use Rattle.tatp_tables.specs.declared.table.Table.TheVariants.{Subscriber, Acces
 use Rattle.tatp_numbers.specs.declared.key.Key.{Key}
 use Rattle.tatp_numbers.specs.declared.key.Key.TheVariants.{Id, Number}
 use Rattle.tatp_numbers.specs.Homes.{s_id_of, home_of_key}
-use Rattle.tatp_procs.specs.declared.call.Call.{Call}
-use Rattle.tatp_procs.specs.declared.call.Call.TheVariants.{GetSubscriberData, GetNewDestination, GetAccessData, UpdateSubscriberData, UpdateLocation, InsertCallForwarding, DeleteCallForwarding}
-use Rattle.tatp_procs.specs.Calls.{key_of_call}
-use Rattle.tatp_procs.specs.Transactions.{transaction, replies, fails, reads, numberx_of, start_time_of, end_time_of, is_active, is_destination, destinations, some_of, updates_both, updates_location, inserts_under, inserts_for, deletes, deletes_for, with_bit_1, with_data_a, with_vlr_location}
+use Rattle.tatp_calls.specs.declared.call.Call.{Call}
+use Rattle.tatp_calls.specs.declared.call.Call.TheVariants.{GetSubscriberData, GetNewDestination, GetAccessData, UpdateSubscriberData, UpdateLocation, InsertCallForwarding, DeleteCallForwarding}
+use Rattle.tatp_calls.specs.Calls.{key_of_call}
+use Rattle.tatp_calls.specs.Transactions.{transaction, replies, fails, reads, numberx_of, start_time_of, end_time_of, is_active, is_destination, destinations, some_of, updates_both, updates_location, inserts_under, inserts_for, deletes, deletes_for, with_bit_1, with_data_a, with_vlr_location}
 use Rattle.tatp_procs.specs.Consistent.{IsConsistent}
 use Rattle.tatp_procs.specs.Locality.{with_answer, IsLocal}
 use Rattle.tatp_procs.proofs.HomeRowLaws.{row_at-own, no_child}

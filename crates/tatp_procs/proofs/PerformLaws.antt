@@ -7,16 +7,16 @@ use Rattle.tatp_instr.specs.declared.instr.Instr.{Instr}
 use Rattle.tatp_tables.specs.Database.{Database, of_subscriber, with_subscriber}
 use Rattle.tatp_homes.proofs.SubscriberLaws.{with_subscriber-of_subscriber}
 use Rattle.tatp_encoding.specs.Modules.{ModuleState}
-use Rattle.tatp_machine.specs.declared.progress.End.{End}
-use Rattle.tatp_machine.specs.declared.progress.End.TheVariants.{Done, Failed}
+use Rattle.tatp_instr.specs.declared.ending.End.{End}
+use Rattle.tatp_instr.specs.declared.ending.End.TheVariants.{Done, Failed}
 use Rattle.tatp_machine.specs.Calls.{code_of, entered}
 use Rattle.tatp_machine.specs.Machines.{rows_left}
 use Rattle.tatp_machine.specs.Runs.{Outcome, Alone, call_at_entry}
 use Rattle.tatp_machine.proofs.RunLaws.{one_outcome}
 use Rattle.tatp_numbers.specs.Homes.{home_of_key}
-use Rattle.tatp_procs.specs.declared.call.Call.{Call}
-use Rattle.tatp_procs.specs.Calls.{procedure_of, key_of_call, arguments_of}
-use Rattle.tatp_procs.specs.Transactions.{fails, replies, transaction}
+use Rattle.tatp_calls.specs.declared.call.Call.{Call}
+use Rattle.tatp_calls.specs.Calls.{procedure_of, key_of_call, arguments_of}
+use Rattle.tatp_calls.specs.Transactions.{fails, replies, transaction}
 use Rattle.tatp_procs.specs.Consistent.{IsConsistent}
 use Rattle.tatp_procs.specs.Performs.{answer_of, CallAlone, Performs}
 use Rattle.tatp_procs.proofs.KeepLaws.{puts_free}

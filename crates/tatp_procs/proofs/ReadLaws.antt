@@ -8,14 +8,14 @@ use Rattle.tatp_tables.specs.Keys.{row_at}
 use Rattle.tatp_tables.specs.Database.{Database, no_tables, of_subscriber}
 use Rattle.tatp_tables.specs.declared.table.Table.TheVariants.{Subscriber, AccessInfo}
 use Rattle.tatp_tables.proofs.KeyLaws.{row_at-key, row_at-has, first_is}
-use Rattle.tatp_machine.specs.declared.progress.End.TheVariants.{Done, Failed}
+use Rattle.tatp_instr.specs.declared.ending.End.TheVariants.{Done, Failed}
 use Rattle.tatp_machine.specs.Calls.{code_of, entered}
 use Rattle.tatp_machine.proofs.HomelessLaws.{nothing_at}
 use Rattle.tatp_numbers.specs.Homes.{s_id_of}
 use Rattle.std.specs.Option.{option_map}
 use Rattle.tatp_procs.specs.Standard.{standard_module}
-use Rattle.tatp_procs.specs.declared.call.Call.TheVariants.{GetSubscriberData, GetAccessData}
-use Rattle.tatp_procs.specs.Transactions.{replies, reads}
+use Rattle.tatp_calls.specs.declared.call.Call.TheVariants.{GetSubscriberData, GetAccessData}
+use Rattle.tatp_calls.specs.Transactions.{replies, reads}
 use Rattle.tatp_procs.specs.Consistent.{IsConsistent}
 use Rattle.tatp_procs.specs.Performs.{Performs}
 use Rattle.tatp_procs.proofs.RunLaws.{Over, run, run_homeless}

@@ -3,7 +3,7 @@ use Rattle.std.specs.Prelude.{◌≡◌, ℕ, zero, suc, ◌≤◌, List, length
 use Rattle.std.proofs.Common.{refl, ap, subst, arith}
 use Rattle.tatp_instr.specs.declared.instr.Instr.{Instr}
 use Rattle.tatp_tables.specs.Database.{Database, no_tables}
-use Rattle.tatp_machine.specs.declared.progress.End.{End}
+use Rattle.tatp_instr.specs.declared.ending.End.{End}
 use Rattle.tatp_machine.specs.Calls.{Frame}
 use Rattle.tatp_machine.specs.Instructions.{Turn, Goes_on, Stops, Nothing_next, act_at}
 use Rattle.tatp_machine.specs.VersionOne.{turn_by_table}

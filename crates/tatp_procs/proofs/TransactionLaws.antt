@@ -4,9 +4,9 @@ use Rattle.std.specs.List.{position_from}
 use Rattle.std.proofs.Common.{refl, sym, subst}
 use Rattle.tatp_tables.specs.Database.{Database}
 use Rattle.tatp_encoding.specs.Modules.{ModuleState}
-use Rattle.tatp_procs.specs.declared.call.Call.{Call}
-use Rattle.tatp_procs.specs.declared.call.Call.TheVariants.{GetSubscriberData, GetNewDestination, GetAccessData, UpdateSubscriberData, UpdateLocation, InsertCallForwarding, DeleteCallForwarding}
-use Rattle.tatp_procs.specs.Arguments.{accepted, arguments_accepted, fits_of}
+use Rattle.tatp_calls.specs.declared.call.Call.{Call}
+use Rattle.tatp_calls.specs.declared.call.Call.TheVariants.{GetSubscriberData, GetNewDestination, GetAccessData, UpdateSubscriberData, UpdateLocation, InsertCallForwarding, DeleteCallForwarding}
+use Rattle.tatp_calls.specs.Arguments.{accepted, arguments_accepted, fits_of}
 use Rattle.tatp_procs.specs.Standard.{standard_module}
 use Rattle.tatp_procs.specs.Consistent.{IsConsistent}
 use Rattle.tatp_procs.specs.Performs.{Performs}

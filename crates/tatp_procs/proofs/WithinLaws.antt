@@ -12,7 +12,7 @@ use Rattle.tatp_instr.specs.declared.version.Version.TheVariants.{One, Two}
 use Rattle.tatp_encoding.specs.Modules.{ModuleState}
 use Rattle.tatp_tables.specs.Database.{Database}
 use Rattle.tatp_loader.specs.Lawful.{is_out, is_write, is_end}
-use Rattle.tatp_machine.specs.declared.progress.Trap.TheVariants.{Budget, Output, Writes}
+use Rattle.tatp_instr.specs.declared.ending.Trap.TheVariants.{Budget, Output, Writes}
 use Rattle.tatp_machine.specs.Calls.{Frame, code_of, entered}
 use Rattle.tatp_machine.specs.Instructions.{Goes_on, one_where, act, act_at, is_last_step, excess, limit, unless_stopped, step_at, turn}
 use Rattle.tatp_machine.specs.VersionOne.{turn_by_table}

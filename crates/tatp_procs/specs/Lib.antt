@@ -1,16 +1,4 @@
-pub mod Calls
-pub mod Asks
-pub mod Padding
-pub mod Arguments
-pub mod Asked
-pub mod Transactions
-pub mod Order
 pub mod Standard
 pub mod Consistent
-pub mod Replies
 pub mod Performs
-pub mod Extends
-pub mod ValuesText
-pub mod CallText
-pub mod ReplyText
 pub mod Locality

@@ -4,10 +4,10 @@ use Rattle.tatp_tables.specs.Database.{Database}
 use Rattle.tatp_encoding.specs.Modules.{ModuleState}
 use Rattle.tatp_machine.specs.Runs.{Outcome, Alone}
 use Rattle.tatp_numbers.specs.Homes.{home_of_key}
-use Rattle.tatp_procs.specs.declared.call.Call.{Call}
-use Rattle.tatp_procs.specs.Replies.{reply_to}
-use Rattle.tatp_procs.specs.Calls.{procedure_of, key_of_call, arguments_of}
-use Rattle.tatp_procs.specs.Transactions.{Answer, transaction}
+use Rattle.tatp_calls.specs.declared.call.Call.{Call}
+use Rattle.tatp_calls.specs.Replies.{reply_to}
+use Rattle.tatp_calls.specs.Calls.{procedure_of, key_of_call, arguments_of}
+use Rattle.tatp_calls.specs.Transactions.{Answer, transaction}
 
 abbrev pub answer_of : Outcome → Answer
 answer_of o = record { reply = reply_to o.end o.outputs; database = o.database }

@@ -2,8 +2,8 @@
 ghost use Rattle.std.specs.Prelude.{◌≡◌, ◌↔◌, ◌≤◌, true, IsTrue, IfOk, Ok};
 ghost use Rattle.tatp_tables.specs.Database.{Database};
 ghost use Rattle.tatp_encoding.specs.Modules.{is_procedure};
-ghost use Rattle.tatp_procs.specs.declared.call.Call.{Call};
-ghost use Rattle.tatp_procs.specs.Arguments.{arguments_accepted};
+ghost use Rattle.tatp_calls.specs.declared.call.Call.{Call};
+ghost use Rattle.tatp_calls.specs.Arguments.{arguments_accepted};
 ghost use Rattle.tatp_procs.specs.Standard.{standard_module};
 ghost use Rattle.tatp_procs.specs.Consistent.{IsConsistent};
 ghost use Rattle.tatp_procs.specs.Performs.{Performs};
@@ -13,12 +13,12 @@ mod registers;
 mod text;
 mod writes;
 
-use crate::transactions::{
+use reads::{get_access_data, get_new_destination, get_subscriber_data};
+use std::alloc::{AllocError, Global};
+use tatp_calls::{
     DELETE_CALL_FORWARDING, GET_ACCESS_DATA, GET_NEW_DESTINATION, GET_SUBSCRIBER_DATA,
     INSERT_CALL_FORWARDING, Transaction, UPDATE_LOCATION, UPDATE_SUBSCRIBER_DATA,
 };
-use reads::{get_access_data, get_new_destination, get_subscriber_data};
-use std::alloc::{AllocError, Global};
 use tatp_encoding::{Module, Proc, encode};
 use tatp_instr::{Instr, Version};
 use tatp_limits::MAX_ARGUMENTS;

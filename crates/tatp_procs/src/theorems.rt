@@ -4,18 +4,18 @@ ghost use Rattle.tatp_tables.specs.Database.{Database, database_of, of_subscribe
 ghost use Rattle.tatp_homes.specs.Home.{SubscriberRows, IsHome, HaveSId};
 ghost use Rattle.tatp_tables.specs.Clean.{IsClean};
 ghost use Rattle.tatp_tables.specs.declared.row.Rows.{Rows};
-ghost use Rattle.tatp_procs.specs.declared.call.Call.{Call};
+ghost use Rattle.tatp_calls.specs.declared.call.Call.{Call};
 ghost use Rattle.tatp_encoding.specs.Modules.{Procedure};
-ghost use Rattle.tatp_procs.specs.Calls.{procedure_of, key_of_call, arguments_of};
-ghost use Rattle.tatp_procs.specs.Arguments.{arguments_accepted};
+ghost use Rattle.tatp_calls.specs.Calls.{procedure_of, key_of_call, arguments_of};
+ghost use Rattle.tatp_calls.specs.Arguments.{arguments_accepted};
 ghost use Rattle.tatp_procs.specs.Standard.{standard_module};
 ghost use Rattle.tatp_procs.specs.Consistent.{IsConsistent};
-ghost use Rattle.tatp_procs.specs.Transactions.{transaction};
+ghost use Rattle.tatp_calls.specs.Transactions.{transaction};
 ghost use Rattle.tatp_numbers.specs.declared.key.Key.{Key};
 ghost use Rattle.tatp_numbers.specs.Homes.{home_of_key};
 ghost use Rattle.tatp_procs.specs.Performs.{Performs};
 ghost use Rattle.tatp_procs.specs.Locality.{IsLocal};
-ghost use Rattle.tatp_procs.specs.Transactions.{fails};
+ghost use Rattle.tatp_calls.specs.Transactions.{fails};
 
 /// Run alone on a consistent database, each standard procedure is its transaction, for all
 /// arguments in their domains: it ends, without a trap, with the reply and the database of the

@@ -1,10 +1,10 @@
 -- trusted: read it
 -- The lines of what clients asked and were answered: docs/FORMATS.md, "Lines of a history".
 use Rattle.std.specs.Prelude.{ℕ, suc, List, [], ◌∷◌, ◌++◌, codes, decimal}
-use Rattle.tatp_procs.specs.declared.ask.Ask.{Ask}
-use Rattle.tatp_procs.specs.declared.ask.Ask.TheVariants.{Txn, Raw}
-use Rattle.tatp_procs.specs.CallText.{call_text}
-use Rattle.tatp_procs.specs.ReplyText.{reply_text}
+use Rattle.tatp_calls.specs.declared.ask.Ask.{Ask}
+use Rattle.tatp_calls.specs.declared.ask.Ask.TheVariants.{Txn, Raw}
+use Rattle.tatp_calls.specs.CallText.{call_text}
+use Rattle.tatp_calls.specs.ReplyText.{reply_text}
 use Rattle.tatp_logs.specs.declared.receipt.Receipt.{Receipt}
 use Rattle.tatp_logs.specs.declared.receipt.Receipt.TheVariants.{Done, Refused}
 

@@ -3,7 +3,7 @@
 use Rattle.std.specs.Prelude.{◌≡◌, ℕ, List, ◌++◌, Vec}
 use Rattle.std.specs.List.{flat_map}
 use Rattle.std.specs.declared.alloc.Global.{Global}
-use Rattle.tatp_procs.specs.declared.ask.Ask.{Ask}
+use Rattle.tatp_calls.specs.declared.ask.Ask.{Ask}
 use Rattle.tatp_logs.specs.Receipts.{ReceiptsState, receipts_of}
 use Rattle.tatp_logs.specs.Lists.{lists_of}
 use Rattle.tatp_run_history.specs.ClientLines.{all_lines}

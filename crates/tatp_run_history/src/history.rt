@@ -14,8 +14,8 @@ use crate::Numbers;
 use crate::part::Part;
 use std::alloc::{AllocError, Global};
 use std::io::Write;
+use tatp_calls::Ask;
 use tatp_logs::Receipts;
-use tatp_procs::Ask;
 use tatp_streams::{StreamFault, write_if_full, write_last};
 
 /// The parts of all clients, before any line is written.

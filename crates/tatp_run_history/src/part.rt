@@ -6,10 +6,10 @@ ghost use Rattle.tatp_run_history.specs.ClientLines.{asked_text, asked_line, ans
 ghost use Rattle.tatp_run_history.specs.Parts.{is_done, rest_of, PushesFirst};
 
 use std::alloc::AllocError;
+use tatp_calls::{Ask, push_reply};
 use tatp_lines::push_decimal;
 use tatp_load::push_call_line;
 use tatp_logs::{ReceiptRef, Receipts};
-use tatp_procs::{Ask, push_reply};
 
 /// What is left of a client's part: its calls and their receipts from one call on.
 #[derive(Clone, Copy)]

@@ -6,7 +6,7 @@ use Rattle.std.proofs.lemmas.Bool.{lt-ltb, le-ltb, ltb-true, cases_lt}
 use Rattle.tatp_homes.specs.Home.{SubscriberRows, subscriber_rows_code}
 use Rattle.tatp_tables.specs.declared.row.Rows.{Rows}
 use Rattle.tatp_tables.specs.Database.{database_of}
-use Rattle.tatp_procs.specs.declared.entry.Entry.{Entry}
+use Rattle.tatp_calls.specs.declared.entry.Entry.{Entry}
 use Rattle.tatp_extents.specs.Histories.{StampsRise}
 use Rattle.tatp_logs.specs.Logs.{last_stamp_from}
 use Rattle.tatp_extents.specs.Extents.{ExtentState}

@@ -11,7 +11,7 @@ use Rattle.tatp_tables.specs.declared.row.Rows.{Rows}
 use Rattle.tatp_audits.specs.declared.verdict.Verdict.{Verdict}
 use Rattle.tatp_audits.specs.Audits.{AllPass, IsVerdict, tests, says_clean}
 use Rattle.tatp_audits.proofs.Verdicts.{pass_and_fail, pass_from_clean}
-use Rattle.tatp_procs.specs.declared.ask.Ask.{Ask}
+use Rattle.tatp_calls.specs.declared.ask.Ask.{Ask}
 use Rattle.tatp_logs.specs.declared.receipt.Receipt.{Receipt}
 use Rattle.tatp_settle.specs.declared.places.CallPlace.{CallPlace}
 use Rattle.tatp_settle.specs.declared.places.ChapterPlace.{ChapterPlace}

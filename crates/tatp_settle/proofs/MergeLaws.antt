@@ -5,12 +5,12 @@ use Rattle.tatp_homes.specs.Home.{SubscriberRows, HaveSId, home_in}
 use Rattle.tatp_homes.proofs.SubscriberLaws.{of_subscriber-with_subscriber, of_subscriber-with_other}
 use Rattle.tatp_numbers.specs.declared.key.Key.{Key}
 use Rattle.tatp_numbers.specs.Homes.{home_of_key}
-use Rattle.tatp_procs.specs.declared.ask.Ask.TheVariants.{Txn}
-use Rattle.tatp_procs.specs.declared.call.Call.{Call}
-use Rattle.tatp_procs.specs.declared.entry.Entry.{Entry}
-use Rattle.tatp_procs.specs.Calls.{key_of_call}
-use Rattle.tatp_procs.specs.Order.{Answers, in_order}
-use Rattle.tatp_procs.specs.Transactions.{Answer, transaction}
+use Rattle.tatp_calls.specs.declared.ask.Ask.TheVariants.{Txn}
+use Rattle.tatp_calls.specs.declared.call.Call.{Call}
+use Rattle.tatp_calls.specs.declared.entry.Entry.{Entry}
+use Rattle.tatp_calls.specs.Calls.{key_of_call}
+use Rattle.tatp_calls.specs.Order.{Answers, in_order}
+use Rattle.tatp_calls.specs.Transactions.{Answer, transaction}
 use Rattle.tatp_procs.specs.Consistent.{IsConsistent}
 use Rattle.tatp_procs.specs.Locality.{with_answer}
 use Rattle.tatp_procs.proofs.ConsistentAfterLaws.{consistent_after, keys_after}

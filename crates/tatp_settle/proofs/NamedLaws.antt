@@ -4,8 +4,8 @@ use Rattle.tatp_tables.specs.Tuples.{Tuples}
 use Rattle.tatp_numbers.specs.Homes.{home_of_key}
 use Rattle.tatp_numbers.specs.Listing.{Listing, answer}
 use Rattle.tatp_numbers.specs.declared.key.Key.{Key}
-use Rattle.tatp_procs.specs.declared.entry.Entry.{Entry}
-use Rattle.tatp_procs.specs.Asked.{key_asked}
+use Rattle.tatp_calls.specs.declared.entry.Entry.{Entry}
+use Rattle.tatp_calls.specs.Asked.{key_asked}
 use Rattle.tatp_settle.specs.declared.places.CallPlace.{CallPlace}
 use Rattle.tatp_settle.specs.Closings.{ClosedState, entries_numbered, StandsAt}
 use Rattle.tatp_settle.specs.CallPlaces.{IsSooner, IsFirstCall}

@@ -17,11 +17,11 @@ use Rattle.tatp_homes.proofs.ChangeLaws.{IsHome-none}
 use Rattle.tatp_numbers.specs.declared.key.Key.{Key}
 use Rattle.tatp_numbers.specs.declared.key.Key.TheVariants.{Id, Number}
 use Rattle.tatp_numbers.specs.Homes.{s_id_of, home_of_key}
-use Rattle.tatp_procs.specs.declared.entry.Entry.{Entry}
-use Rattle.tatp_procs.specs.Calls.{key_of_call}
-use Rattle.tatp_procs.specs.declared.call.Call.{Call}
-use Rattle.tatp_procs.specs.declared.reply.Reply.TheVariants.{Failed}
-use Rattle.tatp_procs.specs.Transactions.{Answer, transaction}
+use Rattle.tatp_calls.specs.declared.entry.Entry.{Entry}
+use Rattle.tatp_calls.specs.Calls.{key_of_call}
+use Rattle.tatp_calls.specs.declared.call.Call.{Call}
+use Rattle.tatp_calls.specs.declared.reply.Reply.TheVariants.{Failed}
+use Rattle.tatp_calls.specs.Transactions.{Answer, transaction}
 use Rattle.tatp_procs.proofs.ConsistentLaws.{IsConsistent-home, IsConsistent-clean}
 use Rattle.tatp_procs.proofs.LocalityLaws.{fails_without_home}
 use Rattle.tatp_extents.specs.Histories.{Leads}
@@ -33,7 +33,7 @@ use Rattle.tatp_extents.specs.HomeRows.{database_of_homes, AreRowsOf}
 use Rattle.tatp_extents.proofs.HomeRowsLaws.{rows_are_the_database}
 use Rattle.tatp_extents.proofs.CleanRowsLaws.{rows_of_clean}
 use Rattle.tatp_extents.proofs.ChapterLaws.{joined_lead, joined_homeless}
-use Rattle.tatp_procs.specs.Asked.{key_asked}
+use Rattle.tatp_calls.specs.Asked.{key_asked}
 use Rattle.tatp_settle.specs.Closings.{ClosedSiteState, ClosedState, ExtentLog, extents_of, logs_of, log_of_homeless, log_of_extent, log_numbered, extent_numbered, homes_numbered, chapter_numbered, chapter_count, chapters_numbered, entries_since, entries_numbered, IsClosedSite, IsClosed}
 use Rattle.tatp_settle.specs.Merging.{PlacedEntry, IsMergeable, IsAnsweredInOrder, OneHistory}
 use Rattle.tatp_settle.specs.Runs.{Run, extents_populated, homes_at_first, logs_left, homes_left, rows_left}

@@ -6,7 +6,7 @@ use Rattle.std.proofs.lemmas.Bool.{leb-true, leb-false, cases_lt}
 use Rattle.std.proofs.lemmas.List.{flat_map_more}
 use Rattle.std.proofs.lemmas.List.Sorted.{IsPartitionedBy-leb}
 use Rattle.std.proofs.lemmas.Option.{same_Some, none-some, slice_get_within, slice_get_past, slice_get-get_or, get_or_from_slice_get}
-use Rattle.tatp_procs.specs.declared.entry.Entry.{Entry}
+use Rattle.tatp_calls.specs.declared.entry.Entry.{Entry}
 use Rattle.tatp_logs.specs.Logs.{IsOfCall}
 use Rattle.tatp_settle.specs.declared.log_parts.JoinedPart.{JoinedPart}
 use Rattle.tatp_settle.specs.WholeLogs.{entries_of_parts, AreJoined, entry_in_part}

@@ -1,6 +1,6 @@
 -- Whether a call and its receipt are what the call's entry says.
 use Rattle.std.specs.Prelude.{◌≡◌, Option, Some, None, slice_get}
-use Rattle.tatp_procs.specs.declared.ask.Ask.{Ask}
+use Rattle.tatp_calls.specs.declared.ask.Ask.{Ask}
 use Rattle.tatp_logs.specs.Logs.{HasSaid}
 use Rattle.tatp_logs.specs.declared.receipt.Receipt.{Receipt}
 use Rattle.tatp_logs.specs.declared.receipt.Receipt.TheVariants.{Done, Refused}

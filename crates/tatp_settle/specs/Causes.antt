@@ -10,11 +10,11 @@ use Rattle.tatp_tables.specs.Database.{database_of}
 use Rattle.tatp_homes.specs.Home.{SubscriberRows}
 use Rattle.tatp_numbers.specs.Homes.{home_of_key}
 use Rattle.tatp_audits.specs.Audits.{IsVerdict, says_clean}
-use Rattle.tatp_procs.specs.declared.ask.Ask.{Ask}
-use Rattle.tatp_procs.specs.declared.entry.Entry.{Entry}
+use Rattle.tatp_calls.specs.declared.ask.Ask.{Ask}
+use Rattle.tatp_calls.specs.declared.entry.Entry.{Entry}
 use Rattle.tatp_extents.specs.Extents.{ExtentState}
 use Rattle.tatp_extents.specs.Chapters.{ChapterState}
-use Rattle.tatp_procs.specs.Asked.{key_asked}
+use Rattle.tatp_calls.specs.Asked.{key_asked}
 use Rattle.tatp_logs.specs.declared.receipt.Receipt.{Receipt}
 use Rattle.tatp_logs.specs.declared.receipt.Receipt.TheVariants.{Done, Refused}
 use Rattle.tatp_settle.specs.declared.cause.Unsettled.{Unsettled}

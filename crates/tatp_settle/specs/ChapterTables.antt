@@ -3,7 +3,7 @@ use Rattle.std.specs.Prelude.{◌≡◌, ℕ, nat_lt, if◌then◌else◌, List,
 use Rattle.std.specs.Borrow.{Bor}
 use Rattle.std.specs.List.{range_with_len}
 use Rattle.std.specs.Option.{option_copied, option_map_or}
-use Rattle.tatp_procs.specs.declared.entry.Entry.{Entry}
+use Rattle.tatp_calls.specs.declared.entry.Entry.{Entry}
 use Rattle.tatp_extents.specs.Chapters.{ChapterState}
 use Rattle.tatp_settle.specs.declared.places.ChapterPlace.{ChapterPlace}
 use Rattle.tatp_settle.specs.declared.log_parts.LogPart.{LogPart}

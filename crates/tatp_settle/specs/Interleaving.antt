@@ -2,7 +2,7 @@
 -- Any order of the entries of many logs that keeps the order of each log.
 use Rattle.std.specs.Prelude.{List, [], ◌∷◌}
 use Rattle.tatp_tables.specs.Database.{Database, database_of}
-use Rattle.tatp_procs.specs.declared.entry.Entry.{Entry}
+use Rattle.tatp_calls.specs.declared.entry.Entry.{Entry}
 use Rattle.tatp_settle.specs.Merging.{PlacedEntry, Begins, AllAreEmpty, without_first}
 use Rattle.tatp_settle.specs.Merging.{IsAnsweredInOrder}
 use Rattle.tatp_settle.specs.Runs.{Run, logs_left, rows_left}

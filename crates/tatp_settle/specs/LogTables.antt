@@ -1,7 +1,7 @@
 -- The whole logs of all numbers in one list.
 use Rattle.std.specs.Prelude.{◌≡◌, ℕ, List, [], length, slice_get}
 use Rattle.std.specs.Option.{option_map_or}
-use Rattle.tatp_procs.specs.declared.entry.Entry.{Entry}
+use Rattle.tatp_calls.specs.declared.entry.Entry.{Entry}
 use Rattle.tatp_settle.specs.Closings.{ClosedState, entries_numbered, least_above}
 
 -- the whole log at a number's place, none beyond the last

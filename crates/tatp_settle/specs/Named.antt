@@ -1,8 +1,8 @@
 -- Entries whose key names a subscriber.
 use Rattle.std.specs.Prelude.{◌≡◌, ℕ, List, Some, IsSome, slice_get}
 use Rattle.tatp_numbers.specs.Listing.{Listing, answer}
-use Rattle.tatp_procs.specs.declared.entry.Entry.{Entry}
-use Rattle.tatp_procs.specs.Asked.{key_asked}
+use Rattle.tatp_calls.specs.declared.entry.Entry.{Entry}
+use Rattle.tatp_calls.specs.Asked.{key_asked}
 use Rattle.tatp_settle.specs.Answering.{IsEntryOf}
 
 -- an entry of the call is in the log, and its key names a subscriber

@@ -1,6 +1,6 @@
 -- A table with a cell for each call, in which the place of the call's entry is kept.
 use Rattle.std.specs.Prelude.{◌≡◌, ℕ, ◌+◌, ◌<◌, ◌⊎◌, Bool, true, false, Option, Some, None, List, length, IfNone}
-use Rattle.tatp_procs.specs.declared.entry.Entry.{Entry}
+use Rattle.tatp_calls.specs.declared.entry.Entry.{Entry}
 use Rattle.tatp_logs.specs.declared.receipt.Receipt.{Receipt}
 use Rattle.tatp_logs.specs.Receipts.{receipts_of}
 use Rattle.tatp_settle.specs.declared.places.LogPlace.{LogPlace}

@@ -7,8 +7,8 @@ use Rattle.tatp_tables.specs.Database.{database_of}
 use Rattle.tatp_homes.specs.Home.{SubscriberRows}
 use Rattle.tatp_homes.specs.Loading.{homes_in}
 use Rattle.tatp_tables.specs.declared.row.Rows.{Rows}
-use Rattle.tatp_procs.specs.declared.ask.Ask.{Ask}
-use Rattle.tatp_procs.specs.declared.entry.Entry.{Entry}
+use Rattle.tatp_calls.specs.declared.ask.Ask.{Ask}
+use Rattle.tatp_calls.specs.declared.entry.Entry.{Entry}
 use Rattle.tatp_extents.specs.Opening.{extent_count, homes_of_extent}
 use Rattle.tatp_extents.specs.HomeRows.{rows_of_homes}
 use Rattle.tatp_logs.specs.declared.receipt.Receipt.{Receipt}

@@ -4,11 +4,11 @@ use Rattle.tatp_tables.specs.Database.{Database}
 use Rattle.tatp_homes.specs.Home.{SubscriberRows, home_in}
 use Rattle.tatp_numbers.specs.declared.key.Key.{Key}
 use Rattle.tatp_numbers.specs.Homes.{home_of_key}
-use Rattle.tatp_procs.specs.declared.ask.Ask.TheVariants.{Txn}
-use Rattle.tatp_procs.specs.declared.call.Call.{Call}
-use Rattle.tatp_procs.specs.declared.entry.Entry.{Entry}
-use Rattle.tatp_procs.specs.declared.reply.Reply.TheVariants.{Failed}
-use Rattle.tatp_procs.specs.Calls.{key_of_call}
+use Rattle.tatp_calls.specs.declared.ask.Ask.TheVariants.{Txn}
+use Rattle.tatp_calls.specs.declared.call.Call.{Call}
+use Rattle.tatp_calls.specs.declared.entry.Entry.{Entry}
+use Rattle.tatp_calls.specs.declared.reply.Reply.TheVariants.{Failed}
+use Rattle.tatp_calls.specs.Calls.{key_of_call}
 use Rattle.tatp_procs.specs.Consistent.{IsConsistent}
 use Rattle.tatp_extents.specs.Histories.{Leads}
 use Rattle.tatp_settle.specs.Merging.{PlacedEntry, IsAnsweredInOrder}

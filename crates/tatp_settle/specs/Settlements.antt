@@ -9,8 +9,8 @@ use Rattle.tatp_homes.specs.Home.{SubscriberRows}
 use Rattle.tatp_audits.specs.declared.verdict.Verdict.{Verdict}
 use Rattle.tatp_audits.specs.Audits.{IsVerdict, clean_of, says_clean}
 use Rattle.tatp_tables.specs.declared.row.Rows.{Rows}
-use Rattle.tatp_procs.specs.declared.ask.Ask.{Ask}
-use Rattle.tatp_procs.specs.declared.entry.Entry.{Entry}
+use Rattle.tatp_calls.specs.declared.ask.Ask.{Ask}
+use Rattle.tatp_calls.specs.declared.entry.Entry.{Entry}
 use Rattle.tatp_extents.specs.Histories.{StampsRise}
 use Rattle.tatp_extents.specs.Extents.{ExtentState}
 use Rattle.tatp_extents.specs.Chapters.{Joins}

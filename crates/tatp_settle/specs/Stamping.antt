@@ -1,6 +1,6 @@
 -- Stamps that rise.
 use Rattle.std.specs.Prelude.{ℕ, nat_lt, Bool, true, List, [], ◌∷◌, Option, Some, None}
-use Rattle.tatp_procs.specs.declared.entry.Entry.{Entry}
+use Rattle.tatp_calls.specs.declared.entry.Entry.{Entry}
 
 -- whether the stamp is above the last one, if there is one
 abbrev pub is_above : Option ℕ → ℕ → Bool

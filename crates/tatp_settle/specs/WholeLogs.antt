@@ -2,7 +2,7 @@
 use Rattle.std.specs.Prelude.{◌≡◌, ℕ, ◌+◌, ◌-◌, List, [], ◌∷◌, length, Option, slice_get}
 use Rattle.std.specs.List.{flat_map}
 use Rattle.std.specs.Option.{option_and_then}
-use Rattle.tatp_procs.specs.declared.entry.Entry.{Entry}
+use Rattle.tatp_calls.specs.declared.entry.Entry.{Entry}
 use Rattle.tatp_settle.specs.declared.log_parts.JoinedPart.{JoinedPart}
 
 -- the entries of all parts, one after another

@@ -10,8 +10,8 @@ ghost use Rattle.tatp_settle.specs.Settlements.{completed, refused, calls_by_kin
 
 use crate::run::Run;
 use std::thread::{Threads, join};
+use tatp_calls::Ask;
 use tatp_logs::{ReceiptRef, Receipts};
-use tatp_procs::Ask;
 
 /// How many calls were completed, to how many memory was refused, and how many there are of each
 /// kind, in the order of the mix.

@@ -11,8 +11,8 @@ use crate::places::{CallPlace, LogPlace};
 use crate::searches::{Search, first_call};
 use crate::table::Table;
 use std::thread::Threads;
+use tatp_calls::Ask;
 use tatp_logs::{ReceiptRef, Receipts};
-use tatp_procs::Ask;
 
 /// Whether the entry in a place is what a call's receipt and its client say.
 fn says(logs: &LogTable<'_>, place: LogPlace, ask: &Ask, receipt: ReceiptRef<'_>) -> bool

@@ -1,15 +1,15 @@
 //! Parts of whole logs, and whole logs joined from them.
 ghost use Rattle.std.specs.Prelude.{◌≡◌, ◌<◌, ◌≤◌, ◌↔◌, ◌++◌, [], IsTrue, IfSome, OnSome, OnOk, length, slice_get};
 ghost use Rattle.std.specs.Option.{option_copied};
-ghost use Rattle.tatp_procs.specs.Replies.{reply_seen};
+ghost use Rattle.tatp_calls.specs.Replies.{reply_seen};
 ghost use Rattle.tatp_logs.specs.Logs.{HasSaid, IsOfCall};
 ghost use Rattle.tatp_settle.specs.WholeLogs.{entry_in_part};
 
 use std::alloc::{AllocError, Global};
 use std::marker::Model;
+use tatp_calls::{Ask, Entry, ReplyRef};
 use tatp_homes::Home;
 use tatp_logs::Log;
-use tatp_procs::{Ask, Entry, ReplyRef};
 
 /// A part of an extent's whole log: a chapter, or what was logged since the last of them.
 #[derive(Clone, Copy)]
@@ -37,7 +37,7 @@ pub(crate) struct WholeLog<'a> {
 
 impl<'a> Model for WholeLog<'a> {
     ghost use Rattle.std.specs.Prelude.{List};
-    ghost use Rattle.tatp_procs.specs.declared.entry.Entry.{Entry};
+    ghost use Rattle.tatp_calls.specs.declared.entry.Entry.{Entry};
     ghost use Rattle.tatp_settle.specs.WholeLogs.{entries_of_parts, AreJoined};
 
     ghost Value = { List Entry };

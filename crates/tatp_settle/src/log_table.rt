@@ -1,8 +1,8 @@
 //! The whole logs of all numbers, each put together once.
 ghost use Rattle.std.specs.Prelude.{◌≡◌, ◌<◌, ◌≤◌, ◌↔◌, ℕ, List, [], IsTrue, IfOk, length, slice_get};
 ghost use Rattle.std.specs.Option.{option_copied, option_map_or};
-ghost use Rattle.tatp_procs.specs.declared.entry.Entry.{Entry};
-ghost use Rattle.tatp_procs.specs.Replies.{reply_seen};
+ghost use Rattle.tatp_calls.specs.declared.entry.Entry.{Entry};
+ghost use Rattle.tatp_calls.specs.Replies.{reply_seen};
 ghost use Rattle.tatp_logs.specs.Logs.{HasSaid, IsOfCall};
 ghost use Rattle.tatp_settle.specs.Closings.{entries_numbered, least_above};
 
@@ -11,7 +11,7 @@ use crate::chapter_table::ChapterTable;
 use crate::log_parts::WholeLog;
 use std::alloc::{AllocError, Global};
 use std::marker::Model;
-use tatp_procs::{Ask, ReplyRef};
+use tatp_calls::{Ask, ReplyRef};
 
 /// What was gathered, with the whole log of each number at hand.
 #[derive(Drop)]

@@ -1,7 +1,7 @@
 //! A run that is to be settled, as functions hand it on.
 use crate::Closed;
+use tatp_calls::Ask;
 use tatp_logs::Receipts;
-use tatp_procs::Ask;
 use tatp_tables::Rows;
 
 /// What a run began with, and what it left.

@@ -12,8 +12,8 @@ use crate::run::Run;
 use crate::{Closed, NotSettled, SettleError, Settled};
 use std::alloc::Global;
 use std::thread::Threads;
+use tatp_calls::Ask;
 use tatp_logs::Receipts;
-use tatp_procs::Ask;
 use tatp_tables::Rows;
 
 /// Whether the run is one history: from the population, whose rows are clean, through all chapters

@@ -3,7 +3,7 @@ ghost use Rattle.std.specs.Prelude.{List};
 ghost use Rattle.tatp_tables.specs.Database.{Database, database_of};
 ghost use Rattle.tatp_tables.specs.Clean.{IsClean};
 ghost use Rattle.tatp_procs.specs.Consistent.{IsConsistent};
-ghost use Rattle.tatp_procs.specs.declared.entry.Entry.{Entry};
+ghost use Rattle.tatp_calls.specs.declared.entry.Entry.{Entry};
 ghost use Rattle.tatp_settle.specs.Merging.{PlacedEntry, Merges, IsMergeable, OneHistory};
 ghost use Rattle.tatp_settle.specs.Interleaving.{Interleaves, IsOneHistoryInAnyOrder};
 ghost use Rattle.tatp_settle.specs.Closings.{IsClosed};

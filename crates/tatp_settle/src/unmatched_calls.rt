@@ -12,8 +12,8 @@ use crate::lists::{at, clients_of, count_of, len_of, receipt_at, receipts_len};
 use crate::places::CallPlace;
 use crate::searches::{Search, first_call};
 use std::thread::Threads;
+use tatp_calls::Ask;
 use tatp_logs::{ReceiptRef, Receipts};
-use tatp_procs::Ask;
 
 /// Whether the receipt is that of this call.
 fn is_of(receipt: ReceiptRef<'_>, client: u64, number: u64) -> bool

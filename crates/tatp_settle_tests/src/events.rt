@@ -5,12 +5,12 @@ ghost use Rattle.tatp_settle.specs.Runs.{joined};
 
 use crate::sites::{begins, ended, lands, opened, spend_parcels, spend_site};
 use std::alloc::{AllocError, Global};
+use tatp_calls::{Ask, Call, Raw, Reply};
 use tatp_extents::{Chapter, Discard, discard_all};
 use tatp_loader::Loaded;
 use tatp_logs::{Receipt, Receipts};
 use tatp_numbers::Key;
 use tatp_partition::{Item, Parcel, Site};
-use tatp_procs::{Ask, Call, Raw, Reply};
 
 /// What happens at a site.
 #[derive(Clone, Copy)]

@@ -4,9 +4,9 @@ use Rattle.std.specs.Option.{option_map}
 use Rattle.std.specs.declared.alloc.Global.{Global}
 use Rattle.tatp_encoding.specs.Modules.{ModuleState}
 use Rattle.tatp_tables.specs.declared.row.Rows.{Rows}
-use Rattle.tatp_procs.specs.declared.ask.Ask.{Ask}
-use Rattle.tatp_procs.specs.declared.domains.BadArgument.{BadArgument as Bad}
-use Rattle.tatp_procs.specs.Asked.{has_procedure, bad_argument}
+use Rattle.tatp_calls.specs.declared.ask.Ask.{Ask}
+use Rattle.tatp_calls.specs.declared.domains.BadArgument.{BadArgument as Bad}
+use Rattle.tatp_calls.specs.Asked.{has_procedure, bad_argument}
 use Rattle.tatp_extents.specs.Opening.{RefusesRows}
 use Rattle.tatp_extents.specs.declared.open_error.OpenError.{OpenError}
 use Rattle.tatp_extents.specs.declared.open_error.OpenError.TheVariants as opening

@@ -8,7 +8,7 @@ use Rattle.std.proofs.lemmas.List.FromFn.{map-range_with_len_more}
 use Rattle.std.proofs.lemmas.List.Elements.{All-push}
 use Rattle.tatp_sync.specs.Inboxes.{End}
 use Rattle.tatp_workers.specs.declared.message.Message.{Message}
-use Rattle.tatp_procs.specs.declared.ask.Ask.{Ask}
+use Rattle.tatp_calls.specs.declared.ask.Ask.{Ask}
 use Rattle.tatp_threads.specs.Seats.{AreEndsAt, ClientSeat, IsReadyFor, AreReadyFor}
 
 -- one more seat: its ports are ends at all inboxes, as those of the others

@@ -6,11 +6,11 @@ use Rattle.tatp_limits.specs.declared.limits.TheConstants.{MAX_SUBSCRIBERS}
 use Rattle.tatp_encoding.specs.Modules.{ModuleState}
 use Rattle.tatp_tables.specs.Clean.{IsClean}
 use Rattle.tatp_tables.specs.declared.row.Rows.{Rows}
-use Rattle.tatp_procs.specs.declared.ask.Ask.{Ask}
+use Rattle.tatp_calls.specs.declared.ask.Ask.{Ask}
 use Rattle.tatp_extents.specs.Opening.{RefusesRows}
 use Rattle.tatp_extents.specs.declared.open_error.OpenError.{OpenError}
 use Rattle.tatp_extents.specs.declared.open_error.OpenError.TheVariants as opening
-use Rattle.tatp_procs.specs.Asked.{has_procedure, bad_argument}
+use Rattle.tatp_calls.specs.Asked.{has_procedure, bad_argument}
 use Rattle.tatp_threads.specs.declared.refusal.RunRefusal.{RunRefusal}
 use Rattle.tatp_threads.specs.declared.refusal.RunRefusal.TheVariants.{TooMany, NotClean, NoProcedure, BadArgument, NoMemory, NoThread}
 

@@ -1,6 +1,6 @@
 -- The inboxes of a run: their rule, and what is put into them.
 use Rattle.std.specs.Prelude.{◌≡◌, ℕ, List, Bool, true, false, Some, slice_get, slice_set}
-use Rattle.tatp_procs.specs.Asked.{Fits}
+use Rattle.tatp_calls.specs.Asked.{Fits}
 use Rattle.tatp_partition.specs.declared.item.Item.{Item}
 use Rattle.tatp_sync.specs.Inboxes.{End, with_message}
 use Rattle.tatp_workers.specs.declared.message.Message.{Message}

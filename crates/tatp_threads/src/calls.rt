@@ -1,14 +1,14 @@
 //! Whether all calls of a run can be run, and why not.
 ghost use Rattle.std.specs.Prelude.{◌≡◌, ◌<◌, IfOk};
 ghost use denote.Param.Send.{IsSync};
-ghost use Rattle.tatp_procs.specs.Asked.{arities_of};
+ghost use Rattle.tatp_calls.specs.Asked.{arities_of};
 ghost use Rattle.tatp_threads.specs.Calls.{obstacle_to, obstacle_in, obstacle_among};
 
 use crate::RunRefusal;
 use std::alloc::{AllocError, Global};
 use std::thread::{Threads, join};
+use tatp_calls::Ask;
 use tatp_loader::Loaded;
-use tatp_procs::Ask;
 
 /// How often the clients are halved. The calls of each half are looked through by a thread of its
 /// own, if one can be made.

@@ -1,6 +1,6 @@
 //! The debugger, which stops one partition after another.
 ghost use Rattle.std.specs.Prelude.{◌≡◌, length};
-ghost use Rattle.tatp_debug.specs.Snapshots.{Looks};
+ghost use Rattle.tatp_partition.specs.Looking.{Looks};
 ghost use Rattle.tatp_partition.specs.Obstacles.{one_obstacle};
 ghost use Rattle.tatp_partition.specs.Running.{AdvancesUnless};
 ghost use Rattle.tatp_threads.specs.Partitions.{OfPartition, StopsWhether};
@@ -8,7 +8,7 @@ ghost use Rattle.tatp_threads.specs.Partitions.{OfPartition, StopsWhether};
 use crate::admission::Arities;
 use crate::shared::Shared;
 use std::sync::Wait;
-use tatp_debug::{Snapshot, look};
+use tatp_debug::Snapshot;
 use tatp_partition::{Completion, SiteRefusal, Stepped};
 use tatp_workers::{Answering, Debugging, Delivery, Gate, debug_all};
 
@@ -50,7 +50,7 @@ impl<R: Wait, G: Gate, A: Arities> Debugging for Inspector<'_, '_, '_, R, G, A> 
     {
         let seen = match self.shared.partition(partition) {
             None => Err(SiteRefusal::NotRunning),
-            Some(partition) => partition.read(self.rt, |site| look(site)),
+            Some(partition) => partition.read(self.rt, |site| site.look()),
         };
         self.shared.gate.after_look(partition, &seen);
         seen

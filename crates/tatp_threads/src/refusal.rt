@@ -4,7 +4,7 @@ ghost use Rattle.tatp_threads.specs.declared.refusal.RunRefusal.TheVariants.{NoM
 
 use std::alloc::AllocError;
 use tatp_audits::Verdict;
-use tatp_procs::BadArgument;
+use tatp_calls::BadArgument;
 use thiserror::Error;
 
 /// Why the calls of a run are refused. The text is the number and the name of the refusal, and the

@@ -1,6 +1,6 @@
 //! What the threads fill and work with. Its memory is all reserved before they start.
 ghost use Rattle.std.specs.Prelude.{◌≡◌, ◌≤◌, ◌+◌, All, IfOk, length, vec_len, vec_capacity};
-ghost use Rattle.tatp_procs.specs.Asked.{arities_of};
+ghost use Rattle.tatp_calls.specs.Asked.{arities_of};
 ghost use Rattle.tatp_sync.specs.Inboxes.{IsNew};
 ghost use Rattle.tatp_threads.specs.Seats.{AreExecutors, AreClients};
 
@@ -8,12 +8,12 @@ use crate::admission::{Admission, Arities, Port, Reader};
 use crate::calls::arities_of;
 use crate::partition::Partition;
 use std::alloc::{AllocError, Global};
+use tatp_calls::Ask;
 use tatp_extents::Chapter;
 use tatp_limits::MAX_CLIENTS;
 use tatp_loader::Loaded;
 use tatp_logs::Receipts;
 use tatp_partition::{Parcel, Site};
-use tatp_procs::Ask;
 use tatp_sync::{Mailbox, ends_of, open_inboxes};
 use tatp_workers::{Client, Delivery};
 

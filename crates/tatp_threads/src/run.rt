@@ -1,6 +1,6 @@
 //! Runs the calls of clients by threads.
 ghost use Rattle.std.specs.Prelude.{◌≡◌, ◌⊎◌, ◌≤◌, ◌<◌, ◌+◌, ◌^◌, IfOk, IfErr, OnOk, None, length, vec_len, vec_capacity};
-ghost use Rattle.tatp_procs.specs.Asked.{arities_of};
+ghost use Rattle.tatp_calls.specs.Asked.{arities_of};
 ghost use Rattle.tatp_threads.specs.Calls.{obstacle_among, opening_refusal, AreOpened, RefusesRun};
 ghost use Rattle.tatp_threads.specs.RunPlans.{IsRunPlan};
 

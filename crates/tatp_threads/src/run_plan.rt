@@ -1,5 +1,5 @@
 //! What the threads of a run are to do.
-use tatp_procs::Ask;
+use tatp_calls::Ask;
 
 /// What the threads of a run are to do.
 #[derive(Clone, Copy)]

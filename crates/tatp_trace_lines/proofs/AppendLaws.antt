@@ -1,7 +1,7 @@
 -- Lemmas on a text that was appended to, piece by piece.
 use Rattle.std.proofs.Common.{◌≡◌, ℕ, ◌<◌, ◌∙◌, ap, List, [], ◌∷◌, ◌++◌, slice_index, length, arith, append_assoc, Result, Ok, Err}
 use Rattle.std.specs.Result.{OnErr}
-use Rattle.tatp_procs.specs.Extends.{Extends}
+use Rattle.tatp_calls.specs.Extends.{Extends}
 
 -- words extend it
 pub words_extend : (before words text : List ℕ) → slice_index words 0 < 128 → text ≡ before ++ words → Extends before text

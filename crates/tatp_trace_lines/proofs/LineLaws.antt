@@ -17,12 +17,12 @@ use Rattle.tatp_texts.proofs.FieldLaws.{is_space}
 use Rattle.tatp_texts.proofs.ValueLaws.{HasNoSpace, value_text-value_of}
 use Rattle.tatp_numbers.specs.declared.key.Key.{Key}
 use Rattle.tatp_numbers.specs.declared.key.Key.TheVariants.{Id, Number}
-use Rattle.tatp_procs.specs.declared.call.Call.{Call}
-use Rattle.tatp_procs.specs.declared.ask.Ask.TheVariants.{Txn, Raw}
-use Rattle.tatp_procs.specs.Asks.{RawCall}
-use Rattle.tatp_procs.specs.Calls.{arguments_of}
-use Rattle.tatp_procs.specs.CallText.{call_of_fields, call_of_line, call_text, is_printable_call}
-use Rattle.tatp_procs.proofs.CallTextLaws.{call_of_line-call_text, call_text_of_read}
+use Rattle.tatp_calls.specs.declared.call.Call.{Call}
+use Rattle.tatp_calls.specs.declared.ask.Ask.TheVariants.{Txn, Raw}
+use Rattle.tatp_calls.specs.Asks.{RawCall}
+use Rattle.tatp_calls.specs.Calls.{arguments_of}
+use Rattle.tatp_calls.specs.CallText.{call_of_fields, call_of_line, call_text, is_printable_call}
+use Rattle.tatp_calls.proofs.CallTextLaws.{call_of_line-call_text, call_text_of_read}
 use Rattle.tatp_events.specs.declared.event.Event.TheVariants.{Submit, Begin, Deny, Step, Take, Give, Route, Checkpoint, Stop, Resume, One, Break, Clear}
 use Rattle.tatp_trace_lines.specs.declared.line.TraceLine.{TraceLine}
 use Rattle.tatp_trace_lines.specs.declared.line.TraceLine.TheVariants.{Event, Steps, Look, Home, Audit}

@@ -1,6 +1,6 @@
 -- The line of what is answered to an event: docs/FORMATS.md.
 use Rattle.std.specs.Prelude.{ℕ, List, ◌∷◌, ◌++◌, Ok, Err, codes, decimal}
-use Rattle.tatp_procs.specs.ReplyText.{reply_text}
+use Rattle.tatp_calls.specs.ReplyText.{reply_text}
 use Rattle.tatp_events.specs.declared.event.Answer.{Answer}
 use Rattle.tatp_events.specs.declared.event.Answer.TheVariants.{Queued, Began, Away, Denied, Moved, Ended, Parcel, Landed, Set, Superseded, Chapter, Done}
 use Rattle.tatp_events.specs.declared.refusal.Refusal.{Refusal}

@@ -6,8 +6,8 @@ use Rattle.tatp_lines.specs.Numbers.{number_of}
 use Rattle.tatp_texts.specs.Text.{fields_of}
 use Rattle.tatp_numbers.specs.declared.key.Key.{Key}
 use Rattle.tatp_numbers.specs.declared.key.Key.TheVariants.{Id, Number}
-use Rattle.tatp_procs.specs.declared.ask.Ask.TheVariants.{Txn, Raw}
-use Rattle.tatp_procs.specs.CallText.{call_of_fields}
+use Rattle.tatp_calls.specs.declared.ask.Ask.TheVariants.{Txn, Raw}
+use Rattle.tatp_calls.specs.CallText.{call_of_fields}
 use Rattle.tatp_events.specs.declared.event.Event.{Event as AnEvent}
 use Rattle.tatp_events.specs.declared.event.Event.TheVariants.{Submit, Begin, Deny, Step, Take, Give, Route, Checkpoint, Stop, Resume, One, Break, Clear}
 use Rattle.tatp_trace_lines.specs.declared.line.TraceLine.{TraceLine}

@@ -3,10 +3,10 @@ use Rattle.std.specs.Prelude.{◌≡◌, ℕ, ◌≤◌, true, List, [], ◌∷�
 use Rattle.tatp_limits.specs.declared.limits.TheConstants.{MAX_ARGUMENTS, MAX_STEPS}
 use Rattle.tatp_numbers.specs.declared.key.Key.{Key}
 use Rattle.tatp_numbers.specs.declared.key.Key.TheVariants.{Id, Number}
-use Rattle.tatp_procs.specs.declared.ask.Ask.{Ask}
-use Rattle.tatp_procs.specs.declared.ask.Ask.TheVariants.{Txn, Raw}
-use Rattle.tatp_procs.specs.Calls.{arguments_of}
-use Rattle.tatp_procs.specs.CallText.{call_text, is_printable_call}
+use Rattle.tatp_calls.specs.declared.ask.Ask.{Ask}
+use Rattle.tatp_calls.specs.declared.ask.Ask.TheVariants.{Txn, Raw}
+use Rattle.tatp_calls.specs.Calls.{arguments_of}
+use Rattle.tatp_calls.specs.CallText.{call_text, is_printable_call}
 use Rattle.tatp_events.specs.declared.event.Event.{Event as AnEvent}
 use Rattle.tatp_events.specs.declared.event.Event.TheVariants.{Submit, Begin, Deny, Step, Take, Give, Route, Checkpoint, Stop, Resume, One, Break, Clear}
 use Rattle.tatp_trace_lines.specs.declared.line.TraceLine.{TraceLine}

@@ -1,13 +1,13 @@
 //! The line of what is answered to an event.
 ghost use Rattle.std.specs.Prelude.{◌≡◌, ◌<◌, ◌∷◌, ◌++◌, IfOk, OnErr, OnOk, decimal, length, slice_index};
 ghost use Rattle.std.specs.String.{string_bytes};
-ghost use Rattle.tatp_procs.specs.Extends.{Extends};
+ghost use Rattle.tatp_calls.specs.Extends.{Extends};
 ghost use Rattle.tatp_trace_lines.specs.AnswerText.{answer_text, answered_text, refused_text};
 
 use std::alloc::{AllocError, Global};
+use tatp_calls::push_reply;
 use tatp_events::{Answer, Refusal};
 use tatp_lines::push_decimal;
-use tatp_procs::push_reply;
 
 /// Appends the line of what is answered to an event. An error leaves the text as it was.
 pub fn push_answer(text: &mut String, answered: &Result<Answer, Refusal>) -> Result<(), AllocError>
@@ -22,7 +22,7 @@ pub fn push_answer(text: &mut String, answered: &Result<Answer, Refusal>) -> Res
 }
 
 /// Appends the line of an answer. An error leaves the text as it was.
-#[tactic(auto, using(tatp_procs::proofs::ExtendsLaws::may_be_cut, tatp_procs::proofs::ExtendsLaws::cut_back))]
+#[tactic(auto, using(tatp_calls::proofs::ExtendsLaws::may_be_cut, tatp_calls::proofs::ExtendsLaws::cut_back))]
 fn push_accepted(text: &mut String, answer: &Answer) -> Result<(), AllocError>
     ensures ok { OnOk result
         (string_bytes text.new ≡ string_bytes text.old ++ answer_text answer.now) }

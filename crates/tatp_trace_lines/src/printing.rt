@@ -5,9 +5,9 @@ ghost use Rattle.tatp_trace_lines.specs.LineText.{ask_text, event_text, key_word
 
 use crate::TraceLine;
 use std::alloc::{AllocError, Global};
+use tatp_calls::{Ask, Raw, call_text};
 use tatp_events::Event;
 use tatp_numbers::Key;
-use tatp_procs::{Ask, Raw, call_text};
 
 /// The text of a line.
 pub fn trace_line_text(alloc: Global, line: &TraceLine) -> Result<String, AllocError>

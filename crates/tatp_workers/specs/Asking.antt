@@ -1,9 +1,9 @@
 -- What a client asks, and what it gets.
 use Rattle.std.specs.Prelude.{◌≡◌, ◌⊎◌, ℕ, zero, suc, List, [], ◌∷◌, ◌++◌, length, Option, Some, None, slice_get, Bool, true, false, ◌≤◌, ◌+◌}
-use Rattle.tatp_procs.specs.declared.ask.Ask.{Ask}
+use Rattle.tatp_calls.specs.declared.ask.Ask.{Ask}
 use Rattle.tatp_numbers.specs.Listing.{Listing, answer}
 use Rattle.tatp_partition.specs.declared.item.Item.{Item}
-use Rattle.tatp_procs.specs.Asked.{key_asked}
+use Rattle.tatp_calls.specs.Asked.{key_asked}
 use Rattle.tatp_logs.specs.declared.receipt.Receipt.{Receipt}
 use Rattle.tatp_logs.specs.declared.receipt.Receipt.TheVariants.{Done, Refused}
 use Rattle.tatp_logs.specs.Receipts.{ReceiptsState}

@@ -1,6 +1,6 @@
 -- A call is offered to a site whose lock is held, and the outcome of that.
 use Rattle.std.specs.Prelude.{◌≡◌, ◌⊎◌, Bool, true, false, Some, None}
-use Rattle.tatp_procs.specs.Asked.{Fits, arities_of}
+use Rattle.tatp_calls.specs.Asked.{Fits, arities_of}
 use Rattle.tatp_partition.specs.declared.item.Item.{Item}
 use Rattle.tatp_partition.specs.declared.refusal.SiteRefusal.TheVariants.{Running, Stopped, NotHere, WrongHome, StampFull}
 use Rattle.tatp_partition.specs.Obstacles.{begin_obstacle}

@@ -4,7 +4,7 @@ ghost use Rattle.std.specs.Prelude.{◌≡◌, ◌++◌, ◌∷◌, [], ◌<◌,
 ghost use Rattle.std.specs.List.{AllZip};
 ghost use Rattle.std.specs.declared.alloc.Global.{Global};
 ghost use Rattle.tatp_numbers.specs.Listing.{Listing};
-ghost use Rattle.tatp_procs.specs.declared.ask.Ask.{Ask};
+ghost use Rattle.tatp_calls.specs.declared.ask.Ask.{Ask};
 ghost use Rattle.tatp_logs.specs.declared.receipt.Receipt.{Receipt};
 ghost use Rattle.tatp_workers.specs.Asking.{item_of, seen_after};
 ghost use Rattle.tatp_workers.specs.Standing.{asks_of, GoesOn, IsAsked};
@@ -14,10 +14,10 @@ ghost use Rattle.tatp_workers.specs.declared.client.Standing.TheVariants.{Free, 
 use crate::client::{Client, Standing};
 use crate::requester::{Looked, Requester};
 use std::sync::Wait;
+use tatp_calls::Ask;
 use tatp_logs::{ReceiptRef, Receipts};
 use tatp_numbers::Directory;
 use tatp_partition::Item;
-use tatp_procs::Ask;
 
 /// A client's call of this number.
 fn item_of(directory: &Directory, client: u64, number: u64, seen: u64, ask: &Ask) -> Item

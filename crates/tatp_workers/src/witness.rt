@@ -22,6 +22,7 @@ use std::alloc::Global;
 use std::slice;
 use std::sync::Wait;
 use std::sync::atomic::AtomicU64;
+use tatp_calls::Ask;
 use tatp_debug::Snapshot;
 use tatp_extents::Discard;
 use tatp_logs::Receipts;
@@ -30,7 +31,6 @@ use tatp_numbers::Directory;
 use tatp_partition::{
     Completion, CompletionBuffer, Item, Landed, Parcel, Site, SiteRefusal, Stepped,
 };
-use tatp_procs::Ask;
 
 /// What was done, kept as long as there is memory for it.
 #[derive(Drop)]

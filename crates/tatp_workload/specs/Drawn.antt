@@ -7,8 +7,8 @@ use Rattle.rand_core.specs.Stream.{Stream, next_u64}
 use Rattle.rand_pcg.specs.Lcg.{started, increment_of}
 use Rattle.rand_pcg.specs.Pcg.{multiplier_128}
 use Rattle.tatp_tables.specs.declared.row.Rows.{Rows}
-use Rattle.tatp_procs.specs.declared.ask.Ask.{Ask}
-use Rattle.tatp_procs.specs.declared.ask.Ask.TheVariants.{Txn}
+use Rattle.tatp_calls.specs.declared.ask.Ask.{Ask}
+use Rattle.tatp_calls.specs.declared.ask.Ask.TheVariants.{Txn}
 use Rattle.tatp_population.specs.Drawn.{choice, choices}
 use Rattle.tatp_population.specs.DrawnRows.{population}
 use Rattle.tatp_extents.specs.Opening.{extent_count}

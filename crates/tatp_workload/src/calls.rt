@@ -9,8 +9,8 @@ ghost use Rattle.tatp_workload.specs.Drawn.{calls_drawn, calls_of_clients};
 
 use std::alloc::{AllocError, Global};
 use std::thread::{Threads, join};
+use tatp_calls::Ask;
 use tatp_driver::Driver;
-use tatp_procs::Ask;
 use tatp_tasks::BenchPlan;
 
 /// How often the clients are halved, where each half is drawn by a thread of its own, where one can

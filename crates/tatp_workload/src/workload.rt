@@ -12,9 +12,9 @@ use crate::moves::{draw_moves, draw_stops};
 use rand_pcg::Pcg64;
 use std::alloc::{AllocError, Global};
 use std::thread::{Threads, join};
+use tatp_calls::Ask;
 use tatp_extents::extent_count;
 use tatp_population::generate;
-use tatp_procs::Ask;
 use tatp_tables::Rows;
 use tatp_tasks::BenchPlan;
 

@@ -3,10 +3,10 @@ ghost use Rattle.std.specs.Prelude.{◌≤◌, length};
 
 use std::alloc::AllocError;
 use std::test::Fail;
+use tatp_calls::{Ask, Call, Entry, Outputs, Raw, Reply};
 use tatp_dispatch::Completions;
-use tatp_machine::Trap;
+use tatp_instr::Trap;
 use tatp_numbers::Key;
-use tatp_procs::{Ask, Call, Entry, Outputs, Raw, Reply};
 
 /// A completed call. All its numbers differ.
 fn entry(number: u64, ask: Ask, reply: Reply) -> Entry {

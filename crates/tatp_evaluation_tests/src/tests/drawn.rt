@@ -1,18 +1,19 @@
 //! Drawn calls, evaluated and run by the machine.
 ghost use Rattle.std.specs.Prelude.{◌≡◌, Ok};
-ghost use Rattle.tatp_procs.specs.Arguments.{arguments_accepted};
+ghost use Rattle.tatp_calls.specs.Arguments.{arguments_accepted};
 ghost use Rattle.tatp_procs.specs.Standard.{standard_module};
 
 use super::machine::run;
 use rand_pcg::Pcg64;
 use std::test::Fail;
+use tatp_calls::{Call, Reply};
 use tatp_driver::Driver;
 use tatp_evaluation::evaluate;
 use tatp_homes::{Home, homes};
 use tatp_loader::Loaded;
 use tatp_numbers::Key;
 use tatp_population::generate;
-use tatp_procs::{Call, Reply, standard};
+use tatp_procs::standard;
 use tatp_tasks::Distribution;
 
 const CALLS: u64 = 1_000_000;

@@ -3,10 +3,11 @@ ghost use Rattle.std.specs.Prelude.{◌≡◌, Some, false};
 ghost use Rattle.tatp_homes.specs.Home.{IsHome};
 ghost use Rattle.tatp_procs.specs.Standard.{standard_module};
 
+use tatp_calls::{Call, Reply};
 use tatp_homes::{Home, what_holds_of_every_home};
+use tatp_instr::End;
 use tatp_loader::Loaded;
-use tatp_machine::{End, Machine, Progress};
-use tatp_procs::{Call, Reply};
+use tatp_machine::{Machine, Progress};
 
 /// Runs the standard procedure of a call on a home, up to its end.
 pub fn run(loaded: &Loaded, home: &mut Home, call: &Call, reply: &mut Reply)

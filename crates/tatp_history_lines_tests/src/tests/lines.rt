@@ -2,9 +2,9 @@
 
 use std::alloc::AllocError;
 use std::test::Fail;
+use tatp_calls::{BadArgument, Call, Outputs, Reply};
 use tatp_history::{Line, Recorded};
 use tatp_history_lines::{LineFault, OpenCalls};
-use tatp_procs::{BadArgument, Call, Outputs, Reply};
 
 /// What a text says, which is then followed.
 fn said(opened: &mut OpenCalls, text: &str) -> Result<Result<Option<Line>, LineFault>, AllocError> {

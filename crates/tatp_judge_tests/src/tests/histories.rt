@@ -5,10 +5,10 @@ ghost use Rattle.tatp_tables.specs.Clean.{IsClean};
 use rand_pcg::Pcg64;
 use std::alloc::{AllocError, Global};
 use std::test::Fail;
+use tatp_calls::{Call, Outputs, Reply};
 use tatp_history::{Line, Recorded};
 use tatp_judge::{Judge, Undecided, Verdict, is_accepted};
 use tatp_population::generate;
-use tatp_procs::{Call, Outputs, Reply};
 use tatp_tables::Rows;
 
 const SUCCESS: Recorded = Recorded::Success;

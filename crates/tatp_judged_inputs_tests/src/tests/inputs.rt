@@ -4,11 +4,11 @@ ghost use Rattle.tatp_tables.specs.Clean.{IsClean};
 use rand_pcg::Pcg64;
 use std::alloc::Global;
 use std::test::Fail;
+use tatp_calls::BadArgument;
 use tatp_judge::{Judge, Part, Stakes, Undecided};
 use tatp_judged_inputs::{HistoryFault, Judged, Judgement, NoProgress, judge_history};
 use tatp_limits::MAX_INPUT_LIMIT;
 use tatp_population::generate;
-use tatp_procs::BadArgument;
 use tatp_streams::LineReader;
 use tatp_tables::Rows;
 

@@ -8,11 +8,11 @@ ghost use Rattle.tatp_linearization.specs.Held.{IsAcceptedEvent};
 use rand_pcg::Pcg64;
 use std::alloc::{AllocError, Global};
 use std::test::Fail;
+use tatp_calls::{Call, Reply, args_ok};
 use tatp_history::{Event, Observed, Outcome, Recorded};
 use tatp_homes::{Home, homes};
 use tatp_linearization::{Explanations, First, Standing};
 use tatp_population::generate;
-use tatp_procs::{Call, Reply, args_ok};
 
 pub(super) const SUCCESS: Recorded = Recorded::Success;
 

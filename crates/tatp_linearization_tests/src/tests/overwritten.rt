@@ -4,9 +4,9 @@ use super::to_rows::leads_with;
 use rand_pcg::Pcg64;
 use std::alloc::{AllocError, Global};
 use std::test::Fail;
+use tatp_calls::Call;
 use tatp_homes::{Home, homes};
 use tatp_population::generate;
-use tatp_procs::Call;
 
 /// Columns of a Subscriber row and of a Special_Facility row.
 const BIT_1: u8 = 2;

@@ -5,10 +5,10 @@ use super::forwardings::{
 };
 use std::alloc::{AllocError, Global};
 use std::test::Fail;
+use tatp_calls::Call;
 use tatp_history::{Event, Outcome};
 use tatp_homes::Home;
 use tatp_linearization::{Explanations, Standing};
-use tatp_procs::Call;
 
 /// Whether an order that explains the events on a home results in these rows of it, where at most
 /// `most` configurations may be kept; `None` where no order explains the events.

@@ -6,11 +6,11 @@ ghost use Rattle.tatp_machine.specs.Machines.{Turns, Performs, progress_after};
 ghost use Rattle.tatp_machine.specs.Sound.{FitsAt};
 
 use super::Machine;
+use crate::Progress;
 use crate::change::{Change, byte};
 use crate::progress::WriteOutcome;
-use crate::{End, Progress, Trap};
 use tatp_homes::{Home, Refusal, what_holds_of_every_home};
-use tatp_instr::{Instr, Register, RowRegisters};
+use tatp_instr::{End, Instr, Register, RowRegisters, Trap};
 use tatp_limits::{MAX_STEPS, MAX_WRITES};
 use tatp_tables::Table;
 

@@ -15,7 +15,7 @@ use fixture::{
     try_homeless, try_homeless_on_one_machine, try_on_home, try_on_one_machine, try_set_back,
 };
 use std::test::Fail;
-use tatp_machine::{End, Trap};
+use tatp_instr::{End, Trap};
 
 /// Calls of one procedure.
 pub struct Case {

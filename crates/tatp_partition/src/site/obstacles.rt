@@ -1,14 +1,14 @@
 //! Why a call would not begin.
 ghost use Rattle.std.specs.Prelude.{◌≡◌, ◌↔◌, ◌^◌, ◌-◌, ◌==◌, ◌+◌, ◌<◌, max, if◌then◌else◌, IsTrue, OnOk, is_some};
 ghost use Rattle.tatp_numbers.specs.Homes.{home_of_key};
-ghost use Rattle.tatp_procs.specs.Asked.{Fits, arities_of, key_asked};
+ghost use Rattle.tatp_calls.specs.Asked.{Fits, arities_of, key_asked};
 
 use super::Site;
 use crate::{Item, SiteRefusal};
+use tatp_calls::Ask;
 use tatp_extents::extent_of;
 use tatp_homes::{Home, what_holds_of_every_home};
 use tatp_numbers::Key;
-use tatp_procs::Ask;
 
 impl<'m> Site<'m> {
     ghost use Rattle.tatp_partition.specs.Obstacles.{begin_obstacle, greater_stamp, unless};

@@ -2,9 +2,9 @@
 use rand_core::Rng;
 use rand_pcg::Pcg64;
 use std::test::Fail;
+use tatp_calls::{Call, call_text};
 use tatp_driver::{Driver, call_of};
 use tatp_numbers::Key;
-use tatp_procs::{Call, call_text};
 use tatp_tasks::Distribution;
 
 #[test]

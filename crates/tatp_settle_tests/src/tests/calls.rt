@@ -2,8 +2,8 @@
 
 use crate::sites::{begins, ended, module, opened, refused_take, spend_site};
 use std::test::Fail;
+use tatp_calls::{Ask, Call, Outputs, Reply};
 use tatp_partition::{Item, Site, SiteRefusal};
-use tatp_procs::{Ask, Call, Outputs, Reply};
 
 /// A call of GET_ACCESS_DATA on a subscriber, of a client that has seen this stamp.
 fn reading(s_id: u64, home: Option<u64>, seen: u64) -> Item {

@@ -4,10 +4,10 @@ use super::calls::told;
 use crate::sites::{begins, module, opened, spend_site};
 use std::alloc::Global;
 use std::test::Fail;
+use tatp_calls::{Ask, Call, Outputs, Raw, Reply};
 use tatp_extents::{Chapter, Discard};
 use tatp_numbers::Key;
 use tatp_partition::{Item, Site, SiteRefusal};
-use tatp_procs::{Ask, Call, Outputs, Raw, Reply};
 
 /// A call on subscriber 129, of a client that has seen this stamp.
 fn asked(ask: Ask, seen: u64) -> Item {

@@ -1,8 +1,8 @@
 //! Receipts as a client keeps them.
 
 use std::test::Fail;
+use tatp_calls::{Outputs, Reply, ReplyRef};
 use tatp_logs::{Receipt, ReceiptRef, Receipts};
-use tatp_procs::{Outputs, Reply, ReplyRef};
 
 /// What client 7 got for its call with this number.
 fn done(number: u64, reply: Reply) -> Receipt {

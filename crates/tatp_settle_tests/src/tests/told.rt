@@ -12,9 +12,9 @@ use std::process::Abort;
 use std::test::Fail;
 use std::thread::Threads;
 use tatp_audits::audit;
+use tatp_calls::Ask;
 use tatp_extents::{Chapter, discard_all};
 use tatp_logs::Receipts;
-use tatp_procs::Ask;
 use tatp_settle::{Closed, NotGathered, NotSettled, Settled, gather, settle};
 use tatp_tables::Rows;
 

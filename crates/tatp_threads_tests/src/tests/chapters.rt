@@ -3,8 +3,8 @@
 use super::threads::spend;
 use std::alloc::{AllocError, Global};
 use std::test::*;
+use tatp_calls::{Ask, Call};
 use tatp_extents::Chapter;
-use tatp_procs::{Ask, Call};
 use tatp_settle_tests::rows::clean_rows;
 use tatp_settle_tests::sites::module;
 use tatp_threads::{NoGate, RunOutcome, RunPlan, run_calls};

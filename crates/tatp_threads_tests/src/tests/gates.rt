@@ -7,9 +7,9 @@ use std::sync::atomic::{AtomicU64, Ordering};
 use std::test::*;
 use std::thread;
 use std::time::{Clock, Duration};
+use tatp_calls::{Ask, Call};
 use tatp_debug::Snapshot;
 use tatp_partition::SiteRefusal;
-use tatp_procs::{Ask, Call};
 use tatp_threads::Gate;
 
 /// A client that reads one subscriber.

@@ -11,9 +11,9 @@ use std::test::*;
 use std::thread;
 use std::thread::Threads;
 use std::time::{Clock, Duration};
+use tatp_calls::{Ask, Call};
 use tatp_debug::Snapshot;
 use tatp_partition::SiteRefusal;
-use tatp_procs::{Ask, Call};
 use tatp_threads::Gate;
 
 /// How many steps a call makes that reads a subscriber: one from each position, in order.

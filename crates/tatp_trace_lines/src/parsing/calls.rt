@@ -5,10 +5,10 @@ ghost use Rattle.tatp_trace_lines.specs.LineFields.{submit_of, key_of, raw_of};
 
 use super::numbers::eight_numbers;
 use crate::TraceLine;
+use tatp_calls::{Ask, Raw, read_call};
 use tatp_events::Event;
 use tatp_lines::read_number;
 use tatp_numbers::Key;
-use tatp_procs::{Ask, Raw, read_call};
 use tatp_texts::Fields;
 
 /// The first field of a text and what follows its space, where there is one.
@@ -21,7 +21,7 @@ fn split_field(text: &str) -> Option<(&str, &str)>
 }
 
 /// A transaction that a client asks for: what comes after the first word of a line.
-#[tactic(auto, unfolding(tatp_procs::specs::CallText::call_of_line))]
+#[tactic(auto, unfolding(tatp_calls::specs::CallText::call_of_line))]
 pub(super) fn submitted(text: &str) -> Option<TraceLine>
     ensures { result ≡ submit_of (drop 1 (fields_of text.now)) }
 {

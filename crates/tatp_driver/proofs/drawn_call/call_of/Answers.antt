@@ -1,6 +1,6 @@
 use Rattle.std.proofs.Common.{arith, subst, sym, ap, ◌∙◌}
-use Rattle.tatp_procs.specs.Arguments.{arguments_accepted}
-use Rattle.tatp_procs.specs.Calls.{key_of_call}
+use Rattle.tatp_calls.specs.Arguments.{arguments_accepted}
+use Rattle.tatp_calls.specs.Calls.{key_of_call}
 use Rattle.tatp_driver.specs.DrawnCall.{NamesOneOf}
 use Rattle.tatp_driver.proofs.DrawnCallLaws.{call_on_accepted, call_on_names}
 use Rattle.tatp_driver.proofs.drawn_call.call_of.Goals as goal

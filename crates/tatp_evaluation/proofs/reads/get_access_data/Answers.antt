@@ -1,5 +1,5 @@
 use Rattle.std.proofs.Common.{[], ◌∷◌, sym, ◌∙◌}
-use Rattle.tatp_procs.specs.declared.reply.Reply.TheVariants.{Values}
+use Rattle.tatp_calls.specs.declared.reply.Reply.TheVariants.{Values}
 use Rattle.tatp_procs.proofs.ConsistentLaws.{IsConsistent-home}
 use Rattle.tatp_evaluation.proofs.ReadLaws.{access_read}
 use Rattle.tatp_evaluation.proofs.reads.get_access_data.Goals as goal

@@ -1,7 +1,7 @@
 use Rattle.std.proofs.Common.{◌≡◌, [], ◌∷◌, ◌++◌, slice_index, append_assoc, sym, ap, ◌∙◌}
 use Rattle.std.specs.Option.{option_to_list}
 use Rattle.tatp_tables.specs.Keys.{row_at}
-use Rattle.tatp_procs.specs.Transactions.{some_of}
+use Rattle.tatp_calls.specs.Transactions.{some_of}
 use Rattle.tatp_procs.proofs.ConsistentLaws.{IsConsistent-home}
 use Rattle.tatp_evaluation.proofs.DestinationLaws.{active, inactive, destinations_are, no_destinations}
 use Rattle.tatp_evaluation.proofs.reads.get_new_destination.Goals as goal

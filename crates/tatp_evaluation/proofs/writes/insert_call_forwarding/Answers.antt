@@ -1,6 +1,6 @@
 use Rattle.std.proofs.Common.{[], ◌∷◌, slice_index, sym, ap, ◌∙◌}
 use Rattle.tatp_homes.specs.Changes.{insert_answer, insert_tables}
-use Rattle.tatp_procs.specs.declared.reply.Reply.TheVariants.{Failed}
+use Rattle.tatp_calls.specs.declared.reply.Reply.TheVariants.{Failed}
 use Rattle.tatp_evaluation.proofs.WriteLaws.{reply_to_insert, inserts}
 use Rattle.tatp_evaluation.proofs.writes.insert_call_forwarding.Goals as goal
 

@@ -1,5 +1,5 @@
 use Rattle.std.proofs.Common.{◌∙◌, sym, ap, slice_get}
-use Rattle.tatp_procs.specs.ReplyText.{answer_columns}
+use Rattle.tatp_calls.specs.ReplyText.{answer_columns}
 use Rattle.tatp_history_lines.proofs.ValuesLaws.{bad_left, too_many_left}
 use Rattle.tatp_history_lines.proofs.values.read_values.Goals as goal
 

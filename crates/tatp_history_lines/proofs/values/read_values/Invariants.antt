@@ -1,5 +1,5 @@
 use Rattle.std.proofs.Common.{length}
-use Rattle.tatp_procs.specs.ReplyText.{answer_columns}
+use Rattle.tatp_calls.specs.ReplyText.{answer_columns}
 use Rattle.tatp_history_lines.proofs.ValuesLaws.{AreReadUpTo}
 use Rattle.tatp_history_lines.proofs.values.read_values.Given as goal
 

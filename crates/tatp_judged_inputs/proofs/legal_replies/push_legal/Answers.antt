@@ -1,7 +1,7 @@
 use Rattle.std.specs.String.{string_bytes}
 use Rattle.std.proofs.Common.{◌++◌, ◌≤◌, ◌∙◌, ap, length, arith}
 use Rattle.std.proofs.lemmas.Result.{on_ok_weaker}
-use Rattle.tatp_procs.specs.declared.ask.Ask.TheVariants.{Txn}
+use Rattle.tatp_calls.specs.declared.ask.Ask.TheVariants.{Txn}
 use Rattle.tatp_judged_inputs.specs.Judging.{could_lines}
 use Rattle.tatp_judged_inputs.proofs.TellingLaws.{few_told}
 use Rattle.tatp_judged_inputs.proofs.legal_replies.push_legal.Goals as goal

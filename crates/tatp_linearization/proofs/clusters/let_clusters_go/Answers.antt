@@ -1,6 +1,6 @@
 use Rattle.std.proofs.Common.{◌≡◌, Ok, refl, sym, ap, subst}
 use Rattle.tatp_homes.specs.Home.{SubscriberRows}
-use Rattle.tatp_procs.specs.Arguments.{arguments_accepted}
+use Rattle.tatp_calls.specs.Arguments.{arguments_accepted}
 use Rattle.tatp_history.specs.declared.observed.Observed.{Observed}
 use Rattle.tatp_linearization.specs.Clusters.{DropsCalls, LosesNone}
 use Rattle.tatp_linearization.proofs.ClusterLaws.{go_none, go_same, go_on_to, loses_same, loses_on, loses_apart, calls_all}

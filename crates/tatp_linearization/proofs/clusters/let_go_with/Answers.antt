@@ -3,7 +3,7 @@ use Rattle.std.proofs.lemmas.Fn.{filter_same}
 use Rattle.tatp_homes.specs.Home.{SubscriberRows}
 use Rattle.tatp_history.specs.declared.observed.Observed.{Observed}
 use Rattle.tatp_history.specs.Histories.{MayHaveReply}
-use Rattle.tatp_procs.specs.Transactions.{transaction}
+use Rattle.tatp_calls.specs.Transactions.{transaction}
 use Rattle.tatp_linearization.specs.Unseen.{sees}
 use Rattle.tatp_linearization.specs.Clusters.{ReadsOfLocationFit}
 use Rattle.tatp_linearization.proofs.PlaceLaws.{get_at}

@@ -3,8 +3,8 @@ use Rattle.tatp_homes.specs.Home.{SubscriberRows}
 use Rattle.tatp_history.specs.declared.observed.Observed.{Observed}
 use Rattle.tatp_history.specs.Histories.{MayHaveReply}
 use Rattle.tatp_history.specs.Locality.{AreAccepted}
-use Rattle.tatp_procs.specs.Arguments.{arguments_accepted}
-use Rattle.tatp_procs.specs.Transactions.{transaction}
+use Rattle.tatp_calls.specs.Arguments.{arguments_accepted}
+use Rattle.tatp_calls.specs.Transactions.{transaction}
 use Rattle.tatp_history.specs.Changes.{changes_nothing}
 use Rattle.tatp_linearization.specs.AtOnce.{AreLeft}
 use Rattle.tatp_linearization.specs.Overwritten.{AreOut}

@@ -1,5 +1,5 @@
 use Rattle.std.proofs.Common.{◌≡◌, ◌↔◌, ◌⊎◌, List, sym, ◌∙◌, subst, true≢false}
-use Rattle.tatp_procs.specs.declared.reply.Reply.{Reply}
+use Rattle.tatp_calls.specs.declared.reply.Reply.{Reply}
 use Rattle.tatp_linearization.specs.Listed.{IsListed, AreEachOnce}
 use Rattle.tatp_linearization.proofs.ListedLaws.{listed_more, once_more}
 use Rattle.tatp_linearization.proofs.legal.add_reply.Goals as goal

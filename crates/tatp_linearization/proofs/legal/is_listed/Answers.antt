@@ -1,5 +1,5 @@
 use Rattle.std.proofs.Common.{◌≡◌, Some, slice_get, refl, sym, ◌∙◌, subst, arith, true≢false, inl, inr}
-use Rattle.tatp_procs.specs.declared.reply.Reply.{Reply}
+use Rattle.tatp_calls.specs.declared.reply.Reply.{Reply}
 use Rattle.tatp_linearization.specs.Listed.{IsListed}
 use Rattle.tatp_linearization.proofs.PlaceLaws.{get_at, below_or_is, same_item}
 use Rattle.tatp_linearization.proofs.ListedLaws.{get_listed, listed_get}

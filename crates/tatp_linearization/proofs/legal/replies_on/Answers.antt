@@ -1,5 +1,5 @@
 use Rattle.std.proofs.Common.{◌≡◌, Some, slice_get, sym, ap, ◌∙◌, subst, arith, inl, inr}
-use Rattle.tatp_procs.specs.Transactions.{transaction}
+use Rattle.tatp_calls.specs.Transactions.{transaction}
 use Rattle.tatp_history.specs.Configurations.{Configuration}
 use Rattle.tatp_linearization.specs.declared.configuration.Configuration.{Configuration as Held}
 use Rattle.tatp_linearization.specs.Listed.{IsListed}

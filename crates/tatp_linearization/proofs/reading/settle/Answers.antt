@@ -1,6 +1,6 @@
 use Rattle.std.proofs.Common.{◌≡◌, ℕ, suc, ◌+◌, ◌-◌, ◌<◌, ◌≤◌, List, ◌∷◌, ◌++◌, length, take, drop, Some, Ok, slice_get, remove, refl, sym, ap, ◌∙◌, subst, arith, inl, inr}
 use Rattle.tatp_tables.specs.Database.{Database}
-use Rattle.tatp_procs.specs.Arguments.{arguments_accepted}
+use Rattle.tatp_calls.specs.Arguments.{arguments_accepted}
 use Rattle.tatp_history.specs.declared.observed.Observed.{Observed}
 use Rattle.tatp_history.specs.Locality.{AreAccepted}
 use Rattle.tatp_linearization.specs.AtOnce.{AreLeft, IsSettledAt}

@@ -1,5 +1,5 @@
 use Rattle.std.proofs.Common.{sym, ◌∙◌, ap}
-use Rattle.tatp_procs.specs.Arguments.{arguments_accepted}
+use Rattle.tatp_calls.specs.Arguments.{arguments_accepted}
 use Rattle.tatp_history.proofs.ClearedEventLaws.{accepted_cleared}
 use Rattle.tatp_linearization.specs.Searched.{searched_call}
 use Rattle.tatp_linearization.proofs.searched.searched_call.Goals as goal

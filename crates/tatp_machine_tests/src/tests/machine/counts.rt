@@ -1,6 +1,6 @@
 //! Calls with each kind of write, one after another on one machine.
 use super::{Case, RUN, Run};
-use tatp_machine::{End, Trap};
+use tatp_instr::{End, Trap};
 
 pub const CASES: &[Case] = &[Case {
     name: "each write is counted, whatever an insert answers, and a trap is none",

@@ -1,6 +1,6 @@
 //! Failures and traps in calls that changed rows.
 use super::{Case, RUN, Run};
-use tatp_machine::{End, Trap};
+use tatp_instr::{End, Trap};
 
 pub const CASES: &[Case] = &[
     Case {

@@ -7,10 +7,10 @@ use super::{Case, Run};
 use std::alloc::{AllocError, Global};
 use std::test::Fail;
 use tatp_homes::Home;
-use tatp_instr::Instr;
+use tatp_instr::{End, Instr};
 use tatp_limits::MAX_STEPS;
 use tatp_loader::{Loaded, load};
-use tatp_machine::{End, Machine, Progress};
+use tatp_machine::{Machine, Progress};
 use tatp_tables::{Row, Rows, Table};
 
 /// The front of a module's magic, before its version.

@@ -1,6 +1,6 @@
 //! Calls without a home.
 use super::{Case, RUN, Run};
-use tatp_machine::{End, Trap};
+use tatp_instr::{End, Trap};
 
 pub const CASES: &[Case] = &[
     Case {

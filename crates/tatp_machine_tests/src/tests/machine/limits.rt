@@ -1,6 +1,6 @@
 //! Calls up to the most writes that they may make.
 use super::{Case, RUN, Run};
-use tatp_machine::{End, Trap};
+use tatp_instr::{End, Trap};
 
 pub const ON_A_HOME: &[Case] = &[
     Case {

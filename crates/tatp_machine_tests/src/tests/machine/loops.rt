@@ -1,7 +1,7 @@
 //! LOOP, and calls up to the most steps and outputs that they may make: each alike on a home and
 //! without one.
 use super::{Case, RUN, Run};
-use tatp_machine::{End, Trap};
+use tatp_instr::{End, Trap};
 
 /// 38 to 0.
 const FROM_38: &[u64] = &[

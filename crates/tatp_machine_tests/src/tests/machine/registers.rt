@@ -1,6 +1,6 @@
 //! LDI to JZ, and OUT.
 use super::{Case, RUN, Run};
-use tatp_machine::End;
+use tatp_instr::End;
 
 pub const CASES: &[Case] = &[
     Case {

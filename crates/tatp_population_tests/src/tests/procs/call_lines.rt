@@ -2,7 +2,7 @@
 use std::alloc::{AllocError, Global};
 use std::process::Abort;
 use std::test::Fail;
-use tatp_procs::{Call, call_text, read_call};
+use tatp_calls::{Call, call_text, read_call};
 
 /// A line of each kind, and its call.
 static CALLS: [(&str, Call); 7] = [

@@ -1,7 +1,7 @@
 //! The text of a bad argument; raw calls and outputs, which keep their lists in place.
 use std::test::Fail;
+use tatp_calls::{BadArgument, Outputs, Raw};
 use tatp_numbers::Key;
-use tatp_procs::{BadArgument, Outputs, Raw};
 
 #[test]
 fn lists_in_place_and_a_bad_argument(rt: HostRuntime) -> Result<(), Fail> {

@@ -2,9 +2,9 @@
 use std::alloc::{AllocError, Global};
 use std::process::Abort;
 use std::test::Fail;
-use tatp_machine::Trap;
+use tatp_calls::{Ask, Call, Outputs, Raw, Reply, push_reply, reply_text};
+use tatp_instr::Trap;
 use tatp_numbers::Key;
-use tatp_procs::{Ask, Call, Outputs, Raw, Reply, push_reply, reply_text};
 
 const GET_SUBSCRIBER_DATA: Call = Call::GetSubscriberData { s_id: 1 };
 

@@ -1,6 +1,6 @@
 use Rattle.std.proofs.Common.{◌≡◌, List, Some, slice_get, slice_index_or, sym, ◌∙◌, ap, arith}
-use Rattle.tatp_procs.specs.declared.ask.Ask.{Ask}
-use Rattle.tatp_procs.specs.Calls.{procedure_of}
+use Rattle.tatp_calls.specs.declared.ask.Ask.{Ask}
+use Rattle.tatp_calls.specs.Calls.{procedure_of}
 use Rattle.tatp_settle.specs.Answering.{is_of_kind}
 use Rattle.tatp_logs.specs.Lists.{lists_of}
 use Rattle.tatp_settle.proofs.CountLaws.{list_here, seen, seen_start, seen_list, count_within}

@@ -1,5 +1,5 @@
 use Rattle.std.proofs.Common.{List, subst}
-use Rattle.tatp_procs.specs.declared.entry.Entry.{Entry}
+use Rattle.tatp_calls.specs.declared.entry.Entry.{Entry}
 use Rattle.tatp_settle.specs.CallPlaces.{IsFirstCall}
 use Rattle.tatp_settle.specs.Named.{IsNamedIn}
 use Rattle.tatp_settle.proofs.NamedLaws.{first_of_homes}

@@ -1,5 +1,5 @@
 use Rattle.std.proofs.Common.{Option, IsSome, sym, subst, arith}
-use Rattle.tatp_procs.specs.declared.entry.Entry.{Entry}
+use Rattle.tatp_calls.specs.declared.entry.Entry.{Entry}
 use Rattle.tatp_settle.proofs.NamedLaws.{first_of_named, some_within}
 use Rattle.tatp_settle.proofs.named_calls.first_named.Goals as goal
 

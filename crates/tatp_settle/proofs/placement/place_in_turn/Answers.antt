@@ -2,7 +2,7 @@ use Rattle.std.proofs.Common.{◌≡◌, ℕ, ◌+◌, ◌-◌, ◌<◌, ◌≤�
 use Rattle.std.proofs.lemmas.Option.{slice_get_within}
 use Rattle.std.proofs.lemmas.Bool.{false≢true}
 use Rattle.std.proofs.Math.ListN.{length-map}
-use Rattle.tatp_procs.specs.declared.entry.Entry.{Entry}
+use Rattle.tatp_calls.specs.declared.entry.Entry.{Entry}
 use Rattle.tatp_settle.specs.Closings.{ClosedState, StandsAt, entries_numbered}
 use Rattle.tatp_logs.specs.Receipts.{ReceiptsState, receipts_of}
 use Rattle.tatp_settle.specs.Placing.{cells_of, BelongsAt}

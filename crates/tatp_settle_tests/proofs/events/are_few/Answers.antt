@@ -1,7 +1,7 @@
 use Rattle.std.proofs.Common.{List, length, Vec, arith}
 use Rattle.std.specs.declared.alloc.Global.{Global}
 use Rattle.std.proofs.lemmas.List.{at_drop_all}
-use Rattle.tatp_procs.specs.declared.ask.Ask.{Ask}
+use Rattle.tatp_calls.specs.declared.ask.Ask.{Ask}
 use Rattle.tatp_logs.specs.Lists.{lists_of}
 use Rattle.tatp_settle.specs.Runs.{joined}
 use Rattle.tatp_settle_tests.proofs.events.are_few.Goals as goal

@@ -1,4 +1,4 @@
-use Rattle.tatp_procs.specs.Asked.{arities_of}
+use Rattle.tatp_calls.specs.Asked.{arities_of}
 use Rattle.tatp_threads.proofs.run.run_clean_calls.Given as goal
 
 abbrev pub ghosts-run_ruled : goal.ghosts-run_ruled

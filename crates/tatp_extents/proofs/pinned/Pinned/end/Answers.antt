@@ -1,5 +1,5 @@
 use Rattle.std.proofs.Common.{subst, sym, List, ℕ}
-use Rattle.tatp_procs.specs.declared.entry.Entry.{Entry}
+use Rattle.tatp_calls.specs.declared.entry.Entry.{Entry}
 use Rattle.tatp_extents.specs.Extents.{IsExtent}
 use Rattle.tatp_extents.specs.Pinning.{PinnedState, Logs}
 use Rattle.tatp_extents.specs.Parts.{pinned_in}

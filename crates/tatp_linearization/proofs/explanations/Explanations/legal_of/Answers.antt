@@ -1,5 +1,5 @@
 use Rattle.std.proofs.Common.{◌≡◌, ◌+◌, Vec, Global, Some, Ok, slice_get, sym, ap, subst}
-use Rattle.tatp_procs.specs.declared.reply.Reply.{Reply}
+use Rattle.tatp_calls.specs.declared.reply.Reply.{Reply}
 use Rattle.tatp_linearization.specs.Single.{answered_with}
 use Rattle.tatp_linearization.specs.Legal.{events_with}
 use Rattle.tatp_linearization.specs.Listed.{IsExplainedBy}

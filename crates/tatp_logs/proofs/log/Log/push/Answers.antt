@@ -1,5 +1,5 @@
 use Rattle.std.proofs.Common.{◌≡◌, sym, ap}
-use Rattle.tatp_procs.specs.declared.ask.Ask.TheVariants.{Txn}
+use Rattle.tatp_calls.specs.declared.ask.Ask.TheVariants.{Txn}
 use Rattle.tatp_logs.specs.Logs.{LogState}
 use Rattle.tatp_logs.specs.KeptReplies.{StandsIn}
 use Rattle.tatp_logs.specs.LoggedCalls.{entry_in}

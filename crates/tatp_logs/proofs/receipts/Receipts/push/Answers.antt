@@ -1,5 +1,5 @@
 use Rattle.std.proofs.Common.{◌+◌, ◌-◌, ◌≤◌, sym, ◌∙◌, ap, subst, arith, vec_len, vec_capacity}
-use Rattle.tatp_procs.specs.declared.reply.Reply.{Reply}
+use Rattle.tatp_calls.specs.declared.reply.Reply.{Reply}
 use Rattle.tatp_logs.specs.KeptReplies.{room_in}
 use Rattle.tatp_logs.specs.declared.receipt.Receipt.TheVariants as receipt
 use Rattle.tatp_logs.specs.declared.receipts.KeptReceipt.TheVariants.{Done}

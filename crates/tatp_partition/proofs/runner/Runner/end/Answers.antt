@@ -1,5 +1,5 @@
 use Rattle.std.proofs.Common.{◌≡◌, ℕ, ◌+◌, max, Some, sym, ap, ◌∙◌}
-use Rattle.tatp_procs.specs.Replies.{reply_to}
+use Rattle.tatp_calls.specs.Replies.{reply_to}
 use Rattle.tatp_partition.specs.RunnerStates.{RunnerState, call_that_runs}
 use Rattle.tatp_partition.proofs.RunnerLaws.{logs_pinned}
 use Rattle.tatp_partition.proofs.runner.Runner.end.Goals as goal

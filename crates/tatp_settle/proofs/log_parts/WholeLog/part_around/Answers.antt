@@ -1,6 +1,6 @@
 use Rattle.std.proofs.Common.{◌≡◌, ◌+◌, ◌-◌, List, Option, Some, IfSome, Bor, slice_get, sym, ◌∙◌, ap, subst}
 use Rattle.std.specs.Option.{option_copied}
-use Rattle.tatp_procs.specs.declared.entry.Entry.{Entry}
+use Rattle.tatp_calls.specs.declared.entry.Entry.{Entry}
 use Rattle.tatp_settle.specs.declared.log_parts.JoinedPart.{JoinedPart}
 use Rattle.tatp_settle.specs.WholeLogs.{AreJoined, entries_of_parts}
 use Rattle.tatp_settle.proofs.TableLaws.{lent_at}

@@ -1,7 +1,7 @@
 use Rattle.std.proofs.Common.{◌≡◌, ℕ, ◌-◌, ◌≤◌, List, Option, None, Bor, slice_get, leb, sym, ◌∙◌, ap, subst, rules, arith}
 use Rattle.std.specs.Option.{option_copied}
 use Rattle.std.proofs.lemmas.List.Sorted.{IsPartitionPoint-from_clause}
-use Rattle.tatp_procs.specs.declared.entry.Entry.{Entry}
+use Rattle.tatp_calls.specs.declared.entry.Entry.{Entry}
 use Rattle.tatp_settle.specs.declared.log_parts.JoinedPart.{JoinedPart}
 use Rattle.tatp_settle.specs.WholeLogs.{AreJoined, entries_of_parts, entry_in_part}
 use Rattle.tatp_settle.proofs.TableLaws.{lent_at}

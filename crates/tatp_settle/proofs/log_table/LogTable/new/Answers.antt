@@ -1,5 +1,5 @@
 use Rattle.std.proofs.Common.{◌+◌, List, sym, subst, arith}
-use Rattle.tatp_procs.specs.declared.entry.Entry.{Entry}
+use Rattle.tatp_calls.specs.declared.entry.Entry.{Entry}
 use Rattle.tatp_settle.specs.Closings.{ClosedState}
 use Rattle.tatp_settle.specs.LogTables.{HasLogs}
 use Rattle.tatp_settle.proofs.LogTableLaws.{LogsBelow, logs_start, logs_more, logs_all}

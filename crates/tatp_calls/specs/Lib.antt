@@ -1,0 +1,12 @@
+pub mod Calls
+pub mod Asks
+pub mod Padding
+pub mod Arguments
+pub mod Asked
+pub mod Transactions
+pub mod Order
+pub mod Replies
+pub mod Extends
+pub mod ValuesText
+pub mod CallText
+pub mod ReplyText

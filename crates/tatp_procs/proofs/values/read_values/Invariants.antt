@@ -1,5 +1,0 @@
-use Rattle.tatp_procs.proofs.ReadingLaws.{IsReadUpTo}
-use Rattle.tatp_procs.proofs.values.read_values.Given as goal
-
-abbrev pub invariant-loop-place : goal.invariant-loop-place
-invariant-loop-place g l = IsReadUpTo l.columns l.fn.fields l.place l.values l.fields

@@ -7,7 +7,7 @@ use Rattle.tatp_sync.specs.Inboxes.{End, end_beside}
 use Rattle.tatp_workers.specs.declared.message.Message.{Message}
 use Rattle.tatp_threads.specs.declared.reserved.ExecutorSeat.{ExecutorSeat}
 use Rattle.tatp_workers.specs.declared.client.Client.{Client}
-use Rattle.tatp_workers.specs.Standing.{IsReady}
+use Rattle.tatp_workers.specs.Clients.{IsReady}
 
 -- a new end at each inbox
 abbrev pub AreEndsAt : List (End Message) → Vec (End Message) Global → Type 0

@@ -13,11 +13,11 @@ use Rattle.tatp_workers.specs.declared.requester.AskEffect.TheVariants.{Asks}
 use Rattle.tatp_workers.specs.declared.requester.Looked.{Looked}
 use Rattle.tatp_workers.specs.declared.requester.Looked.TheVariants as looked
 use Rattle.tatp_workers.specs.declared.client.Client.{Client}
-use Rattle.tatp_workers.specs.declared.client.Standing.{Standing}
-use Rattle.tatp_workers.specs.declared.client.Standing.TheVariants.{Free, Waiting, Ended}
+use Rattle.tatp_workers.specs.declared.client.ClientState.{ClientState}
+use Rattle.tatp_workers.specs.declared.client.ClientState.TheVariants.{Free, Waiting, Ended}
 use Rattle.tatp_workers.specs.Growing.{Grows, Does}
 use Rattle.tatp_workers.specs.Asking.{Session, Conversation, Answered, Converses, Finds, item_of, seen_after, with_asked, with_receipt, with_nothing}
-use Rattle.tatp_workers.specs.Standing.{Beginning, HasSaid, Stands, GoesOn, IsReady, IsAsked, asks_of, session_of}
+use Rattle.tatp_workers.specs.Clients.{Beginning, HasSaid, Stands, GoesOn, IsReady, IsAsked, asks_of, session_of}
 use Rattle.tatp_workers.proofs.GrowthLaws.{grown_twice, not_grown}
 
 -- no more calls were answered than there are
@@ -33,30 +33,30 @@ none_left listing client asks n c seen all none =
 
 module _ {E : Type 0} (effects : E → Option (List AskEffect)) (listing : Listing) where
   -- a client stands where the parts of it say so
-  pub stands_by : (asks : List Ask) (start : Beginning) (client : Client E) (standing : Standing) (number : ℕ) (s : Session) (said : Conversation)
-      → client.standing ≡ standing → client.number ≡ number → session_of client ≡ s → HasSaid standing listing number asks s said
+  pub stands_by : (asks : List Ask) (start : Beginning) (client : Client E) (state : ClientState) (number : ℕ) (s : Session) (said : Conversation)
+      → client.state ≡ state → client.number ≡ number → session_of client ≡ s → HasSaid state listing number asks s said
       → Grows start.effects (effects client.end) said.effects → client.receipts.receipts ≡ start.receipts ++ said.receipts → length asks ≤ client.receipts.room + client.answered
       → Stands effects listing asks start client
-  stands_by asks start client standing number s said is_standing is_number is_session has_said done kept room = record {
+  stands_by asks start client state number s said is_state is_number is_session has_said done kept room = record {
     said = said;
-    so_far = subst (λ (st : Standing). HasSaid st listing client.number asks (session_of client) said) (sym is_standing)
-        (subst (λ (n : ℕ). HasSaid standing listing n asks (session_of client) said) (sym is_number)
-        (subst (λ (t : Session). HasSaid standing listing number asks t said) (sym is_session) has_said));
+    so_far = subst (λ (st : ClientState). HasSaid st listing client.number asks (session_of client) said) (sym is_state)
+        (subst (λ (n : ℕ). HasSaid state listing n asks (session_of client) said) (sym is_number)
+        (subst (λ (t : Session). HasSaid state listing number asks t said) (sym is_session) has_said));
     done = done;
     kept = kept;
     room = room;
   }
 
   -- what a client has said, by where it is known to stand
-  pub said_by : (asks : List Ask) (start : Beginning) (client : Client E) (standing : Standing) → client.standing ≡ standing → (h : Stands effects listing asks start client)
-      → HasSaid standing listing client.number asks (session_of client) h.said
-  said_by asks start client standing is h = subst (λ (st : Standing). HasSaid st listing client.number asks (session_of client) h.said) is h.so_far
+  pub said_by : (asks : List Ask) (start : Beginning) (client : Client E) (state : ClientState) → client.state ≡ state → (h : Stands effects listing asks start client)
+      → HasSaid state listing client.number asks (session_of client) h.said
+  said_by asks start client state is h = subst (λ (st : ClientState). HasSaid st listing client.number asks (session_of client) h.said) is h.so_far
 
   -- a client that has asked nothing stands at the beginning
   pub begins : (asks : List Ask) (client : Client E) → IsReady asks client → Stands effects listing asks (record { effects = effects client.end; receipts = client.receipts.receipts }) client
   begins asks client ready =
       let none : Conversation = record { effects = []; receipts = [] } in
-      stands_by asks (record { effects = effects client.end; receipts = client.receipts.receipts }) client Free client.number (session_of client) none ready.standing refl refl
+      stands_by asks (record { effects = effects client.end; receipts = client.receipts.receipts }) client Free client.number (session_of client) none ready.state refl refl
       (subst (λ (n : ℕ). Answered listing client.number asks n none client.seen) (sym ready.answered) (refl, ready.seen))
       (not_grown (effects client.end)) (sym (append-nil client.receipts.receipts)) (omega (arith, ready.room, ready.answered))
 
@@ -73,9 +73,9 @@ module _ {E : Type 0} (effects : E → Option (List AskEffect)) (listing : Listi
 
   module _ (lists : List (Vec Ask Global)) (before after : Client E) where
     -- it asked its next call, and waits
-    pub has_asked : (ask : Ask) → before.standing ≡ Free → slice_get (asks_of lists before.number) before.answered ≡ Some ask
+    pub has_asked : (ask : Ask) → before.state ≡ Free → slice_get (asks_of lists before.number) before.answered ≡ Some ask
         → Grows (effects before.end) (effects after.end) (Asks (item_of listing before.number (session_of before) ask) true ∷ [])
-        → after.standing ≡ Waiting → after.number ≡ before.number → session_of after ≡ session_of before
+        → after.state ≡ Waiting → after.number ≡ before.number → session_of after ≡ session_of before
         → after.receipts.receipts ≡ before.receipts.receipts → before.receipts.room ≤ after.receipts.room
         → GoesOn effects listing lists before after
     has_asked ask free at grows waiting number session same room = record {
@@ -91,9 +91,9 @@ module _ {E : Type 0} (effects : E → Option (List AskEffect)) (listing : Listi
     }
 
     -- no inbox took its next call
-    pub has_not_asked : (ask : Ask) → before.standing ≡ Free → slice_get (asks_of lists before.number) before.answered ≡ Some ask
+    pub has_not_asked : (ask : Ask) → before.state ≡ Free → slice_get (asks_of lists before.number) before.answered ≡ Some ask
         → Grows (effects before.end) (effects after.end) (Asks (item_of listing before.number (session_of before) ask) false ∷ [])
-        → after.standing ≡ Ended → after.number ≡ before.number → after.answered ≡ before.answered → after.receipts ≡ before.receipts
+        → after.state ≡ Ended → after.number ≡ before.number → after.answered ≡ before.answered → after.receipts ≡ before.receipts
         → GoesOn effects listing lists before after
     has_not_asked ask free at grows ended number answered same = record {
       number = number;
@@ -107,8 +107,8 @@ module _ {E : Type 0} (effects : E → Option (List AskEffect)) (listing : Listi
     }
 
     -- it has no more calls
-    pub has_asked_all : before.standing ≡ Free → slice_get (asks_of lists before.number) before.answered ≡ None
-        → after.end ≡ before.end → after.standing ≡ Ended → after.number ≡ before.number → after.answered ≡ before.answered → after.receipts ≡ before.receipts
+    pub has_asked_all : before.state ≡ Free → slice_get (asks_of lists before.number) before.answered ≡ None
+        → after.end ≡ before.end → after.state ≡ Ended → after.number ≡ before.number → after.answered ≡ before.answered → after.receipts ≡ before.receipts
         → GoesOn effects listing lists before after
     has_asked_all free none same_end ended number answered same = record {
       number = number;
@@ -132,9 +132,9 @@ module _ {E : Type 0} (effects : E → Option (List AskEffect)) (listing : Listi
     }
 
     -- its receipt came
-    pub has_got : (found : Looked) → found ≡ looked.Received → before.standing ≡ Waiting → (finds : Does (Finds found before.receipts after.receipts) (effects before.end) (effects after.end))
+    pub has_got : (found : Looked) → found ≡ looked.Received → before.state ≡ Waiting → (finds : Does (Finds found before.receipts after.receipts) (effects before.end) (effects after.end))
         → ((receipts : List Receipt) (receipt : Receipt) → after.receipts.receipts ≡ receipts ++ receipt ∷ [] → after.seen ≡ seen_after before.seen receipt)
-        → after.standing ≡ Free → after.number ≡ before.number → after.answered ≡ before.answered + 1
+        → after.state ≡ Free → after.number ≡ before.number → after.answered ≡ before.answered + 1
         → GoesOn effects listing lists before after
     has_got looked.Received is waiting finds seen free number answered = record {
       number = number;
@@ -154,8 +154,8 @@ module _ {E : Type 0} (effects : E → Option (List AskEffect)) (listing : Listi
     has_got looked.Dropped is waiting finds seen free number answered = absurd cc
 
     -- its call was dropped
-    pub has_lost : (found : Looked) → found ≡ looked.Dropped → before.standing ≡ Waiting → Does (Finds found before.receipts after.receipts) (effects before.end) (effects after.end)
-        → after.standing ≡ Ended → after.number ≡ before.number → after.answered ≡ before.answered
+    pub has_lost : (found : Looked) → found ≡ looked.Dropped → before.state ≡ Waiting → Does (Finds found before.receipts after.receipts) (effects before.end) (effects after.end)
+        → after.state ≡ Ended → after.number ≡ before.number → after.answered ≡ before.answered
         → GoesOn effects listing lists before after
     has_lost looked.Dropped is waiting finds ended number answered = record {
       number = number;
@@ -171,7 +171,7 @@ module _ {E : Type 0} (effects : E → Option (List AskEffect)) (listing : Listi
     has_lost looked.Received is waiting finds ended number answered = absurd cc
 
     -- it went on to its end
-    pub is_asked : GoesOn effects listing lists before after → after.standing ≡ Ended → IsAsked effects listing lists before after
+    pub is_asked : GoesOn effects listing lists before after → after.state ≡ Ended → IsAsked effects listing lists before after
     is_asked h ended = record {
       number = h.number;
       conversed = λ (ready : IsReady (asks_of lists before.number) before).
@@ -196,11 +196,11 @@ module _ {E : Type 0} (effects : E → Option (List AskEffect)) (listing : Listi
   all_twice lists (before ∷ befores) (mid ∷ mids) (after ∷ afters) h k = (goes_on_twice lists before mid after h.0 k.0, all_twice lists befores mids afters h.1 k.1)
 
   pub all_asked : (lists : List (Vec Ask Global)) (befores afters : List (Client E))
-      → AllZip (GoesOn effects listing lists) befores afters → All (λ (client : Client E). client.standing ≡ Ended) afters → AllZip (IsAsked effects listing lists) befores afters
+      → AllZip (GoesOn effects listing lists) befores afters → All (λ (client : Client E). client.state ≡ Ended) afters → AllZip (IsAsked effects listing lists) befores afters
   all_asked lists [] [] h ended = tt
   all_asked lists [] (after ∷ afters) h ended = absurd h
   all_asked lists (before ∷ befores) [] h ended = absurd h
-  all_asked lists (before ∷ befores) (after ∷ afters) h ended = (is_asked lists before after h.0 (All-head (λ (client : Client E). client.standing ≡ Ended) after afters ended), all_asked lists befores afters h.1 (All-tail (λ (client : Client E). client.standing ≡ Ended) after afters ended))
+  all_asked lists (before ∷ befores) (after ∷ afters) h ended = (is_asked lists before after h.0 (All-head (λ (client : Client E). client.state ≡ Ended) after afters ended), all_asked lists befores afters h.1 (All-tail (λ (client : Client E). client.state ≡ Ended) after afters ended))
 
   -- one of them goes on
   pub one_went_on : (lists : List (Vec Ask Global)) (befores nows : List (Client E)) (i : ℕ) (now next : Client E)

@@ -4,7 +4,7 @@ pub mod FullLogs
 pub mod Slices
 pub mod Effects
 pub mod Asking
-pub mod Standing
+pub mod Clients
 pub mod Executing
 pub mod Debugging
 pub mod Carrying

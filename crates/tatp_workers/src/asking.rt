@@ -7,11 +7,11 @@ ghost use Rattle.tatp_numbers.specs.Listing.{Listing};
 ghost use Rattle.tatp_calls.specs.declared.ask.Ask.{Ask};
 ghost use Rattle.tatp_logs.specs.declared.receipt.Receipt.{Receipt};
 ghost use Rattle.tatp_workers.specs.Asking.{item_of, seen_after};
-ghost use Rattle.tatp_workers.specs.Standing.{asks_of, GoesOn, IsAsked};
+ghost use Rattle.tatp_workers.specs.Clients.{asks_of, GoesOn, IsAsked};
 ghost use Rattle.tatp_workers.specs.declared.client.Client.{Client};
-ghost use Rattle.tatp_workers.specs.declared.client.Standing.TheVariants.{Free, Waiting, Ended};
+ghost use Rattle.tatp_workers.specs.declared.client.ClientState.TheVariants.{Free, Waiting, Ended};
 
-use crate::client::{Client, Standing};
+use crate::client::{Client, ClientState};
 use crate::requester::{Looked, Requester};
 use std::sync::Wait;
 use tatp_calls::Ask;
@@ -65,29 +65,29 @@ impl<E> Client<E> {
         directory: &Directory,
         lists: &[Vec<Ask>],
     )
-        requires { self.old.standing ≡ Free }
+        requires { self.old.state ≡ Free }
         ensures { GoesOn Q.effects directory.now lists.now self.old self.new }
     {
         let Some(ask) = call_of(lists, self.number, self.answered) else {
-            self.standing = Standing::Ended;
+            self.state = ClientState::Ended;
             return;
         };
         if self.receipts.room() == 0 {
-            self.standing = Standing::Ended;
+            self.state = ClientState::Ended;
             return;
         }
         let item = item_of(directory, self.number, self.answered as u64, self.seen, ask);
         if requester.ask(&mut self.end, &item) {
             self.receipts.touch_next();
-            self.standing = Standing::Waiting;
+            self.state = ClientState::Waiting;
         } else {
-            self.standing = Standing::Ended;
+            self.state = ClientState::Ended;
         }
     }
 
     /// Looks for the outcome of the call for which the client waits. Whether it has come.
     fn look<Q: Requester<E>>(&mut self, requester: &Q) -> bool
-        requires { self.old.standing ≡ Waiting }
+        requires { self.old.state ≡ Waiting }
         ensures { (listing : Listing) (lists : List (Vec Ask Global))
             → GoesOn Q.effects listing lists self.old self.new }
     {
@@ -97,11 +97,11 @@ impl<E> Client<E> {
             Looked::Received => {
                 self.seen = seen_after(self.seen, &self.receipts);
                 self.answered += 1;
-                self.standing = Standing::Free;
+                self.state = ClientState::Free;
                 true
             }
             Looked::Dropped => {
-                self.standing = Standing::Ended;
+                self.state = ClientState::Ended;
                 true
             }
         }
@@ -115,11 +115,11 @@ impl<E> Client<E> {
         directory: &Directory,
         lists: &[Vec<Ask>],
     ) -> bool
-        requires { self.old.standing ≡ Waiting }
+        requires { self.old.state ≡ Waiting }
         ensures { GoesOn Q.effects directory.now lists.now self.old self.new }
     {
         let has_come = self.look(requester);
-        if self.standing == Standing::Free {
+        if self.state == ClientState::Free {
             self.ask_next(requester, directory, lists);
         }
         has_come
@@ -134,13 +134,13 @@ impl<E> Client<E> {
     ) -> bool
         ensures { GoesOn Q.effects directory.now lists.now self.old self.new }
     {
-        match self.standing {
-            Standing::Free => {
+        match self.state {
+            ClientState::Free => {
                 self.ask_next(requester, directory, lists);
                 true
             }
-            Standing::Waiting => self.look_and_ask(requester, directory, lists),
-            Standing::Ended => false,
+            ClientState::Waiting => self.look_and_ask(requester, directory, lists),
+            ClientState::Ended => false,
         }
     }
 }
@@ -165,10 +165,10 @@ fn advance_all<E, Q: Requester<E>>(
 
 /// Whether all clients have ended.
 fn have_ended<E>(clients: &[Client<E>]) -> bool
-    ensures { result ≡ true → All (λ (client : Client E). client.standing ≡ Ended) clients.now }
+    ensures { result ≡ true → All (λ (client : Client E). client.state ≡ Ended) clients.now }
 {
     for client in clients {
-        if client.standing != Standing::Ended {
+        if client.state != ClientState::Ended {
             return false;
         }
     }

@@ -1,12 +1,12 @@
 //! A client, and its state.
 ghost use Rattle.std.specs.Prelude.{◌≡◌, ◌≤◌, ◌<◌, ◌^◌};
-ghost use Rattle.tatp_workers.specs.declared.client.Standing.TheVariants.{Free, Waiting};
+ghost use Rattle.tatp_workers.specs.declared.client.ClientState.TheVariants.{Free, Waiting};
 
 use tatp_logs::Receipts;
 
 /// The state of a client.
 #[derive(Clone, Copy, Debug, PartialEq, Eq)]
-pub enum Standing {
+pub enum ClientState {
     /// It waits for nothing: it may ask its next call.
     Free,
     /// It waits for the outcome of a call that it has asked.
@@ -27,9 +27,9 @@ pub struct Client<E> {
     pub(crate) answered: usize,
     /// The last stamp that it has seen.
     pub(crate) seen: u64,
-    pub(crate) standing: Standing,
+    pub(crate) state: ClientState,
     apart: [u64; 8],
-    ghost waits: { standing ≡ Waiting → (1 ≤ receipts.room) × (answered < 2 ^ 63) },
+    ghost waits: { state ≡ Waiting → (1 ≤ receipts.room) × (answered < 2 ^ 63) },
 }
 
 impl<E> Client<E> {
@@ -40,7 +40,7 @@ impl<E> Client<E> {
         ensures receipts { result.receipts ≡ receipts }
         ensures answered { result.answered ≡ 0 }
         ensures seen { result.seen ≡ 0 }
-        ensures standing { result.standing ≡ Free }
+        ensures state { result.state ≡ Free }
     {
         Client {
             number,
@@ -48,7 +48,7 @@ impl<E> Client<E> {
             receipts,
             answered: 0,
             seen: 0,
-            standing: Standing::Free,
+            state: ClientState::Free,
             apart: [0; 8],
         }
     }

@@ -22,7 +22,7 @@ mod witness;
 
 pub use asking::ask_all;
 pub use checkpoints::{Checkpointed, checkpoint_full};
-pub use client::{Client, Standing};
+pub use client::{Client, ClientState};
 pub use debugger::{Debugging, debug_all};
 pub use delivery::Delivery;
 pub use effects::{Answering, Effect, Executing};

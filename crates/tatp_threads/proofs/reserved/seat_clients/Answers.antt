@@ -20,7 +20,7 @@ loop-list-preserved g c = record {
         record {
           answered = c.new.ensures.answered;
           seen = c.new.ensures.seen;
-          standing = c.new.ensures.standing;
+          state = c.new.ensures.state;
           room = omega (arith, ap (λ receipts. receipts.room) c.new.ensures.receipts, c.in_ok-receipts.ensures.room, c.len.ensures, c.len-in-loop-list.ensures, c.list-item.result.ok.0);
         },
       );

@@ -1,5 +1,5 @@
 use Rattle.std.specs.List.{AllZip}
-use Rattle.tatp_workers.specs.Standing.{GoesOn}
+use Rattle.tatp_workers.specs.Clients.{GoesOn}
 use Rattle.tatp_workers.proofs.asking.advance_all.Given as goal
 
 abbrev pub invariant-loop-client : goal.invariant-loop-client

@@ -1,5 +1,5 @@
 use Rattle.std.specs.List.{AllZip}
-use Rattle.tatp_workers.specs.Standing.{GoesOn}
+use Rattle.tatp_workers.specs.Clients.{GoesOn}
 use Rattle.tatp_workers.proofs.asking.ask_all.Given as goal
 
 abbrev pub invariant-loop-round : goal.invariant-loop-round

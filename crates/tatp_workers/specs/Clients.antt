@@ -8,8 +8,8 @@ use Rattle.tatp_workers.specs.Growing.{Grows}
 use Rattle.tatp_workers.specs.Asking.{Session, Conversation, Answered, Converses, item_of, with_asked}
 use Rattle.tatp_workers.specs.declared.requester.AskEffect.{AskEffect}
 use Rattle.tatp_workers.specs.declared.client.Client.{Client}
-use Rattle.tatp_workers.specs.declared.client.Standing.{Standing}
-use Rattle.tatp_workers.specs.declared.client.Standing.TheVariants.{Free, Waiting, Ended}
+use Rattle.tatp_workers.specs.declared.client.ClientState.{ClientState}
+use Rattle.tatp_workers.specs.declared.client.ClientState.TheVariants.{Free, Waiting, Ended}
 
 abbrev pub calls_in : Option (Vec Ask Global) → List Ask
 calls_in None = []
@@ -21,7 +21,7 @@ asks_of lists client = calls_in (slice_get lists client)
 
 -- what was asked and the outcomes, by the client's state: each call that was asked got its receipt;
 -- so did all but the last, for which it waits; or the conversation has ended
-abbrev pub HasSaid : Standing → Listing → ℕ → List Ask → Session → Conversation → Type 0
+abbrev pub HasSaid : ClientState → Listing → ℕ → List Ask → Session → Conversation → Type 0
 HasSaid Free listing client asks s c = Answered listing client asks s.number c s.seen
 HasSaid Waiting listing client asks s c =
     (before : Conversation) × (ask : Ask)
@@ -43,14 +43,14 @@ module _ {E : Type 0} where
   pub record IsReady (asks : List Ask) (client : Client E) : Type 0 where
     pub answered : client.answered ≡ 0
     pub seen : client.seen ≡ 0
-    pub standing : client.standing ≡ Free
+    pub state : client.state ≡ Free
     pub room : length asks ≤ client.receipts.room
 
   module _ (effects : E → Option (List AskEffect)) (listing : Listing) where
     -- a client of these calls is somewhere in its conversation, which began with `start`
     pub record Stands (asks : List Ask) (start : Beginning) (client : Client E) : Type 0 where
       pub said : Conversation
-      pub so_far : HasSaid client.standing listing client.number asks (session_of client) said
+      pub so_far : HasSaid client.state listing client.number asks (session_of client) said
       pub done : Grows start.effects (effects client.end) said.effects
       pub kept : client.receipts.receipts ≡ start.receipts ++ said.receipts
       pub room : length asks ≤ client.receipts.room + client.answered

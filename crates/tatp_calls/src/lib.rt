@@ -1,5 +1,5 @@
-//! The seven transactions of the TATP benchmark, as definitions on four sets of tuples; calls of them
-//! and their replies, as values and as lines.
+//! The seven transactions of the TATP benchmark, as definitions on four sets of tuples; calls of
+//! them and their replies, as values and as lines.
 #![tactic(auto)]
 
 mod ask;

@@ -18,7 +18,6 @@ mod observer;
 mod offers;
 mod requester;
 mod slices;
-mod witness;
 
 pub use asking::ask_all;
 pub use checkpoints::{Checkpointed, checkpoint_full};

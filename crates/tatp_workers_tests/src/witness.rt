@@ -13,11 +13,6 @@ ghost use Rattle.std.specs.Result.{result_and};
 ghost use Rattle.tatp_partition.specs.Running.{stepped_of};
 ghost use Rattle.tatp_workers.specs.Slices.{IsSlice};
 
-use crate::{
-    Answering, AskEffect, Carrying, Checkpointed, Client, Debugging, Delivery, Effect, Executing,
-    Looked, Message, MoveEffect, Observer, Offered, Requester, StepAhead, ask_all, debug_all,
-    move_all, slice as make_slice, take_calls,
-};
 use std::alloc::Global;
 use std::slice;
 use std::sync::Wait;
@@ -30,6 +25,11 @@ use tatp_move::{MoveRefusal, Plan};
 use tatp_numbers::Directory;
 use tatp_partition::{
     Completion, CompletionBuffer, Item, Landed, Parcel, Site, SiteRefusal, Stepped,
+};
+use tatp_workers::{
+    Answering, AskEffect, Carrying, Checkpointed, Client, Debugging, Delivery, Effect, Executing,
+    Looked, Message, MoveEffect, Observer, Offered, Requester, StepAhead, ask_all, debug_all,
+    move_all, slice as make_slice, take_calls,
 };
 
 /// What was done, kept as long as there is memory for it.
@@ -54,7 +54,7 @@ impl<T> Record<T> {
 
 impl<T: Copy> Record<T> {
     /// One thing more was done.
-    #[tactic(auto, using(crate::proofs::GrowthLaws::grows_by))]
+    #[tactic(auto, using(tatp_workers::proofs::GrowthLaws::grows_by))]
     fn keep(&mut self, it: T)
         ensures { Grows (known_unless self.old.is_lost self.old.kept.items)
             (known_unless self.new.is_lost self.new.kept.items) (it ∷ []) }
@@ -200,7 +200,7 @@ impl Executing for Record<Effect> {
 }
 
 /// An executor runs calls.
-#[tactic(auto, using(crate::proofs::GrowthLaws::all_recorded))]
+#[tactic(auto, using(tatp_workers::proofs::GrowthLaws::all_recorded))]
 fn execute_each<R: Wait>(rt: &R, alloc: Global) -> Record<Effect>
     ensures { result.is_lost ≡ false → ExecutesUntilQuit 0 1 result.kept.items }
 {
@@ -210,7 +210,7 @@ fn execute_each<R: Wait>(rt: &R, alloc: Global) -> Record<Effect>
 }
 
 /// The debugger makes stops.
-#[tactic(auto, using(crate::proofs::GrowthLaws::all_recorded))]
+#[tactic(auto, using(tatp_workers::proofs::GrowthLaws::all_recorded))]
 fn debug_each(alloc: Global, stops: &[u8]) -> Record<Effect>
     ensures { result.is_lost ≡ false
         → InTurn IsDebugged stops.now (length stops.now) result.kept.items }
@@ -221,7 +221,7 @@ fn debug_each(alloc: Global, stops: &[u8]) -> Record<Effect>
 }
 
 /// The mover makes moves.
-#[tactic(auto, using(crate::proofs::GrowthLaws::all_recorded))]
+#[tactic(auto, using(tatp_workers::proofs::GrowthLaws::all_recorded))]
 fn move_each(alloc: Global, moves: &[(u32, u8)], hand: &mut Vec<Parcel>) -> Record<MoveEffect>
     requires room { vec_len hand.old < vec_capacity hand.old }
     ensures { (kept : List ExtentState)
@@ -234,7 +234,7 @@ fn move_each(alloc: Global, moves: &[(u32, u8)], hand: &mut Vec<Parcel>) -> Reco
 }
 
 /// A client asks calls.
-#[tactic(auto, using(crate::proofs::GrowthLaws::all_recorded))]
+#[tactic(auto, using(tatp_workers::proofs::GrowthLaws::all_recorded))]
 fn ask_each<R: Wait>(
     rt: &R,
     alloc: Global,
@@ -260,7 +260,7 @@ fn ask_each<R: Wait>(
 }
 
 /// A call makes steps at a site.
-#[tactic(auto, using(crate::proofs::GrowthLaws::all_recorded))]
+#[tactic(auto, using(tatp_workers::proofs::GrowthLaws::all_recorded))]
 fn slice_once(
     site: &mut Site<'_>,
     alloc: Global,

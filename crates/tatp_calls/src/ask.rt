@@ -4,7 +4,7 @@ ghost use Rattle.tatp_calls.specs.Asked.{is_transaction, procedure_asked, argume
 ghost use Rattle.tatp_calls.specs.Asked.{AreInDomains, Fits, arities_of, has_procedure, bad_argument};
 
 use crate::{BadArgument, Call, Raw, args_ok};
-use tatp_loader::Loaded;
+use tatp_encoding::Module;
 use tatp_numbers::Key;
 
 /// What a client asks.
@@ -48,10 +48,10 @@ impl Ask {
     }
 
     /// Whether a module has the procedure, with as many arguments.
-    pub fn has_procedure(&self, loaded: &Loaded) -> bool
-        ensures { result ≡ has_procedure loaded.now self.now }
+    pub fn has_procedure(&self, in_module: &Module) -> bool
+        ensures { result ≡ has_procedure in_module.now self.now }
     {
-        let procs = loaded.module().procs();
+        let procs = in_module.procs();
         let procedure = self.procedure();
         procedure < procs.len() as u64
             && procs[procedure as usize].arity() as usize == self.argument_count()
@@ -79,10 +79,10 @@ impl Ask {
 
     /// Whether a module has the procedure, with as many arguments, which are in their domains where
     /// it is a transaction.
-    pub fn fits_module(&self, loaded: &Loaded) -> bool
-        ensures { IsTrue result ↔ Fits (arities_of loaded.now) self.now }
+    pub fn fits_module(&self, in_module: &Module) -> bool
+        ensures { IsTrue result ↔ Fits (arities_of in_module.now) self.now }
     {
-        let procs = loaded.module().procs();
+        let procs = in_module.procs();
         let procedure = self.procedure();
         procedure < procs.len() as u64 && self.is_taken(procs[procedure as usize].arity())
     }

@@ -30,7 +30,7 @@ pub(crate) fn arities_of(alloc: Global, loaded: &Loaded) -> Result<Vec<u8>, Allo
 fn obstacle_to(loaded: &Loaded, ask: &Ask) -> Option<RunRefusal>
     ensures { result ≡ obstacle_to loaded.now ask.now }
 {
-    if !ask.has_procedure(loaded) {
+    if !ask.has_procedure(loaded.module()) {
         return Some(RunRefusal::NoProcedure);
     }
     match ask.bad_argument() {

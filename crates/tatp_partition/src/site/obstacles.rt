@@ -57,7 +57,7 @@ impl<'m> Site<'m> {
     pub fn fits(&self, item: &Item) -> bool
         ensures { IsTrue result ↔ Fits (arities_of self.now.modul) item.now.ask }
     {
-        item.ask.fits_module(self.loaded)
+        item.ask.fits_module(self.loaded.module())
     }
 }
 

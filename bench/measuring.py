@@ -1,8 +1,11 @@
-"""What scripts that measure have in common: the numbers that choose their size, and the machine."""
+"""What scripts that measure have in common: the numbers that choose their size, the machine, and what surrounds bench."""
 import os
 import platform
 import re
 import sys
+
+# The surroundings in which ./tatp runs bench: with large pages.
+SURROUNDINGS = {"GLIBC_TUNABLES": "glibc.malloc.hugetlb=1", **os.environ}
 
 
 def numbers(script, name, default):

@@ -7,6 +7,8 @@ import collections
 import re
 import subprocess
 
+from measuring import SURROUNDINGS
+
 # How often each processor is looked at in a second, and where that is written.
 HERTZ = 1000
 EVENT = re.compile(r"\s*\S.*?\s+(\d+)\s+\[(\d+)\]\s+(\d+\.\d+):\s*(?:PERF_RECORD_(FORK|EXIT)\((\d+):(\d+)\))?")
@@ -21,7 +23,7 @@ def record(words, path):
     perf = ["perf", "record", "-a", "-g", "-F", str(HERTZ), "-e", "cpu-clock", "-o", path, "--"]
     # (the shell becomes the program, and has its number)
     shell = ["sh", "-c", 'echo $$; exec "$@"', "sh", *words]
-    done = subprocess.run(perf + shell, capture_output=True, text=True)
+    done = subprocess.run(perf + shell, capture_output=True, text=True, env=SURROUNDINGS)
     if done.returncode != 0:
         raise SystemExit("%s ended with status %d: %s" % (" ".join(words), done.returncode, done.stderr[-300:]))
     number, _, said = done.stdout.partition("\n")

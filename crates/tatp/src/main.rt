@@ -11,14 +11,15 @@ use std::alloc::{AllocError, Global};
 use std::process::ExitCode;
 use std::sync::Wait;
 use std::thread::Threads;
+use std::time::Clock;
 use std::{env, fmt, io};
 use tatp_assembly::{run_asm, run_check, run_dis};
-use tatp_bench::{BenchPlan, NoGate, Progress, Reporter, report_bench, report_history};
+use tatp_bench::{BenchPlan, Reporter, report_bench, report_history};
 use tatp_command_line::{Asked, not_explained, not_text, task_of};
 use tatp_console::{run_call, run_trace};
 use tatp_explanations::{run_explain, run_explain_all};
 use tatp_inputs::run_audit;
-use tatp_judged_inputs::{JudgeFault, Judged, Judgement, LineReporter, NoProgress, run_judge};
+use tatp_judged_inputs::{JudgeFault, Judged, Judgement, LineReporter, run_judge};
 use tatp_load::{run_calls, run_rows};
 use tatp_streams::StreamFault;
 use tatp_tasks::Task;
@@ -47,7 +48,7 @@ fn main(rt: HostRuntime) -> ExitCode {
 }
 
 /// Does what was asked, and gives the status.
-fn answer<R: Input + Print + Eprint + Threads + Wait + Sync>(
+fn answer<R: Clock + Input + Print + Eprint + Threads + Wait + Sync>(
     rt: &R,
     alloc: Global,
     asked: Result<Asked<'_>, AllocError>,
@@ -107,20 +108,21 @@ fn explain<R: Print + Eprint>(rt: &R, alloc: Global, word: &str) -> ExitCode {
 }
 
 /// Runs the benchmark, and writes what the run counts, or that and its history.
-fn bench<R: Print + Eprint + Threads + Wait + Sync, P: Progress + Sync>(
+fn bench<R: Clock + Print + Eprint + Threads + Wait + Sync>(
     rt: &R,
     alloc: Global,
     plan: &BenchPlan,
-    progress: &P,
+    progress: bool,
     history: bool,
 ) -> ExitCode
     requires { IsPlan plan.now }
 {
     let writer = &mut io::writer(rt);
+    let reporter = Reporter::new(rt, plan, progress);
     if history {
-        status(rt, report_history(rt, alloc, writer, plan, progress))
+        status(rt, report_history(rt, alloc, writer, plan, &reporter))
     } else {
-        status(rt, report_bench(rt, alloc, writer, plan, progress))
+        status(rt, report_bench(rt, alloc, writer, plan, &reporter))
     }
 }
 
@@ -142,7 +144,7 @@ fn judged(rt: &impl Eprint, ended: Result<Judgement, JudgeFault>) -> ExitCode {
 }
 
 /// Runs a command over the standard streams.
-fn run<R: Input + Print + Eprint + Threads + Wait + Sync>(
+fn run<R: Clock + Input + Print + Eprint + Threads + Wait + Sync>(
     rt: &R,
     alloc: Global,
     task: Task<'_>,
@@ -178,27 +180,15 @@ fn run<R: Input + Print + Eprint + Threads + Wait + Sync>(
             Ok(false) => ExitCode::from(STOPPED),
             Err(fault) => tell(rt, &fault),
         },
-        Task::Judge {
-            plan,
-            progress: false,
-        } => judged(rt, run_judge(alloc, reader, writer, &plan, &mut NoProgress)),
-        Task::Judge {
-            plan,
-            progress: true,
-        } => judged(
-            rt,
-            run_judge(alloc, reader, writer, &plan, &mut LineReporter::new(rt)),
-        ),
+        Task::Judge { plan, progress } => {
+            let reporter = &mut LineReporter::new(rt, progress);
+            judged(rt, run_judge(alloc, reader, writer, &plan, reporter))
+        }
         Task::Bench {
             plan,
-            progress: false,
+            progress,
             history,
-        } => bench(rt, alloc, &plan, &NoGate, history),
-        Task::Bench {
-            plan,
-            progress: true,
-            history,
-        } => bench(rt, alloc, &plan, &Reporter::new(rt, &plan), history),
+        } => bench(rt, alloc, &plan, progress, history),
         Task::Rows(plan) => status(rt, run_rows(alloc, writer, &plan)),
         Task::Calls(plan) => status(rt, run_calls(alloc, writer, &plan)),
         Task::Explain(None) => status(rt, run_explain_all(alloc, writer)),

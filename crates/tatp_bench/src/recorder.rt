@@ -54,6 +54,14 @@ impl<P: Progress> Gate for Recorder<'_, P> {
     fn after_answer(&self, client: u64, number: u64) {
         self.numbers.after_answer(client, number);
     }
+
+    fn before_calls(&self) {
+        self.progress.before_calls();
+    }
+
+    fn after_calls(&self) {
+        self.progress.after_calls();
+    }
 }
 
 impl<P: Progress> Progress for Recorder<'_, P> {

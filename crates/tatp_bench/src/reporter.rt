@@ -2,6 +2,7 @@
 ghost use Rattle.tatp_tasks.specs.Plans.{IsPlan};
 
 use std::sync::atomic::{AtomicU64, Ordering};
+use std::time::{Clock, Duration};
 use tatp_debug::Snapshot;
 use tatp_extents::Chapter;
 use tatp_partition::{Site, SiteRefusal};
@@ -26,37 +27,50 @@ impl Progress for NoGate {
 /// In how many parts the ends of calls are reported.
 const PARTS: u64 = 20;
 
+/// How many nanoseconds a second has.
+const NANOSECONDS: u128 = 1_000_000_000;
+
 /// Reports on standard error how far a run is, a line each: that the rows were drawn and opened,
-/// each twentieth of the calls as it ends, how much was done beside them, and that the run is
-/// settled.
+/// each twentieth of the calls as it ends, how long they took, how much was done beside them, and
+/// that the run is settled. Or it reports nothing: one type for both, since each type of gate has
+/// all that the threads do compiled for it.
 #[derive(Drop)]
 pub struct Reporter<'a, R> {
     rt: &'a R,
+    reports: bool,
     /// How many calls there are.
     calls: u64,
-    /// It is 0 until the first step, and more from then on.
-    opened: AtomicU64,
+    /// When the calls began, in nanoseconds of the system's clock.
+    began: AtomicU64,
+    /// For how many nanoseconds they lasted.
+    took: AtomicU64,
     /// How many calls have ended.
     ended: AtomicU64,
 }
 
 impl<'a, R> Reporter<'a, R> {
-    /// Makes the reporter of a run of this plan, before its first call begins.
-    pub fn new(rt: &'a R, plan: &BenchPlan) -> Reporter<'a, R>
+    /// Makes the reporter of a run of this plan, before its first call begins, or one that reports
+    /// nothing.
+    pub fn new(rt: &'a R, plan: &BenchPlan, reports: bool) -> Reporter<'a, R>
         requires { IsPlan plan.now }
     {
         Reporter {
             rt,
+            reports,
             calls: plan.clients as u64 * plan.calls,
-            opened: AtomicU64::new(0),
+            began: AtomicU64::new(0),
+            took: AtomicU64::new(0),
             ended: AtomicU64::new(0),
         }
     }
 }
 
-/// Writes a line to standard error. Where it can't be written, the run continues without it.
-fn say<R: Eprint>(rt: &R, line: &str) {
-    let _printed = eprintln!(rt; "{line}");
+/// The nanoseconds of the system's clock, from some start; 0 where it can't be read.
+fn nanoseconds<R: Clock>(rt: &R) -> u64 {
+    match rt.monotonic() {
+        Ok(time) => u64::try_from(time.as_nanos()).unwrap_or(0),
+        Err(_) => 0,
+    }
 }
 
 /// How many whole parts of `calls` calls have ended when `ended` of them have.
@@ -99,17 +113,13 @@ fn chapters_kept(lists: &[Vec<Chapter>]) -> u64 {
     kept
 }
 
-impl<R: Eprint> Gate for Reporter<'_, R> {
-    fn before_step(&self, _partition: u8, _client: u64, _pc: usize) {
-        // Almost every step reads alone, which costs the executors nothing to share.
-        if self.opened.load(Ordering::SeqCst) == 0
-            && self.opened.fetch_add(1, Ordering::SeqCst) == 0
-        {
-            say(self.rt, "rows opened");
-        }
-    }
+impl<R: Eprint + Clock> Gate for Reporter<'_, R> {
+    fn before_step(&self, _partition: u8, _client: u64, _pc: usize) {}
 
     fn after_end(&self, _partition: u8, _client: u64) {
+        if !self.reports {
+            return;
+        }
         let before = self.ended.fetch_add(1, Ordering::SeqCst);
         let told = parts(before, self.calls);
         let reached = parts(before.saturating_add(1), self.calls);
@@ -120,14 +130,38 @@ impl<R: Eprint> Gate for Reporter<'_, R> {
     }
 
     fn after_look(&self, _partition: u8, _seen: &Result<Snapshot, SiteRefusal>) {}
+
+    fn before_calls(&self) {
+        self.tell("rows opened");
+        self.began.store(nanoseconds(self.rt), Ordering::SeqCst);
+    }
+
+    fn after_calls(&self) {
+        let began = self.began.load(Ordering::SeqCst);
+        let took = nanoseconds(self.rt).saturating_sub(began);
+        self.took.store(took, Ordering::SeqCst);
+    }
 }
 
-impl<R: Eprint> Progress for Reporter<'_, R> {
+impl<R: Eprint + Clock> Progress for Reporter<'_, R> {
+    /// Where the line can't be written, the run continues without it.
     fn tell(&self, line: &str) {
-        say(self.rt, line);
+        if self.reports {
+            let _printed = eprintln!(self.rt; "{line}");
+        }
     }
 
     fn after_run(&self, parts: &RunOutcomeParts<'_>) {
+        if !self.reports {
+            return;
+        }
+        let took = Duration::from_nanos(self.took.load(Ordering::SeqCst));
+        let seconds = took.as_secs();
+        let microseconds = took.subsec_micros();
+        let rate = self.calls as u128 * NANOSECONDS / took.as_nanos().max(1);
+        let _printed = eprintln!(self.rt;
+            "calls took {seconds}.{microseconds:06} seconds, {rate} a second"
+        );
         let moves = moves_made(&parts.sites);
         let stops = stops_made(&parts.sites);
         let chapters = chapters_kept(&parts.chapters);

@@ -11,8 +11,8 @@ use std::mem;
 use tatp_dispatch::World;
 use tatp_limits::MAX_PARTITIONS;
 
-/// After this many completed calls, what is kept of them is dropped. A call takes some 460 bytes,
-/// in the log of its extent and among the completions; opening the rows anew takes a copy of them.
+/// Of more completed calls than this, what is kept is dropped. A call takes some 460 bytes, in the
+/// log of its extent and among the completions; opening the rows anew takes a copy of them.
 const KEPT_CALLS: usize = 1_000_000;
 
 /// How many partitions there are, one at least.
@@ -59,16 +59,17 @@ fn opened_anew_at_rest<'m>(alloc: Global, world: &World<'m>) -> Option<World<'m>
     }
 }
 
-/// Drops what is kept of the completed calls, by opening the rows anew, each time that as many as
-/// [`KEPT_CALLS`] are completed. `before` of them were completed before the last line. Neither
-/// replies nor rows depend on it.
+/// Drops what is kept of the completed calls, by opening the rows anew, each time that one more than
+/// [`KEPT_CALLS`] is completed, so never after the last of as many. Where memory for that is
+/// refused, it is tried again after as many more. `before` of them were completed before the last
+/// line. Neither replies nor rows depend on it.
 pub(crate) fn let_calls_go<'m>(alloc: Global, world: &mut World<'m>, before: usize)
     requires standard { world.old.modul ≡ standard_module }
     ensures rest { (lines : ℕ) → IsAtRestAfter lines world.old → IsAtRestAfter lines world.new }
     ensures back { set_back world.new ≡ set_back world.old }
 {
     let completed = world.completions().len();
-    if completed > before && completed % KEPT_CALLS == 0 {
+    if completed > before && completed > KEPT_CALLS && completed % KEPT_CALLS == 1 {
         if let Some(fresh) = opened_anew_at_rest(alloc, world) {
             let left = mem::replace(world, fresh);
             left.close();

@@ -19,5 +19,5 @@ pub use command::run_judge;
 pub use fault::JudgeFault;
 pub use history_fault::HistoryFault;
 pub use judging::{Judged, Judgement, Window, judge_history};
-pub use progress::{LineReporter, NoProgress, Progress};
+pub use progress::{LineReporter, Progress};
 pub use theorems::{histories_and_rows_have_one_verdict, histories_have_one_verdict};

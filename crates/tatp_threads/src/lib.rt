@@ -1,5 +1,5 @@
 //! Running threads: one executor a partition, clients, a mover and a debugger, over sites under
-//! their locks, locked routes and ruled inboxes.
+//! their locks, shared routes and ruled inboxes.
 #![tactic(auto)]
 
 mod admission;
@@ -13,6 +13,7 @@ mod outcome;
 mod partition;
 mod refusal;
 mod reserved;
+mod routes;
 mod run;
 mod run_plan;
 mod shared;

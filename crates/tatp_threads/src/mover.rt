@@ -7,21 +7,21 @@ ghost use Rattle.tatp_threads.specs.Partitions.{OfPartition, GivesOrBack};
 use crate::admission::Arities;
 use crate::shared::Shared;
 use std::sync::Wait;
-use tatp_move::{MoveRefusal, Plan};
+use tatp_move::{MoveRefusal, Plan, RouteUpdate, Routes};
 use tatp_partition::{Landed, NotGiven, Parcel, SiteRefusal};
-use tatp_sync::lock;
 use tatp_workers::{Carrying, move_all, plan};
 
-/// The sites and the routes under their locks.
+/// The sites under their locks, and the mover's own routes.
 #[derive(Drop)]
 struct Carrier<'c, 'a, 'm, R, G, A: Arities> {
     rt: &'c R,
     shared: &'c Shared<'a, 'm, G, A>,
+    routes: &'c mut Routes,
 }
 
 impl<R: Wait, G, A: Arities> Carrying for Carrier<'_, '_, '_, R, G, A> {
     fn plan(&mut self, extent: u32, to: u8) -> Result<Plan, MoveRefusal> {
-        plan(&*lock(self.rt, self.shared.routes), extent, to)
+        plan(&*self.routes, extent, to)
     }
 
     fn take(&mut self, from: u8, extent: u32) -> Result<Parcel, SiteRefusal>
@@ -54,7 +54,11 @@ impl<R: Wait, G, A: Arities> Carrying for Carrier<'_, '_, '_, R, G, A> {
     }
 
     fn settle(&mut self, landed: Landed) {
-        let _update = lock(self.rt, self.shared.routes).settle_route(landed);
+        let extent = landed.number();
+        let partition = landed.site();
+        if self.routes.settle_route(landed) == RouteUpdate::Set {
+            self.shared.routes.set(extent, partition);
+        }
     }
 }
 
@@ -63,11 +67,12 @@ impl<R: Wait, G, A: Arities> Carrying for Carrier<'_, '_, '_, R, G, A> {
 pub(crate) fn move_extents<R: Wait, G, A: Arities>(
     rt: &R,
     shared: &Shared<G, A>,
+    routes: &mut Routes,
     hand: &mut Vec<Parcel>,
 ) {
     shared.start.wait(rt);
     if hand.len() < hand.capacity() {
-        let mut carrying = Carrier { rt, shared };
+        let mut carrying = Carrier { rt, shared, routes };
         move_all(&mut carrying, shared.plan.moves, hand);
     }
 }

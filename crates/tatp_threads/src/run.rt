@@ -8,12 +8,13 @@ use crate::admission::Arities;
 use crate::calls::obstacle_among;
 use crate::partition::Partition;
 use crate::reserved::{ClientSeat, Reserved, calls_an_extent};
+use crate::routes::SharedRoutes;
 use crate::shared::Shared;
 use crate::starting::run_threads;
 use crate::{RunOutcome, RunOutcomeParts, RunPlan, RunRefusal};
 use std::alloc::{AllocError, Global};
 use std::marker::Brand;
-use std::sync::{Mutex, Wait};
+use std::sync::Wait;
 use std::thread::Threads;
 use tatp_extents::{Chapter, OpenError, admit, discard_all, open_clean, reserve_logs};
 use tatp_limits::MAX_CLIENTS;
@@ -94,6 +95,7 @@ struct Setup<'m, 'w> {
     loaded: &'m Loaded,
     directory: Directory,
     routes: Routes,
+    shared_routes: SharedRoutes,
     sites: Vec<Site<'m>>,
     plan: RunPlan<'w>,
 }
@@ -117,7 +119,8 @@ fn run_ruled<'m, R: Threads + Wait + Sync, G: Gate + Sync, A: Arities + Send + S
     let Setup {
         loaded,
         directory,
-        routes,
+        mut routes,
+        shared_routes,
         sites,
         plan,
     } = setup;
@@ -139,14 +142,13 @@ fn run_ruled<'m, R: Threads + Wait + Sync, G: Gate + Sync, A: Arities + Send + S
             return Err(RunRefusal::NoMemory);
         }
     };
-    let routes = Mutex::new(routes);
     let partitions = lock_all(alloc, sites, partitions.into_vec());
     let mut hand = hand.into_vec();
     let start = Start::new();
     let shared = Shared {
         alloc,
         partitions: partitions.as_slice(),
-        routes: &routes,
+        routes: &shared_routes,
         directory: &directory,
         admission: &admission,
         mailboxes: mailboxes.as_slice(),
@@ -155,7 +157,7 @@ fn run_ruled<'m, R: Threads + Wait + Sync, G: Gate + Sync, A: Arities + Send + S
         start: &start,
     };
     let seats = clients.as_mut_slice();
-    let started = run_threads(rt, &shared, quit, executors, seats, &mut hand);
+    let started = run_threads(rt, &shared, quit, executors, seats, &mut routes, &mut hand);
     let (sites, chapters) = unlock_all(partitions, unlocked.into_vec(), chapters.into_vec());
     if !started {
         discard_all(sites);
@@ -200,6 +202,13 @@ pub fn run_clean_calls<'m, R: Threads + Wait + Sync, G: Gate + Sync>(
             return Err(RunRefusal::NoMemory);
         }
     };
+    let shared_routes = match SharedRoutes::new(alloc, &routes, extents.len()) {
+        Ok(shared_routes) => shared_routes,
+        Err(_) => {
+            discard_all(extents);
+            return Err(RunRefusal::NoMemory);
+        }
+    };
     let room = calls_an_extent(plan.lists, extents.len(), plan.chapter);
     if reserve_logs(extents.as_mut_slice(), room).is_err() {
         discard_all(extents);
@@ -210,6 +219,7 @@ pub fn run_clean_calls<'m, R: Threads + Wait + Sync, G: Gate + Sync>(
         loaded,
         directory,
         routes,
+        shared_routes,
         sites,
         plan,
     };

@@ -5,12 +5,12 @@ ghost use Rattle.tatp_threads.specs.Inboxes.{SendsCall};
 use crate::RunPlan;
 use crate::admission::{Admission, Arities, Port};
 use crate::partition::Partition;
+use crate::routes::SharedRoutes;
 use std::alloc::Global;
-use std::sync::{Mutex, Wait};
-use tatp_move::Routes;
+use std::sync::Wait;
 use tatp_numbers::Directory;
 use tatp_partition::{Completion, Item};
-use tatp_sync::{Mailbox, Start, lock};
+use tatp_sync::{Mailbox, Start};
 use tatp_workers::Delivery;
 
 /// What the threads share.
@@ -19,7 +19,7 @@ pub(crate) struct Shared<'a, 'm, G, A: Arities> {
     pub(crate) alloc: Global,
     /// The partitions, that of number 0 first.
     pub(crate) partitions: &'a [Partition<'m>],
-    pub(crate) routes: &'a Mutex<Routes>,
+    pub(crate) routes: &'a SharedRoutes,
     pub(crate) directory: &'a Directory,
     pub(crate) admission: &'a Admission<A>,
     /// Where each client waits, client 0 first.
@@ -42,7 +42,7 @@ impl<'a, 'm, G, A: Arities> Shared<'a, 'm, G, A> {
     pub(crate) fn send<R: Wait>(&self, rt: &R, ports: &mut [Port<A>], item: &Item) -> bool
         ensures { SendsCall ports.old item.now result ports.new }
     {
-        let partition = lock(rt, self.routes).route(item.home) as usize;
+        let partition = self.routes.route(item.home);
         if partition >= ports.len() {
             return false;
         }

@@ -15,6 +15,7 @@ use std::sync::Wait;
 use std::thread;
 use std::thread::Threads;
 use std::time::Duration;
+use tatp_move::Routes;
 use tatp_partition::Parcel;
 use tatp_sync::pause;
 use tatp_workers::{Gate, Message};
@@ -36,6 +37,7 @@ pub(crate) fn run_threads<R: Threads + Wait + Sync, G: Gate + Sync, A: Arities +
     quit: Vec<Port<A>>,
     executors: Vec<ExecutorSeat<A>>,
     clients: &mut [ClientSeat<A>],
+    routes: &mut Routes,
     hand: &mut Vec<Parcel>,
 ) -> bool
     requires partitions { vec_len quit ≡ length shared.now.partitions.now }
@@ -63,7 +65,7 @@ pub(crate) fn run_threads<R: Threads + Wait + Sync, G: Gate + Sync, A: Arities +
             }
             if started {
                 pause(rt, Duration::from_millis(ALONE));
-                started = run_clients(rt, shared, clients, hand);
+                started = run_clients(rt, shared, clients, routes, hand);
             }
             for port in quit.iter_mut() {
                 let _put = port.put(rt, Message::Quit);
@@ -88,10 +90,13 @@ fn run_clients<R: Threads + Wait + Sync, G: Gate + Sync, A: Arities + Send + Syn
     rt: &R,
     shared: &Shared<G, A>,
     clients: &mut [ClientSeat<A>],
+    routes: &mut Routes,
     hand: &mut Vec<Parcel>,
 ) -> bool {
-    thread::scope(thread::scope_env(), rt, |inner| -> bool {
-        let mut started = inner.spawn(move || move_extents(rt, shared, hand)).is_ok()
+    let started = thread::scope(thread::scope_env(), rt, |inner| -> bool {
+        let mut started = inner
+            .spawn(move || move_extents(rt, shared, routes, hand))
+            .is_ok()
             && inner.spawn(move || debug_partitions(rt, shared)).is_ok();
         let many = clients_a_thread(clients.len());
         for seats in clients.chunks_mut(many) {
@@ -99,7 +104,10 @@ fn run_clients<R: Threads + Wait + Sync, G: Gate + Sync, A: Arities + Send + Syn
                 started = false;
             }
         }
+        shared.gate.before_calls();
         shared.start.open(rt);
         started
-    })
+    });
+    shared.gate.after_calls();
+    started
 }

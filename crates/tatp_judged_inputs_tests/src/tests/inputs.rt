@@ -6,11 +6,19 @@ use std::alloc::Global;
 use std::test::Fail;
 use tatp_calls::BadArgument;
 use tatp_judge::{Judge, Part, Stakes, Undecided};
-use tatp_judged_inputs::{HistoryFault, Judged, Judgement, NoProgress, judge_history};
+use tatp_judged_inputs::{HistoryFault, Judged, Judgement, Progress, judge_history};
 use tatp_limits::MAX_INPUT_LIMIT;
 use tatp_population::generate;
 use tatp_streams::LineReader;
 use tatp_tables::Rows;
+
+/// Nothing is reported.
+#[derive(Drop)]
+struct NoProgress;
+
+impl Progress for NoProgress {
+    fn after_line(&mut self) {}
+}
 
 /// The verdict on an input, where at most `most` configurations are kept of a subscriber.
 fn judgement(

@@ -1,4 +1,4 @@
-"""What scripts that measure have in common: the numbers that choose their size, the machine, and what surrounds bench."""
+"""What scripts that measure have in common: the numbers that choose their size, the machine, and how bench is run."""
 import os
 import platform
 import re

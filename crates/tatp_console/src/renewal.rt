@@ -59,8 +59,8 @@ fn opened_anew_at_rest<'m>(alloc: Global, world: &World<'m>) -> Option<World<'m>
     }
 }
 
-/// Drops what is kept of the completed calls, by opening the rows anew, each time that one more than
-/// [`KEPT_CALLS`] is completed, so never after the last of as many. Where memory for that is
+/// Drops what is kept of the completed calls, by opening the rows anew, each time that one more
+/// than [`KEPT_CALLS`] is completed, so never after the last of as many. Where memory for that is
 /// refused, it is tried again after as many more. `before` of them were completed before the last
 /// line. Neither replies nor rows depend on it.
 pub(crate) fn let_calls_go<'m>(alloc: Global, world: &mut World<'m>, before: usize)

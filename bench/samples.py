@@ -1,8 +1,8 @@
 """What `perf record` saw of a run of threads: which thread was on which processor, sample by sample, and whether it did
 its own work, yielded, or waited for a page.
 
-The threads of a run are known by the order in which they start, at the time when most of them are there: the executors,
-one a partition, then others, and last the clients."""
+The threads of a run are known by the order in which they start: the executors, one a partition, then others, and last
+the clients. Other threads draw and settle, but not as many for as long."""
 import collections
 import re
 import subprocess
@@ -62,22 +62,27 @@ class Run:
         if head:
             self.samples.append(Sample(*head, kind_of("".join(functions))))
 
-    def most_threads(self):
-        """The threads at the time when most are there, in the order of their start."""
+    def threads_together(self, count):
+        """The threads of the longest time in which so many are there, in the order of their start."""
         changes = sorted([(time, 1, thread) for thread, time in self.began.items()]
                          + [(time, 0, thread) for thread, time in self.ended.items() if thread in self.began])
-        now, most = set(), set()
-        for _, begins, thread in changes:
+        now, together, since, longest = set(), set(), 0, (0, set())
+        for time, begins, thread in changes:
+            were_enough = len(now) >= count
             (now.add if begins else now.discard)(thread)
-            most = set(now) if len(now) > len(most) else most
-        return sorted(most, key=lambda thread: (self.began[thread], thread))
+            if were_enough:
+                longest = max(longest, (time - since, together), key=lambda those: those[0])
+                together = together | now
+            elif len(now) >= count:
+                since, together = time, set(now)
+        return sorted(longest[1], key=lambda thread: (self.began[thread], thread))
 
 
 class Span:
     """The samples of the time in which a run's clients were there."""
 
     def __init__(self, run, partitions, client_threads):
-        threads = run.most_threads()
+        threads = run.threads_together(partitions + client_threads)
         if len(threads) < partitions + client_threads:
             raise SystemExit("there are %d threads, not %d executors and %d with clients"
                              % (len(threads), partitions, client_threads))

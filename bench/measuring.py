@@ -5,7 +5,7 @@ import re
 import sys
 
 # The surroundings in which ./tatp runs bench: with large pages.
-SURROUNDINGS = {"GLIBC_TUNABLES": "glibc.malloc.hugetlb=1", **os.environ}
+SURROUNDINGS = {"GLIBC_TUNABLES": "glibc.malloc.hugetlb=1:glibc.malloc.mmap_threshold=33554432", **os.environ}
 
 
 def numbers(script, name, default):

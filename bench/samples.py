@@ -1,8 +1,8 @@
 """What `perf record` saw of a run of threads: which thread was on which processor, sample by sample, and whether it did
 its own work, yielded, or waited for a page.
 
-The threads of a run are known by the order in which they start: the executors, one a partition, then others, and last
-the clients. Other threads draw and settle, but not as many for as long."""
+The threads of a run are known by the order in which they start: the executors, one a partition, then those of clients,
+and last others. Other threads draw and settle, but not as many for as long."""
 import collections
 import re
 import subprocess
@@ -79,16 +79,18 @@ class Run:
 
 
 class Span:
-    """The samples of the time in which a run's clients were there."""
+    """The samples of the time in which a run's clients were there: from the start of the last of their threads to the
+    end of the first executor, which comes once all clients have ended."""
 
-    def __init__(self, run, partitions, client_threads):
-        threads = run.threads_together(partitions + client_threads)
-        if len(threads) < partitions + client_threads:
+    def __init__(self, run, partitions, started, own):
+        """So many threads were started for clients; the threads `own` run clients too."""
+        threads = run.threads_together(partitions + started)
+        if len(threads) < partitions + started:
             raise SystemExit("there are %d threads, not %d executors and %d with clients"
-                             % (len(threads), partitions, client_threads))
-        self.executors, self.clients = threads[:partitions], threads[-client_threads:]
-        self.began = min(run.began[thread] for thread in self.clients)
-        self.ended = max(run.ended[thread] for thread in self.clients)
+                             % (len(threads), partitions, started))
+        self.executors, self.clients = threads[:partitions], [*own, *threads[partitions:partitions + started]]
+        self.began = run.began[threads[partitions + started - 1]]
+        self.ended = min(run.ended[thread] for thread in self.executors)
         self.samples = [sample for sample in run.samples if self.began <= sample.time <= self.ended]
 
     def seconds(self):

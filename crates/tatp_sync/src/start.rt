@@ -1,41 +1,45 @@
 //! Threads that begin together, and that wait.
 
 use crate::LOOKS;
-use std::sync::atomic::AtomicU64;
-use std::sync::{Condvar, Mutex, Wait};
+use std::sync::Wait;
+use std::sync::atomic::{AtomicBool, AtomicU64, Ordering};
 use std::thread;
 use std::time::Duration;
 
 /// For how many milliseconds a thread sleeps that has looked often enough. Nobody has to wake it.
 const NAP: u64 = 1;
 
-/// Where threads wait until all of them may begin.
+/// Where threads wait until all of them may begin. They look many times before they sleep: a thread
+/// that is woken may begin on another processor than that on which it was started.
 #[derive(Drop)]
 pub struct Start {
-    is_open: Mutex<bool>,
-    opened: Condvar,
+    is_open: AtomicBool,
 }
 
 impl Start {
     /// Makes a start that isn't open yet.
     pub fn new() -> Start {
         Start {
-            is_open: Mutex::new(false),
-            opened: Condvar::new(),
+            is_open: AtomicBool::new(false),
         }
     }
 
     /// Waits until it is open.
     pub fn wait<R: Wait>(&self, rt: &R) {
-        let _open = self
-            .opened
-            .wait_while(rt, self.is_open.lock(rt), |is_open| !*is_open);
+        let mut looks: u32 = 0;
+        for _round in rt.forever() {
+            if self.is_open.load(Ordering::SeqCst) {
+                return;
+            }
+            rest(rt, looks);
+            looks = looks.saturating_add(1);
+        }
+        unreachable!()
     }
 
     /// Opens it: all threads that wait may begin.
-    pub fn open<R: Wait>(&self, rt: &R) {
-        *self.is_open.lock(rt) = true;
-        self.opened.notify_all();
+    pub fn open(&self) {
+        self.is_open.store(true, Ordering::SeqCst);
     }
 }
 

@@ -85,7 +85,9 @@ fn clients_a_thread(clients: usize) -> usize
 }
 
 /// Runs the clients, the mover and the debugger to their ends. They begin together, when all are
-/// started or one couldn't be. Whether each could.
+/// started or one couldn't be. Whether each could. The thread that starts the others runs the first
+/// clients: where it slept instead, its processor would lack a thread until the system moved one
+/// there, an executor perhaps.
 fn run_clients<R: Threads + Wait + Sync, G: Gate + Sync, A: Arities + Send + Sync>(
     rt: &R,
     shared: &Shared<G, A>,
@@ -94,18 +96,25 @@ fn run_clients<R: Threads + Wait + Sync, G: Gate + Sync, A: Arities + Send + Syn
     hand: &mut Vec<Parcel>,
 ) -> bool {
     let started = thread::scope(thread::scope_env(), rt, |inner| -> bool {
-        let mut started = inner
-            .spawn(move || move_extents(rt, shared, routes, hand))
-            .is_ok()
-            && inner.spawn(move || debug_partitions(rt, shared)).is_ok();
+        let mut started = true;
         let many = clients_a_thread(clients.len());
-        for seats in clients.chunks_mut(many) {
+        let mut others = clients.chunks_mut(many);
+        let own = others.next();
+        for seats in others {
             if started && inner.spawn(move || ask_calls(rt, shared, seats)).is_err() {
                 started = false;
             }
         }
+        let started = started
+            && inner
+                .spawn(move || move_extents(rt, shared, routes, hand))
+                .is_ok()
+            && inner.spawn(move || debug_partitions(rt, shared)).is_ok();
         shared.gate.before_calls();
-        shared.start.open(rt);
+        shared.start.open();
+        if let Some(seats) = own {
+            ask_calls(rt, shared, seats);
+        }
         started
     });
     shared.gate.after_calls();

@@ -24,7 +24,7 @@ pub trait Gate {
     /// A client has the outcome of its call of this number: a receipt, or that it was dropped.
     fn after_answer(&self, _client: u64, _number: u64) {}
 
-    /// All threads are started, and wait for the word to begin.
+    /// Clients, mover and debugger wait for the word to begin, as far as they could be started.
     fn before_calls(&self) {}
 
     /// All threads but the executors have ended.

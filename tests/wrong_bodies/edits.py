@@ -25,6 +25,16 @@ def bodies(crate):
     return sorted(found)
 
 
+def crates_below(folder):
+    """The crates that each crate stands on, by the list of the repository that has this one."""
+    below = {}
+    for line in read_lines(os.path.join(folder, "..", "..", "crates.txt")):
+        crate, colon, others = line.partition(":")
+        if colon and not line.startswith("#"):
+            below[crate.split()[0]] = others.split()
+    return below
+
+
 class Obstacle(Exception):
     """What stands against applying an edit."""
 
@@ -41,6 +51,10 @@ class Crate:
 
     def __init__(self, folder):
         self.folder = folder
+        below = crates_below(folder)
+        name = os.path.basename(folder)
+        # The crates that its sources can't name.
+        self.strange = below.keys() - {name, *below.get(name, [])}
         self.originals = {}
         # Which edit has a name, and which made a text.
         self.named, self.makers = {}, {}
@@ -113,7 +127,12 @@ class Crate:
         if made in self.makers:
             raise Obstacle("it changes the same as " + self.makers[made])
         self.makers[made] = edit
-        return list(self.lines(changed))
+        lines = list(self.lines(changed))
+        for line in lines:
+            for crate in re.findall(r"\b(\w+)::", line.text):
+                if crate in self.strange:
+                    raise Obstacle("it names %s, on which its crate doesn't stand" % crate)
+        return lines
 
 
 def can_be_applied(crate):

@@ -7,12 +7,12 @@ use Rattle.std.proofs.lemmas.Option.{same_Some}
 use Rattle.std.proofs.lemmas.List.FromFn.{map-range_with_len_more}
 use Rattle.std.proofs.lemmas.List.Elements.{All-push}
 use Rattle.tatp_sync.specs.Inboxes.{End}
-use Rattle.tatp_workers.specs.declared.message.Message.{Message}
+use Rattle.tatp_threads.specs.declared.request.InboxMessage.{InboxMessage}
 use Rattle.tatp_calls.specs.declared.ask.Ask.{Ask}
 use Rattle.tatp_threads.specs.Seats.{AreEndsAt, ClientSeat, IsReadyFor, AreReadyFor}
 
 -- one more seat: its ports are ends at all inboxes, as those of the others
-pub one_more_with_ends : {S : Type 0} (ports_of : S → Vec (End Message) Global) (inboxes inboxes' : List (End Message)) (seats seats' : List S) (seat : S)
+pub one_more_with_ends : {S : Type 0} (ports_of : S → Vec (End InboxMessage) Global) (inboxes inboxes' : List (End InboxMessage)) (seats seats' : List S) (seat : S)
     → seats' ≡ seats ++ seat ∷ [] → inboxes' ≡ inboxes → All (AreEndsAt inboxes) (map ports_of seats) → AreEndsAt inboxes (ports_of seat)
     → All (AreEndsAt inboxes') (map ports_of seats')
 one_more_with_ends ports_of inboxes inboxes' seats seats' seat is same all here =

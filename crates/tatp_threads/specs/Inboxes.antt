@@ -1,25 +1,78 @@
--- The inboxes of a run: their rule, and what is put into them.
-use Rattle.std.specs.Prelude.{◌≡◌, ℕ, List, Bool, true, false, Some, slice_get, slice_set}
-use Rattle.tatp_calls.specs.Asked.{Fits}
+-- The inboxes of a run: their rule, and what is put into them and taken out of them.
+use Rattle.std.specs.Prelude.{◌≡◌, ℕ, List, Bool, true, false, Option, Some, None, Vec, slice_get, slice_set}
+use Rattle.std.specs.declared.alloc.Global.{Global}
+use Rattle.tatp_encoding.specs.Modules.{ModuleState}
+use Rattle.tatp_calls.specs.declared.ask.Ask.{Ask}
 use Rattle.tatp_partition.specs.declared.item.Item.{Item}
 use Rattle.tatp_sync.specs.Inboxes.{End, with_message}
+use Rattle.tatp_workers.specs.Clients.{asks_of}
 use Rattle.tatp_workers.specs.declared.message.Message.{Message}
-use Rattle.tatp_workers.specs.declared.message.Message.TheVariants.{Quit, Call}
+use Rattle.tatp_workers.specs.declared.message.Message.TheVariants as taken
+use Rattle.tatp_threads.specs.Calls.{obstacle_to}
+use Rattle.tatp_threads.specs.declared.request.Request.{Request}
+use Rattle.tatp_threads.specs.declared.request.InboxMessage.{InboxMessage}
+use Rattle.tatp_threads.specs.declared.request.InboxMessage.TheVariants.{Quit, Call}
 
--- Quit, or a call that procedures of these arities take
-abbrev pub IsMessage : List ℕ → Message → Type 0
-IsMessage arities Quit = Unit {0}
-IsMessage arities (Call item) = Fits arities item.ask
+-- the request that stands for a call: all of it but what is asked
+abbrev pub request_of : Item → Request
+request_of item = record {
+  client = item.client;
+  number = item.number;
+  seen = item.seen;
+  home = item.home;
+}
 
--- a call is put into an inbox, or it isn't
-abbrev pub PutsCall : End Message → Item → Bool → End Message → Type 0
-PutsCall port item true port' = port' ≡ with_message port (Call item)
-PutsCall port item false port' = port' ≡ port
+-- the call for which a request stands, where this is what is asked
+abbrev pub item_for : Request → Ask → Item
+item_for request ask = record {
+  client = request.client;
+  number = request.number;
+  seen = request.seen;
+  ask = ask;
+  home = request.home;
+}
 
--- a call is put into one of the inboxes, or into none
-abbrev pub SendsCall : List (End Message) → Item → Bool → List (End Message) → Type 0
-SendsCall ports item true ports' =
-    (partition : ℕ) × (port : End Message)
+-- what the call asks stands in its client's list, at its number
+abbrev pub IsListed : List (Vec Ask Global) → Item → Type 0
+IsListed lists item = slice_get (asks_of lists item.client) item.number ≡ Some item.ask
+
+-- a call of the lists, which can be run in this module
+pub record IsAdmitted (modul : ModuleState) (lists : List (Vec Ask Global)) (item : Item)
+    : Type 0 where
+  pub listed : IsListed lists item
+  pub clear : obstacle_to modul item.ask ≡ None
+
+-- Quit, or a request that stands for such a call
+abbrev pub IsMessage : ModuleState → List (Vec Ask Global) → InboxMessage → Type 0
+IsMessage modul lists Quit = Unit {0}
+IsMessage modul lists (Call request) =
+    (ask : Ask) × IsAdmitted modul lists (item_for request ask)
+
+-- a call of the lists is put into an inbox, or none is
+abbrev pub PutsCall :
+    List (Vec Ask Global) → End InboxMessage → Item → Bool → End InboxMessage → Type 0
+PutsCall lists port item true port' =
+    IsListed lists item × (port' ≡ with_message port (Call (request_of item)))
+PutsCall lists port item false port' = port' ≡ port
+
+-- a message is taken out of an inbox, or none is
+abbrev pub TakesMessage : End InboxMessage → Option Message → End InboxMessage → Type 0
+TakesMessage reader (Some taken.Quit) reader' = reader' ≡ with_message reader Quit
+TakesMessage reader (Some (taken.Call item)) reader' =
+    reader' ≡ with_message reader (Call (request_of item))
+TakesMessage reader None reader' = reader' ≡ reader
+
+-- a call that is taken is an admitted one
+abbrev pub IsTaken : ModuleState → List (Vec Ask Global) → Message → Type 0
+IsTaken modul lists taken.Quit = Unit {0}
+IsTaken modul lists (taken.Call item) = IsAdmitted modul lists item
+
+-- a call of the lists is put into one of the inboxes, or none into any
+abbrev pub SendsCall :
+    List (Vec Ask Global) → List (End InboxMessage) → Item → Bool → List (End InboxMessage) → Type 0
+SendsCall lists ports item true ports' =
+    IsListed lists item
+    × (partition : ℕ) × (port : End InboxMessage)
     × (slice_get ports partition ≡ Some port)
-    × (ports' ≡ slice_set ports partition (with_message port (Call item)))
-SendsCall ports item false ports' = ports' ≡ ports
+    × (ports' ≡ slice_set ports partition (with_message port (Call (request_of item))))
+SendsCall lists ports item false ports' = ports' ≡ ports

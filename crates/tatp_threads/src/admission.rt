@@ -1,65 +1,128 @@
-//! Which calls go into inboxes: those that fit the module of the run.
-ghost use Rattle.std.specs.Prelude.{◌≡◌, List, ℕ};
-ghost use Rattle.tatp_threads.specs.Inboxes.{IsMessage, PutsCall};
+//! Which calls go into inboxes: those of the run's lists, which its module can run.
+ghost use Rattle.std.specs.Prelude.{◌≡◌, ◌↔◌, List, IfSome, IsTrue, None, Vec};
+ghost use Rattle.std.specs.declared.alloc.Global.{Global};
+ghost use Rattle.tatp_encoding.specs.Modules.{ModuleState};
+ghost use Rattle.tatp_calls.specs.declared.ask.Ask.{Ask};
+ghost use Rattle.tatp_threads.specs.Calls.{obstacle_among};
+ghost use Rattle.tatp_threads.specs.Inboxes.{IsMessage, IsAdmitted, IsListed, IsTaken, PutsCall, TakesMessage, request_of};
+ghost use Rattle.tatp_threads.specs.declared.request.InboxMessage.TheVariants.{Call};
 
+use crate::request::{InboxMessage, Request};
 use std::marker::{Brand, PhantomData};
 use std::sync::Wait;
-use tatp_partition::{Item, item_ok};
+use tatp_calls::Ask;
+use tatp_partition::Item;
 use tatp_sync::MessageRule;
-use tatp_workers::Message;
+use tatp_workers::{Message, call_of};
 
-/// How many arguments each procedure of a run's module takes.
-pub(crate) trait Arities {
-    ghost arities: { List ℕ };
+/// The module of a run, and what its clients ask.
+pub(crate) trait RunCalls {
+    ghost modul: { ModuleState };
+
+    ghost lists: { List (Vec Ask Global) };
 }
 
-impl Arities for Brand {
+impl RunCalls for Brand {
     ghost use Rattle.std.specs.Prelude.{[]};
+    ghost use Rattle.tatp_instr.specs.declared.version.Version.TheVariants.{One};
 
-    ghost arities = { [] };
+    ghost modul = { record { version = One; procedures = [] } };
+
+    ghost lists = { [] };
 }
 
-/// The rule of an inbox: each message is Quit, or a call that fits.
-pub(crate) struct Fitting<A> {
+/// The rule of an inbox: each message is Quit, or stands for a call of the lists that can be run.
+pub(crate) struct Admitted<A> {
     of: PhantomData<A>,
 }
 
-impl<A: Arities> MessageRule<Message> for Fitting<A> {
-    ghost allows = { IsMessage A.arities };
+impl<A: RunCalls> MessageRule<InboxMessage> for Admitted<A> {
+    ghost allows = { IsMessage A.modul A.lists };
 }
 
 /// An end of an inbox that puts.
-pub(crate) type Port<A> = tatp_sync::Port<Message, Fitting<A>>;
+pub(crate) type Port<A> = tatp_sync::Port<InboxMessage, Admitted<A>>;
 
 /// The end of an inbox that takes.
-pub(crate) type Reader<A> = tatp_sync::Reader<Message, Fitting<A>>;
+pub(crate) type Reader<A> = tatp_sync::Reader<InboxMessage, Admitted<A>>;
 
-/// Admits to inboxes the calls that fit: it has the arities of the run, by which threads test them.
-#[derive(Drop)]
-pub(crate) struct Admission<A: Arities> {
-    arities: Vec<u8>,
-    of: PhantomData<A>,
-    ghost same: { arities.items ≡ A.arities },
+/// Whether the same is asked.
+fn is_same(ask: &Ask, other: &Ask) -> bool
+    ensures { IsTrue result ↔ (ask.now ≡ other.now) }
+{
+    match (ask, other) {
+        (Ask::Txn(call), Ask::Txn(other)) => *call == *other,
+        (Ask::Raw(raw), Ask::Raw(other)) => {
+            raw.procedure() == other.procedure()
+                && raw.args() == other.args()
+                && raw.key() == other.key()
+        }
+        _ => false,
+    }
 }
 
-impl<A: Arities> Admission<A> {
-    /// Keeps the arities of the run, which the rule of its inboxes names.
-    pub(crate) fn new(arities: Vec<u8>) -> Admission<A>
-        requires { arities.items ≡ A.arities }
+/// Admits to inboxes the calls of the run's lists, by which threads test them, and finds them again
+/// for those who take requests.
+#[derive(Drop)]
+pub(crate) struct Admission<'w, A: RunCalls> {
+    lists: &'w [Vec<Ask>],
+    of: PhantomData<A>,
+    ghost same: { lists.now ≡ A.lists },
+    ghost clear: { obstacle_among A.modul A.lists ≡ None },
+}
+
+impl<'w, A: RunCalls> Admission<'w, A> {
+    /// Keeps the lists of the run, which the rule of its inboxes names.
+    pub(crate) fn new(lists: &'w [Vec<Ask>]) -> Admission<'w, A>
+        requires same { lists.now ≡ A.lists }
+        requires clear { obstacle_among A.modul A.lists ≡ None }
     {
         Admission {
-            arities,
+            lists,
             of: PhantomData,
         }
     }
 
-    /// Puts a call into an inbox if it fits the module. False if it doesn't, or the inbox is full.
-    pub(crate) fn put<R: Wait>(&self, rt: &R, port: &mut Port<A>, item: &Item) -> bool
-        ensures { PutsCall port.old item.now result port.new }
+    /// Whether a call is that of its number in its client's list.
+    fn is_listed(&self, item: &Item) -> bool
+        ensures { IsTrue result → IsListed A.lists item.now }
     {
-        if !item_ok(item, self.arities.as_slice()) {
+        match call_of(self.lists, item.client, item.number as usize) {
+            Some(ask) => is_same(ask, &item.ask),
+            None => false,
+        }
+    }
+
+    /// Puts a call into an inbox if it is of the lists. False if it isn't, or the inbox is full.
+    pub(crate) fn put<R: Wait>(&self, rt: &R, port: &mut Port<A>, item: &Item) -> bool
+        ensures { PutsCall A.lists port.old item.now result port.new }
+    {
+        if !self.is_listed(item) {
             return false;
         }
-        port.put(rt, Message::Call(*item)).is_ok()
+        port.put(rt, InboxMessage::Call(Request::of(item))).is_ok()
+    }
+
+    /// The call for which a request stands.
+    fn item_for(&self, request: &Request) -> Item
+        requires { IsMessage A.modul A.lists (Call request.now) }
+        ensures stands { request.now ≡ request_of result }
+        ensures admitted { IsAdmitted A.modul A.lists result }
+    {
+        match call_of(self.lists, request.client, request.number as usize) {
+            Some(ask) => request.to_item(ask),
+            None => unreachable!(),
+        }
+    }
+
+    /// Takes the next message out of an inbox. `None` where no end that puts is left.
+    pub(crate) fn take<R: Wait>(&self, rt: &R, reader: &mut Reader<A>) -> Option<Message>
+        ensures taken { TakesMessage reader.old result reader.new }
+        ensures admitted { IfSome result (IsTaken A.modul A.lists) }
+    {
+        match reader.take(rt)? {
+            InboxMessage::Quit => Some(Message::Quit),
+            InboxMessage::Call(request) => Some(Message::Call(self.item_for(&request))),
+        }
     }
 }

@@ -3,7 +3,7 @@ ghost use Rattle.std.specs.Prelude.{◌≤◌, ◌∷◌, []};
 ghost use Rattle.tatp_workers.specs.Asking.{Finds, receipt_delivered};
 ghost use Rattle.tatp_workers.specs.declared.requester.AskEffect.TheVariants.{Gets};
 
-use crate::admission::{Arities, Port};
+use crate::admission::{Port, RunCalls};
 use crate::reserved::ClientSeat;
 use crate::shared::Shared;
 use std::sync::Wait;
@@ -15,12 +15,12 @@ use tatp_workers::{Delivery, Gate, Looked, Requester, ask_all};
 /// The inboxes and the mailboxes, with what else the threads share. Each client has its own ends at
 /// the inboxes.
 #[derive(Drop)]
-struct Post<'c, 'a, 'm, R, G, A: Arities> {
+struct Post<'c, 'a, 'm, R, G, A: RunCalls> {
     rt: &'c R,
     shared: &'c Shared<'a, 'm, G, A>,
 }
 
-impl<R: Wait, G: Gate, A: Arities> Requester<Vec<Port<A>>> for Post<'_, '_, '_, R, G, A> {
+impl<R: Wait, G: Gate, A: RunCalls> Requester<Vec<Port<A>>> for Post<'_, '_, '_, R, G, A> {
     fn ask(&self, ports: &mut Vec<Port<A>>, item: &Item) -> bool {
         self.shared.gate.before_ask(item.client, item.number);
         self.shared.send(self.rt, ports.as_mut_slice(), item)
@@ -65,7 +65,7 @@ fn keep(delivery: &Delivery, receipts: &mut Receipts) -> Looked
 }
 
 /// Runs the clients of a thread to their ends.
-pub(crate) fn ask_calls<R: Wait, G: Gate, A: Arities>(
+pub(crate) fn ask_calls<R: Wait, G: Gate, A: RunCalls>(
     rt: &R,
     shared: &Shared<G, A>,
     clients: &mut [ClientSeat<A>],

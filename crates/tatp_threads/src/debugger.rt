@@ -5,7 +5,7 @@ ghost use Rattle.tatp_partition.specs.Obstacles.{one_obstacle};
 ghost use Rattle.tatp_partition.specs.Running.{AdvancesUnless};
 ghost use Rattle.tatp_threads.specs.Partitions.{OfPartition, StopsWhether};
 
-use crate::admission::Arities;
+use crate::admission::RunCalls;
 use crate::shared::Shared;
 use std::sync::Wait;
 use tatp_debug::Snapshot;
@@ -14,12 +14,12 @@ use tatp_workers::{Answering, Debugging, Delivery, Gate, debug_all};
 
 /// The sites under their locks, and the mailboxes.
 #[derive(Drop)]
-struct Inspector<'c, 'a, 'm, R, G, A: Arities> {
+struct Inspector<'c, 'a, 'm, R, G, A: RunCalls> {
     rt: &'c R,
     shared: &'c Shared<'a, 'm, G, A>,
 }
 
-impl<R: Wait, G: Gate, A: Arities> Answering for Inspector<'_, '_, '_, R, G, A> {
+impl<R: Wait, G: Gate, A: RunCalls> Answering for Inspector<'_, '_, '_, R, G, A> {
     fn answer(&mut self, client: u64, delivery: &Delivery) {
         self.shared.answer(self.rt, client, delivery);
     }
@@ -33,7 +33,7 @@ impl<R: Wait, G: Gate, A: Arities> Answering for Inspector<'_, '_, '_, R, G, A> 
     }
 }
 
-impl<R: Wait, G: Gate, A: Arities> Debugging for Inspector<'_, '_, '_, R, G, A> {
+impl<R: Wait, G: Gate, A: RunCalls> Debugging for Inspector<'_, '_, '_, R, G, A> {
     fn stop(&mut self, partition: u8) -> bool
         ensures { OfPartition (length self.old.shared.now.partitions.now) partition
             (λ s s'. StopsWhether s result s') }
@@ -74,7 +74,7 @@ impl<R: Wait, G: Gate, A: Arities> Debugging for Inspector<'_, '_, '_, R, G, A> 
 }
 
 /// Makes the stops of a run at the sites under their locks.
-pub(crate) fn debug_partitions<R: Wait, G: Gate, A: Arities>(rt: &R, shared: &Shared<G, A>) {
+pub(crate) fn debug_partitions<R: Wait, G: Gate, A: RunCalls>(rt: &R, shared: &Shared<G, A>) {
     shared.start.wait(rt);
     let mut debugging = Inspector { rt, shared };
     debug_all(&mut debugging, shared.plan.stops);

@@ -4,7 +4,7 @@ ghost use Rattle.tatp_threads.specs.Locked.{OfSomeSite};
 ghost use Rattle.tatp_workers.specs.Offering.{Offers};
 ghost use Rattle.tatp_workers.specs.Slices.{MakesSlice};
 
-use crate::admission::{Arities, Port, Reader};
+use crate::admission::{Port, Reader, RunCalls};
 use crate::partition::Partition;
 use crate::reserved::ExecutorSeat;
 use crate::shared::Shared;
@@ -18,7 +18,7 @@ use tatp_workers::{
 /// An executor's partition, the reader of its inbox, its ends at all inboxes and the chapters that
 /// it keeps, with what the threads share.
 #[derive(Drop)]
-struct ExecutorEnds<'c, 'f, 'a, 'm, R, G, A: Arities> {
+struct ExecutorEnds<'c, 'f, 'a, 'm, R, G, A: RunCalls> {
     rt: &'c R,
     shared: &'c Shared<'a, 'm, G, A>,
     partition: &'c Partition<'m>,
@@ -27,7 +27,7 @@ struct ExecutorEnds<'c, 'f, 'a, 'm, R, G, A: Arities> {
     chapters: &'f mut Vec<Chapter>,
 }
 
-impl<R: Wait, G: Gate, A: Arities> Answering for ExecutorEnds<'_, '_, '_, '_, R, G, A> {
+impl<R: Wait, G: Gate, A: RunCalls> Answering for ExecutorEnds<'_, '_, '_, '_, R, G, A> {
     fn answer(&mut self, client: u64, delivery: &Delivery) {
         self.shared.answer(self.rt, client, delivery);
     }
@@ -41,9 +41,9 @@ impl<R: Wait, G: Gate, A: Arities> Answering for ExecutorEnds<'_, '_, '_, '_, R,
     }
 }
 
-impl<R: Wait, G: Gate, A: Arities> Executing for ExecutorEnds<'_, '_, '_, '_, R, G, A> {
+impl<R: Wait, G: Gate, A: RunCalls> Executing for ExecutorEnds<'_, '_, '_, '_, R, G, A> {
     fn receive(&mut self) -> Option<Message> {
-        self.reader.take(self.rt)
+        self.shared.admission.take(self.rt, self.reader)
     }
 
     fn offer(&mut self, item: &Item) -> Offered
@@ -74,7 +74,7 @@ impl<R: Wait, G: Gate, A: Arities> Executing for ExecutorEnds<'_, '_, '_, '_, R,
 }
 
 /// Runs the calls of one partition until Quit, and leaves the chapters that its site handed out.
-pub(crate) fn execute<'t, 'm, R: Wait, G: Gate, A: Arities>(
+pub(crate) fn execute<'t, 'm, R: Wait, G: Gate, A: RunCalls>(
     rt: &'t R,
     shared: &'t Shared<'_, 'm, G, A>,
     partition: &'t Partition<'m>,

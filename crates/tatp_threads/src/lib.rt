@@ -12,6 +12,7 @@ mod mover;
 mod outcome;
 mod partition;
 mod refusal;
+mod request;
 mod reserved;
 mod routes;
 mod run;

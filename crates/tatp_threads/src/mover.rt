@@ -4,7 +4,7 @@ ghost use Rattle.tatp_extents.specs.Extents.{ExtentState};
 ghost use Rattle.tatp_partition.specs.Moving.{LandedState, Takes};
 ghost use Rattle.tatp_threads.specs.Partitions.{OfPartition, GivesOrBack};
 
-use crate::admission::Arities;
+use crate::admission::RunCalls;
 use crate::shared::Shared;
 use std::sync::Wait;
 use tatp_move::{MoveRefusal, Plan, RouteUpdate, Routes};
@@ -13,13 +13,13 @@ use tatp_workers::{Carrying, move_all, plan};
 
 /// The sites under their locks, and the mover's own routes.
 #[derive(Drop)]
-struct Carrier<'c, 'a, 'm, R, G, A: Arities> {
+struct Carrier<'c, 'a, 'm, R, G, A: RunCalls> {
     rt: &'c R,
     shared: &'c Shared<'a, 'm, G, A>,
     routes: &'c mut Routes,
 }
 
-impl<R: Wait, G, A: Arities> Carrying for Carrier<'_, '_, '_, R, G, A> {
+impl<R: Wait, G, A: RunCalls> Carrying for Carrier<'_, '_, '_, R, G, A> {
     fn plan(&mut self, extent: u32, to: u8) -> Result<Plan, MoveRefusal> {
         plan(&*self.routes, extent, to)
     }
@@ -64,7 +64,7 @@ impl<R: Wait, G, A: Arities> Carrying for Carrier<'_, '_, '_, R, G, A> {
 
 /// Makes the moves of a run at the sites under their locks. Without capacity for a parcel it makes
 /// none.
-pub(crate) fn move_extents<R: Wait, G, A: Arities>(
+pub(crate) fn move_extents<R: Wait, G, A: RunCalls>(
     rt: &R,
     shared: &Shared<G, A>,
     routes: &mut Routes,

@@ -1,17 +1,14 @@
 //! What the threads fill and work with. Its memory is all reserved before they start.
 ghost use Rattle.std.specs.Prelude.{◌≡◌, ◌≤◌, ◌+◌, All, IfOk, length, vec_len, vec_capacity};
-ghost use Rattle.tatp_calls.specs.Asked.{arities_of};
 ghost use Rattle.tatp_sync.specs.Inboxes.{IsNew};
 ghost use Rattle.tatp_threads.specs.Seats.{AreExecutors, AreClients};
 
-use crate::admission::{Admission, Arities, Port, Reader};
-use crate::calls::arities_of;
+use crate::admission::{Port, Reader, RunCalls};
 use crate::partition::Partition;
 use std::alloc::{AllocError, Global};
 use tatp_calls::Ask;
 use tatp_extents::Chapter;
 use tatp_limits::MAX_CLIENTS;
-use tatp_loader::Loaded;
 use tatp_logs::Receipts;
 use tatp_partition::{Parcel, Site};
 use tatp_sync::{Mailbox, ends_of, open_inboxes};
@@ -50,7 +47,7 @@ impl<T> Drop for ReservedList<T> {
 
 /// What an executor has for itself: the reader of its inbox, and an end at each inbox.
 #[derive(Drop)]
-pub(crate) struct ExecutorSeat<A: Arities> {
+pub(crate) struct ExecutorSeat<A: RunCalls> {
     pub(crate) reader: Reader<A>,
     pub(crate) ports: Vec<Port<A>>,
 }
@@ -59,7 +56,7 @@ pub(crate) struct ExecutorSeat<A: Arities> {
 pub(crate) type ClientSeat<A> = Client<Vec<Port<A>>>;
 
 /// A seat for each reader.
-fn seat_executors<A: Arities>(
+fn seat_executors<A: RunCalls>(
     alloc: Global,
     readers: Vec<Reader<A>>,
     ports: &mut [Port<A>],
@@ -79,7 +76,7 @@ fn seat_executors<A: Arities>(
 }
 
 /// A seat for each client, with capacity for a receipt of each of its calls.
-fn seat_clients<A: Arities>(
+fn seat_clients<A: RunCalls>(
     alloc: Global,
     lists: &[Vec<Ask>],
     ports: &mut [Port<A>],
@@ -121,8 +118,7 @@ fn make_mailboxes(alloc: Global, count: usize) -> Result<Vec<Mailbox<Delivery>>,
 
 /// What the threads fill, and what they work with besides sites and routes.
 #[derive(Drop)]
-pub(crate) struct Reserved<'m, A: Arities> {
-    pub(crate) admission: Admission<A>,
+pub(crate) struct Reserved<'m, A: RunCalls> {
     /// An end at each inbox, by which it gets Quit.
     pub(crate) quit: Vec<Port<A>>,
     pub(crate) executors: Vec<ExecutorSeat<A>>,
@@ -137,16 +133,14 @@ pub(crate) struct Reserved<'m, A: Arities> {
     pub(crate) chapters: ReservedList<Vec<Chapter>>,
 }
 
-impl<'m, A: Arities> Reserved<'m, A> {
+impl<'m, A: RunCalls> Reserved<'m, A> {
     /// Reserves the memory for a run of these calls in this many partitions.
     pub(crate) fn make(
         alloc: Global,
-        loaded: &Loaded,
         partitions: usize,
         lists: &[Vec<Ask>],
     ) -> Result<Reserved<'m, A>, AllocError>
-        requires clients { length lists.now ≤ MAX_CLIENTS }
-        requires rule { arities_of loaded.now ≡ A.arities }
+        requires { length lists.now ≤ MAX_CLIENTS }
         ensures quit { IfOk result (λ room. vec_len room.quit ≡ partitions) }
         ensures inboxes { IfOk result
             (λ room. All (IsNew (length lists.now + 1)) room.quit.items) }
@@ -162,12 +156,10 @@ impl<'m, A: Arities> Reserved<'m, A> {
         ensures sites { IfOk result (λ room. partitions ≤ vec_capacity room.sites.items) }
         ensures chapters { IfOk result (λ room. partitions ≤ vec_capacity room.chapters.items) }
     {
-        let admission = Admission::new(arities_of(alloc, loaded)?);
         let (mut quit, readers) = open_inboxes(alloc, partitions, lists.len() + 1)?;
         let executors = seat_executors(alloc, readers, quit.as_mut_slice())?;
         let clients = seat_clients(alloc, lists, quit.as_mut_slice())?;
         Ok(Reserved {
-            admission,
             quit,
             executors,
             clients,

@@ -1,10 +1,9 @@
 //! Runs the calls of clients by threads.
 ghost use Rattle.std.specs.Prelude.{◌≡◌, ◌⊎◌, ◌≤◌, ◌<◌, ◌+◌, ◌^◌, IfOk, IfErr, OnOk, None, length, vec_len, vec_capacity};
-ghost use Rattle.tatp_calls.specs.Asked.{arities_of};
 ghost use Rattle.tatp_threads.specs.Calls.{obstacle_among, opening_refusal, AreOpened, RefusesRun};
 ghost use Rattle.tatp_threads.specs.RunPlans.{IsRunPlan};
 
-use crate::admission::Arities;
+use crate::admission::{Admission, RunCalls};
 use crate::calls::obstacle_among;
 use crate::partition::Partition;
 use crate::reserved::{ClientSeat, Reserved, calls_an_extent};
@@ -78,7 +77,7 @@ fn unlock_all<'m>(
 }
 
 /// Takes the receipts of all clients out of their seats.
-fn receipts_of<A: Arities>(clients: Vec<ClientSeat<A>>, room: Vec<Receipts>) -> Vec<Receipts>
+fn receipts_of<A: RunCalls>(clients: Vec<ClientSeat<A>>, room: Vec<Receipts>) -> Vec<Receipts>
     requires { vec_len room + vec_len clients ≤ vec_capacity room }
     ensures { vec_len result ≡ vec_len room + vec_len clients }
 {
@@ -101,14 +100,16 @@ struct Setup<'m, 'w> {
 }
 
 /// Runs the calls of clients, which can all be run, over sites, and returns the result.
-fn run_ruled<'m, R: Threads + Wait + Sync, G: Gate + Sync, A: Arities + Send + Sync>(
+fn run_ruled<'m, R: Threads + Wait + Sync, G: Gate + Sync, A: RunCalls + Send + Sync>(
     rt: &R,
     alloc: Global,
     setup: Setup<'m, '_>,
     gate: &G,
 ) -> Result<RunOutcome<'m>, RunRefusal>
     requires clients { length setup.plan.lists.now ≤ MAX_CLIENTS }
-    requires rule { arities_of setup.loaded.now ≡ A.arities }
+    requires calls { obstacle_among setup.loaded.now setup.plan.lists.now ≡ None }
+    requires lists { setup.plan.lists.now ≡ A.lists }
+    requires modul { setup.loaded.now ≡ A.modul }
     ensures sites { IfOk result (λ ran. vec_len ran.parts.sites ≡ vec_len setup.entry.sites) }
     ensures receipts { IfOk result
         (λ ran. vec_len ran.parts.receipts ≡ length setup.entry.plan.lists.now) }
@@ -125,7 +126,6 @@ fn run_ruled<'m, R: Threads + Wait + Sync, G: Gate + Sync, A: Arities + Send + S
         plan,
     } = setup;
     let Reserved {
-        admission,
         quit,
         executors,
         mut clients,
@@ -135,7 +135,7 @@ fn run_ruled<'m, R: Threads + Wait + Sync, G: Gate + Sync, A: Arities + Send + S
         sites: unlocked,
         hand,
         chapters,
-    } = match Reserved::<A>::make(alloc, loaded, sites.len(), plan.lists) {
+    } = match Reserved::<A>::make(alloc, sites.len(), plan.lists) {
         Ok(reserved) => reserved,
         Err(_) => {
             discard_all(sites);
@@ -144,6 +144,7 @@ fn run_ruled<'m, R: Threads + Wait + Sync, G: Gate + Sync, A: Arities + Send + S
     };
     let partitions = lock_all(alloc, sites, partitions.into_vec());
     let mut hand = hand.into_vec();
+    let admission = Admission::new(plan.lists);
     let start = Start::new();
     let shared = Shared {
         alloc,

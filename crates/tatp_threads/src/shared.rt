@@ -3,7 +3,7 @@ ghost use Rattle.std.specs.Prelude.{◌≤◌, IfNone, length};
 ghost use Rattle.tatp_threads.specs.Inboxes.{SendsCall};
 
 use crate::RunPlan;
-use crate::admission::{Admission, Arities, Port};
+use crate::admission::{Admission, Port, RunCalls};
 use crate::partition::Partition;
 use crate::routes::SharedRoutes;
 use std::alloc::Global;
@@ -15,13 +15,13 @@ use tatp_workers::Delivery;
 
 /// What the threads share.
 #[derive(Drop)]
-pub(crate) struct Shared<'a, 'm, G, A: Arities> {
+pub(crate) struct Shared<'a, 'm, G, A: RunCalls> {
     pub(crate) alloc: Global,
     /// The partitions, that of number 0 first.
     pub(crate) partitions: &'a [Partition<'m>],
     pub(crate) routes: &'a SharedRoutes,
     pub(crate) directory: &'a Directory,
-    pub(crate) admission: &'a Admission<A>,
+    pub(crate) admission: &'a Admission<'a, A>,
     /// Where each client waits, client 0 first.
     pub(crate) mailboxes: &'a [Mailbox<Delivery>],
     pub(crate) plan: RunPlan<'a>,
@@ -30,7 +30,7 @@ pub(crate) struct Shared<'a, 'm, G, A: Arities> {
     pub(crate) start: &'a Start,
 }
 
-impl<'a, 'm, G, A: Arities> Shared<'a, 'm, G, A> {
+impl<'a, 'm, G, A: RunCalls> Shared<'a, 'm, G, A> {
     /// The partition of this number, if there is one.
     pub(crate) fn partition(&self, number: u8) -> Option<&'a Partition<'m>>
         ensures { IfNone result (length self.now.partitions.now ≤ number) }
@@ -40,7 +40,7 @@ impl<'a, 'm, G, A: Arities> Shared<'a, 'm, G, A> {
 
     /// Puts a call into the inbox that the route of its home names. Whether that inbox took it.
     pub(crate) fn send<R: Wait>(&self, rt: &R, ports: &mut [Port<A>], item: &Item) -> bool
-        ensures { SendsCall ports.old item.now result ports.new }
+        ensures { SendsCall A.lists ports.old item.now result ports.new }
     {
         let partition = self.routes.route(item.home);
         if partition >= ports.len() {

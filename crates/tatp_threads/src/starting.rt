@@ -4,11 +4,12 @@ ghost use Rattle.std.specs.Prelude.{◌≡◌, ◌≤◌, ◌*◌, ◌⊎◌, le
 ghost use Rattle.tatp_threads.specs.Seats.{AreExecutors, AreClients};
 ghost use Rattle.tatp_threads.specs.declared.starting.TheConstants.{CLIENT_THREADS};
 
-use crate::admission::{Arities, Port};
+use crate::admission::{Port, RunCalls};
 use crate::client::ask_calls;
 use crate::debugger::debug_partitions;
 use crate::executor::execute;
 use crate::mover::move_extents;
+use crate::request::InboxMessage;
 use crate::reserved::{ClientSeat, ExecutorSeat};
 use crate::shared::Shared;
 use std::sync::Wait;
@@ -18,7 +19,7 @@ use std::time::Duration;
 use tatp_move::Routes;
 use tatp_partition::Parcel;
 use tatp_sync::pause;
-use tatp_workers::{Gate, Message};
+use tatp_workers::Gate;
 
 /// For how many milliseconds the executors run alone. In that time the system gives each of them a
 /// processor, if there are enough, and leaves it there as long as the executor doesn't sleep.
@@ -31,7 +32,7 @@ const CLIENT_THREADS: usize = 4;
 /// Runs all threads to their ends: the executors until all clients, the mover and the debugger have
 /// ended. Each inbox then gets Quit, by the ends in `quit`. Whether each thread could be started;
 /// where one couldn't, those that could run to their ends.
-pub(crate) fn run_threads<R: Threads + Wait + Sync, G: Gate + Sync, A: Arities + Send + Sync>(
+pub(crate) fn run_threads<R: Threads + Wait + Sync, G: Gate + Sync, A: RunCalls + Send + Sync>(
     rt: &R,
     shared: &Shared<G, A>,
     quit: Vec<Port<A>>,
@@ -68,7 +69,7 @@ pub(crate) fn run_threads<R: Threads + Wait + Sync, G: Gate + Sync, A: Arities +
                 started = run_clients(rt, shared, clients, routes, hand);
             }
             for port in quit.iter_mut() {
-                let _put = port.put(rt, Message::Quit);
+                let _put = port.put(rt, InboxMessage::Quit);
             }
             started
         },
@@ -88,7 +89,7 @@ fn clients_a_thread(clients: usize) -> usize
 /// started or one couldn't be. Whether each could. The thread that starts the others runs the first
 /// clients: where it slept instead, its processor would lack a thread until the system moved one
 /// there, an executor perhaps.
-fn run_clients<R: Threads + Wait + Sync, G: Gate + Sync, A: Arities + Send + Sync>(
+fn run_clients<R: Threads + Wait + Sync, G: Gate + Sync, A: RunCalls + Send + Sync>(
     rt: &R,
     shared: &Shared<G, A>,
     clients: &mut [ClientSeat<A>],

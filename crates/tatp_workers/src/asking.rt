@@ -47,7 +47,7 @@ fn seen_after(seen: u64, receipts: &Receipts) -> u64
 }
 
 /// The call of this number in a client's list, if there is one.
-fn call_of(lists: &[Vec<Ask>], client: u64, number: usize) -> Option<&Ask>
+pub fn call_of(lists: &[Vec<Ask>], client: u64, number: usize) -> Option<&Ask>
     ensures some { IfSome result
         (λ ask. slice_get (asks_of lists.now client) number ≡ Some ask.now) }
     ensures none { IfNone result (slice_get (asks_of lists.now client) number ≡ None) }

@@ -19,7 +19,7 @@ mod offers;
 mod requester;
 mod slices;
 
-pub use asking::ask_all;
+pub use asking::{ask_all, call_of};
 pub use checkpoints::{Checkpointed, checkpoint_full};
 pub use client::{Client, ClientState};
 pub use debugger::{Debugging, debug_all};

@@ -1,6 +1,6 @@
 use Rattle.std.proofs.Common.{◌≡◌, ◌+◌, ◌++◌, List, All, length, take, drop, sym, ap, ◌∙◌, subst}
 use Rattle.tatp_sync.specs.Inboxes.{End, IsNew}
-use Rattle.tatp_workers.specs.declared.message.Message.{Message}
+use Rattle.tatp_threads.specs.declared.request.InboxMessage.{InboxMessage}
 use Rattle.tatp_threads.specs.Seats.{AreExecutors, AreClients}
 use Rattle.tatp_threads.proofs.SeatLaws.{written_back}
 use Rattle.tatp_threads.proofs.reserved.Reserved.make.Given as given
@@ -13,7 +13,7 @@ after_executors g c =
     ∙ written_back c.in_ok-quit.quit.len c.in_ok-quit.quit.items c.seat_executors.new.ports c.in_ok-quit.quit.ok.0 (c.seat_executors.ensures.same ∙ c.as_mut_slice.ensures.value)
 
 -- and once the clients have seats
-after_clients : (g : given.Over) (c : goal.In_ok-new-4 g) (items : List (End Message)) → c.as_mut_slice-2.result.now ≡ items
+after_clients : (g : given.Over) (c : goal.In_ok-new-4 g) (items : List (End InboxMessage)) → c.as_mut_slice-2.result.now ≡ items
     → take c.in_ok-quit.quit.len (c.seat_clients.new.ports ++ drop (length c.seat_clients.new.ports) items) ≡ c.in_ok-quit.quit.items
 after_clients g c items is =
     let same : items ≡ c.in_ok-quit.quit.items = sym is ∙ after_executors g c in

@@ -9,5 +9,5 @@ returns g c =
     let ports = c.args.ports.now in
     let partition = c.route-partition.result in
     let port = c.index-ports-partition.result in
-    sent ports partition port c.put.new.port c.args.item.now c.put.result (slice_get_read ports (length ports) partition port refl (omega (arith, c.if-partition-ports.false)) c.index-ports-partition.is)
-    (subst (λ port. PutsCall port c.args.item.now c.put.result c.put.new.port) (sym c.index-ports-partition.is) c.put.ensures)
+    sent g.A.RunCalls.lists ports partition port c.put.new.port c.args.item.now c.put.result (slice_get_read ports (length ports) partition port refl (omega (arith, c.if-partition-ports.false)) c.index-ports-partition.is)
+    (subst (λ port. PutsCall g.A.RunCalls.lists port c.args.item.now c.put.result c.put.new.port) (sym c.index-ports-partition.is) c.put.ensures)

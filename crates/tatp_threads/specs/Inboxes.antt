@@ -1,14 +1,13 @@
 -- The inboxes of a run: their rule, and what is put into them and taken out of them.
 use Rattle.std.specs.Prelude.{◌≡◌, ℕ, List, Bool, true, false, Option, Some, None, Vec, slice_get, slice_set}
 use Rattle.std.specs.declared.alloc.Global.{Global}
-use Rattle.tatp_encoding.specs.Modules.{ModuleState}
+use Rattle.tatp_calls.specs.Asked.{Fits}
 use Rattle.tatp_calls.specs.declared.ask.Ask.{Ask}
 use Rattle.tatp_partition.specs.declared.item.Item.{Item}
 use Rattle.tatp_sync.specs.Inboxes.{End, with_message}
 use Rattle.tatp_workers.specs.Clients.{asks_of}
 use Rattle.tatp_workers.specs.declared.message.Message.{Message}
 use Rattle.tatp_workers.specs.declared.message.Message.TheVariants as taken
-use Rattle.tatp_threads.specs.Calls.{obstacle_to}
 use Rattle.tatp_threads.specs.declared.request.Request.{Request}
 use Rattle.tatp_threads.specs.declared.request.InboxMessage.{InboxMessage}
 use Rattle.tatp_threads.specs.declared.request.InboxMessage.TheVariants.{Quit, Call}
@@ -36,17 +35,17 @@ item_for request ask = record {
 abbrev pub IsListed : List (Vec Ask Global) → Item → Type 0
 IsListed lists item = slice_get (asks_of lists item.client) item.number ≡ Some item.ask
 
--- a call of the lists, which can be run in this module
-pub record IsAdmitted (modul : ModuleState) (lists : List (Vec Ask Global)) (item : Item)
+-- a call of the lists, which procedures of these arities take
+pub record IsAdmitted (lists : List (Vec Ask Global)) (arities : List ℕ) (item : Item)
     : Type 0 where
   pub listed : IsListed lists item
-  pub clear : obstacle_to modul item.ask ≡ None
+  pub fits : Fits arities item.ask
 
 -- Quit, or a request that stands for such a call
-abbrev pub IsMessage : ModuleState → List (Vec Ask Global) → InboxMessage → Type 0
-IsMessage modul lists Quit = Unit {0}
-IsMessage modul lists (Call request) =
-    (ask : Ask) × IsAdmitted modul lists (item_for request ask)
+abbrev pub IsMessage : List (Vec Ask Global) → List ℕ → InboxMessage → Type 0
+IsMessage lists arities Quit = Unit {0}
+IsMessage lists arities (Call request) =
+    (ask : Ask) × IsAdmitted lists arities (item_for request ask)
 
 -- a call of the lists is put into an inbox, or none is
 abbrev pub PutsCall :
@@ -63,9 +62,9 @@ TakesMessage reader (Some (taken.Call item)) reader' =
 TakesMessage reader None reader' = reader' ≡ reader
 
 -- a call that is taken is an admitted one
-abbrev pub IsTaken : ModuleState → List (Vec Ask Global) → Message → Type 0
-IsTaken modul lists taken.Quit = Unit {0}
-IsTaken modul lists (taken.Call item) = IsAdmitted modul lists item
+abbrev pub IsTaken : List (Vec Ask Global) → List ℕ → Message → Type 0
+IsTaken lists arities taken.Quit = Unit {0}
+IsTaken lists arities (taken.Call item) = IsAdmitted lists arities item
 
 -- a call of the lists is put into one of the inboxes, or none into any
 abbrev pub SendsCall :

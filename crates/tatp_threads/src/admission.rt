@@ -1,9 +1,7 @@
-//! Which calls go into inboxes: those of the run's lists, which its module can run.
-ghost use Rattle.std.specs.Prelude.{◌≡◌, ◌↔◌, List, IfSome, IsTrue, None, Vec};
+//! Which calls go into inboxes: those of the run's lists, which fit its module.
+ghost use Rattle.std.specs.Prelude.{◌≡◌, ◌↔◌, List, ℕ, IfSome, IsTrue, Vec};
 ghost use Rattle.std.specs.declared.alloc.Global.{Global};
-ghost use Rattle.tatp_encoding.specs.Modules.{ModuleState};
 ghost use Rattle.tatp_calls.specs.declared.ask.Ask.{Ask};
-ghost use Rattle.tatp_threads.specs.Calls.{obstacle_among};
 ghost use Rattle.tatp_threads.specs.Inboxes.{IsMessage, IsAdmitted, IsListed, IsTaken, PutsCall, TakesMessage, request_of};
 ghost use Rattle.tatp_threads.specs.declared.request.InboxMessage.TheVariants.{Call};
 
@@ -11,33 +9,32 @@ use crate::request::{InboxMessage, Request};
 use std::marker::{Brand, PhantomData};
 use std::sync::Wait;
 use tatp_calls::Ask;
-use tatp_partition::Item;
+use tatp_partition::{Item, item_ok};
 use tatp_sync::MessageRule;
 use tatp_workers::{Message, call_of};
 
-/// The module of a run, and what its clients ask.
+/// What the clients of a run ask, and how many arguments each procedure of its module takes.
 pub(crate) trait RunCalls {
-    ghost modul: { ModuleState };
-
     ghost lists: { List (Vec Ask Global) };
+
+    ghost arities: { List ℕ };
 }
 
 impl RunCalls for Brand {
     ghost use Rattle.std.specs.Prelude.{[]};
-    ghost use Rattle.tatp_instr.specs.declared.version.Version.TheVariants.{One};
-
-    ghost modul = { record { version = One; procedures = [] } };
 
     ghost lists = { [] };
+
+    ghost arities = { [] };
 }
 
-/// The rule of an inbox: each message is Quit, or stands for a call of the lists that can be run.
+/// The rule of an inbox: each message is Quit, or stands for a call of the lists, which fits.
 pub(crate) struct Admitted<A> {
     of: PhantomData<A>,
 }
 
 impl<A: RunCalls> MessageRule<InboxMessage> for Admitted<A> {
-    ghost allows = { IsMessage A.modul A.lists };
+    ghost allows = { IsMessage A.lists A.arities };
 }
 
 /// An end of an inbox that puts.
@@ -61,24 +58,26 @@ fn is_same(ask: &Ask, other: &Ask) -> bool
     }
 }
 
-/// Admits to inboxes the calls of the run's lists, by which threads test them, and finds them again
-/// for those who take requests.
+/// Admits calls to inboxes: those of the run's lists that fit its module. Finds the call again for
+/// which a request stands.
 #[derive(Drop)]
 pub(crate) struct Admission<'w, A: RunCalls> {
     lists: &'w [Vec<Ask>],
+    arities: Vec<u8>,
     of: PhantomData<A>,
-    ghost same: { lists.now ≡ A.lists },
-    ghost clear: { obstacle_among A.modul A.lists ≡ None },
+    ghost lists: { lists.now ≡ A.lists },
+    ghost arities: { arities.items ≡ A.arities },
 }
 
 impl<'w, A: RunCalls> Admission<'w, A> {
-    /// Keeps the lists of the run, which the rule of its inboxes names.
-    pub(crate) fn new(lists: &'w [Vec<Ask>]) -> Admission<'w, A>
-        requires same { lists.now ≡ A.lists }
-        requires clear { obstacle_among A.modul A.lists ≡ None }
+    /// Keeps the lists and the arities of the run, which the rule of its inboxes names.
+    pub(crate) fn new(lists: &'w [Vec<Ask>], arities: Vec<u8>) -> Admission<'w, A>
+        requires lists { lists.now ≡ A.lists }
+        requires arities { arities.items ≡ A.arities }
     {
         Admission {
             lists,
+            arities,
             of: PhantomData,
         }
     }
@@ -93,11 +92,12 @@ impl<'w, A: RunCalls> Admission<'w, A> {
         }
     }
 
-    /// Puts a call into an inbox if it is of the lists. False if it isn't, or the inbox is full.
+    /// Puts a call into an inbox if it is of the lists and fits the module. False if it isn't or
+    /// doesn't, or the inbox is full.
     pub(crate) fn put<R: Wait>(&self, rt: &R, port: &mut Port<A>, item: &Item) -> bool
         ensures { PutsCall A.lists port.old item.now result port.new }
     {
-        if !self.is_listed(item) {
+        if !self.is_listed(item) || !item_ok(item, self.arities.as_slice()) {
             return false;
         }
         port.put(rt, InboxMessage::Call(Request::of(item))).is_ok()
@@ -105,9 +105,9 @@ impl<'w, A: RunCalls> Admission<'w, A> {
 
     /// The call for which a request stands.
     fn item_for(&self, request: &Request) -> Item
-        requires { IsMessage A.modul A.lists (Call request.now) }
+        requires { IsMessage A.lists A.arities (Call request.now) }
         ensures stands { request.now ≡ request_of result }
-        ensures admitted { IsAdmitted A.modul A.lists result }
+        ensures admitted { IsAdmitted A.lists A.arities result }
     {
         match call_of(self.lists, request.client, request.number as usize) {
             Some(ask) => request.to_item(ask),
@@ -118,7 +118,7 @@ impl<'w, A: RunCalls> Admission<'w, A> {
     /// Takes the next message out of an inbox. `None` where no end that puts is left.
     pub(crate) fn take<R: Wait>(&self, rt: &R, reader: &mut Reader<A>) -> Option<Message>
         ensures taken { TakesMessage reader.old result reader.new }
-        ensures admitted { IfSome result (IsTaken A.modul A.lists) }
+        ensures admitted { IfSome result (IsTaken A.lists A.arities) }
     {
         match reader.take(rt)? {
             InboxMessage::Quit => Some(Message::Quit),

@@ -1,9 +1,11 @@
 //! Whether all calls of a run can be run, and why not.
-ghost use Rattle.std.specs.Prelude.{◌≡◌, ◌<◌};
+ghost use Rattle.std.specs.Prelude.{◌≡◌, ◌<◌, IfOk};
 ghost use denote.Param.Send.{IsSync};
+ghost use Rattle.tatp_calls.specs.Asked.{arities_of};
 ghost use Rattle.tatp_threads.specs.Calls.{obstacle_to, obstacle_in, obstacle_among};
 
 use crate::RunRefusal;
+use std::alloc::{AllocError, Global};
 use std::thread::{Threads, join};
 use tatp_calls::Ask;
 use tatp_loader::Loaded;
@@ -11,6 +13,18 @@ use tatp_loader::Loaded;
 /// How often the clients are halved. The calls of each half are looked through by a thread of its
 /// own, if one can be made.
 const HALVINGS: u32 = 2;
+
+/// How many arguments each procedure of a module takes.
+pub(crate) fn arities_of(alloc: Global, loaded: &Loaded) -> Result<Vec<u8>, AllocError>
+    ensures { IfOk result (λ arities. arities.items ≡ arities_of loaded.now) }
+{
+    let procs = loaded.module().procs();
+    let mut arities = Vec::with_capacity(alloc, procs.len())?;
+    for proc in procs {
+        arities.push_reserved(proc.arity());
+    }
+    Ok(arities)
+}
 
 /// Why a call can't be run, if it can't.
 fn obstacle_to(loaded: &Loaded, ask: &Ask) -> Option<RunRefusal>

@@ -1,14 +1,17 @@
 //! What the threads fill and work with. Its memory is all reserved before they start.
 ghost use Rattle.std.specs.Prelude.{◌≡◌, ◌≤◌, ◌+◌, All, IfOk, length, vec_len, vec_capacity};
+ghost use Rattle.tatp_calls.specs.Asked.{arities_of};
 ghost use Rattle.tatp_sync.specs.Inboxes.{IsNew};
 ghost use Rattle.tatp_threads.specs.Seats.{AreExecutors, AreClients};
 
-use crate::admission::{Port, Reader, RunCalls};
+use crate::admission::{Admission, Port, Reader, RunCalls};
+use crate::calls::arities_of;
 use crate::partition::Partition;
 use std::alloc::{AllocError, Global};
 use tatp_calls::Ask;
 use tatp_extents::Chapter;
 use tatp_limits::MAX_CLIENTS;
+use tatp_loader::Loaded;
 use tatp_logs::Receipts;
 use tatp_partition::{Parcel, Site};
 use tatp_sync::{Mailbox, ends_of, open_inboxes};
@@ -118,7 +121,8 @@ fn make_mailboxes(alloc: Global, count: usize) -> Result<Vec<Mailbox<Delivery>>,
 
 /// What the threads fill, and what they work with besides sites and routes.
 #[derive(Drop)]
-pub(crate) struct Reserved<'m, A: RunCalls> {
+pub(crate) struct Reserved<'m, 'w, A: RunCalls> {
+    pub(crate) admission: Admission<'w, A>,
     /// An end at each inbox, by which it gets Quit.
     pub(crate) quit: Vec<Port<A>>,
     pub(crate) executors: Vec<ExecutorSeat<A>>,
@@ -133,14 +137,17 @@ pub(crate) struct Reserved<'m, A: RunCalls> {
     pub(crate) chapters: ReservedList<Vec<Chapter>>,
 }
 
-impl<'m, A: RunCalls> Reserved<'m, A> {
+impl<'m, 'w, A: RunCalls> Reserved<'m, 'w, A> {
     /// Reserves the memory for a run of these calls in this many partitions.
     pub(crate) fn make(
         alloc: Global,
+        loaded: &Loaded,
         partitions: usize,
-        lists: &[Vec<Ask>],
-    ) -> Result<Reserved<'m, A>, AllocError>
-        requires { length lists.now ≤ MAX_CLIENTS }
+        lists: &'w [Vec<Ask>],
+    ) -> Result<Reserved<'m, 'w, A>, AllocError>
+        requires clients { length lists.now ≤ MAX_CLIENTS }
+        requires lists { lists.now ≡ A.lists }
+        requires arities { arities_of loaded.now ≡ A.arities }
         ensures quit { IfOk result (λ room. vec_len room.quit ≡ partitions) }
         ensures inboxes { IfOk result
             (λ room. All (IsNew (length lists.now + 1)) room.quit.items) }
@@ -156,10 +163,12 @@ impl<'m, A: RunCalls> Reserved<'m, A> {
         ensures sites { IfOk result (λ room. partitions ≤ vec_capacity room.sites.items) }
         ensures chapters { IfOk result (λ room. partitions ≤ vec_capacity room.chapters.items) }
     {
+        let admission = Admission::new(lists, arities_of(alloc, loaded)?);
         let (mut quit, readers) = open_inboxes(alloc, partitions, lists.len() + 1)?;
         let executors = seat_executors(alloc, readers, quit.as_mut_slice())?;
         let clients = seat_clients(alloc, lists, quit.as_mut_slice())?;
         Ok(Reserved {
+            admission,
             quit,
             executors,
             clients,

@@ -1,9 +1,10 @@
 //! Runs the calls of clients by threads.
 ghost use Rattle.std.specs.Prelude.{◌≡◌, ◌⊎◌, ◌≤◌, ◌<◌, ◌+◌, ◌^◌, IfOk, IfErr, OnOk, None, length, vec_len, vec_capacity};
+ghost use Rattle.tatp_calls.specs.Asked.{arities_of};
 ghost use Rattle.tatp_threads.specs.Calls.{obstacle_among, opening_refusal, AreOpened, RefusesRun};
 ghost use Rattle.tatp_threads.specs.RunPlans.{IsRunPlan};
 
-use crate::admission::{Admission, RunCalls};
+use crate::admission::RunCalls;
 use crate::calls::obstacle_among;
 use crate::partition::Partition;
 use crate::reserved::{ClientSeat, Reserved, calls_an_extent};
@@ -107,9 +108,8 @@ fn run_ruled<'m, R: Threads + Wait + Sync, G: Gate + Sync, A: RunCalls + Send + 
     gate: &G,
 ) -> Result<RunOutcome<'m>, RunRefusal>
     requires clients { length setup.plan.lists.now ≤ MAX_CLIENTS }
-    requires calls { obstacle_among setup.loaded.now setup.plan.lists.now ≡ None }
     requires lists { setup.plan.lists.now ≡ A.lists }
-    requires modul { setup.loaded.now ≡ A.modul }
+    requires arities { arities_of setup.loaded.now ≡ A.arities }
     ensures sites { IfOk result (λ ran. vec_len ran.parts.sites ≡ vec_len setup.entry.sites) }
     ensures receipts { IfOk result
         (λ ran. vec_len ran.parts.receipts ≡ length setup.entry.plan.lists.now) }
@@ -126,6 +126,7 @@ fn run_ruled<'m, R: Threads + Wait + Sync, G: Gate + Sync, A: RunCalls + Send + 
         plan,
     } = setup;
     let Reserved {
+        admission,
         quit,
         executors,
         mut clients,
@@ -135,7 +136,7 @@ fn run_ruled<'m, R: Threads + Wait + Sync, G: Gate + Sync, A: RunCalls + Send + 
         sites: unlocked,
         hand,
         chapters,
-    } = match Reserved::<A>::make(alloc, sites.len(), plan.lists) {
+    } = match Reserved::<A>::make(alloc, loaded, sites.len(), plan.lists) {
         Ok(reserved) => reserved,
         Err(_) => {
             discard_all(sites);
@@ -144,7 +145,6 @@ fn run_ruled<'m, R: Threads + Wait + Sync, G: Gate + Sync, A: RunCalls + Send + 
     };
     let partitions = lock_all(alloc, sites, partitions.into_vec());
     let mut hand = hand.into_vec();
-    let admission = Admission::new(plan.lists);
     let start = Start::new();
     let shared = Shared {
         alloc,

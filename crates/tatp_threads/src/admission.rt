@@ -65,8 +65,8 @@ pub(crate) struct Admission<'w, A: RunCalls> {
     lists: &'w [Vec<Ask>],
     arities: Vec<u8>,
     of: PhantomData<A>,
-    ghost lists: { lists.now ≡ A.lists },
-    ghost arities: { arities.items ≡ A.arities },
+    ghost same_lists: { lists.now ≡ A.lists },
+    ghost same_arities: { arities.items ≡ A.arities },
 }
 
 impl<'w, A: RunCalls> Admission<'w, A> {

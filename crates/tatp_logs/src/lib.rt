@@ -7,6 +7,7 @@ mod completions;
 mod kept_ask;
 mod kept_reply;
 mod log;
+mod memory;
 mod receipt;
 mod receipts;
 

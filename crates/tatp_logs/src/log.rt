@@ -8,15 +8,12 @@ ghost use Rattle.tatp_logs.specs.KeptReplies.{StandsIn};
 ghost use Rattle.tatp_logs.specs.LoggedCalls.{entry_in};
 
 use crate::kept_reply::KeptReply;
+use crate::memory::{OUTPUTS_A_CALL, make_room};
 use std::alloc::{AllocError, Global};
 use std::marker::Model;
 use std::mem;
 use tatp_calls::{Ask, Call, Entry, ReplyRef};
 use tatp_limits::MAX_OUTPUTS;
-
-/// How many outputs a call has, where memory for many is reserved: one of the mix has 13 on
-/// average.
-const OUTPUTS_A_CALL: usize = 15;
 
 /// An entry whose outputs are in the list of all outputs.
 #[derive(Clone, Copy, Debug)]
@@ -73,18 +70,6 @@ fn has_said(
         ↔ HasSaid (Some (entry_in outputs.now logged.now)) ask.now (reply_seen reply.entry) stamp }
 {
     logged.stamp == stamp && asks(ask, &logged.call) && logged.reply.is(outputs, reply)
-}
-
-/// Reserves memory for `more` values. A list that is full grows fourfold, since what it has is
-/// copied.
-fn make_room<T>(list: &mut Vec<T>, more: usize) -> Result<(), AllocError>
-    ensures items { list.new.items ≡ list.old.items }
-    ensures room { OnOk result (vec_len list.new + more ≤ vec_capacity list.new) }
-{
-    if more <= list.capacity() - list.len() {
-        return Ok(());
-    }
-    list.reserve(list.len().saturating_mul(3).max(more))
 }
 
 impl Log {

@@ -5,6 +5,7 @@ ghost use Rattle.tatp_logs.specs.KeptReceipts.{receipt_in, StandsWith};
 ghost use Rattle.tatp_logs.specs.Receipts.{receipt_seen};
 
 use crate::kept_reply::KeptReply;
+use crate::memory::{OUTPUTS_A_CALL, touch};
 use crate::receipt::{Receipt, ReceiptRef};
 use std::alloc::{AllocError, Global};
 use std::marker::Model;
@@ -153,21 +154,16 @@ impl Receipts {
         }
     }
 
-    /// Writes to the places of the next receipt, where memory for one is reserved: the first write
-    /// to new memory takes long.
-    pub fn touch_next(&mut self)
-        requires { 1 ≤ self.old.room }
-        ensures receipts { self.new.receipts ≡ self.old.receipts }
-        ensures room { self.old.room ≤ self.new.room }
+    /// Writes to the memory that is reserved, to as much as receipts of the benchmark's mix take.
+    pub fn touch(&mut self)
+        ensures { self.new ≡ self.old }
     {
-        let kept = self.kept.len();
-        self.kept.push_reserved(KeptReceipt::Refused {
+        let room = self.room();
+        let refused = KeptReceipt::Refused {
             client: 0,
             number: 0,
-        });
-        self.kept.truncate(kept);
-        let outputs = self.outputs.len();
-        self.outputs.extend_from_slice(&[0; MAX_OUTPUTS]).unwrap();
-        self.outputs.truncate(outputs);
+        };
+        touch(&mut self.kept, refused, room);
+        touch(&mut self.outputs, 0, room.saturating_mul(OUTPUTS_A_CALL));
     }
 }

@@ -64,6 +64,14 @@ fn keep(delivery: &Delivery, receipts: &mut Receipts) -> Looked
     }
 }
 
+/// Gets the memory for the receipts of a thread's clients: the first write to new memory takes long,
+/// and is done by the thread that will use it before calls begin.
+pub(crate) fn touch_receipts<A: RunCalls>(clients: &mut [ClientSeat<A>]) {
+    for client in clients.iter_mut() {
+        client.touch();
+    }
+}
+
 /// Runs the clients of a thread to their ends.
 pub(crate) fn ask_calls<R: Wait, G: Gate, A: RunCalls>(
     rt: &R,

@@ -5,7 +5,7 @@ ghost use Rattle.tatp_threads.specs.Seats.{AreExecutors, AreClients};
 ghost use Rattle.tatp_threads.specs.declared.starting.TheConstants.{CLIENT_THREADS};
 
 use crate::admission::{Port, RunCalls};
-use crate::client::ask_calls;
+use crate::client::{ask_calls, touch_receipts};
 use crate::debugger::debug_partitions;
 use crate::executor::execute;
 use crate::mover::move_extents;
@@ -99,10 +99,14 @@ fn run_clients<R: Threads + Wait + Sync, G: Gate + Sync, A: RunCalls + Send + Sy
     let started = thread::scope(thread::scope_env(), rt, |inner| -> bool {
         let mut started = true;
         let many = clients_a_thread(clients.len());
-        let mut others = clients.chunks_mut(many);
-        let own = others.next();
-        for seats in others {
-            if started && inner.spawn(move || ask_calls(rt, shared, seats)).is_err() {
+        let first = many.min(clients.len());
+        let (own, others) = clients.split_at_mut(first);
+        for seats in others.chunks_mut(many) {
+            let ask = move || {
+                touch_receipts(seats);
+                ask_calls(rt, shared, seats);
+            };
+            if started && inner.spawn(ask).is_err() {
                 started = false;
             }
         }
@@ -111,11 +115,10 @@ fn run_clients<R: Threads + Wait + Sync, G: Gate + Sync, A: RunCalls + Send + Sy
                 .spawn(move || move_extents(rt, shared, routes, hand))
                 .is_ok()
             && inner.spawn(move || debug_partitions(rt, shared)).is_ok();
+        touch_receipts(own);
         shared.gate.before_calls();
         shared.start.open();
-        if let Some(seats) = own {
-            ask_calls(rt, shared, seats);
-        }
+        ask_calls(rt, shared, own);
         started
     });
     shared.gate.after_calls();

@@ -78,7 +78,6 @@ impl<E> Client<E> {
         }
         let item = item_of(directory, self.number, self.answered as u64, self.seen, ask);
         if requester.ask(&mut self.end, &item) {
-            self.receipts.touch_next();
             self.state = ClientState::Waiting;
         } else {
             self.state = ClientState::Ended;

@@ -52,6 +52,14 @@ impl<E> Client<E> {
             apart: [0; 8],
         }
     }
+
+    /// Writes to the memory that is reserved for its receipts, as [`Receipts::touch`] does. The
+    /// client is as it was.
+    pub fn touch(&mut self)
+        ensures { self.new ≡ self.old }
+    {
+        self.receipts.touch();
+    }
 }
 
 impl<E: Drop> Client<E> {

@@ -64,8 +64,8 @@ fn keep(delivery: &Delivery, receipts: &mut Receipts) -> Looked
     }
 }
 
-/// Gets the memory for the receipts of a thread's clients: the first write to new memory takes long,
-/// and is done by the thread that will use it before calls begin.
+/// Writes to the memory for the receipts of a thread's clients. The first write to new memory takes
+/// long, so it is done before calls begin, by the thread that will use the memory.
 pub(crate) fn touch_receipts<A: RunCalls>(clients: &mut [ClientSeat<A>]) {
     for client in clients.iter_mut() {
         client.touch();

@@ -23,7 +23,7 @@ use tatp_workers::Gate;
 
 /// For how many milliseconds the executors run alone. In that time the system gives each of them a
 /// processor, if there are enough, and leaves it there as long as the executor doesn't sleep.
-const ALONE: u64 = 20;
+const ALONE: u64 = 60;
 
 /// How many threads the clients have at least, if there are as many clients. They have fewer than
 /// twice as many.

@@ -16,6 +16,6 @@ pub use start::{Start, pause, rest};
 ///
 /// A thread that sleeps is woken by another, which takes as long as a short call, and where it goes
 /// on depends on who woke it. So in a run that has calls no thread sleeps, and each stays on its
-/// processor; one that has nothing to do for long does sleep. So many looks take 400 ms or more,
-/// which is far longer than executors wait for the first calls.
+/// processor; one that has nothing to do for long does sleep. So many looks take some 400 ms, which
+/// is far longer than executors wait for the first calls.
 const LOOKS: u32 = 1_000_000;

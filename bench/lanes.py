@@ -17,7 +17,7 @@ STYLE = """\
       .e0 { stroke: #8fb6f0; } .e1 { stroke: #f0b078; } .e2 { stroke: #7fd0a4; } .e3 { stroke: #f08fb6; }
     }
 """
-LABEL = "What each processor did in a slow and in a fast run of the command bench."
+LABEL = "What each processor did in a slow and in a fast run of the command bench, and in one of bench/bounds."
 # What a processor does, from below; the rest of a lane is idle.
 KINDS = ("executor", "client", "page", "yield", "other", "idle")
 NAMES = ("executors' work", "clients' work", "waiting for a page", "yields", "other threads", "nothing")

@@ -1,5 +1,5 @@
 /* How many turns of a loop each processor makes in a nanosecond: of one whose turns wait for each other, and of one of
-   six chains that don't. Where the host lets another thread use the same core, the second falls to about half, and no
+   six chains that don't. Where the host lets another thread use the same core, the second falls, and no
    stolen time tells of it. Word: how often each processor is looked at (1 to 1000). Prints a line for each processor:
    the least, the median and the greatest of the first, and of the second. */
 #define _GNU_SOURCE

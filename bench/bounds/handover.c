@@ -1,6 +1,7 @@
 /* What threads take that only hand calls over, as those of the command bench do: clients put an ask into the inbox of
    a partition, whose executor puts an answer into the client's slot. Inboxes and slots stand under mutexes, and who
    waits yields between two looks. In place of a call is a loop of so many nanoseconds, a sixth of it at the client.
+   Before the first call the executors run alone, so that the system parts them, and then sleep while clients do.
    Words: partitions (1 to 8), clients (1 to 64), calls of each client, nanoseconds, which threads stay on one processor
    each, dealt in turn (none, executors or all), and how many clients a thread has. Prints calls a second. */
 #define _GNU_SOURCE
@@ -14,7 +15,7 @@
 #include <time.h>
 #include <unistd.h>
 
-enum { MOST_PARTITIONS = 8, MOST_CLIENTS = 64 };
+enum { MOST_PARTITIONS = 8, MOST_CLIENTS = 64, FEWEST_THREADS = 4, ALONE = 60 };
 
 /* 144 bytes, as an item. */
 struct ask {
@@ -48,6 +49,11 @@ static uint64_t turns_of_executor;
 static uint64_t turns_of_client;
 static int executors_stay;
 static int clients_stay;
+static int sleeps;
+static double began;
+static atomic_int are_apart;
+static atomic_int awake;
+static atomic_int may_begin;
 static atomic_int ended;
 
 static double seconds(void) {
@@ -122,6 +128,26 @@ static int take_answer(struct slot *slot, struct answer *answer) {
     return was_full;
 }
 
+/* For how many milliseconds executors run alone, and then clients. */
+static void pause_alone(void) {
+    struct timespec time = {0, ALONE * 1000000};
+    nanosleep(&time, NULL);
+}
+
+/* Parts the executors. The last that is awake lets the clients begin. */
+static void prepare_executor(void) {
+    while (!atomic_load(&are_apart)) {
+        sched_yield();
+    }
+    if (sleeps) {
+        pause_alone();
+    }
+    if (atomic_fetch_add(&awake, 1) == partitions - 1) {
+        began = seconds();
+        atomic_store(&may_begin, 1);
+    }
+}
+
 static void *run_executor(void *inbox) {
     struct ask asks[MOST_CLIENTS];
     struct answer answer;
@@ -129,6 +155,7 @@ static void *run_executor(void *inbox) {
     if (executors_stay) {
         stay_on((struct inbox *)inbox - inboxes);
     }
+    prepare_executor();
     while (!atomic_load(&ended)) {
         int count = take_asks(inbox, asks);
         for (int i = 0; i < count; i++) {
@@ -181,6 +208,9 @@ static void *run_clients(void *number) {
     for (int i = 0; i < of_a_thread; i++) {
         own[i] = (struct client){first + i, calls, 0, first + i};
     }
+    while (!atomic_load(&may_begin)) {
+        sched_yield();
+    }
     for (int busy = 1; busy > 0;) {
         int went_on = 0;
         busy = 0;
@@ -224,7 +254,6 @@ int main(int count, char **words) {
 
     pthread_t executors[MOST_PARTITIONS];
     pthread_t threads[MOST_CLIENTS];
-    double began = seconds();
     for (int i = 0; i < partitions; i++) {
         pthread_mutex_init(&inboxes[i].lock, NULL);
     }
@@ -234,6 +263,9 @@ int main(int count, char **words) {
     for (int i = 0; i < partitions; i++) {
         executors[i] = start(run_executor, &inboxes[i]);
     }
+    sleeps = clients / of_a_thread >= FEWEST_THREADS;
+    pause_alone();
+    atomic_store(&are_apart, 1);
     for (int i = 0; i < clients; i += of_a_thread) {
         threads[i] = start(run_clients, (void *)(uintptr_t)i);
     }

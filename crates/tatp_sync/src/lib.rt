@@ -1,16 +1,18 @@
-//! How threads wait for each other, and what they hand to each other: locks, a common start,
-//! inboxes each of whose messages meets a rule, and mailboxes.
+//! How threads wait for each other, and what they hand to each other: locks, latches, inboxes each
+//! of whose messages meets a rule, and mailboxes.
 #![tactic(auto)]
 
 mod inbox;
+mod latch;
 mod locks;
 mod mailbox;
-mod start;
+mod pauses;
 
 pub use inbox::{MessageRule, Port, Reader, ends_of, open_inboxes};
+pub use latch::Latch;
 pub use locks::lock;
 pub use mailbox::{Mailbox, Taken};
-pub use start::{Start, pause, rest};
+pub use pauses::{pause, rest};
 
 /// How often a thread looks for what it waits for, and yields, before it sleeps.
 ///

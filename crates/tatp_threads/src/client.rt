@@ -78,7 +78,7 @@ pub(crate) fn ask_calls<R: Wait, G: Gate, A: RunCalls>(
     shared: &Shared<G, A>,
     clients: &mut [ClientSeat<A>],
 ) {
-    shared.start.wait(rt);
+    shared.beginning.prepare_clients(rt);
     let requester = Post { rt, shared };
     ask_all(rt, &requester, shared.directory, shared.plan.lists, clients);
 }

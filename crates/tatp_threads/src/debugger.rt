@@ -75,7 +75,7 @@ impl<R: Wait, G: Gate, A: RunCalls> Debugging for Inspector<'_, '_, '_, R, G, A>
 
 /// Makes the stops of a run at the sites under their locks.
 pub(crate) fn debug_partitions<R: Wait, G: Gate, A: RunCalls>(rt: &R, shared: &Shared<G, A>) {
-    shared.start.wait(rt);
+    shared.beginning.prepare_others(rt);
     let mut debugging = Inspector { rt, shared };
     debug_all(&mut debugging, shared.plan.stops);
 }

@@ -85,6 +85,9 @@ pub(crate) fn execute<'t, 'm, R: Wait, G: Gate, A: RunCalls>(
         mut ports,
     } = seat;
     let mut chapters = Vec::new(shared.alloc);
+    shared
+        .beginning
+        .prepare_executor(rt, shared.plan.lists.len());
     let mut executing = ExecutorEnds {
         rt,
         shared,

@@ -3,6 +3,7 @@
 #![tactic(auto)]
 
 mod admission;
+mod beginning;
 mod calls;
 mod client;
 mod debugger;

@@ -70,7 +70,7 @@ pub(crate) fn move_extents<R: Wait, G, A: RunCalls>(
     routes: &mut Routes,
     hand: &mut Vec<Parcel>,
 ) {
-    shared.start.wait(rt);
+    shared.beginning.prepare_others(rt);
     if hand.len() < hand.capacity() {
         let mut carrying = Carrier { rt, shared, routes };
         move_all(&mut carrying, shared.plan.moves, hand);

@@ -5,6 +5,7 @@ ghost use Rattle.tatp_threads.specs.Calls.{obstacle_among, opening_refusal, AreO
 ghost use Rattle.tatp_threads.specs.RunPlans.{IsRunPlan};
 
 use crate::admission::RunCalls;
+use crate::beginning::Beginning;
 use crate::calls::obstacle_among;
 use crate::partition::Partition;
 use crate::reserved::{ClientSeat, Reserved, calls_an_extent};
@@ -23,7 +24,6 @@ use tatp_logs::Receipts;
 use tatp_move::Routes;
 use tatp_numbers::Directory;
 use tatp_partition::{Site, open_sites};
-use tatp_sync::Start;
 use tatp_tables::Rows;
 use tatp_workers::Gate;
 
@@ -145,7 +145,7 @@ fn run_ruled<'m, R: Threads + Wait + Sync, G: Gate + Sync, A: RunCalls + Send + 
     };
     let partitions = lock_all(alloc, sites, partitions.into_vec());
     let mut hand = hand.into_vec();
-    let start = Start::new();
+    let beginning = Beginning::new(partitions.len());
     let shared = Shared {
         alloc,
         partitions: partitions.as_slice(),
@@ -155,7 +155,7 @@ fn run_ruled<'m, R: Threads + Wait + Sync, G: Gate + Sync, A: RunCalls + Send + 
         mailboxes: mailboxes.as_slice(),
         plan,
         gate,
-        start: &start,
+        beginning: &beginning,
     };
     let seats = clients.as_mut_slice();
     let started = run_threads(rt, &shared, quit, executors, seats, &mut routes, &mut hand);

@@ -4,13 +4,14 @@ ghost use Rattle.tatp_threads.specs.Inboxes.{SendsCall};
 
 use crate::RunPlan;
 use crate::admission::{Admission, Port, RunCalls};
+use crate::beginning::Beginning;
 use crate::partition::Partition;
 use crate::routes::SharedRoutes;
 use std::alloc::Global;
 use std::sync::Wait;
 use tatp_numbers::Directory;
 use tatp_partition::{Completion, Item};
-use tatp_sync::{Mailbox, Start};
+use tatp_sync::Mailbox;
 use tatp_workers::Delivery;
 
 /// What the threads share.
@@ -26,8 +27,7 @@ pub(crate) struct Shared<'a, 'm, G, A: RunCalls> {
     pub(crate) mailboxes: &'a [Mailbox<Delivery>],
     pub(crate) plan: RunPlan<'a>,
     pub(crate) gate: &'a G,
-    /// Where clients, mover and debugger wait until all of them may begin.
-    pub(crate) start: &'a Start,
+    pub(crate) beginning: &'a Beginning,
 }
 
 impl<'a, 'm, G, A: RunCalls> Shared<'a, 'm, G, A> {

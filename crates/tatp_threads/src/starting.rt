@@ -15,19 +15,13 @@ use crate::shared::Shared;
 use std::sync::Wait;
 use std::thread;
 use std::thread::Threads;
-use std::time::Duration;
 use tatp_move::Routes;
 use tatp_partition::Parcel;
-use tatp_sync::pause;
 use tatp_workers::Gate;
-
-/// For how many milliseconds the executors run alone. In that time the system gives each of them a
-/// processor, if there are enough, and leaves it there as long as the executor doesn't sleep.
-const ALONE: u64 = 60;
 
 /// How many threads the clients have at least, if there are as many clients. They have fewer than
 /// twice as many.
-const CLIENT_THREADS: usize = 4;
+pub(crate) const CLIENT_THREADS: usize = 4;
 
 /// Runs all threads to their ends: the executors until all clients, the mover and the debugger have
 /// ended. Each inbox then gets Quit, by the ends in `quit`. Whether each thread could be started;
@@ -64,8 +58,8 @@ pub(crate) fn run_threads<R: Threads + Wait + Sync, G: Gate + Sync, A: RunCalls 
                     started = false;
                 }
             }
+            shared.beginning.part_executors(rt);
             if started {
-                pause(rt, Duration::from_millis(ALONE));
                 started = run_clients(rt, shared, clients, routes, hand);
             }
             for port in quit.iter_mut() {
@@ -116,8 +110,9 @@ fn run_clients<R: Threads + Wait + Sync, G: Gate + Sync, A: RunCalls + Send + Sy
                 .is_ok()
             && inner.spawn(move || debug_partitions(rt, shared)).is_ok();
         touch_receipts(own);
+        shared.beginning.await_executors(rt);
         shared.gate.before_calls();
-        shared.start.open();
+        shared.beginning.open();
         ask_calls(rt, shared, own);
         started
     });

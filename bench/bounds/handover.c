@@ -1,7 +1,8 @@
 /* What threads take that only hand calls over, as those of the command bench do: clients put an ask into the inbox of
    a partition, whose executor puts an answer into the client's slot. Inboxes and slots stand under mutexes, and who
    waits yields between two looks. In place of a call is a loop of so many nanoseconds, a sixth of it at the client.
-   Before the first call the executors run alone, so that the system parts them, and then sleep while clients do.
+   Before the first call the executors run alone, so that the system parts them, and then sleep while clients do, where
+   these have four threads or more.
    Words: partitions (1 to 8), clients (1 to 64), calls of each client, nanoseconds, which threads stay on one processor
    each, dealt in turn (none, executors or all), and how many clients a thread has. Prints calls a second. */
 #define _GNU_SOURCE
@@ -49,6 +50,7 @@ static uint64_t turns_of_executor;
 static uint64_t turns_of_client;
 static int executors_stay;
 static int clients_stay;
+/* Whether executors sleep while clients run alone. */
 static int sleeps;
 static double began;
 static atomic_int are_apart;
